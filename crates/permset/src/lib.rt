@@ -1,0 +1,5 @@
+// A set of permissions as a value.
+
+pub struct PermSet {
+    pub bits: u32,
+}
