@@ -1,3 +1,5 @@
 pub mod Words
 pub mod Scan
 pub mod Code
+pub mod Answer
+pub mod Rest
