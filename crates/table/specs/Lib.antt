@@ -3,3 +3,5 @@ pub mod Scan
 pub mod Code
 pub mod Answer
 pub mod Rest
+pub mod Item
+pub mod Links

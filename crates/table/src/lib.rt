@@ -1,4 +1,5 @@
 // The reading of a system table: the terms, the refusals, and what the layers above see of an accepted table.
+pub mod links;
 pub mod read;
 pub mod words;
 
@@ -62,4 +63,25 @@ pub enum Refusal {
 pub enum Reading {
     Accepted,
     Refused(Refusal),
+}
+
+// A block's name, permissions and guard.
+pub struct Handler {
+    pub name: u32,
+    pub perms: PermSet,
+    pub guard: PermSet,
+}
+
+// What stands at a word of an accepted table: nothing of its own, the first word of a block, or a term.
+pub enum Item {
+    Gap,
+    Block(Handler),
+    Term(Term),
+}
+
+// Of a term: the word after it, its innermost binder (of a variable: the binder that it counts to), and the first word of its block.
+pub struct Link {
+    pub end: usize,
+    pub binder: usize,
+    pub home: usize,
 }

@@ -14,7 +14,7 @@ use Rattle.table.specs.Words.{argument, kind}
 use Rattle.table.specs.Scan.{Task, Outcome, name, perms, guard, term, has, key, scan}
 use Rattle.table.specs.Answer.{number, place}
 use Rattle.table.specs.Rest.{FoundAt, afterStep, afterBlock}
-use Rattle.table.proofs.Blocks.{Has, no-name, no-perms, no-guard, name-range, key-used, after-name, after-perms, after-guard}
+use Rattle.table.proofs.read.BlockWords.{Has, no-name, no-perms, no-guard, name-range, key-used, after-name, after-perms, after-guard}
 use Rattle.table.proofs.read.block.Statement.{statement}
 use Rattle.table.proofs.read.block.Tie as tie
 

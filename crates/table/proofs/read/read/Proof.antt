@@ -11,8 +11,8 @@ use borrow.Author.Tests.{eq-eqb, ne-eqb, lt-ltb, le-ltb}
 use Rattle.table.specs.Words.{kind, argument, handlers, size}
 use Rattle.table.specs.Scan.{Task, head, name, refused, tests, fault, missing, keep, next, scan, reading}
 use Rattle.table.specs.Answer.{number, place, outcome}
-use Rattle.table.proofs.Steps.{hit, miss, none, none-left, goes-on}
-use Rattle.table.proofs.Blocks.{refuses}
+use Rattle.table.proofs.read.Steps.{hit, miss, none, none-left, goes-on}
+use Rattle.table.proofs.read.BlockWords.{refuses}
 use Rattle.table.proofs.read.read.Statement.{statement}
 use Rattle.table.proofs.read.read.Tie as tie
 

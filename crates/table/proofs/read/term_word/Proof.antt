@@ -13,7 +13,7 @@ use Rattle.table.specs.Words.{kind, argument, limit}
 use Rattle.table.specs.Scan.{tests, fault, term}
 use Rattle.table.specs.Answer.{number, place, outcome}
 use Rattle.table.specs.Rest.{judged}
-use Rattle.table.proofs.Steps.{hit, miss, none}
+use Rattle.table.proofs.read.Steps.{hit, miss, none}
 use Rattle.table.proofs.read.term_word.Statement.{statement}
 use Rattle.table.proofs.read.term_word.Tie as tie
 

@@ -11,7 +11,7 @@ use lib.ListN.{length, getD, drop, drop-of-length-le}
 use lib.Seq.{drop-cons}
 use Rattle.table.specs.Words.{parts, mark, arity}
 use Rattle.table.specs.Scan.{Task, term, Outcome, under, fault, keep, next, scan}
-use Rattle.table.proofs.Steps.{goes-on}
+use Rattle.table.proofs.read.Steps.{goes-on}
 
 -- the tasks of some parts of the term at a place
 abbrev pub partTasks : ℕ → ℕ → ℕ → List ℕ → List Bool → List Task

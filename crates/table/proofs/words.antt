@@ -1,6 +1,4 @@
-pub mod Blocks
+-- Laws that the proofs of the words share.
 pub mod ByKind
 pub mod Outside
-pub mod Parts
-pub mod Steps
 pub mod Table

@@ -12,7 +12,7 @@ use borrow.Author.Tests.{eq-eqb, ne-eqb, le-leb, lt-leb}
 use Rattle.table.specs.Words.{kind, argument, names}
 use Rattle.table.specs.Scan.{Task, name, perms, guard, term, refused, firstOf, has, key, tests, fault, missing, keep, next, scan}
 use Rattle.table.specs.Rest.{judged}
-use Rattle.table.proofs.Steps.{hit, miss, none, stops, none-left, goes-on}
+use Rattle.table.proofs.read.Steps.{hit, miss, none, stops, none-left, goes-on}
 
 module _ (ws keys : List ℕ) (at : ℕ) where
   -- no word of the kind k is there
