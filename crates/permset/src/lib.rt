@@ -1,6 +1,5 @@
 // A set of permissions as a value.
 ghost use mathlib.Core.Path.{_≡_};
-ghost use mathlib.Core.Bool.{_&&_};
 ghost use Prim.Native.Nat.{_^_};
 ghost use lib.Dec.{eqb, ltb};
 ghost use Rattle.permset.specs.Sets.{width, member, union, difference, within, lowest};

@@ -1,13 +1,12 @@
 -- `PermSet::difference` meets its contract.
-use native.Mathlib.Omega.{arith}
 use borrow.Author.Needs.{needs}
-use lib.Bits.{and-le-l}
+use lib.Bits.{and-le-l, and-le-r}
 use Rattle.permset.specs.Sets.{difference}
 use Rattle.permset.proofs.PermSet.difference.Statement.{statement}
 use Rattle.permset.proofs.PermSet.difference.Tie as tie
 
 sub-t4 : tie.Need-sub-t4
-sub-t4 c = and-le-l _ _
+sub-t4 c = search (and-le-l, and-le-r)
 
 returns : tie.Need-returns
 unfolding difference
