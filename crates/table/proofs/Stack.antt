@@ -1,0 +1,1 @@
+-- The scan step by step.
