@@ -89,17 +89,17 @@ at-step ws p keys t ts a = go (decLt p (length ws))
         let e : drop p ws ≡ w ∷ drop (suc p) ws = drop-cons ws p 0 l in
         let s = scan-step (drop (suc p) ws) keys w p t ts (sym (ap (λ (l : List ℕ). scan l keys p (t ∷ ts)) e) ∙ a .scanned) in
         let r : drop p (tasks ws) ≡ t ∷ trace (drop (suc p) ws) (suc p) (next p w t ++ ts) =
-          a .traced ∙ ap (λ (l : List ℕ). trace l p (t ∷ ts)) e ∙ trace-step w (drop (suc p) ws) p t ts in
+        a .traced ∙ ap (λ (l : List ℕ). trace l p (t ∷ ts)) e ∙ trace-step w (drop (suc p) ws) p t ts in
         record {
           inside = l;
           task = task-at ws p ∙ ap (λ (l : List Task). getD l 0 (head 0)) r;
           faultless = s .0;
           rest =
-            record {
-              bound = l;
-              scanned = s .1;
-              traced = ap (λ (n : ℕ). drop n (tasks ws)) (let e : suc p ≡ p + 1 = omega arith in e) ∙ sym (drop-drop 1 p (tasks ws)) ∙ ap (drop 1) r;
-            };
+              record {
+                bound = l;
+                scanned = s .1;
+                traced = ap (λ (n : ℕ). drop n (tasks ws)) (let e : suc p ≡ p + 1 = omega arith in e) ∙ sym (drop-drop 1 p (tasks ws)) ∙ ap (drop 1) r;
+              };
         }
 
 -- no task waits at the end alone
@@ -155,13 +155,126 @@ at-pass ws (v ∷ vs) p keys ts us e (also {d} {h} {s} {ts = ts′} r) a =
   where
     step : Step ws p keys (term d h s) (ts′ ++ us)
     step = at-step ws p keys (term d h s) (ts′ ++ us) a
+
     cut : getD ws p 0 ∷ drop (suc p) ws ≡ v ∷ vs
     cut = sym (drop-cons ws p 0 (step .inside)) ∙ e
+
     tail : drop (suc p) ws ≡ vs
     tail = ap (drop 1) cut
+
     after : At ws (suc p) keys ((next p v (term d h s) ++ ts′) ++ us)
     after =
         subst (λ (l : List Task). At ws (suc p) keys l) (sym (append-assoc (next p v (term d h s)) ts′ us))
         (subst (λ (w : ℕ). At ws (suc p) keys (next p w (term d h s) ++ (ts′ ++ us))) (ap (λ (l : List ℕ). getD l 0 0) cut) (step .rest))
+
     long : length (next p v (term d h s) ++ ts′) ≡ arity v + length ts′
     long = length-append (next p v (term d h s)) ts′ ∙ ap (λ (n : ℕ). n + length ts′) (length-next p v d h s)
+
+-- ---- every place of an accepted table
+
+-- names alone
+abbrev pub Names : List Task → Type 0
+Names [] = Unit {0}
+Names (head n ∷ ts) = ⊥
+Names (name ∷ ts) = Names ts
+Names (perms n ∷ ts) = ⊥
+Names (guard ∷ ts) = ⊥
+Names (term d h s ∷ ts) = ⊥
+
+-- below the first name, or the head, stand names alone
+abbrev pub Layered : List Task → Type 0
+Layered [] = Unit {0}
+Layered (head n ∷ ts) = Names ts
+Layered (name ∷ ts) = Names ts
+Layered (perms n ∷ ts) = Layered ts
+Layered (guard ∷ ts) = Layered ts
+Layered (term d h s ∷ ts) = Layered ts
+
+names-layered : (ts : List Task) → Names ts → Layered ts
+names-layered [] h = tt
+names-layered (name ∷ ts) h = h
+
+names-more : (n : ℕ) (ts : List Task) → Names ts → Names (replicate n name ++ ts)
+names-more zero ts h = h
+names-more (suc n) ts h = names-more n ts h
+
+terms-layered : (ts us : List Task) → Terms ts → Layered us → Layered (ts ++ us)
+terms-layered ts us none l = l
+terms-layered ts us (also {ts = ts′} r) l = terms-layered ts′ us r l
+
+layered-next : (at w : ℕ) (t : Task) (ts : List Task) → Layered (t ∷ ts) → Layered (next at w t ++ ts)
+unfolding next
+layered-next at w (head n) ts l = names-layered (replicate (argument w) name ++ ts) (names-more (argument w) ts l)
+layered-next at w name ts l = names-layered ts l
+layered-next at w (perms n) ts l = l
+layered-next at w guard ts l = l
+layered-next at w (term d h s) ts l =
+    terms-layered (map (λ b. term (suc d) h (under b at s)) (parts w)) ts (terms-parts (suc d) h at s (parts w)) l
+
+or-right : (a b : Bool) → T b → T (a || b)
+or-right true b h = tt
+or-right false b h = h
+
+-- keys stay
+has-keep : (keys : List ℕ) (w : ℕ) (t : Task) (k : ℕ) → T (has keys k) → T (has (keep keys w t) k)
+unfolding keep has
+has-keep keys w (head n) k h = h
+has-keep keys w name k h = h
+has-keep keys w (perms n) k h = or-right (eqb (key n (argument w)) k) (has keys k) h
+has-keep keys w guard k h = h
+has-keep keys w (term d h s) k i = i
+
+-- what holds n words on
+pub record Walked (ws : List ℕ) (p : ℕ) (keys : List ℕ) : Type 0 where
+  pub keys′ : List ℕ
+  pub stack : List Task
+  pub there : At ws p keys′ stack
+  pub layered : Layered stack
+  pub kept : (k : ℕ) → T (has keys k) → T (has keys′ k)
+
+pub walk : (ws : List ℕ) (p : ℕ) (keys : List ℕ) (ts : List Task) → At ws p keys ts → Layered ts
+    → (n : ℕ) → p + n ≤ length ws → Walked ws (p + n) keys
+walk ws p keys ts a l zero h =
+    record { keys′ = keys; stack = ts; there = subst (λ (q : ℕ). At ws q keys ts) (sym (add-zero p)) a; layered = l; kept = λ k i. i }
+walk ws p keys ts a l (suc n) h = go (walk ws p keys ts a l n (omega arith))
+  where
+    on : (keys′ : List ℕ) (ts′ : List Task) → At ws (p + n) keys′ ts′ → Layered ts′ → ((k : ℕ) → T (has keys k) → T (has keys′ k))
+        → Walked ws (p + suc n) keys
+    on keys′ [] b m f = let e = at-end ws (p + n) keys′ b in let c : ⊥ = omega arith in absurd c
+    on keys′ (t ∷ ts′) b m f =
+        let w = getD ws (p + n) 0 in
+        record {
+          keys′ = keep keys′ w t;
+          stack = next (p + n) w t ++ ts′;
+          there =
+              subst (λ (q : ℕ). At ws q (keep keys′ w t) (next (p + n) w t ++ ts′)) (sym (add-suc p n))
+              (at-step ws (p + n) keys′ t ts′ b .rest);
+          layered = layered-next (p + n) w t ts′ m;
+          kept = λ k i. has-keep keys′ w t k (f k i);
+        }
+
+    go : Walked ws (p + n) keys → Walked ws (p + suc n) keys
+    go r = on (r .keys′) (r .stack) (r .there) (r .layered) (r .kept)
+
+-- the task at p waits on top of the stack there
+pub record Reached (ws : List ℕ) (p : ℕ) : Type 0 where
+  pub keys : List ℕ
+  pub below : List Task
+  pub there : At ws p keys (taskAt ws p ∷ below)
+  pub layered : Layered (taskAt ws p ∷ below)
+
+pub reach : (ws : List ℕ) → reading ws ≡ accepted → (p : ℕ) → p < length ws → Reached ws p
+reach ws e p h =
+    let r = walk ws 0 [] (head (length ws) ∷ []) (at-start ws e) tt p (omega arith) in
+    on (r .keys′) (r .stack) (subst (λ (q : ℕ). At ws q (r .keys′) (r .stack)) (let z : 0 + p ≡ p = omega arith in z) (r .there)) (r .layered)
+  where
+    on : (keys : List ℕ) (ts : List Task) → At ws p keys ts → Layered ts → Reached ws p
+    on keys [] a l = let z = at-end ws p keys a in let c : ⊥ = omega arith in absurd c
+    on keys (t ∷ ts) a l =
+        let k : t ≡ taskAt ws p = sym (at-step ws p keys t ts a .task) in
+        record {
+          keys = keys;
+          below = ts;
+          there = subst (λ (u : Task). At ws p keys (u ∷ ts)) k a;
+          layered = subst (λ (u : Task). Layered (u ∷ ts)) k l;
+        }
