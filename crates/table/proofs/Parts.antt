@@ -1,0 +1,71 @@
+-- Where the parts of a term stand in an accepted table, what task each meets, and where a term and a block end.
+use mathlib.Core.Path.{_≡_, refl, sym, ap, ap₂, _∙_, subst}
+use mathlib.Core.Logic.{_⊎_, inl, inr}
+use mathlib.Core.List.{List, [], _∷_, _++_, map, append-assoc}
+use mathlib.Core.Bool.{Bool, true, false}
+use Prim.Native.Nat.{ℕ, zero, suc, _+_, _≤_, _<_, suc-le-suc, zero-le}
+use native.Mathlib.Nat.{add-zero, add-suc, suc-add, zero-add, add-assoc, le-refl}
+use native.Mathlib.Omega.{arith}
+use lib.ListN.{length, getD, take, drop, length-map, length-drop, take-append-drop}
+use lib.Seq.{drop-cons, drop-drop, drop-length, length-take-le}
+use Rattle.table.specs.Words.{argument, parts, arity}
+use Rattle.table.specs.Scan.{Task, head, name, perms, guard, term, accepted, refused, fault, keep, under, next, scan, reading}
+use Rattle.table.specs.Code.{skip, part, endOf, trace, tasks, taskAt}
+use Rattle.table.proofs.Stack.{At, Step, at-step, at-end, at-pass, at-start, reach, Reached, Names, Layered, Terms, terms-parts, scan-step, scan-more, refused-not-accepted, trace-step}
+
+-- ---- the words that terms take
+
+pub skip-le : (ws : List ℕ) (n : ℕ) → skip ws n ≤ length ws
+unfolding skip
+skip-le [] n = le-refl 0
+skip-le (w ∷ ws) zero = zero-le
+skip-le (w ∷ ws) (suc n) = suc-le-suc (skip-le ws (arity w + n))
+
+pub skip-zero : (ws : List ℕ) → skip ws 0 ≡ 0
+unfolding skip
+skip-zero [] = refl
+skip-zero (w ∷ ws) = refl
+
+pub skip-add : (ws : List ℕ) (m n : ℕ) → skip ws (m + n) ≡ skip ws m + skip (drop (skip ws m) ws) n
+unfolding skip
+skip-add [] m n = refl
+skip-add (w ∷ ws) zero n = ap (skip (w ∷ ws)) (zero-add n) ∙ sym (zero-add (skip (w ∷ ws) n))
+skip-add (w ∷ ws) (suc m) n =
+    ap (skip (w ∷ ws)) (suc-add m n)
+    ∙ ap suc (ap (skip ws) (sym (add-assoc (arity w) m n)) ∙ skip-add ws (arity w + m) n)
+    ∙ sym (suc-add (skip ws (arity w + m)) (skip (drop (skip ws (arity w + m)) ws) n))
+
+-- ---- places of parts
+
+-- the first part stands behind the term's own word
+pub part-zero : (ws : List ℕ) (p : ℕ) → part ws p 0 ≡ suc p
+unfolding part
+part-zero ws p = ap (λ (n : ℕ). suc p + n) (skip-zero (drop (suc p) ws)) ∙ add-zero (suc p)
+
+pub part-after : (ws : List ℕ) (p k : ℕ) → p < part ws p k
+unfolding part
+part-after ws p k = omega arith
+
+pub part-le : (ws : List ℕ) (p k : ℕ) → p < length ws → part ws p k ≤ length ws
+unfolding part
+part-le ws p k h = omega (arith, skip-le (drop (suc p) ws) k, length-drop (suc p) ws)
+
+pub end-after : (ws : List ℕ) (p : ℕ) → p < endOf ws p
+unfolding endOf
+end-after ws p = part-after ws p (arity (getD ws p 0))
+
+pub end-le : (ws : List ℕ) (p : ℕ) → p < length ws → endOf ws p ≤ length ws
+unfolding endOf
+end-le ws p h = part-le ws p (arity (getD ws p 0)) h
+
+-- a part stands where the one before it ends
+pub part-suc : (ws : List ℕ) (p k : ℕ) → part ws p k < length ws → part ws p (suc k) ≡ endOf ws (part ws p k)
+unfolding part endOf skip
+part-suc ws p k h =
+    let q = part ws p k in
+    let v = drop (suc p) ws in
+    let one : skip v (suc k) ≡ skip v k + skip (drop (skip v k) v) 1 = ap (skip v) (let e : suc k ≡ k + 1 = omega arith in e) ∙ skip-add v k 1 in
+    let there : drop (skip v k) v ≡ getD ws q 0 ∷ drop (suc q) ws = drop-drop (skip v k) (suc p) ws ∙ drop-cons ws q 0 h in
+    let next : skip (drop (skip v k) v) 1 ≡ suc (skip (drop (suc q) ws) (arity (getD ws q 0))) =
+      ap (λ (l : List ℕ). skip l 1) there ∙ ap (λ (n : ℕ). suc (skip (drop (suc q) ws) n)) (add-zero (arity (getD ws q 0))) in
+    omega (arith, one, next)
