@@ -1,7 +1,7 @@
 -- Where the parts of a term stand in an accepted table, what task each meets, and where a term and a block end.
 use mathlib.Core.Path.{_≡_, refl, sym, ap, ap₂, _∙_, subst}
 use mathlib.Core.Logic.{_⊎_, inl, inr}
-use mathlib.Core.List.{List, [], _∷_, _++_, map, append-assoc}
+use mathlib.Core.List.{List, [], _∷_, _++_, map, map-append, append-assoc}
 use mathlib.Core.Bool.{Bool, true, false}
 use Prim.Native.Nat.{ℕ, zero, suc, _+_, _≤_, _<_, suc-le-suc, zero-le}
 use native.Mathlib.Nat.{add-zero, add-suc, suc-add, zero-add, add-assoc, le-refl}
@@ -67,5 +67,74 @@ part-suc ws p k h =
     let one : skip v (suc k) ≡ skip v k + skip (drop (skip v k) v) 1 = ap (skip v) (let e : suc k ≡ k + 1 = omega arith in e) ∙ skip-add v k 1 in
     let there : drop (skip v k) v ≡ getD ws q 0 ∷ drop (suc q) ws = drop-drop (skip v k) (suc p) ws ∙ drop-cons ws q 0 h in
     let next : skip (drop (skip v k) v) 1 ≡ suc (skip (drop (suc q) ws) (arity (getD ws q 0))) =
-      ap (λ (l : List ℕ). skip l 1) there ∙ ap (λ (n : ℕ). suc (skip (drop (suc q) ws) n)) (add-zero (arity (getD ws q 0))) in
+    ap (λ (l : List ℕ). skip l 1) there ∙ ap (λ (n : ℕ). suc (skip (drop (suc q) ws) n)) (add-zero (arity (getD ws q 0))) in
     omega (arith, one, next)
+
+-- ---- the stack at the parts of a term, and at its end
+
+-- the task of a part
+abbrev pub partTask : ℕ → ℕ → ℕ → List ℕ → Bool → Task
+partTask p d h s b = term (suc d) h (under b p s)
+
+module _ (ws : List ℕ) (p : ℕ) (keys : List ℕ) (d h : ℕ) (s : List ℕ) (us : List Task) (a : At ws p keys (term d h s ∷ us)) where
+  pub at-part : (k : ℕ) → k ≤ arity (getD ws p 0)
+      → At ws (part ws p k) keys (map (partTask p d h s) (drop k (parts (getD ws p 0))) ++ us)
+  unfolding part arity next keep
+  at-part k l =
+      let bs = parts (getD ws p 0) in
+      let f = partTask p d h s in
+      let cut : map f bs ++ us ≡ map f (take k bs) ++ (map f (drop k bs) ++ us) =
+      ap (λ (l : List Bool). map f l ++ us) (sym (take-append-drop k bs)) ∙ ap (λ (l : List Task). l ++ us) (map-append f (take k bs) (drop k bs))
+      ∙ append-assoc (map f (take k bs)) (map f (drop k bs)) us in
+      let long : length (map f (take k bs)) ≡ k = length-map (take k bs) f ∙ length-take-le k bs l in
+      subst (λ (n : ℕ). At ws (suc p + skip (drop (suc p) ws) n) keys (map f (drop k bs) ++ us)) long
+      (at-pass ws (drop (suc p) ws) (suc p) keys (map f (take k bs)) (map f (drop k bs) ++ us) refl (terms-parts (suc d) h p s (take k bs))
+      (subst (λ (l : List Task). At ws (suc p) keys l) cut (at-step ws p keys (term d h s) us a .rest)))
+
+  pub at-term-end : At ws (endOf ws p) keys us
+  unfolding endOf arity
+  at-term-end =
+      let bs = parts (getD ws p 0) in
+      subst (λ (l : List Bool). At ws (endOf ws p) keys (map (partTask p d h s) l ++ us)) (drop-length bs) (at-part (length bs) (le-refl (length bs)))
+
+-- ---- the tasks of an accepted table
+
+trace-length : (ws keys : List ℕ) (at : ℕ) (ts : List Task) → scan ws keys at ts ≡ accepted → length (trace ws at ts) ≡ length ws
+unfolding trace
+trace-length [] keys at ts e = refl
+trace-length (w ∷ ws) keys at [] e = absurd (refused-not-accepted (sym (scan-more w ws keys at) ∙ e))
+trace-length (w ∷ ws) keys at (t ∷ ts) e =
+    ap suc (trace-length ws (keep keys w t) (suc at) (next at w t ++ ts) (scan-step ws keys w at t ts e .1))
+
+module _ (ws : List ℕ) (e : reading ws ≡ accepted) where
+  pub tasks-length : length (tasks ws) ≡ length ws
+  unfolding tasks reading
+  tasks-length = trace-length ws [] 0 (head (length ws) ∷ []) e
+
+  -- a term: its part k is a term one deeper in the same block, under the same binders or also under the term itself
+  module _ (p d h : ℕ) (s : List ℕ) (l : p < length ws) (t : taskAt ws p ≡ term d h s) where
+    reached : Reached ws p
+    reached = reach ws e p l
+
+    waits : At ws p (reached .keys) (term d h s ∷ reached .below)
+    waits = subst (λ (u : Task). At ws p (reached .keys) (u ∷ reached .below)) t (reached .there)
+
+    part-step : (k : ℕ) → k < arity (getD ws p 0)
+        → Step ws (part ws p k) (reached .keys) (partTask p d h s (getD (parts (getD ws p 0)) k false))
+        (map (partTask p d h s) (drop (suc k) (parts (getD ws p 0))) ++ reached .below)
+    unfolding arity
+    part-step k m =
+        at-step ws (part ws p k) (reached .keys) _ _
+        (subst (λ (l : List Bool). At ws (part ws p k) (reached .keys) (map (partTask p d h s) l ++ reached .below))
+        (drop-cons (parts (getD ws p 0)) k false m) (at-part ws p (reached .keys) d h s (reached .below) waits k (omega arith)))
+
+    pub part-inside : (k : ℕ) → k < arity (getD ws p 0) → part ws p k < length ws
+    part-inside k m = part-step k m .inside
+
+    pub part-task : (k : ℕ) → k < arity (getD ws p 0)
+        → taskAt ws (part ws p k) ≡ term (suc d) h (under (getD (parts (getD ws p 0)) k false) p s)
+    part-task k m = part-step k m .task
+
+    -- the next part, or the term's end, stands where part k ends
+    pub part-next : (k : ℕ) → k < arity (getD ws p 0) → part ws p (suc k) ≡ endOf ws (part ws p k)
+    part-next k m = part-suc ws p k (part-inside k m)
