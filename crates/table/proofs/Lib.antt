@@ -2,3 +2,4 @@ pub mod Words
 pub mod Faults
 pub mod Stack
 pub mod Parts
+pub mod Blocks
