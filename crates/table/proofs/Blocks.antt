@@ -55,3 +55,100 @@ block ws e b l t =
           (next-block ws (endOf ws (suc (suc (suc b)))) _ us (at-term-end ws (suc (suc (suc b))) _ 1 b (b ∷ []) us (three .rest))
           (subst (λ (u : Task). Layered (u ∷ us)) t (r .layered)));
     }
+
+-- ---- word 0
+
+pub record Head (ws : List ℕ) : Type 0 where
+  pub inside : 0 < length ws
+  pub head-task : taskAt ws 0 ≡ head (length ws)
+  pub sized : length ws ≤ size
+  pub handled : argument (getD ws 0 0) ≤ handlers
+  pub follows : (1 ≡ length ws) ⊎ ((1 < length ws) × (taskAt ws 1 ≡ name))
+
+names-only : (n : ℕ) → Names (replicate n name ++ [])
+names-only zero = tt
+names-only (suc n) = names-only n
+
+pub head-word : (ws : List ℕ) → reading ws ≡ accepted → Head ws
+unfolding next Next
+head-word ws e =
+    let one = at-step ws 0 [] (head (length ws)) [] (at-start ws e) in
+    let f = stands [] (getD ws 0 0) (head (length ws)) (one .faultless) in
+    record {
+      inside = one .inside;
+      head-task = one .task;
+      sized = f .1;
+      handled = f .2;
+      follows = next-block ws 1 _ (replicate (argument (getD ws 0 0)) name ++ []) (one .rest) (names-only (argument (getD ws 0 0)));
+    }
+
+-- ---- the list of the blocks
+
+-- what is listed further on is listed
+listed-later : (t : Task) (ts : List Task) (at b : ℕ) → List·Memᴰ b (blocksFrom ts (suc at)) → List·Memᴰ b (blocksFrom (t ∷ ts) at)
+unfolding blocksFrom
+listed-later (head n) ts at b m = m
+listed-later name ts at b m = List·Memᴰ·tail m
+listed-later (perms n) ts at b m = m
+listed-later guard ts at b m = m
+listed-later (term d h s) ts at b m = m
+
+listed-here : (t : Task) (ts : List Task) (at : ℕ) → t ≡ name → List·Memᴰ at (blocksFrom (t ∷ ts) at)
+unfolding blocksFrom
+listed-here t ts at e = subst (λ (u : Task). List·Memᴰ at (blocksFrom (u ∷ ts) at)) (sym e) (List·Memᴰ·head refl)
+
+-- a place is listed exactly if a name is its task
+name-listed : (ts : List Task) (at j : ℕ) → j < length ts → getD ts j (head 0) ≡ name → List·Memᴰ (at + j) (blocksFrom ts at)
+name-listed [] at j l e = absurd (not-suc-le-zero l)
+name-listed (t ∷ ts) at zero l e =
+    subst (λ (b : ℕ). List·Memᴰ b (blocksFrom (t ∷ ts) at)) (sym (add-zero at)) (listed-here t ts at e)
+name-listed (t ∷ ts) at (suc j) l e =
+    listed-later t ts at (at + suc j)
+    (subst (λ (b : ℕ). List·Memᴰ b (blocksFrom ts (suc at))) (let k : suc at + j ≡ at + suc j = omega arith in k)
+    (name-listed ts (suc at) j (le-of-suc-le-suc l) e))
+
+-- where in the list of tasks a listed place is
+record Named (ts : List Task) (at b : ℕ) : Type 0 where
+  place : ℕ
+  counted : b ≡ at + place
+  short : place < length ts
+  named : getD ts place (head 0) ≡ name
+
+named-later : (t : Task) (ts : List Task) (at b : ℕ) → Named ts (suc at) b → Named (t ∷ ts) at b
+named-later t ts at b r =
+    record {
+      place = suc (r .place);
+      counted = r .counted ∙ (let k : suc at + r .place ≡ at + suc (r .place) = omega arith in k);
+      short = let h = r .short in omega arith;
+      named = r .named;
+    }
+
+listed-name : (ts : List Task) (at b : ℕ) → List·Memᴰ b (blocksFrom ts at) → Named ts at b
+unfolding blocksFrom
+listed-name [] at b m = absurd (List·Memᴰ·not-nil m)
+listed-name (head n ∷ ts) at b m = named-later (head n) ts at b (listed-name ts (suc at) b m)
+listed-name (name ∷ ts) at b m = go (λ i. listed-name ts (suc at) b i) (List·Memᴰ·cases-cons m)
+  where
+    go : (List·Memᴰ b (blocksFrom ts (suc at)) → Named ts (suc at) b) → (b ≡ at) ⊎ List·Memᴰ b (blocksFrom ts (suc at))
+        → Named (name ∷ ts) at b
+    go later (inl e) = record { place = 0; counted = e ∙ sym (add-zero at); short = zero-lt-suc (length ts); named = refl }
+    go later (inr i) = named-later name ts at b (later i)
+listed-name (perms n ∷ ts) at b m = named-later (perms n) ts at b (listed-name ts (suc at) b m)
+listed-name (guard ∷ ts) at b m = named-later guard ts at b (listed-name ts (suc at) b m)
+listed-name (term d h s ∷ ts) at b m = named-later (term d h s) ts at b (listed-name ts (suc at) b m)
+
+module _ (ws : List ℕ) (e : reading ws ≡ accepted) where
+  pub block-listed : (b : ℕ) → b < length ws → taskAt ws b ≡ name → List·Memᴰ b (blocksFrom (tasks ws) 0)
+  unfolding taskAt
+  block-listed b l t =
+      subst (λ (n : ℕ). List·Memᴰ n (blocksFrom (tasks ws) 0)) (let k : 0 + b ≡ b = omega arith in k)
+      (name-listed (tasks ws) 0 b (subst (λ (n : ℕ). b < n) (sym (tasks-length ws e)) l) t)
+
+  pub listed-block : (b : ℕ) → List·Memᴰ b (blocksFrom (tasks ws) 0) → (b < length ws) × (taskAt ws b ≡ name)
+  unfolding taskAt
+  listed-block b m =
+      let r = listed-name (tasks ws) 0 b m in
+      let k : r .place ≡ b = let c = r .counted in omega arith in (
+        subst (λ (n : ℕ). n < length ws) k (subst (λ (n : ℕ). r .place < n) (tasks-length ws e) (r .short)),
+        subst (λ (n : ℕ). taskAt ws n ≡ name) k (r .named),
+      )
