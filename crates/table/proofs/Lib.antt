@@ -3,3 +3,4 @@ pub mod Faults
 pub mod Stack
 pub mod Parts
 pub mod Blocks
+pub mod Linked
