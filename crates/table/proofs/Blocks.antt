@@ -1,16 +1,17 @@
 -- The blocks of an accepted table: the tasks of a block's words, where it ends, and the list of the blocks.
 use mathlib.Core.Path.{_≡_, refl, sym, ap, _∙_, subst}
 use mathlib.Core.Logic.{_⊎_, inl, inr, ⊎-elim}
-use mathlib.Core.List.{List, [], _∷_, _++_, List·Memᴰ, List·Memᴰ·head, List·Memᴰ·tail, List·Memᴰ·cases-cons, List·Memᴰ·not-nil}
+use mathlib.Core.List.{List, [], _∷_, _++_, append-assoc, List·Memᴰ, List·Memᴰ·head, List·Memᴰ·tail, List·Memᴰ·cases-cons, List·Memᴰ·not-nil}
 use Prim.Native.Nat.{ℕ, zero, suc, _+_, _≤_, _<_}
-use native.Mathlib.Nat.{add-zero, add-suc, suc-add, le-of-suc-le-suc, not-suc-le-zero, zero-lt-suc}
+use native.Mathlib.Nat.{add-zero, add-suc, suc-add, le-of-suc-le-suc, not-suc-le-zero, zero-lt-suc, le-of-eq}
 use native.Mathlib.Omega.{arith}
-use lib.ListN.{length, getD, replicate}
-use Rattle.table.specs.Words.{argument, names, size, handlers, depths}
+use lib.ListN.{length, getD, drop, replicate, drop-of-length-le}
+use lib.Seq.{drop-cons, drop-drop}
+use Rattle.table.specs.Words.{argument, arity, names, size, handlers, depths}
 use Rattle.table.specs.Scan.{Task, head, name, perms, guard, term, accepted, keep, next, reading}
-use Rattle.table.specs.Code.{endOf, tasks, taskAt, blocksFrom}
+use Rattle.table.specs.Code.{skip, part, endOf, trace, tasks, taskAt, blocksFrom}
 use Rattle.table.proofs.Faults.{Stands, stands}
-use Rattle.table.proofs.Stack.{At, Step, at-step, at-end, at-start, reach, Reached, Names, Layered}
+use Rattle.table.proofs.Stack.{At, Step, at-step, at-end, at-start, reach, Reached, Names, Layered, Terms, none, also, length-next, terms-next, term-next, length-term-next}
 use Rattle.table.proofs.Parts.{at-term-end, tasks-length}
 
 -- ---- one block
@@ -33,14 +34,34 @@ pub record Block (ws : List ℕ) (b : ℕ) : Type 0 where
   pub named : argument (getD ws b 0) < names
   pub follows : (endOf ws (b + 3) ≡ length ws) ⊎ ((endOf ws (b + 3) < length ws) × (taskAt ws (endOf ws (b + 3)) ≡ name))
 
+-- the stack behind a block's name
+pub record Opened (ws : List ℕ) (b : ℕ) : Type 0 where
+  pub keys : List ℕ
+  pub below : List Task
+  pub named : argument (getD ws b 0) < names
+  pub there : At ws (suc b) keys (perms (argument (getD ws b 0)) ∷ guard ∷ term 1 b (b ∷ []) ∷ below)
+  pub layered : Names below
+
+pub opened : (ws : List ℕ) → reading ws ≡ accepted → (b : ℕ) → b < length ws → taskAt ws b ≡ name → Opened ws b
+unfolding next keep
+opened ws e b l t =
+    let r = reach ws e b l in
+    let s = at-step ws b (r .keys) name (r .below) (subst (λ (u : Task). At ws b (r .keys) (u ∷ r .below)) t (r .there)) in
+    record {
+      keys = r .keys;
+      below = r .below;
+      named = stands (r .keys) (getD ws b 0) name (s .faultless) .1;
+      there = s .rest;
+      layered = subst (λ (u : Task). Layered (u ∷ r .below)) t (r .layered);
+    }
+
 pub block : (ws : List ℕ) → reading ws ≡ accepted → (b : ℕ) → b < length ws → taskAt ws b ≡ name → Block ws b
 unfolding next keep Next
 block ws e b l t =
-    let r = reach ws e b l in
-    let us = r .below in
-    let one = at-step ws b (r .keys) name us (subst (λ (u : Task). At ws b (r .keys) (u ∷ us)) t (r .there)) in
+    let o = opened ws e b l t in
+    let us = o .below in
     let n = argument (getD ws b 0) in
-    let two = at-step ws (suc b) (r .keys) (perms n) (guard ∷ term 1 b (b ∷ []) ∷ us) (one .rest) in
+    let two = at-step ws (suc b) (o .keys) (perms n) (guard ∷ term 1 b (b ∷ []) ∷ us) (o .there) in
     let three = at-step ws (suc (suc b)) _ guard (term 1 b (b ∷ []) ∷ us) (two .rest) in
     let four = at-step ws (suc (suc (suc b))) _ (term 1 b (b ∷ [])) us (three .rest) in
     let body : suc (suc (suc b)) ≡ b + 3 = omega arith in
@@ -49,11 +70,11 @@ block ws e b l t =
       perms-task = subst (λ (q : ℕ). taskAt ws q ≡ perms n) (let k : suc b ≡ b + 1 = omega arith in k) (two .task);
       guard-task = subst (λ (q : ℕ). taskAt ws q ≡ guard) (let k : suc (suc b) ≡ b + 2 = omega arith in k) (three .task);
       body-task = subst (λ (q : ℕ). taskAt ws q ≡ term 1 b (b ∷ [])) body (four .task);
-      named = stands (r .keys) (getD ws b 0) name (one .faultless) .1;
+      named = o .named;
       follows =
           subst (λ (q : ℕ). Next ws (endOf ws q)) body
           (next-block ws (endOf ws (suc (suc (suc b)))) _ us (at-term-end ws (suc (suc (suc b))) _ 1 b (b ∷ []) us (three .rest))
-          (subst (λ (u : Task). Layered (u ∷ us)) t (r .layered)));
+          (o .layered));
     }
 
 -- ---- word 0
@@ -152,3 +173,74 @@ module _ (ws : List ℕ) (e : reading ws ≡ accepted) where
         subst (λ (n : ℕ). n < length ws) k (subst (λ (n : ℕ). r .place < n) (tasks-length ws e) (r .short)),
         subst (λ (n : ℕ). taskAt ws n ≡ name) k (r .named),
       )
+
+-- ---- the blocks in order: the first behind word 0, each behind the body of the one before
+
+-- of the tasks of terms none is a block's name
+trace-blocks : (ws : List ℕ) (at : ℕ) (ts us : List Task) → Terms ts
+    → blocksFrom (trace ws at (ts ++ us)) at
+    ≡ blocksFrom (trace (drop (skip ws (length ts)) ws) (at + skip ws (length ts)) us) (at + skip ws (length ts))
+unfolding trace skip blocksFrom
+trace-blocks [] at ts us r = refl
+trace-blocks (w ∷ ws) at ts us none = ap (λ (n : ℕ). blocksFrom (trace (w ∷ ws) n us) n) (sym (add-zero at))
+trace-blocks (w ∷ ws) at ts us (also {d} {h} {s} {ts = ts′} r) =
+    let t = term d h s in
+    ap (λ (l : List Task). blocksFrom (trace ws (suc at) l) (suc at)) (sym (append-assoc (next at w t) ts′ us))
+    ∙ trace-blocks ws (suc at) (next at w t ++ ts′) us (term-next at w d h s ts′ r)
+    ∙ ap (λ (n : ℕ). blocksFrom (trace (drop (skip ws n) ws) (suc at + skip ws n) us) (suc at + skip ws n)) (length-term-next at w d h s ts′)
+    ∙ (let n = skip ws (arity w + length ts′) in
+    ap (λ (m : ℕ). blocksFrom (trace (drop n ws) m us) m) (let k : suc at + n ≡ at + suc n = omega arith in k))
+
+module _ (ws : List ℕ) (e : reading ws ≡ accepted) where
+  -- the blocks from the place p on
+  abbrev pub blocksAt : ℕ → List ℕ
+  blocksAt p = blocksFrom (drop p (tasks ws)) p
+
+  tasks-cons : (p : ℕ) → p < length ws → drop p (tasks ws) ≡ taskAt ws p ∷ drop (suc p) (tasks ws)
+  unfolding taskAt
+  tasks-cons p l = drop-cons (tasks ws) p (head 0) (subst (λ (n : ℕ). p < n) (sym (tasks-length ws e)) l)
+
+  blocks-step : (p : ℕ) (t : Task) → p < length ws → taskAt ws p ≡ t → blocksAt p ≡ blocksFrom (t ∷ drop (suc p) (tasks ws)) p
+  blocks-step p t l k =
+      ap (λ (ts : List Task). blocksFrom ts p) (tasks-cons p l ∙ ap (λ (u : Task). u ∷ drop (suc p) (tasks ws)) k)
+
+  pub blocks-first : blocksFrom (tasks ws) 0 ≡ blocksAt 1
+  unfolding blocksFrom
+  blocks-first = let r = head-word ws e in blocks-step 0 (head (length ws)) (r .inside) (r .head-task)
+
+  pub blocks-end : blocksAt (length ws) ≡ []
+  unfolding blocksFrom
+  blocks-end =
+      ap (λ (ts : List Task). blocksFrom ts (length ws))
+      (drop-of-length-le (tasks ws) {i = length ws} (le-of-eq (tasks-length ws e)))
+
+  -- no block starts within a term
+  blocks-term : (p : ℕ) (keys : List ℕ) (d h : ℕ) (s : List ℕ) (us : List Task) → At ws p keys (term d h s ∷ us) → blocksAt p ≡ blocksAt (endOf ws p)
+  unfolding blocksFrom endOf part
+  blocks-term p keys d h s us a =
+      let w = getD ws p 0 in
+      let t = term d h s in
+      let v = drop (suc p) ws in
+      let r = at-step ws p keys t us a in
+      let n = skip v (arity w) in
+      blocks-step p t (r .inside) (r .task)
+      ∙ ap (λ (ts : List Task). blocksFrom ts (suc p)) (r .rest .traced)
+      ∙ trace-blocks v (suc p) (next p w t) us (terms-next p w d h s)
+      ∙ ap (λ (m : ℕ). blocksFrom (trace (drop (skip v m) v) (suc p + skip v m) us) (suc p + skip v m)) (length-next p w d h s)
+      ∙ ap (λ (l : List ℕ). blocksFrom (trace l (suc p + n) us) (suc p + n)) (drop-drop n (suc p) ws)
+      ∙ ap (λ (ts : List Task). blocksFrom ts (suc p + n)) (sym (at-term-end ws p keys d h s us a .traced))
+
+  pub blocks-next : (b : ℕ) → b < length ws → taskAt ws b ≡ name → blocksAt b ≡ b ∷ blocksAt (endOf ws (b + 3))
+  unfolding blocksFrom next keep
+  blocks-next b l t =
+      let o = opened ws e b l t in
+      let us = o .below in
+      let n = argument (getD ws b 0) in
+      let two = at-step ws (suc b) (o .keys) (perms n) (guard ∷ term 1 b (b ∷ []) ∷ us) (o .there) in
+      let three = at-step ws (suc (suc b)) _ guard (term 1 b (b ∷ []) ∷ us) (two .rest) in
+      blocks-step b name l t
+      ∙ ap (λ (bs : List ℕ). b ∷ bs)
+      (blocks-step (suc b) (perms n) (two .inside) (two .task)
+      ∙ blocks-step (suc (suc b)) guard (three .inside) (three .task)
+      ∙ blocks-term (suc (suc (suc b))) _ 1 b (b ∷ []) us (three .rest)
+      ∙ ap (λ (q : ℕ). blocksAt (endOf ws q)) (let k : suc (suc (suc b)) ≡ b + 3 = omega arith in k))

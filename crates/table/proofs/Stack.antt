@@ -129,13 +129,21 @@ pub terms-parts : (d h at : ℕ) (s : List ℕ) (bs : List Bool) → Terms (map 
 terms-parts d h at s [] = none
 terms-parts d h at s (b ∷ bs) = also (terms-parts d h at s bs)
 
-length-next : (at w d h : ℕ) (s : List ℕ) → length (next at w (term d h s)) ≡ arity w
+pub length-next : (at w d h : ℕ) (s : List ℕ) → length (next at w (term d h s)) ≡ arity w
 unfolding next arity
 length-next at w d h s = length-map (parts w) (λ b. term (suc d) h (under b at s))
 
-term-next : (at w d h : ℕ) (s : List ℕ) (ts : List Task) → Terms ts → Terms (next at w (term d h s) ++ ts)
+pub terms-next : (at w d h : ℕ) (s : List ℕ) → Terms (next at w (term d h s))
 unfolding next
-term-next at w d h s ts r = terms-append (map (λ b. term (suc d) h (under b at s)) (parts w)) ts (terms-parts (suc d) h at s (parts w)) r
+terms-next at w d h s = terms-parts (suc d) h at s (parts w)
+
+-- the stack behind a term that terms follow
+pub term-next : (at w d h : ℕ) (s : List ℕ) (ts : List Task) → Terms ts → Terms (next at w (term d h s) ++ ts)
+term-next at w d h s ts r = terms-append (next at w (term d h s)) ts (terms-next at w d h s) r
+
+pub length-term-next : (at w d h : ℕ) (s : List ℕ) (ts : List Task) → length (next at w (term d h s) ++ ts) ≡ arity w + length ts
+length-term-next at w d h s ts =
+    length-append (next at w (term d h s)) ts ∙ ap (λ (n : ℕ). n + length ts) (length-next at w d h s)
 
 add-suc-left : (p n : ℕ) → p + suc n ≡ suc p + n
 add-suc-left p n = omega arith
@@ -150,7 +158,7 @@ at-pass ws [] p keys ts us e (also {d} {h} {s} {ts = ts′} r) a =
     absurd n
 at-pass ws (v ∷ vs) p keys ts us e none a = subst (λ (q : ℕ). At ws q keys us) (sym (add-zero p)) a
 at-pass ws (v ∷ vs) p keys ts us e (also {d} {h} {s} {ts = ts′} r) a =
-    subst (λ (q : ℕ). At ws q keys us) (ap (λ (n : ℕ). suc p + skip vs n) long ∙ sym (add-suc-left p (skip vs (arity v + length ts′))))
+    subst (λ (q : ℕ). At ws q keys us) (ap (λ (n : ℕ). suc p + skip vs n) (length-term-next p v d h s ts′) ∙ sym (add-suc-left p (skip vs (arity v + length ts′))))
     (at-pass ws vs (suc p) keys (next p v (term d h s) ++ ts′) us tail (term-next p v d h s ts′ r) after)
   where
     step : Step ws p keys (term d h s) (ts′ ++ us)
@@ -166,9 +174,6 @@ at-pass ws (v ∷ vs) p keys ts us e (also {d} {h} {s} {ts = ts′} r) a =
     after =
         subst (λ (l : List Task). At ws (suc p) keys l) (sym (append-assoc (next p v (term d h s)) ts′ us))
         (subst (λ (w : ℕ). At ws (suc p) keys (next p w (term d h s) ++ (ts′ ++ us))) (ap (λ (l : List ℕ). getD l 0 0) cut) (step .rest))
-
-    long : length (next p v (term d h s) ++ ts′) ≡ arity v + length ts′
-    long = length-append (next p v (term d h s)) ts′ ∙ ap (λ (n : ℕ). n + length ts′) (length-next p v d h s)
 
 -- ---- every place of an accepted table
 
@@ -208,8 +213,7 @@ layered-next at w (head n) ts l = names-layered (replicate (argument w) name ++ 
 layered-next at w name ts l = names-layered ts l
 layered-next at w (perms n) ts l = l
 layered-next at w guard ts l = l
-layered-next at w (term d h s) ts l =
-    terms-layered (map (λ b. term (suc d) h (under b at s)) (parts w)) ts (terms-parts (suc d) h at s (parts w)) l
+layered-next at w (term d h s) ts l = terms-layered (next at w (term d h s)) ts (terms-next at w d h s) l
 
 or-right : (a b : Bool) → T b → T (a || b)
 or-right true b h = tt
