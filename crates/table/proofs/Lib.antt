@@ -4,3 +4,5 @@ pub mod Stack
 pub mod Parts
 pub mod Blocks
 pub mod Linked
+pub mod Distinct
+pub mod Scopes

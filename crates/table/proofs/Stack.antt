@@ -195,7 +195,7 @@ Layered (perms n ∷ ts) = Layered ts
 Layered (guard ∷ ts) = Layered ts
 Layered (term d h s ∷ ts) = Layered ts
 
-names-layered : (ts : List Task) → Names ts → Layered ts
+pub names-layered : (ts : List Task) → Names ts → Layered ts
 names-layered [] h = tt
 names-layered (name ∷ ts) h = h
 
