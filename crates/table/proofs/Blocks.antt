@@ -11,7 +11,7 @@ use Rattle.table.specs.Words.{argument, arity, names, size, handlers, de
 use Rattle.table.specs.Scan.{Task, head, name, perms, guard, term, accepted, keep, next, reading}
 use Rattle.table.specs.Code.{skip, part, endOf, trace, tasks, taskAt, blocksFrom}
 use Rattle.table.proofs.Faults.{Stands, stands}
-use Rattle.table.proofs.Stack.{At, Step, at-step, at-end, at-start, reach, Reached, Names, Layered, Terms, none, also, length-next, terms-next, term-next, length-term-next}
+use Rattle.table.proofs.Stack.{At, Step, at-step, at-end, at-start, reach, Reached, LayeredAt, Names, Layered, Terms, none, also, length-next, terms-next, term-next, length-term-next}
 use Rattle.table.proofs.Parts.{at-term-end, tasks-length}
 
 -- ---- one block
@@ -52,7 +52,7 @@ opened ws e b l t =
       below = r .below;
       named = stands (r .keys) (getD ws b 0) name (s .faultless) .1;
       there = s .rest;
-      layered = subst (λ (u : Task). Layered (u ∷ r .below)) t (r .layered);
+      layered = subst (λ (u : Task). Layered (u ∷ r .below)) t (r .holds);
     }
 
 pub block : (ws : List ℕ) → reading ws ≡ accepted → (b : ℕ) → b < length ws → taskAt ws b ≡ name → Block ws b

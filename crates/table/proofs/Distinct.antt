@@ -13,7 +13,7 @@ use Rattle.table.specs.Words.{argument}
 use Rattle.table.specs.Scan.{Task, head, name, perms, guard, term, accepted, has, key, keep, next, reading}
 use Rattle.table.specs.Code.{Node, block as blockNode, taskAt, termNode, nodeFor, code, IsBlock, Linked}
 use Rattle.table.proofs.Faults.{Stands, stands}
-use Rattle.table.proofs.Stack.{At, Layered, Names, Walked, at-step, at-end, walk, names-layered}
+use Rattle.table.proofs.Stack.{At, Fact, Walked, at-step, at-end, walk, has-keep}
 use Rattle.table.proofs.Blocks.{Opened, opened, Block, block}
 use Rattle.table.proofs.Linked.{linked}
 
@@ -27,6 +27,10 @@ or-left true b h = tt
 has-first : (k : ℕ) (ks : List ℕ) → T (has (k ∷ ks) k)
 unfolding has
 has-first k ks = or-left (eqb k k) (has ks k) (eqb-refl k)
+
+-- the key k is among the keys
+abbrev HasAt : ℕ → Fact
+HasAt k p keys ts = T (has keys k)
 
 module _ (ws : List ℕ) (e : reading ws ≡ accepted) where
   -- a key that the scan has kept is no later block's
@@ -50,10 +54,10 @@ module _ (ws : List ℕ) (e : reading ws ≡ accepted) where
       let m = b′ - suc b in
       let there : suc (suc b) + m ≡ b′ + 1 = omega arith in
       let inside = block ws e b′ l′ t′ .inside in
-      let r = walk ws (suc (suc b)) _ _ (s .rest) (names-layered (o .below) (o .layered)) m (omega arith) in
-      not-kept b′ l′ t′ (r .keys′) (r .stack) (subst (λ (q : ℕ). At ws q (r .keys′) (r .stack)) there (r .there))
-      (subst (λ (x : ℕ). T (has (r .keys′) x)) (ap (λ (q : ℕ). key n (argument (getD ws q 0))) (let z : suc b ≡ b + 1 = omega arith in z) ∙ k)
-      (r .kept (key n (argument (getD ws (suc b) 0))) (has-first (key n (argument (getD ws (suc b) 0))) (o .keys))))
+      let x = key n (argument (getD ws (suc b) 0)) in
+      let r = walk ws (HasAt x) (λ q keys u ts z. has-keep keys (getD ws q 0) u x) (suc (suc b)) _ _ (s .rest) (has-first x (o .keys)) m (omega arith) in
+      not-kept b′ l′ t′ (r .keys) (r .stack) (subst (λ (q : ℕ). At ws q (r .keys) (r .stack)) there (r .there))
+      (subst (λ (y : ℕ). T (has (r .keys) y)) (ap (λ (q : ℕ). key n (argument (getD ws q 0))) (let z : suc b ≡ b + 1 = omega arith in z) ∙ k) (r .holds))
 
   pub distinct : (b b′ : ℕ) → b < length ws → taskAt ws b ≡ name → b′ < length ws → taskAt ws b′ ≡ name
       → argument (getD ws b 0) ≡ argument (getD ws b′ 0) → argument (getD ws (b + 1) 0) ≡ argument (getD ws (b′ + 1) 0) → b ≡ b′

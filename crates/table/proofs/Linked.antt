@@ -12,7 +12,7 @@ use Rattle.table.specs.Scan.{Task, head, name, perms, guard, term, accep
 use Rattle.table.specs.Code.{Code, Node, gap, part, tasks, taskAt, termNode, nodeFor, scopeFor, homeFor, blocksFrom, code, Within, Part, Bound, NodeLinked, IsBlock, Linked}
 use Rattle.table.proofs.Words.{Rows, done, _▸_, by-kind, argument-lt}
 use Rattle.table.proofs.Faults.{Stands, stands}
-use Rattle.table.proofs.Stack.{At, Reached, reach, at-step}
+use Rattle.table.proofs.Stack.{At, Reached, LayeredAt, reach, at-step}
 use Rattle.table.proofs.Parts.{part-zero, part-inside, part-task, tasks-length}
 use Rattle.table.proofs.Blocks.{Block, block, block-listed, listed-block}
 

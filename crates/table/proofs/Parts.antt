@@ -11,7 +11,7 @@ use lib.Seq.{drop-cons, drop-drop, drop-length, length-take-le}
 use Rattle.table.specs.Words.{argument, parts, arity}
 use Rattle.table.specs.Scan.{Task, head, name, perms, guard, term, accepted, refused, fault, keep, under, next, scan, reading}
 use Rattle.table.specs.Code.{skip, part, endOf, trace, tasks, taskAt}
-use Rattle.table.proofs.Stack.{At, Step, at-step, at-end, at-pass, at-start, reach, Reached, Names, Layered, Terms, terms-parts, scan-step, scan-more, refused-not-accepted, trace-step}
+use Rattle.table.proofs.Stack.{At, Step, at-step, at-end, at-pass, at-start, reach, Reached, LayeredAt, Names, Layered, Terms, terms-parts, scan-step, scan-more, refused-not-accepted, trace-step}
 
 -- ---- the words that terms take
 
@@ -113,7 +113,7 @@ module _ (ws : List ℕ) (e : reading ws ≡ accepted) where
 
   -- a term: its part k is a term one deeper in the same block, under the same binders or also under the term itself
   module _ (p d h : ℕ) (s : List ℕ) (l : p < length ws) (t : taskAt ws p ≡ term d h s) where
-    reached : Reached ws p
+    reached : Reached ws LayeredAt p
     reached = reach ws e p l
 
     waits : At ws p (reached .keys) (term d h s ∷ reached .below)

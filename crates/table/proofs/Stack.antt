@@ -3,7 +3,7 @@ use mathlib.Core.Path.{_≡_, refl, sym, ap, ap₂, _∙_, subst}
 use mathlib.Core.List.{List, [], _∷_, _++_, map, append-assoc}
 use mathlib.Core.Bool.{Bool, true, false, _||_}
 use Prim.Native.Nat.{ℕ, zero, suc, _+_, _≤_, _<_}
-use native.Mathlib.Nat.{add-zero, add-suc, suc-add, lt-irrefl}
+use native.Mathlib.Nat.{add-zero, add-suc, zero-add}
 use native.Mathlib.Decide.{decLt}
 use native.Mathlib.Omega.{arith}
 use lib.ListN.{length, getD, drop, replicate, length-append, length-map, length-drop, drop-of-length-le}
@@ -175,7 +175,7 @@ at-pass ws (v ∷ vs) p keys ts us e (also {d} {h} {s} {ts = ts′} r) a =
         subst (λ (l : List Task). At ws (suc p) keys l) (sym (append-assoc (next p v (term d h s)) ts′ us))
         (subst (λ (w : ℕ). At ws (suc p) keys (next p w (term d h s) ++ (ts′ ++ us))) (ap (λ (l : List ℕ). getD l 0 0) cut) (step .rest))
 
--- ---- every place of an accepted table
+-- ---- what waits below a name
 
 -- names alone
 abbrev pub Names : List Task → Type 0
@@ -215,70 +215,81 @@ layered-next at w (perms n) ts l = l
 layered-next at w guard ts l = l
 layered-next at w (term d h s) ts l = terms-layered (next at w (term d h s)) ts (terms-next at w d h s) l
 
+-- ---- what every step keeps holds at every place
+
+-- a fact of a place, its keys and its stack
+abbrev pub Fact : Type 1
+Fact = ℕ → List ℕ → List Task → Type 0
+
+-- it passes from a place to the next
+abbrev pub Kept : List ℕ → Fact → Type 0
+Kept ws F =
+    (p : ℕ) (keys : List ℕ) (t : Task) (ts : List Task) → Step ws p keys t ts → F p keys (t ∷ ts)
+    → F (suc p) (keep keys (getD ws p 0) t) (next p (getD ws p 0) t ++ ts)
+
+pub record Walked (ws : List ℕ) (F : Fact) (p : ℕ) : Type 0 where
+  pub keys : List ℕ
+  pub stack : List Task
+  pub there : At ws p keys stack
+  pub holds : F p keys stack
+
+module _ (ws : List ℕ) (F : Fact) (kept : Kept ws F) where
+  -- n words on
+  pub walk : (p : ℕ) (keys : List ℕ) (ts : List Task) → At ws p keys ts → F p keys ts → (n : ℕ) → p + n ≤ length ws → Walked ws F (p + n)
+  walk p keys ts a f zero h =
+      subst (Walked ws F) (sym (add-zero p)) (record { keys = keys; stack = ts; there = a; holds = f })
+  walk p keys ts a f (suc n) h = go (walk p keys ts a f n (omega arith))
+    where
+      on : (keys : List ℕ) (ts : List Task) → At ws (p + n) keys ts → F (p + n) keys ts → Walked ws F (suc (p + n))
+      on keys [] b g = let e = at-end ws (p + n) keys b in let c : ⊥ = omega arith in absurd c
+      on keys (t ∷ ts) b g =
+          let s = at-step ws (p + n) keys t ts b in
+          record { keys = _; stack = _; there = s .rest; holds = kept (p + n) keys t ts s g }
+
+      go : Walked ws F (p + n) → Walked ws F (p + suc n)
+      go r = subst (Walked ws F) (sym (add-suc p n)) (on (r .keys) (r .stack) (r .there) (r .holds))
+
+-- the task at p waits on top of the stack there
+pub record Reached (ws : List ℕ) (F : Fact) (p : ℕ) : Type 0 where
+  pub keys : List ℕ
+  pub below : List Task
+  pub there : At ws p keys (taskAt ws p ∷ below)
+  pub holds : F p keys (taskAt ws p ∷ below)
+
+pub reach-with : (ws : List ℕ) (F : Fact) → Kept ws F → F 0 [] (head (length ws) ∷ []) → reading ws ≡ accepted
+    → (p : ℕ) → p < length ws → Reached ws F p
+reach-with ws F kept f e p h = go (walk ws F kept 0 [] (head (length ws) ∷ []) (at-start ws e) f p (omega arith))
+  where
+    on : (keys : List ℕ) (ts : List Task) → At ws p keys ts → F p keys ts → Reached ws F p
+    on keys [] a g = let z = at-end ws p keys a in let c : ⊥ = omega arith in absurd c
+    on keys (t ∷ ts) a g =
+        let k : t ≡ taskAt ws p = sym (at-step ws p keys t ts a .task) in
+        record {
+          keys = keys;
+          below = ts;
+          there = subst (λ (u : Task). At ws p keys (u ∷ ts)) k a;
+          holds = subst (λ (u : Task). F p keys (u ∷ ts)) k g;
+        }
+
+    go : Walked ws F (0 + p) → Reached ws F p
+    go w = let r : Walked ws F p = subst (Walked ws F) (zero-add p) w in on (r .keys) (r .stack) (r .there) (r .holds)
+
+-- stacks are layered
+abbrev pub LayeredAt : Fact
+LayeredAt p keys ts = Layered ts
+
+pub reach : (ws : List ℕ) → reading ws ≡ accepted → (p : ℕ) → p < length ws → Reached ws LayeredAt p
+reach ws e p h = reach-with ws LayeredAt (λ q keys t ts s l. layered-next q (getD ws q 0) t ts l) tt e p h
+
+-- keys stay
 or-right : (a b : Bool) → T b → T (a || b)
 or-right true b h = tt
 or-right false b h = h
 
--- keys stay
-has-keep : (keys : List ℕ) (w : ℕ) (t : Task) (k : ℕ) → T (has keys k) → T (has (keep keys w t) k)
+pub has-keep : (keys : List ℕ) (w : ℕ) (t : Task) (k : ℕ) → T (has keys k) → T (has (keep keys w t) k)
 unfolding keep has
 has-keep keys w (head n) k h = h
 has-keep keys w name k h = h
 has-keep keys w (perms n) k h = or-right (eqb (key n (argument w)) k) (has keys k) h
 has-keep keys w guard k h = h
 has-keep keys w (term d h s) k i = i
-
--- what holds n words on
-pub record Walked (ws : List ℕ) (p : ℕ) (keys : List ℕ) : Type 0 where
-  pub keys′ : List ℕ
-  pub stack : List Task
-  pub there : At ws p keys′ stack
-  pub layered : Layered stack
-  pub kept : (k : ℕ) → T (has keys k) → T (has keys′ k)
-
-pub walk : (ws : List ℕ) (p : ℕ) (keys : List ℕ) (ts : List Task) → At ws p keys ts → Layered ts
-    → (n : ℕ) → p + n ≤ length ws → Walked ws (p + n) keys
-walk ws p keys ts a l zero h =
-    record { keys′ = keys; stack = ts; there = subst (λ (q : ℕ). At ws q keys ts) (sym (add-zero p)) a; layered = l; kept = λ k i. i }
-walk ws p keys ts a l (suc n) h = go (walk ws p keys ts a l n (omega arith))
-  where
-    on : (keys′ : List ℕ) (ts′ : List Task) → At ws (p + n) keys′ ts′ → Layered ts′ → ((k : ℕ) → T (has keys k) → T (has keys′ k))
-        → Walked ws (p + suc n) keys
-    on keys′ [] b m f = let e = at-end ws (p + n) keys′ b in let c : ⊥ = omega arith in absurd c
-    on keys′ (t ∷ ts′) b m f =
-        let w = getD ws (p + n) 0 in
-        record {
-          keys′ = keep keys′ w t;
-          stack = next (p + n) w t ++ ts′;
-          there =
-              subst (λ (q : ℕ). At ws q (keep keys′ w t) (next (p + n) w t ++ ts′)) (sym (add-suc p n))
-              (at-step ws (p + n) keys′ t ts′ b .rest);
-          layered = layered-next (p + n) w t ts′ m;
-          kept = λ k i. has-keep keys′ w t k (f k i);
-        }
-
-    go : Walked ws (p + n) keys → Walked ws (p + suc n) keys
-    go r = on (r .keys′) (r .stack) (r .there) (r .layered) (r .kept)
-
--- the task at p waits on top of the stack there
-pub record Reached (ws : List ℕ) (p : ℕ) : Type 0 where
-  pub keys : List ℕ
-  pub below : List Task
-  pub there : At ws p keys (taskAt ws p ∷ below)
-  pub layered : Layered (taskAt ws p ∷ below)
-
-pub reach : (ws : List ℕ) → reading ws ≡ accepted → (p : ℕ) → p < length ws → Reached ws p
-reach ws e p h =
-    let r = walk ws 0 [] (head (length ws) ∷ []) (at-start ws e) tt p (omega arith) in
-    on (r .keys′) (r .stack) (subst (λ (q : ℕ). At ws q (r .keys′) (r .stack)) (let z : 0 + p ≡ p = omega arith in z) (r .there)) (r .layered)
-  where
-    on : (keys : List ℕ) (ts : List Task) → At ws p keys ts → Layered ts → Reached ws p
-    on keys [] a l = let z = at-end ws p keys a in let c : ⊥ = omega arith in absurd c
-    on keys (t ∷ ts) a l =
-        let k : t ≡ taskAt ws p = sym (at-step ws p keys t ts a .task) in
-        record {
-          keys = keys;
-          below = ts;
-          there = subst (λ (u : Task). At ws p keys (u ∷ ts)) k a;
-          layered = subst (λ (u : Task). Layered (u ∷ ts)) k l;
-        }
