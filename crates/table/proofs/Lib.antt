@@ -6,3 +6,4 @@ pub mod Blocks
 pub mod Linked
 pub mod Distinct
 pub mod Scopes
+pub mod Limits

@@ -87,6 +87,10 @@ module _ (ws : List ℕ) (e : reading ws ≡ accepted) where
       let r = reach ws e p l in
       stands (r .keys) (getD ws p 0) (taskAt ws p) (at-step ws p (r .keys) (taskAt ws p) (r .below) (r .there) .faultless)
 
+  pub term-stands : (p d h : ℕ) (s : List ℕ) (l : p < length ws) → taskAt ws p ≡ term d h s
+      → Stands (reach ws e p l .keys) (getD ws p 0) (term d h s)
+  term-stands p d h s l t = subst (λ (u : Task). Stands (reach ws e p l .keys) (getD ws p 0) u) t (place-stands p l)
+
   -- a part of a term, as the code has it
   part-within : (p d h : ℕ) (s : List ℕ) → p < length ws → taskAt ws p ≡ term d h s → PartsLinked ws p (parts (getD ws p 0))
   unfolding PartsLinked code scopeFor homeFor arity
@@ -109,7 +113,7 @@ module _ (ws : List ℕ) (e : reading ws ≡ accepted) where
   unfolding RowLinked code scopeFor
   term-linked p d h s l t =
       let w = getD ws p 0 in
-      let f = subst (λ (u : Task). Stands (reach ws e p l .keys) w u) t (place-stands p l) in
+      let f = term-stands p d h s l t in
       by-kind (RowLinked ws p (argument w)) w (f .0) (f .1) (rows ws p (argument w)) (f .2)
       (λ k. subst (λ (u : Task). argument w < length (scopeFor u)) (sym t) (f .3 k)) (part-within p d h s l t)
 

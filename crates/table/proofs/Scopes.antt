@@ -9,9 +9,8 @@ use lib.ListN.{length, getD, replicate}
 use Rattle.table.specs.Words.{argument, parts, depths}
 use Rattle.table.specs.Scan.{Task, head, name, perms, guard, term, accepted, under, next, reading}
 use Rattle.table.specs.Code.{taskAt}
-use Rattle.table.proofs.Faults.{Stands}
-use Rattle.table.proofs.Stack.{Fact, Step, Reached, reach, reach-with}
-use Rattle.table.proofs.Linked.{place-stands}
+use Rattle.table.proofs.Stack.{Step, Reached, reach-with}
+use Rattle.table.proofs.Linked.{term-stands}
 
 -- ---- a fact of each task and the places up to its own
 
@@ -128,4 +127,4 @@ module _ (ws : List ℕ) (e : reading ws ≡ accepted) (p d h : ℕ) (s : List �
 
   -- document 01's depth
   pub depth-le : d ≤ depths
-  depth-le = subst (λ (u : Task). Stands (reach ws e p l .keys) (getD ws p 0) u) t (place-stands ws e p l) .4
+  depth-le = term-stands ws e p d h s l t .4
