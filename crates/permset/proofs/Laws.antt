@@ -11,7 +11,7 @@ use lib.Arith.{lt-one}
 use lib.Bits.{bitAnd, bitOr, and-shr, or-shr, and-step, or-step, and-le-l, and-le-r, and-self, or-lt}
 use lib.Pow.{shr-shr, shr-lt, pow-mono, pow-pos}
 use lib.Count.{trailingZeros, under, trailing-of-zero}
-use Rattle.permset.specs.Sets.{width, member, union, difference, within, lowest}
+use Rattle.permset.specs.Sets.{member, union, difference, within, lowest}
 
 -- ---- one digit
 

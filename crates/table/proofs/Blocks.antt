@@ -1,17 +1,17 @@
 -- The blocks of an accepted table: the tasks of a block's words, where it ends, and the list of the blocks.
 use mathlib.Core.Path.{_≡_, refl, sym, ap, _∙_, subst}
-use mathlib.Core.Logic.{_⊎_, inl, inr, ⊎-elim}
+use mathlib.Core.Logic.{_⊎_, inl, inr}
 use mathlib.Core.List.{List, [], _∷_, _++_, append-assoc, List·Memᴰ, List·Memᴰ·head, List·Memᴰ·tail, List·Memᴰ·cases-cons, List·Memᴰ·not-nil}
 use Prim.Native.Nat.{ℕ, zero, suc, _+_, _≤_, _<_}
-use native.Mathlib.Nat.{add-zero, add-suc, suc-add, le-of-suc-le-suc, not-suc-le-zero, zero-lt-suc, le-of-eq}
+use native.Mathlib.Nat.{add-zero, le-of-suc-le-suc, not-suc-le-zero, zero-lt-suc, le-of-eq}
 use native.Mathlib.Omega.{arith}
 use lib.ListN.{length, getD, drop, replicate, drop-of-length-le}
 use lib.Seq.{drop-cons, drop-drop}
-use Rattle.table.specs.Words.{argument, arity, names, size, handlers, depths}
+use Rattle.table.specs.Words.{argument, arity, names, size, handlers}
 use Rattle.table.specs.Scan.{Task, head, name, perms, guard, term, accepted, keep, next, reading}
 use Rattle.table.specs.Code.{skip, part, endOf, trace, tasks, taskAt, blocksFrom}
-use Rattle.table.proofs.Faults.{Stands, stands}
-use Rattle.table.proofs.Stack.{At, Step, at-step, at-end, at-start, reach, Reached, LayeredAt, Names, Layered, Terms, none, also, length-next, terms-next, term-next, length-term-next}
+use Rattle.table.proofs.Faults.{stands}
+use Rattle.table.proofs.Stack.{At, at-step, at-end, at-start, reach, Names, Layered, Terms, none, also, length-next, terms-next, term-next, length-term-next}
 use Rattle.table.proofs.Parts.{at-term-end, tasks-length}
 
 -- ---- one block

@@ -1,8 +1,8 @@
 -- Two blocks of an accepted table with the same name and the same permissions are one.
 use mathlib.Core.Path.{_≡_, refl, sym, ap, ap₂, _∙_, subst}
 use mathlib.Core.List.{List, [], _∷_}
-use mathlib.Core.Bool.{Bool, true, false, _||_}
-use Prim.Native.Nat.{ℕ, suc, _+_, _-_, _≤_, _<_}
+use mathlib.Core.Bool.{Bool, true, _||_}
+use Prim.Native.Nat.{ℕ, suc, _+_, _-_, _<_}
 use native.Mathlib.Decide.{decLt}
 use native.Mathlib.Omega.{arith}
 use lib.ListN.{length, getD}
@@ -11,10 +11,10 @@ use Rattle.table.specs.declared.Term.{Term}
 use Rattle.table.specs.declared.Term.the-variants as terms
 use Rattle.table.specs.Words.{argument}
 use Rattle.table.specs.Scan.{Task, head, name, perms, guard, term, accepted, has, key, keep, next, reading}
-use Rattle.table.specs.Code.{Node, block as blockNode, taskAt, termNode, nodeFor, code, IsBlock, Linked}
+use Rattle.table.specs.Code.{block as blockNode, taskAt, termNode, nodeFor, code, IsBlock}
 use Rattle.table.proofs.Faults.{Stands, stands}
-use Rattle.table.proofs.Stack.{At, Fact, Walked, at-step, at-end, walk, has-keep}
-use Rattle.table.proofs.Blocks.{Opened, opened, Block, block}
+use Rattle.table.proofs.Stack.{At, Fact, at-step, at-end, walk, has-keep}
+use Rattle.table.proofs.Blocks.{opened, block}
 use Rattle.table.proofs.Linked.{linked}
 
 -- the key of the block at b

@@ -1,15 +1,14 @@
 -- The sizes that acceptance implies: words, blocks and depth.
-use mathlib.Core.Path.{_≡_, refl, sym, ap, _∙_, subst}
+use mathlib.Core.Path.{_≡_, refl, sym, ap, _∙_}
 use mathlib.Core.List.{List, [], _∷_, _++_}
-use Prim.Native.Nat.{ℕ, zero, suc, _≤_, _<_}
+use Prim.Native.Nat.{ℕ, zero, suc, _≤_}
 use native.Mathlib.Nat.{le-of-eq, le-trans}
 use lib.ListN.{length, getD, drop, replicate}
-use Rattle.table.specs.Words.{argument, size, handlers, depths}
+use Rattle.table.specs.Words.{argument, size, handlers}
 use Rattle.table.specs.Scan.{Task, head, name, perms, guard, term, accepted, keep, next, scan, reading}
-use Rattle.table.specs.Code.{trace, tasks, taskAt, blocksFrom, code}
+use Rattle.table.specs.Code.{trace, blocksFrom, code}
 use Rattle.table.proofs.Stack.{Terms, none, also, terms-next, at-start, at-step, scan-step, scan-missing, scan-more, refused-not-accepted}
-use Rattle.table.proofs.Blocks.{Head, head-word, blocks-first}
-use Rattle.table.proofs.Scopes.{depth-le}
+use Rattle.table.proofs.Blocks.{head-word, blocks-first}
 
 -- ---- as many blocks as word 0 says
 

@@ -2,17 +2,17 @@
 use mathlib.Core.Path.{_≡_, refl, sym, ap, _∙_, subst}
 use mathlib.Core.List.{List, [], _∷_}
 use mathlib.Core.Bool.{Bool, true, false}
-use Prim.Native.Nat.{ℕ, suc, _+_, _^_, _≤_, _<_}
+use Prim.Native.Nat.{ℕ, suc, _+_, _<_}
 use native.Mathlib.Nat.{le-trans, le-of-eq}
 use lib.ListN.{length, getD, List·getD-eq-default}
 use lib.Dec.{T, ltb, ltb→lt}
 use Rattle.table.specs.declared.Term.{Term}
-use Rattle.table.specs.Words.{kind, argument, firstKind, partsByKind, limitsByKind, parts, arity, limit, termsByKind, termOf}
+use Rattle.table.specs.Words.{argument, firstKind, partsByKind, limitsByKind, parts, arity, termsByKind, termOf}
 use Rattle.table.specs.Scan.{Task, head, name, perms, guard, term, accepted, under, reading}
-use Rattle.table.specs.Code.{Code, Node, gap, part, tasks, taskAt, termNode, nodeFor, scopeFor, homeFor, blocksFrom, code, Within, Part, Bound, NodeLinked, IsBlock, Linked}
+use Rattle.table.specs.Code.{part, tasks, taskAt, termNode, nodeFor, scopeFor, homeFor, code, Within, Part, Bound, NodeLinked, IsBlock, Linked}
 use Rattle.table.proofs.Words.{Rows, done, _▸_, by-kind, argument-lt}
 use Rattle.table.proofs.Faults.{Stands, stands}
-use Rattle.table.proofs.Stack.{At, Reached, LayeredAt, reach, at-step}
+use Rattle.table.proofs.Stack.{reach, at-step}
 use Rattle.table.proofs.Parts.{part-zero, part-inside, part-task, tasks-length}
 use Rattle.table.proofs.Blocks.{Block, block, block-listed, listed-block}
 

@@ -1,17 +1,16 @@
 -- Where the parts of a term stand in an accepted table, what task each meets, and where a term and a block end.
-use mathlib.Core.Path.{_≡_, refl, sym, ap, ap₂, _∙_, subst}
-use mathlib.Core.Logic.{_⊎_, inl, inr}
+use mathlib.Core.Path.{_≡_, refl, sym, ap, _∙_, subst}
 use mathlib.Core.List.{List, [], _∷_, _++_, map, map-append, append-assoc}
-use mathlib.Core.Bool.{Bool, true, false}
+use mathlib.Core.Bool.{Bool, false}
 use Prim.Native.Nat.{ℕ, zero, suc, _+_, _≤_, _<_, suc-le-suc, zero-le}
-use native.Mathlib.Nat.{add-zero, add-suc, suc-add, zero-add, add-assoc, le-refl}
+use native.Mathlib.Nat.{add-zero, suc-add, zero-add, add-assoc, le-refl}
 use native.Mathlib.Omega.{arith}
 use lib.ListN.{length, getD, take, drop, length-map, length-drop, take-append-drop}
 use lib.Seq.{drop-cons, drop-drop, drop-length, length-take-le}
-use Rattle.table.specs.Words.{argument, parts, arity}
-use Rattle.table.specs.Scan.{Task, head, name, perms, guard, term, accepted, refused, fault, keep, under, next, scan, reading}
+use Rattle.table.specs.Words.{parts, arity}
+use Rattle.table.specs.Scan.{Task, head, term, accepted, keep, under, next, scan, reading}
 use Rattle.table.specs.Code.{skip, part, endOf, trace, tasks, taskAt}
-use Rattle.table.proofs.Stack.{At, Step, at-step, at-end, at-pass, at-start, reach, Reached, LayeredAt, Names, Layered, Terms, terms-parts, scan-step, scan-more, refused-not-accepted, trace-step}
+use Rattle.table.proofs.Stack.{At, Step, at-step, at-pass, reach, Reached, LayeredAt, terms-parts, scan-step, scan-more, refused-not-accepted}
 
 -- ---- the words that terms take
 

@@ -1,15 +1,15 @@
 -- Homes, scopes and depths of the terms of an accepted table.
-use mathlib.Core.Path.{_≡_, refl, sym, ap, _∙_, subst}
+use mathlib.Core.Path.{_≡_, subst}
 use mathlib.Core.List.{List, [], _∷_, _++_, map}
 use mathlib.Core.Bool.{Bool, true, false}
-use Prim.Native.Nat.{ℕ, zero, suc, _+_, _≤_, _<_}
+use Prim.Native.Nat.{ℕ, zero, suc, _≤_, _<_}
 use native.Mathlib.Nat.{le-of-suc-le-suc, not-suc-le-zero, le-refl, le-suc, le-trans}
 use native.Mathlib.Omega.{arith}
 use lib.ListN.{length, getD, replicate}
 use Rattle.table.specs.Words.{argument, parts, depths}
 use Rattle.table.specs.Scan.{Task, head, name, perms, guard, term, accepted, under, next, reading}
 use Rattle.table.specs.Code.{taskAt}
-use Rattle.table.proofs.Stack.{Step, Reached, reach-with}
+use Rattle.table.proofs.Stack.{reach-with}
 use Rattle.table.proofs.Linked.{term-stands}
 
 -- ---- a fact of each task and the places up to its own

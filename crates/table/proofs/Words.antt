@@ -1,9 +1,9 @@
 -- Laws of words: a word is its kind and its argument, and words and terms correspond where both are in range.
-use mathlib.Core.Path.{_≡_, refl, sym, ap, ap₂, _∙_, subst}
+use mathlib.Core.Path.{_≡_, refl, sym, ap, _∙_, subst}
 use mathlib.Core.List.{List, [], _∷_}
 use mathlib.Core.Bool.{Bool}
-use Prim.Native.Nat.{ℕ, zero, suc, _+_, _-_, _*_, _/_, _%_, _^_, _≤_, _<_}
-use native.Mathlib.Nat.{le-of-suc-le-suc, not-suc-le-zero, add-zero, add-suc}
+use Prim.Native.Nat.{ℕ, zero, suc, _+_, _-_, _^_, _≤_, _<_}
+use native.Mathlib.Nat.{le-of-suc-le-suc, not-suc-le-zero, add-zero}
 use native.Mathlib.Omega.{arith}
 use lib.ListN.{length, getD}
 use Rattle.table.specs.declared.Constant.{Constant}
@@ -12,7 +12,7 @@ use Rattle.table.specs.declared.Operation.{Operation}
 use Rattle.table.specs.declared.Operation.the-variants as operations
 use Rattle.table.specs.declared.Term.{Term}
 use Rattle.table.specs.declared.Term.the-variants as terms
-use Rattle.table.specs.Words.{kind, argument, wordOf, names, literals, firstKind, partsByKind, limitsByKind, parts, arity, limit, constantNumber, operationNumber, word, constantOf, operationOf, termsByKind, termOf}
+use Rattle.table.specs.Words.{kind, argument, wordOf, firstKind, partsByKind, limitsByKind, parts, limit, constantNumber, operationNumber, word, constantOf, operationOf, termsByKind, termOf}
 
 -- ---- kind and argument
 
