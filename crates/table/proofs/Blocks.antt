@@ -1,7 +1,8 @@
 -- The blocks of an accepted table: the tasks of a block's words, where it ends, and the list of the blocks.
 use mathlib.Core.Path.{_≡_, refl, sym, ap, _∙_, subst}
 use mathlib.Core.Logic.{_⊎_, inl, inr}
-use mathlib.Core.List.{List, [], _∷_, _++_, append-assoc, List·Memᴰ, List·Memᴰ·head, List·Memᴰ·tail, List·Memᴰ·cases-cons, List·Memᴰ·not-nil}
+use mathlib.Core.List.{List, [], _∷_, _++_, append-assoc, List·Memᴰ, List·Memᴰ·head, List·Memᴰ·tail, List·Memᴰ·cases-cons}
+use mathlib.Core.List.{List·Memᴰ·not-nil}
 use Prim.Native.Nat.{ℕ, zero, suc, _+_, _≤_, _<_}
 use native.Mathlib.Nat.{add-zero, le-of-suc-le-suc, not-suc-le-zero, zero-lt-suc, le-of-eq}
 use native.Mathlib.Omega.{arith}
@@ -11,7 +12,8 @@ use Rattle.table.specs.Words.{argument, arity, names, size, handlers}
 use Rattle.table.specs.Scan.{Task, head, name, perms, guard, term, accepted, keep, next, reading}
 use Rattle.table.specs.Code.{skip, part, endOf, trace, tasks, taskAt, blocksFrom}
 use Rattle.table.proofs.Faults.{stands}
-use Rattle.table.proofs.Stack.{At, at-step, at-end, at-start, reach, Names, Layered, Terms, none, also, length-next, terms-next, term-next, length-term-next}
+use Rattle.table.proofs.Stack.{At, at-step, at-end, at-start, reach, Names, Layered, Terms, none, also, length-next, terms-next}
+use Rattle.table.proofs.Stack.{term-next, length-term-next}
 use Rattle.table.proofs.Parts.{at-term-end, tasks-length}
 
 -- ---- one block
@@ -187,7 +189,8 @@ trace-blocks (w ∷ ws) at ts us (also {d} {h} {s} {ts = ts′} r) =
     let t = term d h s in
     ap (λ (l : List Task). blocksFrom (trace ws (suc at) l) (suc at)) (sym (append-assoc (next at w t) ts′ us))
     ∙ trace-blocks ws (suc at) (next at w t ++ ts′) us (term-next at w d h s ts′ r)
-    ∙ ap (λ (n : ℕ). blocksFrom (trace (drop (skip ws n) ws) (suc at + skip ws n) us) (suc at + skip ws n)) (length-term-next at w d h s ts′)
+    ∙ ap (λ (n : ℕ). blocksFrom (trace (drop (skip ws n) ws) (suc at + skip ws n) us) (suc at + skip ws n))
+    (length-term-next at w d h s ts′)
     ∙ (let n = skip ws (arity w + length ts′) in
     ap (λ (m : ℕ). blocksFrom (trace (drop n ws) m us) m) (let k : suc at + n ≡ at + suc n = omega arith in k))
 
@@ -215,7 +218,8 @@ module _ (ws : List ℕ) (e : reading ws ≡ accepted) where
       (drop-of-length-le (tasks ws) {i = length ws} (le-of-eq (tasks-length ws e)))
 
   -- no block starts within a term
-  blocks-term : (p : ℕ) (keys : List ℕ) (d h : ℕ) (s : List ℕ) (us : List Task) → At ws p keys (term d h s ∷ us) → blocksAt p ≡ blocksAt (endOf ws p)
+  blocks-term : (p : ℕ) (keys : List ℕ) (d h : ℕ) (s : List ℕ) (us : List Task) → At ws p keys (term d h s ∷ us)
+      → blocksAt p ≡ blocksAt (endOf ws p)
   unfolding blocksFrom endOf part
   blocks-term p keys d h s us a =
       let w = getD ws p 0 in

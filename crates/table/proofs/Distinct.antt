@@ -55,9 +55,11 @@ module _ (ws : List ℕ) (e : reading ws ≡ accepted) where
       let there : suc (suc b) + m ≡ b′ + 1 = omega arith in
       let inside = block ws e b′ l′ t′ .inside in
       let x = key n (argument (getD ws (suc b) 0)) in
-      let r = walk ws (HasAt x) (λ q keys u ts z. has-keep keys (getD ws q 0) u x) (suc (suc b)) _ _ (s .rest) (has-first x (o .keys)) m (omega arith) in
+      let r = walk ws (HasAt x) (λ q keys u ts z. has-keep keys (getD ws q 0) u x)
+      (suc (suc b)) _ _ (s .rest) (has-first x (o .keys)) m (omega arith) in
       not-kept b′ l′ t′ (r .keys) (r .stack) (subst (λ (q : ℕ). At ws q (r .keys) (r .stack)) there (r .there))
-      (subst (λ (y : ℕ). T (has (r .keys) y)) (ap (λ (q : ℕ). key n (argument (getD ws q 0))) (let z : suc b ≡ b + 1 = omega arith in z) ∙ k) (r .holds))
+      (subst (λ (y : ℕ). T (has (r .keys) y))
+      (ap (λ (q : ℕ). key n (argument (getD ws q 0))) (let z : suc b ≡ b + 1 = omega arith in z) ∙ k) (r .holds))
 
   pub distinct : (b b′ : ℕ) → b < length ws → taskAt ws b ≡ name → b′ < length ws → taskAt ws b′ ≡ name
       → argument (getD ws b 0) ≡ argument (getD ws b′ 0) → argument (getD ws (b + 1) 0) ≡ argument (getD ws (b′ + 1) 0) → b ≡ b′

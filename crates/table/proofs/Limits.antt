@@ -7,7 +7,8 @@ use lib.ListN.{length, getD, drop, replicate}
 use Rattle.table.specs.Words.{argument, size, handlers}
 use Rattle.table.specs.Scan.{Task, head, name, perms, guard, term, accepted, keep, next, scan, reading}
 use Rattle.table.specs.Code.{trace, blocksFrom, code}
-use Rattle.table.proofs.Stack.{Terms, none, also, terms-next, at-start, at-step, scan-step, scan-missing, scan-more, refused-not-accepted}
+use Rattle.table.proofs.Stack.{Terms, none, also, terms-next, at-start, at-step, scan-step, scan-missing, scan-more}
+use Rattle.table.proofs.Stack.{refused-not-accepted}
 use Rattle.table.proofs.Blocks.{head-word, blocks-first}
 
 -- ---- as many blocks as word 0 says

@@ -9,7 +9,8 @@ use lib.Dec.{T, ltb, ltb→lt}
 use Rattle.table.specs.declared.Term.{Term}
 use Rattle.table.specs.Words.{argument, firstKind, partsByKind, limitsByKind, parts, arity, termsByKind, termOf}
 use Rattle.table.specs.Scan.{Task, head, name, perms, guard, term, accepted, under, reading}
-use Rattle.table.specs.Code.{part, tasks, taskAt, termNode, nodeFor, scopeFor, homeFor, code, Within, Part, Bound, NodeLinked, IsBlock, Linked}
+use Rattle.table.specs.Code.{part, tasks, taskAt, termNode, nodeFor, scopeFor, homeFor, code, Within, Part, Bound, NodeLinked}
+use Rattle.table.specs.Code.{IsBlock, Linked}
 use Rattle.table.proofs.Words.{Rows, done, _▸_, by-kind, argument-lt}
 use Rattle.table.proofs.Faults.{Stands, stands}
 use Rattle.table.proofs.Stack.{reach, at-step}

@@ -10,7 +10,8 @@ use lib.Seq.{drop-cons, drop-drop, drop-length, length-take-le}
 use Rattle.table.specs.Words.{parts, arity}
 use Rattle.table.specs.Scan.{Task, head, term, accepted, keep, under, next, scan, reading}
 use Rattle.table.specs.Code.{skip, part, endOf, trace, tasks, taskAt}
-use Rattle.table.proofs.Stack.{At, Step, at-step, at-pass, reach, Reached, LayeredAt, terms-parts, scan-step, scan-more, refused-not-accepted}
+use Rattle.table.proofs.Stack.{At, Step, at-step, at-pass, reach, Reached, LayeredAt, terms-parts, scan-step, scan-more}
+use Rattle.table.proofs.Stack.{refused-not-accepted}
 
 -- ---- the words that terms take
 
@@ -63,7 +64,8 @@ unfolding part endOf skip
 part-suc ws p k h =
     let q = part ws p k in
     let v = drop (suc p) ws in
-    let one : skip v (suc k) ≡ skip v k + skip (drop (skip v k) v) 1 = ap (skip v) (let e : suc k ≡ k + 1 = omega arith in e) ∙ skip-add v k 1 in
+    let one : skip v (suc k) ≡ skip v k + skip (drop (skip v k) v) 1 =
+    ap (skip v) (let e : suc k ≡ k + 1 = omega arith in e) ∙ skip-add v k 1 in
     let there : drop (skip v k) v ≡ getD ws q 0 ∷ drop (suc q) ws = drop-drop (skip v k) (suc p) ws ∙ drop-cons ws q 0 h in
     let next : skip (drop (skip v k) v) 1 ≡ suc (skip (drop (suc q) ws) (arity (getD ws q 0))) =
     ap (λ (l : List ℕ). skip l 1) there ∙ ap (λ (n : ℕ). suc (skip (drop (suc q) ws) n)) (add-zero (arity (getD ws q 0))) in
@@ -83,7 +85,8 @@ module _ (ws : List ℕ) (p : ℕ) (keys : List ℕ) (d h : ℕ) (s : List ℕ) 
       let bs = parts (getD ws p 0) in
       let f = partTask p d h s in
       let cut : map f bs ++ us ≡ map f (take k bs) ++ (map f (drop k bs) ++ us) =
-      ap (λ (l : List Bool). map f l ++ us) (sym (take-append-drop k bs)) ∙ ap (λ (l : List Task). l ++ us) (map-append f (take k bs) (drop k bs))
+      ap (λ (l : List Bool). map f l ++ us) (sym (take-append-drop k bs))
+      ∙ ap (λ (l : List Task). l ++ us) (map-append f (take k bs) (drop k bs))
       ∙ append-assoc (map f (take k bs)) (map f (drop k bs)) us in
       let long : length (map f (take k bs)) ≡ k = length-map (take k bs) f ∙ length-take-le k bs l in
       subst (λ (n : ℕ). At ws (suc p + skip (drop (suc p) ws) n) keys (map f (drop k bs) ++ us)) long
@@ -94,7 +97,8 @@ module _ (ws : List ℕ) (p : ℕ) (keys : List ℕ) (d h : ℕ) (s : List ℕ) 
   unfolding endOf arity
   at-term-end =
       let bs = parts (getD ws p 0) in
-      subst (λ (l : List Bool). At ws (endOf ws p) keys (map (partTask p d h s) l ++ us)) (drop-length bs) (at-part (length bs) (le-refl (length bs)))
+      subst (λ (l : List Bool). At ws (endOf ws p) keys (map (partTask p d h s) l ++ us)) (drop-length bs)
+      (at-part (length bs) (le-refl (length bs)))
 
 -- ---- the tasks of an accepted table
 

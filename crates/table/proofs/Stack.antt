@@ -10,7 +10,8 @@ use lib.ListN.{length, getD, drop, replicate, length-append, length-map, length-
 use lib.Seq.{drop-cons, drop-drop, getD-drop}
 use lib.Dec.{T, eqb}
 use Rattle.table.specs.Words.{argument, parts, arity}
-use Rattle.table.specs.Scan.{Task, head, name, perms, guard, term, Outcome, accepted, refused, has, key, fault, missing, keep, under, next, scan, reading}
+use Rattle.table.specs.Scan.{Task, head, name, perms, guard, term, Outcome, accepted, refused, has, key, fault, missing, keep}
+use Rattle.table.specs.Scan.{under, next, scan, reading}
 use Rattle.table.specs.Code.{skip, trace, tasks, taskAt}
 
 -- ---- one word
@@ -98,7 +99,9 @@ at-step ws p keys t ts a = go (decLt p (length ws))
               record {
                 bound = l;
                 scanned = s .1;
-                traced = ap (λ (n : ℕ). drop n (tasks ws)) (let e : suc p ≡ p + 1 = omega arith in e) ∙ sym (drop-drop 1 p (tasks ws)) ∙ ap (drop 1) r;
+                traced = ap (λ (n : ℕ). drop n (tasks ws)) (let e : suc p ≡ p + 1 = omega arith in e)
+                    ∙ sym (drop-drop 1 p (tasks ws))
+                    ∙ ap (drop 1) r;
               };
         }
 
@@ -158,7 +161,8 @@ at-pass ws [] p keys ts us e (also {d} {h} {s} {ts = ts′} r) a =
     absurd n
 at-pass ws (v ∷ vs) p keys ts us e none a = subst (λ (q : ℕ). At ws q keys us) (sym (add-zero p)) a
 at-pass ws (v ∷ vs) p keys ts us e (also {d} {h} {s} {ts = ts′} r) a =
-    subst (λ (q : ℕ). At ws q keys us) (ap (λ (n : ℕ). suc p + skip vs n) (length-term-next p v d h s ts′) ∙ sym (add-suc-left p (skip vs (arity v + length ts′))))
+    subst (λ (q : ℕ). At ws q keys us)
+    (ap (λ (n : ℕ). suc p + skip vs n) (length-term-next p v d h s ts′) ∙ sym (add-suc-left p (skip vs (arity v + length ts′))))
     (at-pass ws vs (suc p) keys (next p v (term d h s) ++ ts′) us tail (term-next p v d h s ts′ r) after)
   where
     step : Step ws p keys (term d h s) (ts′ ++ us)

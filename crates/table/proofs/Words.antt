@@ -12,7 +12,8 @@ use Rattle.table.specs.declared.Operation.{Operation}
 use Rattle.table.specs.declared.Operation.the-variants as operations
 use Rattle.table.specs.declared.Term.{Term}
 use Rattle.table.specs.declared.Term.the-variants as terms
-use Rattle.table.specs.Words.{kind, argument, wordOf, firstKind, partsByKind, limitsByKind, parts, limit, constantNumber, operationNumber, word, constantOf, operationOf, termsByKind, termOf}
+use Rattle.table.specs.Words.{kind, argument, wordOf, firstKind, partsByKind, limitsByKind, parts, limit, constantNumber}
+use Rattle.table.specs.Words.{operationNumber, word, constantOf, operationOf, termsByKind, termOf}
 
 -- ---- kind and argument
 
