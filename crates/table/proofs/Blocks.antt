@@ -18,12 +18,12 @@ use Rattle.table.proofs.Parts.{at-term-end, tasks-length}
 
 -- ---- one block
 
--- where names alone wait, the table ends or a block starts
-Next : List ℕ → ℕ → Type 0
-Next ws p = (p ≡ length ws) ⊎ ((p < length ws) × (taskAt ws p ≡ name))
+-- at p the table ends or a block starts
+abbrev pub Follows : List ℕ → ℕ → Type 0
+Follows ws p = (p ≡ length ws) ⊎ ((p < length ws) × (taskAt ws p ≡ name))
 
-next-block : (ws : List ℕ) (p : ℕ) (keys : List ℕ) (ts : List Task) → At ws p keys ts → Names ts → Next ws p
-unfolding Next
+-- where names alone wait
+next-block : (ws : List ℕ) (p : ℕ) (keys : List ℕ) (ts : List Task) → At ws p keys ts → Names ts → Follows ws p
 next-block ws p keys [] a n = inl (at-end ws p keys a)
 next-block ws p keys (name ∷ ts) a n = let s = at-step ws p keys name ts a in inr (s .inside, s .task)
 
@@ -34,7 +34,7 @@ pub record Block (ws : List ℕ) (b : ℕ) : Type 0 where
   pub guard-task : taskAt ws (b + 2) ≡ guard
   pub body-task : taskAt ws (b + 3) ≡ term 1 b (b ∷ [])
   pub named : argument (getD ws b 0) < names
-  pub follows : (endOf ws (b + 3) ≡ length ws) ⊎ ((endOf ws (b + 3) < length ws) × (taskAt ws (endOf ws (b + 3)) ≡ name))
+  pub follows : Follows ws (endOf ws (b + 3))
 
 -- the stack behind a block's name
 pub record Opened (ws : List ℕ) (b : ℕ) : Type 0 where
@@ -58,7 +58,7 @@ opened ws e b l t =
     }
 
 pub block : (ws : List ℕ) → reading ws ≡ accepted → (b : ℕ) → b < length ws → taskAt ws b ≡ name → Block ws b
-unfolding next keep Next
+unfolding next keep
 block ws e b l t =
     let o = opened ws e b l t in
     let us = o .below in
@@ -74,7 +74,7 @@ block ws e b l t =
       body-task = subst (λ (q : ℕ). taskAt ws q ≡ term 1 b (b ∷ [])) body (four .task);
       named = o .named;
       follows =
-          subst (λ (q : ℕ). Next ws (endOf ws q)) body
+          subst (λ (q : ℕ). Follows ws (endOf ws q)) body
           (next-block ws (endOf ws (suc (suc (suc b)))) _ us (at-term-end ws (suc (suc (suc b))) _ 1 b (b ∷ []) us (three .rest))
           (o .layered));
     }
@@ -86,14 +86,14 @@ pub record Head (ws : List ℕ) : Type 0 where
   pub head-task : taskAt ws 0 ≡ head (length ws)
   pub sized : length ws ≤ size
   pub handled : argument (getD ws 0 0) ≤ handlers
-  pub follows : (1 ≡ length ws) ⊎ ((1 < length ws) × (taskAt ws 1 ≡ name))
+  pub follows : Follows ws 1
 
 names-only : (n : ℕ) → Names (replicate n name ++ [])
 names-only zero = tt
 names-only (suc n) = names-only n
 
 pub head-word : (ws : List ℕ) → reading ws ≡ accepted → Head ws
-unfolding next Next
+unfolding next
 head-word ws e =
     let one = at-step ws 0 [] (head (length ws)) [] (at-start ws e) in
     let f = stands [] (getD ws 0 0) (head (length ws)) (one .faultless) in

@@ -2,7 +2,7 @@
 use mathlib.Core.Path.{_≡_, refl, sym, ap, ap₂, _∙_, subst}
 use mathlib.Core.List.{List, [], _∷_}
 use mathlib.Core.Bool.{Bool, true, _||_}
-use Prim.Native.Nat.{ℕ, suc, _+_, _-_, _<_}
+use Prim.Native.Nat.{ℕ, suc, _+_, _-_, _^_, _<_}
 use native.Mathlib.Decide.{decLt}
 use native.Mathlib.Omega.{arith}
 use lib.ListN.{length, getD}
@@ -12,6 +12,7 @@ use Rattle.table.specs.declared.Term.the-variants as terms
 use Rattle.table.specs.Words.{argument}
 use Rattle.table.specs.Scan.{Task, head, name, perms, guard, term, accepted, has, key, keep, next, reading}
 use Rattle.table.specs.Code.{block as blockNode, taskAt, termNode, nodeFor, code, IsBlock}
+use Rattle.table.proofs.Words.{wordOf-injective}
 use Rattle.table.proofs.Faults.{Stands, stands}
 use Rattle.table.proofs.Stack.{At, Fact, at-step, at-end, walk, has-keep}
 use Rattle.table.proofs.Blocks.{opened, block}
@@ -20,6 +21,10 @@ use Rattle.table.proofs.Linked.{linked}
 -- the key of the block at b
 abbrev pub keyAt : List ℕ → ℕ → ℕ
 keyAt ws b = key (argument (getD ws b 0)) (argument (getD ws (b + 1) 0))
+
+-- keys are equal only where the names and the permissions are
+pub key-injective : (n n′ s s′ : ℕ) → s < 2 ^ 24 → s′ < 2 ^ 24 → key n s ≡ key n′ s′ → (n ≡ n′) × (s ≡ s′)
+key-injective n n′ s s′ h h′ e = wordOf-injective n n′ s s′ h h′ e
 
 or-left : (a b : Bool) → T a → T (a || b)
 or-left true b h = tt

@@ -37,7 +37,7 @@ pub kind-lt : (w : ℕ) → w < 2 ^ 32 → kind w < 2 ^ 8
 unfolding kind
 kind-lt w h = omega arith
 
--- two keys are equal only where name and permissions are
+-- two words are equal only where kind and argument are
 pub wordOf-injective : (k l a b : ℕ) → a < 2 ^ 24 → b < 2 ^ 24 → wordOf k a ≡ wordOf l b → (k ≡ l) × (a ≡ b)
 wordOf-injective k l a b ha hb e = (omega arith, omega arith)
 
