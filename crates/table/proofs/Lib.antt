@@ -1,4 +1,4 @@
-pub mod Words
+pub mod TermWords
 pub mod Faults
 pub mod Stack
 pub mod Parts
