@@ -155,3 +155,128 @@ module _ (ws : List ℕ) (e : reading ws ≡ accepted) where
           subst (λ (n : ℕ). Spans ws n ms (endOf ws p)) (part-suc ws p j x)
               (spans-parts t ms (suc j) y (ap (drop 1) cut)),
         )
+
+-- ---- the second pass, word by word
+
+-- the block of the word before p
+cur : List ℕ → ℕ → ℕ
+cur ws zero = 0
+cur ws (suc p) = blockAt (getD ws p 0) p (cur ws p)
+
+-- the links after p words
+passed : List ℕ → List ℕ → ℕ → List ℕ
+passed ws l zero = l
+passed ws l (suc p) = withHome (bindWord (getD ws p 0) p (passed ws l p)) p (cur ws (suc p))
+
+passed-binders : (ws l : List ℕ) (n p : ℕ) → binders ws n p (cur ws p) (passed ws l p) ≡ passed ws l (p + n)
+unfolding binders passed cur
+passed-binders ws l zero p = ap (passed ws l) (sym (add-zero p))
+passed-binders ws l (suc n) p =
+    passed-binders ws l n (suc p) ∙ ap (passed ws l) (let z : suc p + n ≡ p + suc n = omega arith in z)
+
+cur-name : (ws : List ℕ) (p : ℕ) → kind (getD ws p 0) ≡ 2 → cur ws (suc p) ≡ p
+unfolding cur blockAt
+cur-name ws p k = rw (eq-eqb (kind (getD ws p 0)) 2 k, blockAt)
+
+cur-other : (ws : List ℕ) (p : ℕ) → kind (getD ws p 0) ≢ 2 → cur ws (suc p) ≡ cur ws p
+unfolding cur blockAt
+cur-other ws p k = rw (ne-eqb (kind (getD ws p 0)) 2 k, blockAt)
+
+cur-step : (ws : List ℕ) (p : ℕ) → cur ws p ≤ p → Dec (kind (getD ws p 0) ≡ 2) → cur ws (suc p) ≤ p
+cur-step ws p h (yes k) = omega (arith, cur-name ws p k)
+cur-step ws p h (no k) = omega (arith, cur-other ws p k)
+
+cur-le : (ws : List ℕ) (p : ℕ) → cur ws p ≤ p
+unfolding cur
+cur-le ws zero = le-refl 0
+cur-le ws (suc p) = let z = cur-step ws p (cur-le ws p) (ℕ-discrete (kind (getD ws p 0)) 2) in omega arith
+
+module _ (w p : ℕ) (l : List ℕ) where
+  bind-name : kind w ≡ 2 → bindWord w p l ≡ withBinder l (p + 3) p
+  unfolding bindWord
+  bind-name k = rw (eq-eqb (kind w) 2 k, bindWord)
+
+  bind-variable : kind w ≡ 20 → bindWord w p l ≡ withBinder l p (outward l (argument w) (linkAt l p .binder))
+  unfolding bindWord
+  bind-variable k = rw (ne-eqb (kind w) 2 (λ z. let c : ⊥ = omega arith in c), eq-eqb (kind w) 20 k, bindWord)
+
+  bind-term : kind w ≢ 2 → kind w ≢ 20 → bindWord w p l ≡ bindParts l p (linkAt l p .binder) (parts w) (suc p)
+  unfolding bindWord
+  bind-term k m = rw (ne-eqb (kind w) 2 k, ne-eqb (kind w) 20 m, bindWord)
+
+  bind-none : kind w < 16 → kind w ≢ 2 → bindWord w p l ≡ l
+  unfolding bindParts
+  bind-none h k =
+      bind-term k (λ z. let c : ⊥ = omega arith in c)
+      ∙ ap (λ (bs : List Bool). bindParts l p (linkAt l p .binder) bs (suc p)) (parts-low w h)
+
+-- which of its scope's binders a word counts to: a variable's argument, and otherwise the innermost
+unfoldable pub counted : ℕ → ℕ
+counted w = elim (eqb (kind w) 20) [ true ↦ argument w | false ↦ 0 ]
+
+pub counted-variable : (w : ℕ) → kind w ≡ 20 → counted w ≡ argument w
+unfolding counted
+counted-variable w k = rw (eq-eqb (kind w) 20 k, counted)
+
+pub counted-other : (w : ℕ) → kind w ≢ 20 → counted w ≡ 0
+unfolding counted
+counted-other w k = rw (ne-eqb (kind w) 20 k, counted)
+
+-- ---- what holds of the links after p words, and the stack there
+
+-- a word that the pass has done
+pub record Done (ws l : List ℕ) (q h : ℕ) (s : List ℕ) : Type 0 where
+  pub home-right : linkAt l q .home ≡ h
+  pub binder-right : linkAt l q .binder ≡ getD s (counted (getD ws q 0)) 0
+
+abbrev DoneTask : List ℕ → List ℕ → ℕ → Task → Type 0
+DoneTask ws l q (head n) = Unit {0}
+DoneTask ws l q name = linkAt l q .home ≡ q
+DoneTask ws l q (perms n) = Unit {0}
+DoneTask ws l q guard = Unit {0}
+DoneTask ws l q (term d h s) = Done ws l q h s
+
+done-agree : (ws l l′ : List ℕ) (q : ℕ) (t : Task) → getD l′ q 0 ≡ getD l q 0 → DoneTask ws l q t → DoneTask ws l′ q t
+done-agree ws l l′ q (head n) a r = tt
+done-agree ws l l′ q name a r = ap (λ (x : Link). x .home) (link-other l l′ q a) ∙ r
+done-agree ws l l′ q (perms n) a r = tt
+done-agree ws l l′ q guard a r = tt
+done-agree ws l l′ q (term d h s) a r =
+    record {
+      home-right = ap (λ (x : Link). x .home) (link-other l l′ q a) ∙ r .home-right;
+      binder-right = ap (λ (x : Link). x .binder) (link-other l l′ q a) ∙ r .binder-right;
+    }
+
+-- terms wait in the block b alone
+abbrev HomedTask : ℕ → Task → Type 0
+HomedTask b (head n) = Unit {0}
+HomedTask b name = Unit {0}
+HomedTask b (perms n) = Unit {0}
+HomedTask b guard = Unit {0}
+HomedTask b (term d h s) = h ≡ b
+
+record Passed (ws l₀ : List ℕ) (ended : List ℕ → Type 0) (p : ℕ) (l : List ℕ) (ts : List Task) : Type 0 where
+  long : length l ≡ length l₀
+  rest : (q : ℕ) → length ws ≤ q → getD l q 0 ≡ getD l₀ q 0
+  right : ended l
+  layered : Layered ts
+  homed : All (HomedTask (cur ws p)) ts
+  laid : Laid ws l p ts
+  done : (q : ℕ) → q < p → DoneTask ws l q (taskAt ws q)
+
+-- ---- a variable counts through the binders of its scope
+
+module _ (ws l : List ℕ) (p : ℕ) (done : (q : ℕ) → q < p → DoneTask ws l q (taskAt ws q)) where
+  binder-next : (b : ℕ) (s : List ℕ) → Binder ws b s → b < p → 0 < length s → linkAt l b .binder ≡ getD s 0 0
+  binder-next b s (of-block t) h k = absurd (not-suc-le-zero k)
+  binder-next b s (of-term {s = s′} t n) h k =
+      subst (DoneTask ws l b) t (done b h) .binder-right ∙ ap (λ (i : ℕ). getD s′ i 0) (counted-other (getD ws b 0) n)
+
+  outward-right : (s : List ℕ) → Chained ws s → ((k : ℕ) → k < length s → getD s k 0 < p) → (n : ℕ) → n < length s
+      → outward l n (getD s 0 0) ≡ getD s n 0
+  unfolding iterate
+  outward-right [] c b n h = absurd (not-suc-le-zero h)
+  outward-right (x ∷ s) c b zero h = refl
+  outward-right (x ∷ s) c b (suc n) h =
+      ap (outward l n) (binder-next x s (c .0) (b 0 (omega arith)) (omega arith))
+      ∙ outward-right s (c .1) (λ k i. b (suc k) (omega arith)) n (omega arith)
