@@ -18,9 +18,10 @@ use Rattle.table.specs.Scan.{Task, head, name, perms, guard, term, accep
 use Rattle.table.specs.Code.{part, endOf, taskAt}
 use Rattle.table.specs.Links.{linkAt, iterate, outward, innermost, withBinder, withHome, bindParts, blockAt, bindWord, binders, ends, linked}
 use Rattle.table.proofs.Faults.{Stands, stands}
-use Rattle.table.proofs.Stack.{At, Step, Names, Layered}
-use Rattle.table.proofs.Parts.{partTask, part-zero, part-suc, part-inside, end-after}
+use Rattle.table.proofs.Stack.{At, Step, Names, Layered, layered-next, names-more}
+use Rattle.table.proofs.Parts.{partTask, part-zero, part-suc, part-inside, end-after, end-le}
 use Rattle.table.proofs.Scopes.{Scoped, scoped, Binder, of-block, of-term, Chained, chained, All, parts-variable}
+use Rattle.table.proofs.Limits.{size-le}
 use Rattle.table.proofs.LinkReads.{link-other, link-packs, binder-other, binder-same, home-other, home-same, length-binder, length-home}
 use Rattle.table.proofs.LinkEnds.{Ended, parts-low}
 
@@ -280,3 +281,179 @@ module _ (ws l : List ℕ) (p : ℕ) (done : (q : ℕ) → q < p → DoneTask ws
   outward-right (x ∷ s) c b (suc n) h =
       ap (outward l n) (binder-next x s (c .0) (b 0 (omega arith)) (omega arith))
       ∙ outward-right s (c .1) (λ k i. b (suc k) (omega arith)) n (omega arith)
+
+-- ---- one word
+
+homed-names : (b : ℕ) (ts : List Task) → Names ts → All (HomedTask b) ts
+homed-names b [] h = tt
+homed-names b (name ∷ ts) h = (tt, homed-names b ts h)
+
+homed-parts : (p d h b : ℕ) (s : List ℕ) → h ≡ b → (bs : List Bool) → All (HomedTask b) (map (partTask p d h s) bs)
+homed-parts p d h b s k [] = tt
+homed-parts p d h b s k (m ∷ ms) = (k, homed-parts p d h b s k ms)
+
+module _ (ws : List ℕ) (e : reading ws ≡ accepted) (l₀ : List ℕ) (room : length ws ≤ length l₀) where
+  abbrev Inv : ℕ → List ℕ → List Task → Type 0
+  Inv p l ts = Passed ws l₀ (λ m. Ended ws e m 0) p l ts
+
+  -- the block of a word that has one, and its binder
+  abbrev HomeRight : ℕ → Task → Type 0
+  HomeRight p (head n) = Unit {0}
+  HomeRight p name = cur ws (suc p) ≡ p
+  HomeRight p (perms n) = Unit {0}
+  HomeRight p guard = Unit {0}
+  HomeRight p (term d h s) = cur ws (suc p) ≡ h
+
+  abbrev BinderRight : List ℕ → ℕ → Task → Type 0
+  BinderRight l p (head n) = Unit {0}
+  BinderRight l p name = Unit {0}
+  BinderRight l p (perms n) = Unit {0}
+  BinderRight l p guard = Unit {0}
+  BinderRight l p (term d h s) = linkAt l p .binder ≡ getD s (counted (getD ws p 0)) 0
+
+  -- what `bindWord` makes of the links
+  record Mid (l l₁ : List ℕ) (p : ℕ) (t : Task) (ts : List Task) : Type 0 where
+    same : Same ws l l₁
+    before : (q : ℕ) → q < p → getD l₁ q 0 ≡ getD l q 0
+    rest : (q : ℕ) → length ws ≤ q → getD l₁ q 0 ≡ getD l q 0
+    laid : Laid ws l₁ (suc p) (next p (getD ws p 0) t ++ ts)
+    bound : BinderRight l₁ p t
+
+  module _ (p : ℕ) (l : List ℕ) (keys : List ℕ) (t : Task) (ts : List Task) (st : Step ws p keys t ts) (inv : Inv p l (t ∷ ts)) where
+    small : length ws ≤ 2 ^ 10
+    small = size-le ws e
+
+    cur-small : cur ws (suc p) < 2 ^ 10
+    cur-small =
+        let a = cur-step ws p (cur-le ws p) (ℕ-discrete (kind (getD ws p 0)) 2) in
+        let i = st .inside in
+        let b = small in
+        omega arith
+
+    wide : length ws ≤ length l
+    wide = subst (λ (n : ℕ). length ws ≤ n) (sym (inv .long)) room
+
+    module _ (l₁ : List ℕ) (mid : Mid l l₁ p t ts) (home : HomeRight p t)
+        (homed : All (HomedTask (cur ws (suc p))) (next p (getD ws p 0) t ++ ts)) where
+      at-p : linkAt (withHome l₁ p (cur ws (suc p))) p
+          ≡ record { end = linkAt l₁ p .end; binder = linkAt l₁ p .binder; home = cur ws (suc p) }
+      at-p =
+          home-same l₁ p (cur ws (suc p))
+          (subst (λ (n : ℕ). p < n) (sym (mid .same .long)) (lt-of-lt-of-le (st .inside) wide))
+          cur-small
+
+      done-here : (u : Task) → HomeRight p u → BinderRight l₁ p u → DoneTask ws (withHome l₁ p (cur ws (suc p))) p u
+      done-here (head n) a b = tt
+      done-here name a b = ap (λ (x : Link). x .home) at-p ∙ a
+      done-here (perms n) a b = tt
+      done-here guard a b = tt
+      done-here (term d h s) a b =
+          record { home-right = ap (λ (x : Link). x .home) at-p ∙ a; binder-right = ap (λ (x : Link). x .binder) at-p ∙ b }
+
+      finish : Inv (suc p) (withHome l₁ p (cur ws (suc p))) (next p (getD ws p 0) t ++ ts)
+      finish =
+          record {
+            long = length-home l₁ p (cur ws (suc p)) ∙ mid .same .long ∙ inv .long;
+            rest = λ q i.
+                home-other l₁ p (cur ws (suc p)) q (λ z. let k = st .inside in let c : ⊥ = omega arith in c) ∙ mid .rest q i ∙ inv .rest q i;
+            right = λ q i k. end-at q (ℕ-discrete q p) ∙ mid .same .ends q ∙ inv .right q i k;
+            layered = layered-next p (getD ws p 0) t ts (inv .layered);
+            homed = homed;
+            laid =
+                laid-agree ws l₁ (withHome l₁ p (cur ws (suc p))) (suc p) (next p (getD ws p 0) t ++ ts)
+                (λ q i. home-other l₁ p (cur ws (suc p)) q (λ z. let c : ⊥ = omega arith in c)) (mid .laid);
+            done = λ q i. done-at q i (ℕ-discrete q p);
+          }
+        where
+          end-at : (q : ℕ) → Dec (q ≡ p) → linkAt (withHome l₁ p (cur ws (suc p))) q .end ≡ linkAt l₁ q .end
+          end-at q (yes z) =
+              subst (λ (n : ℕ). linkAt (withHome l₁ p (cur ws (suc p))) n .end ≡ linkAt l₁ n .end) (sym z) (ap (λ (x : Link). x .end) at-p)
+          end-at q (no z) =
+              ap (λ (x : Link). x .end) (link-other l₁ (withHome l₁ p (cur ws (suc p))) q (home-other l₁ p (cur ws (suc p)) q z))
+
+          done-at : (q : ℕ) → q < suc p → Dec (q ≡ p) → DoneTask ws (withHome l₁ p (cur ws (suc p))) q (taskAt ws q)
+          done-at q i (yes z) =
+              subst (λ (n : ℕ). DoneTask ws (withHome l₁ p (cur ws (suc p))) n (taskAt ws n)) (sym z)
+              (subst (DoneTask ws (withHome l₁ p (cur ws (suc p))) p) (sym (st .task)) (done-here t home (mid .bound)))
+          done-at q i (no z) =
+              done-agree ws l (withHome l₁ p (cur ws (suc p))) q (taskAt ws q)
+              (home-other l₁ p (cur ws (suc p)) q z ∙ mid .before q (omega (arith, z)))
+              (inv .done q (omega (arith, z)))
+
+  -- ---- the cases of a word
+
+  module _ (p : ℕ) (l : List ℕ) (ts : List Task) (i : p < length ws) (wide : length ws ≤ length l) where
+    mid-none : (t : Task) → kind (getD ws p 0) < 16 → kind (getD ws p 0) ≢ 2 → Laid ws l (suc p) (next p (getD ws p 0) t ++ ts)
+        → BinderRight l p t → Mid l (bindWord (getD ws p 0) p l) p t ts
+    mid-none t h k a b =
+        subst (λ (m : List ℕ). Mid l m p t ts) (sym (bind-none (getD ws p 0) p l h k))
+        (record { same = same-refl ws l; before = λ q z. refl; rest = λ q z. refl; laid = a; bound = b })
+
+    mid-name : kind (getD ws p 0) ≡ 2 → p + 3 < length ws → Names ts → Mid l (bindWord (getD ws p 0) p l) p name ts
+    unfolding next
+    mid-name k j n =
+        let small = size-le ws e in
+        subst (λ (m : List ℕ). Mid l m p name ts) (sym (bind-name (getD ws p 0) p l k))
+        (record {
+          same = same-binder ws l (p + 3) p (lt-of-lt-of-le j wide) (omega arith);
+          before = λ q z. binder-other l (p + 3) p q (λ y. let c : ⊥ = omega arith in c);
+          rest = λ q z. binder-other l (p + 3) p q (λ y. let c : ⊥ = omega arith in c);
+          laid = (
+            subst (λ (q : ℕ). linkAt (withBinder l (p + 3) p) q .binder ≡ p) (let y : p + 3 ≡ suc (suc (suc p)) = omega arith in y)
+                (ap (λ (x : Link). x .binder) (binder-same l (p + 3) p (lt-of-lt-of-le j wide) (omega arith))),
+            laid-names ws (withBinder l (p + 3) p) (endOf ws (suc (suc (suc p)))) ts n,
+          );
+          bound = tt;
+        })
+
+    module _ (d h : ℕ) (s : List ℕ) (t : taskAt ws p ≡ term d h s) (laid : Laid ws l p (term d h s ∷ ts)) where
+      -- a term that is no variable binds its parts
+      mid-parts : kind (getD ws p 0) ≢ 2 → kind (getD ws p 0) ≢ 20 → Ended ws e l 0 → Mid l (bindWord (getD ws p 0) p l) p (term d h s) ts
+      unfolding next
+      mid-parts k m r =
+          let w = getD ws p 0 in
+          let b : getD s 0 0 < 2 ^ 10 = subst (λ (n : ℕ). n < 2 ^ 10) (laid .0) (link-packs l p .1) in
+          let z =
+          bind-parts ws e p d h s (size-le ws e) i (parts w) l (suc p) (endOf ws p) ts wide r b
+          (subst (λ (n : ℕ). Spans ws n (parts w) (endOf ws p)) (part-zero ws p) (spans-parts ws e p d h s (size-le ws e) i t (parts w) 0 (omega arith) refl))
+          (laid .1) in
+          subst (λ (m : List ℕ). Mid l m p (term d h s) ts)
+          (sym (bind-term w p l k m ∙ ap (λ (n : ℕ). bindParts l p n (parts w) (suc p)) (laid .0)))
+          (record {
+            same = z .same;
+            before = λ q y. z .before q (omega arith);
+            rest = λ q y. z .after q (le-trans (end-le ws p i) y);
+            laid = z .laid;
+            bound =
+                ap (λ (x : Link). x .binder) (link-other l (bindParts l p (getD s 0 0) (parts w) (suc p)) p (z .before p (le-refl (suc p))))
+                ∙ laid .0
+                ∙ ap (λ (n : ℕ). getD s n 0) (sym (counted-other w m));
+          })
+
+      -- a variable counts to its binder
+      mid-variable : kind (getD ws p 0) ≡ 20 → argument (getD ws p 0) < length s → ((q : ℕ) → q < p → DoneTask ws l q (taskAt ws q))
+          → Mid l (bindWord (getD ws p 0) p l) p (term d h s) ts
+      unfolding next arity endOf
+      mid-variable k a done =
+          let w = getD ws p 0 in
+          let none = parts-variable w k in
+          let c = scoped ws e p d h s i t in
+          let out : outward l (argument w) (linkAt l p .binder) ≡ getD s (argument w) 0 =
+          ap (outward l (argument w)) (laid .0)
+          ∙ outward-right ws l p done s (chained ws e p d h s i t) (c .binders-before) (argument w) a in
+          let b : getD s (argument w) 0 < 2 ^ 10 = let x = c .binders-before (argument w) a in let y = size-le ws e in omega arith in
+          let here : endOf ws p ≡ suc p = ap (λ (bs : List Bool). part ws p (length bs)) none ∙ part-zero ws p in
+          subst (λ (m : List ℕ). Mid l m p (term d h s) ts) (sym (bind-variable w p l k ∙ ap (withBinder l p) out))
+          (record {
+            same = same-binder ws l p (getD s (argument w) 0) (lt-of-lt-of-le i wide) b;
+            before = λ q y. binder-other l p (getD s (argument w) 0) q (λ z. let c : ⊥ = omega arith in c);
+            rest = λ q y. binder-other l p (getD s (argument w) 0) q (λ z. let c : ⊥ = omega arith in c);
+            laid =
+                subst (λ (bs : List Bool). Laid ws (withBinder l p (getD s (argument w) 0)) (suc p) (map (partTask p d h s) bs ++ ts)) (sym none)
+                (laid-agree ws l (withBinder l p (getD s (argument w) 0)) (suc p) ts
+                (λ q y. binder-other l p (getD s (argument w) 0) q (λ z. let c : ⊥ = omega arith in c))
+                (subst (λ (n : ℕ). Laid ws l n ts) here (laid .1)));
+            bound =
+                ap (λ (x : Link). x .binder) (binder-same l p (getD s (argument w) 0) (lt-of-lt-of-le i wide) b)
+                ∙ ap (λ (n : ℕ). getD s n 0) (sym (counted-variable w k));
+          })
