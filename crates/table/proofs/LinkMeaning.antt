@@ -4,26 +4,27 @@ use mathlib.Core.Path.{_≡_, refl, sym, ap, _∙_, subst}
 use mathlib.Core.Logic.{_≢_}
 use mathlib.Core.List.{List, [], _∷_, _++_, map}
 use mathlib.Core.Bool.{Bool, true, false}
-use Prim.Native.Nat.{ℕ, zero, suc, _+_, _-_, _^_, _≤_, _<_}
+use Prim.Native.Nat.{ℕ, zero, suc, _+_, _^_, _≤_, _<_, zero-le}
 use native.Mathlib.Nat.{add-zero, zero-add, le-refl, le-trans, lt-of-lt-of-le, not-suc-le-zero}
-use native.Mathlib.Decide.{ℕ-discrete, decLt}
+use native.Mathlib.Decide.{ℕ-discrete}
 use native.Mathlib.Omega.{arith}
-use borrow.Author.Tests.{eq-eqb, ne-eqb}
+use borrow.Author.Tests.{eq-eqb, ne-eqb, le-leb}
 use lib.ListN.{length, getD, drop, replicate, length-drop}
 use lib.Seq.{drop-cons}
 use lib.Dec.{eqb}
 use Rattle.table.specs.declared.Link.{Link}
-use Rattle.table.specs.Words.{kind, argument, parts, arity}
-use Rattle.table.specs.Scan.{Task, head, name, perms, guard, term, accepted, under, keep, next, reading}
+use Rattle.table.specs.Words.{kind, argument, size, parts, arity}
+use Rattle.table.specs.Scan.{Task, head, name, perms, guard, term, accepted, under, next, reading}
 use Rattle.table.specs.Code.{part, endOf, taskAt}
 use Rattle.table.specs.Links.{linkAt, iterate, outward, innermost, withBinder, withHome, bindParts, blockAt, bindWord, binders, ends, linked}
-use Rattle.table.proofs.Faults.{Stands, stands}
-use Rattle.table.proofs.Stack.{At, Step, Names, Layered, layered-next, names-more}
+use Rattle.table.proofs.Faults.{stands}
+use Rattle.table.proofs.Stack.{Fact, Kept, Step, Names, Layered, Walked, walk, at-start, layered-next, names-more}
 use Rattle.table.proofs.Parts.{partTask, part-zero, part-suc, part-inside, end-after, end-le}
-use Rattle.table.proofs.Scopes.{Scoped, scoped, Binder, of-block, of-term, Chained, chained, All, parts-variable}
+use Rattle.table.proofs.Blocks.{block}
+use Rattle.table.proofs.Scopes.{scoped, Binder, of-block, of-term, Chained, chained, All, all-append, parts-variable}
 use Rattle.table.proofs.Limits.{size-le}
 use Rattle.table.proofs.LinkReads.{link-other, link-packs, binder-other, binder-same, home-other, home-same, length-binder, length-home}
-use Rattle.table.proofs.LinkEnds.{Ended, parts-low}
+use Rattle.table.proofs.LinkEnds.{Ended, parts-low, ends-ended, ends-length, ends-rest}
 
 -- ---- binders along the stack
 
@@ -457,3 +458,114 @@ module _ (ws : List ℕ) (e : reading ws ≡ accepted) (l₀ : List ℕ) (room :
                 ap (λ (x : Link). x .binder) (binder-same l p (getD s (argument w) 0) (lt-of-lt-of-le i wide) b)
                 ∙ ap (λ (n : ℕ). getD s n 0) (sym (counted-variable w k));
           })
+
+  -- ---- all words
+
+  first-pass : List ℕ
+  first-pass = ends ws (length ws) l₀
+
+  InvAt : Fact
+  InvAt p keys ts = Inv p (passed ws first-pass p) ts
+
+  start : InvAt 0 [] (head (length ws) ∷ [])
+  unfolding InvAt first-pass passed
+  start =
+      record {
+        long = ends-length ws (length ws) l₀;
+        rest = λ q h. ends-rest ws (length ws) l₀ q h;
+        right = ends-ended ws e (length ws) l₀ (le-refl (length ws)) room (λ q h k. let c : ⊥ = omega arith in absurd c);
+        layered = tt;
+        homed = (tt, tt);
+        laid = tt;
+        done = λ q h. absurd (not-suc-le-zero h);
+      }
+
+  kept : Kept ws InvAt
+  unfolding InvAt passed next
+  kept p keys (head n) ts st inv =
+      let w = getD ws p 0 in
+      let l = passed ws first-pass p in
+      let f = stands keys w (head n) (st .faultless) in
+      let names = names-more (argument w) ts (inv .layered) in
+      finish p l keys (head n) ts st inv (bindWord w p l)
+      (mid-none p l ts (st .inside) (wide p l keys (head n) ts st inv) (head n) (omega arith) (λ z. let c : ⊥ = omega arith in c)
+      (laid-names ws l (suc p) (replicate (argument w) name ++ ts) names) tt)
+      tt (homed-names (cur ws (suc p)) (replicate (argument w) name ++ ts) names)
+  kept p keys name ts st inv =
+      let w = getD ws p 0 in
+      let l = passed ws first-pass p in
+      let k = stands keys w name (st .faultless) .0 in
+      let c = cur-name ws p k in
+      finish p l keys name ts st inv (bindWord w p l)
+      (mid-name p l ts (st .inside) (wide p l keys name ts st inv) k (block ws e p (st .inside) (st .task) .inside) (inv .layered))
+      c (tt, (tt, (sym c, homed-names (cur ws (suc p)) ts (inv .layered))))
+  kept p keys (perms n) ts st inv =
+      let w = getD ws p 0 in
+      let l = passed ws first-pass p in
+      let k = stands keys w (perms n) (st .faultless) .0 in
+      finish p l keys (perms n) ts st inv (bindWord w p l)
+      (mid-none p l ts (st .inside) (wide p l keys (perms n) ts st inv) (perms n) (omega arith) (λ z. let c : ⊥ = omega arith in c)
+      (inv .laid) tt)
+      tt (subst (λ (b : ℕ). All (HomedTask b) ts) (sym (cur-other ws p (λ z. let c : ⊥ = omega arith in c))) (inv .homed .1))
+  kept p keys guard ts st inv =
+      let w = getD ws p 0 in
+      let l = passed ws first-pass p in
+      let k = stands keys w guard (st .faultless) in
+      finish p l keys guard ts st inv (bindWord w p l)
+      (mid-none p l ts (st .inside) (wide p l keys guard ts st inv) guard (omega arith) (λ z. let c : ⊥ = omega arith in c) (inv .laid) tt)
+      tt (subst (λ (b : ℕ). All (HomedTask b) ts) (sym (cur-other ws p (λ z. let c : ⊥ = omega arith in c))) (inv .homed .1))
+  kept p keys (term d h s) ts st inv =
+      let w = getD ws p 0 in
+      let l = passed ws first-pass p in
+      let t = term d h s in
+      let f = stands keys w t (st .faultless) in
+      let c = cur-other ws p (λ z. let c : ⊥ = omega arith in c) in
+      finish p l keys t ts st inv (bindWord w p l) (mid (ℕ-discrete (kind w) 20))
+      (c ∙ sym (inv .homed .0))
+      (all-append (HomedTask (cur ws (suc p))) (map (partTask p d h s) (parts w)) ts
+      (homed-parts p d h (cur ws (suc p)) s (inv .homed .0 ∙ sym c) (parts w))
+      (subst (λ (b : ℕ). All (HomedTask b) ts) (sym c) (inv .homed .1)))
+    where
+      mid : Dec (kind (getD ws p 0) ≡ 20) → Mid (passed ws first-pass p) (bindWord (getD ws p 0) p (passed ws first-pass p)) p (term d h s) ts
+      mid (yes k) =
+          let f = stands keys (getD ws p 0) (term d h s) (st .faultless) in
+          mid-variable p (passed ws first-pass p) ts (st .inside) (wide p (passed ws first-pass p) keys (term d h s) ts st inv) d h s (st .task)
+          (inv .laid) k (f .3 k) (inv .done)
+      mid (no k) =
+          let f = stands keys (getD ws p 0) (term d h s) (st .faultless) in
+          mid-parts p (passed ws first-pass p) ts (st .inside) (wide p (passed ws first-pass p) keys (term d h s) ts st inv) d h s (st .task)
+          (inv .laid) (λ z. let c : ⊥ = omega arith in c) k (inv .right)
+
+  linked-passed : linked ws l₀ ≡ passed ws first-pass (0 + length ws)
+  unfolding linked first-pass passed cur
+  linked-passed =
+      rw (le-leb (length ws) (length l₀) room, le-leb (length ws) size (size-le ws e), linked)
+      (passed-binders ws (ends ws (length ws) l₀) (length ws) 0)
+
+  -- behind the last word
+  last : Walked ws InvAt (0 + length ws)
+  last = walk ws InvAt kept 0 [] (head (length ws) ∷ []) (at-start ws e) start (length ws) (omega arith)
+
+  final : Inv (length ws) (linked ws l₀) (last .stack)
+  unfolding InvAt
+  final =
+      subst (λ (l : List ℕ). Inv (length ws) l (last .stack)) (sym linked-passed)
+      (subst (λ (n : ℕ). Inv n (passed ws first-pass (0 + length ws)) (last .stack)) (zero-add (length ws)) (last .holds))
+
+  -- ---- the links
+
+  pub links-length : length (linked ws l₀) ≡ length l₀
+  links-length = final .long
+
+  -- the words past the table's are left
+  pub links-rest : (q : ℕ) → length ws ≤ q → getD (linked ws l₀) q 0 ≡ getD l₀ q 0
+  links-rest = final .rest
+
+  pub link-end : (p : ℕ) → p < length ws → linkAt (linked ws l₀) p .end ≡ endOf ws p
+  link-end p i = final .right p zero-le i
+
+  pub link-block : (p : ℕ) → p < length ws → taskAt ws p ≡ name → linkAt (linked ws l₀) p .home ≡ p
+  link-block p i t = subst (DoneTask ws (linked ws l₀) p) t (final .done p i)
+
+  pub link-term : (p d h : ℕ) (s : List ℕ) → p < length ws → taskAt ws p ≡ term d h s → Done ws (linked ws l₀) p h s
+  link-term p d h s i t = subst (DoneTask ws (linked ws l₀) p) t (final .done p i)
