@@ -1,0 +1,7 @@
+pub mod Elements
+pub mod Constraint
+pub mod Rules
+pub mod Values
+pub mod Machine
+pub mod Run
+pub mod Runs

@@ -1,0 +1,68 @@
+-- Worlds, events and runs (document 01, "The machine"): instances take their steps in any order, and the opponent starts others.
+use Prim.Native.Nat.{ℕ, _+_}
+use mathlib.Core.Bool.{Bool, true, false, _&&_}
+use mathlib.Core.Option.{Option, none, some}
+use mathlib.Core.List.{List, [], _∷_, _++_}
+use lib.ListN.{set, getElem?}
+use Rattle.table.specs.Code.{Code}
+use Rattle.calculus.specs.Rules.{permsOf, guarded, admits}
+use Rattle.calculus.specs.Values.{Value, Environment, plain, datum}
+use Rattle.calculus.specs.Machine.{Control, Frame, Effect, Move, step}
+
+-- an instance of the handler whose block begins at `home`, with what it is at, its frames and its own cells
+pub data Instance : Type 0 where
+  running : (home : ℕ) → Control → List Frame → List Value → Instance
+
+-- the instances in the order of their starts, and the sets that were exercised, the last one first
+pub data World : Type 0 where
+  world : List Instance → (exercised : List ℕ) → World
+
+abbrev pub nothing : World
+nothing = world [] []
+
+-- One step of one instance, with the block that a send's step starts, if any; or one start by the opponent of the handler at a block
+-- with one datum.
+pub data Event : Type 0 where
+  steps : (instance : ℕ) → (choice : Option ℕ) → Event
+  starts : (block : ℕ) → (datum : Value) → Event
+
+-- an instance of the handler at b, whose message is v
+abbrev pub started : ℕ → Value → Instance
+started b v = running b (Control.eval (b + 3) (Environment.bound v Environment.closed)) [] []
+
+-- The world after a step with an effect: `here` is what instance i is then, `before` the world that stays where the choice is not
+-- allowed.
+unfoldable pub sent : Code → (held required target : ℕ) → Value → Option ℕ → List Instance → List ℕ → World → World
+sent c held r n v none is rs before = world is rs
+sent c held r n v (some b) is rs before =
+    elim (plain v && admits n r held (c .node b)) [ true ↦ world (is ++ (started b v ∷ [])) rs | false ↦ before ]
+
+unfoldable pub effect : Code → (held : ℕ) → Effect → Option ℕ → List Instance → List ℕ → World → World
+effect c held Effect.silent choice is rs before = world is rs
+effect c held (Effect.exercises r) choice is rs before = world is (r ∷ rs)
+effect c held (Effect.sends r n v) choice is rs before = sent c held r n v choice is rs before
+
+unfoldable pub moved : Code → (home i : ℕ) → Option ℕ → Move → List Instance → List ℕ → World
+moved c h i choice Move.stay is rs = world is rs
+moved c h i choice (Move.go e k fs cs) is rs =
+    effect c (permsOf (c .node h)) e choice (set is i (running h k fs cs)) rs (world is rs)
+
+unfoldable pub stepped : Code → ℕ → Option ℕ → Option Instance → List Instance → List ℕ → World
+stepped c i choice none is rs = world is rs
+stepped c i choice (some (running h k fs cs)) is rs = moved c h i choice (step c (permsOf (c .node h)) k fs cs) is rs
+
+unfoldable pub act : Code → ℕ → World → Event → World
+act c ρ (world is rs) (steps i choice) = stepped c i choice (getElem? is i) is rs
+act c ρ (world is rs) (starts b v) =
+    elim (datum v (c .names) && guarded (c .node b) ρ) [ true ↦ world (is ++ (started b v ∷ [])) rs | false ↦ world is rs ]
+
+-- the events of a list, each on what the last one left
+unfoldable pub after : Code → ℕ → World → List Event → World
+after c ρ w [] = w
+after c ρ w (e ∷ es) = after c ρ (act c ρ w e) es
+
+unfoldable pub run : Code → ℕ → List Event → World
+run c ρ es = after c ρ nothing es
+
+unfoldable pub exercised : World → List ℕ
+exercised (world is rs) = rs
