@@ -1,3 +1,4 @@
 -- Demand 3.
 pub mod Relation
 pub mod Values
+pub mod Operations

@@ -30,8 +30,12 @@ signOf (pos zero) = nought
 signOf (pos (suc n)) = positive
 signOf (negsuc n) = negative
 
+abbrev pub stringElement : Bool → ℕ → ℕ
+stringElement true n = literalElement n
+stringElement false n = otherString
+
 abbrev pub textElement : ℕ → ℕ
-textElement n = elim (ltb n literals) [ true ↦ literalElement n | false ↦ otherString ]
+textElement n = stringElement (ltb n literals) n
 
 abbrev pub element : Atom → ℕ
 element (constant k) = constantElement k

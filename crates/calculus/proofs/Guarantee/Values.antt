@@ -18,7 +18,7 @@ use Rattle.calculus.specs.Elements.{constantElement}
 use Rattle.calculus.specs.Values.{Atom, constant, number, text, named, known, datum, dataFields, plain, plainFields}
 use Rattle.calculus.specs.Values.{Value, atom, function, fields, cell, Environment, closed, bound, Fields, empty, field}
 use Rattle.calculus.specs.Values.{undefined, look, getField, deleteField, setField}
-use Rattle.calculus.proofs.Guarantee.Relation.{Sub, signOf, textElement, element, In, Bound, FieldsIn, Found, Cells}
+use Rattle.calculus.proofs.Guarantee.Relation.{Sub, signOf, stringElement, textElement, element, In, Bound, FieldsIn, Found, Cells}
 
 pub both : (a b : Bool) → T (a && b) → T a × T b
 both true b h = (tt, h)
@@ -88,7 +88,7 @@ module _ (c : Code) (e : Sets) (h : ℕ) (ty : List ℕ) (g : ℕ) (uy : List �
 below-text : (n : ℕ) → textElement n < 32
 below-text n = go (ltb n literals) (ltb→lt n literals)
   where
-    go : (t : Bool) → (T t → n < literals) → (elim t [ true ↦ 9 + n | false ↦ 8 ]) < 32
+    go : (t : Bool) → (T t → n < literals) → stringElement t n < 32
     go true f = omega (arith, f tt)
     go false f = omega arith
 
