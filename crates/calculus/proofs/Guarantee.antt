@@ -2,3 +2,4 @@
 pub mod Relation
 pub mod Values
 pub mod Operations
+pub mod Words
