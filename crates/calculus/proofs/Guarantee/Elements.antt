@@ -4,9 +4,9 @@ use native.Mathlib.Omega.{arith}
 use native.Mathlib.Nat.{div-eq-of-lt, lt-of-lt-of-le}
 use mathlib.Core.Path.{_≡_, refl, subst}
 use mathlib.Core.Logic.{inl, inr}
-use mathlib.Core.Bool.{Bool, true, false, not, cond, _||_}
+use mathlib.Core.Bool.{Bool, true, false, not, cond, _&&_, _||_}
 use mathlib.Core.List.{List}
-use lib.Dec.{T, eqb, ltb, ltb→lt, lt→ltb, nltb→le, eqb·suc-zero}
+use lib.Dec.{T, eqb, leb, ltb, le→leb, ltb→lt, lt→ltb, nltb→le, eqb·suc-zero}
 use lib.IntN.{pos, negsuc}
 use lib.Pow.{pow-mono}
 use Rattle.permset.specs.Sets.{width, member}
@@ -14,10 +14,10 @@ use Rattle.table.specs.Words.{literals}
 use Rattle.table.specs.Code.{Code}
 use Rattle.calculus.specs.Constraint.{Sets}
 use Rattle.calculus.specs.Elements as E
-use Rattle.calculus.specs.Elements.{sign, isFunction, isRecord, isCell, makes, sendable, making}
+use Rattle.calculus.specs.Elements.{sign, isString, anyRecord, isFunction, isRecord, isCell, makes, sendable, making}
 use Rattle.calculus.specs.Values.{Value, atom, function, fields, cell, whole, plain}
 use Rattle.calculus.proofs.Guarantee.Relation.{signOf, stringElement, textElement, element, In}
-use Rattle.calculus.proofs.Guarantee.Values.{below}
+use Rattle.calculus.proofs.Guarantee.Values.{below, join}
 
 -- ---- literals of the table
 
@@ -57,6 +57,31 @@ member-below r x l m = go (ltb x width) (ltb→lt x width) (nltb→le x width)
 
 -- ---- elements
 
+right : (t u : Bool) → T u → T (t || u)
+right true u k = tt
+right false u k = k
+
+pub made-back : (c : Code) (q : ℕ) → q ≡ E.made c q - E.plain c
+made-back c q = omega arith
+
+-- every text is a string, and every record made at a word a record
+pub text-string : (n : ℕ) → T (isString (textElement n))
+unfolding isString
+text-string n = go (ltb n literals) (ltb→lt n literals)
+  where
+    go : (t : Bool) → (T t → n < literals) → T (leb E.otherString (stringElement t n) && ltb (stringElement t n) 32)
+    go true f =
+        join (leb E.otherString (9 + n)) (ltb (9 + n) 32) (le→leb E.otherString (9 + n) (omega arith))
+        (lt→ltb (9 + n) 32 (omega (arith, f tt)))
+    go false f = tt
+
+pub made-record : (c : Code) (q : ℕ) → T (isRecord (makes (c .node q))) → T (anyRecord c (E.made c q))
+unfolding anyRecord making
+made-record c q r =
+    right (eqb (E.made c q) E.opponentRecord) (leb (E.plain c) (E.made c q) && isRecord (making c (E.made c q)))
+    (join (leb (E.plain c) (E.made c q)) (isRecord (making c (E.made c q))) (le→leb (E.plain c) (E.made c q) (omega arith))
+    (subst (λ (x : ℕ). T (isRecord (makes (c .node x)))) (made-back c q) r))
+
 -- the element that stands for a value of S: wherever it is, the value is
 abbrev pub Stands : Code → Sets → ℕ → List ℕ → Value → (ℕ → Bool) → Type 0
 Stands c e h ty v S =
@@ -70,19 +95,12 @@ below-sendable c x l = go (ltb x (E.plain c)) (not (isFunction (making c x) || i
     go true u k = tt
     go false u k = absurd k
 
-pub made-back : (c : Code) (q : ℕ) → q ≡ E.made c q - E.plain c
-made-back c q = omega arith
-
 neither : (m : E.Making) → T (isRecord m) → T (not (isFunction m || isCell m))
 unfolding isRecord isFunction isCell
 neither E.nothing r = absurd r
 neither E.aFunction r = absurd r
 neither E.aRecord r = tt
 neither E.aCell r = absurd r
-
-right : (t u : Bool) → T u → T (t || u)
-right true u k = tt
-right false u k = k
 
 record-sendable : (c : Code) (q : ℕ) → T (isRecord (makes (c .node q))) → T (sendable c (E.made c q))
 unfolding sendable making

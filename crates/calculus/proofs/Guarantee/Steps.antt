@@ -11,6 +11,7 @@ use lib.Dec.{T, T-not, eqb, ltb, leb, eqb→eq, eqb-refl, ltb→lt, lt→ltb, nl
 use lib.IntN.{ℤ, pos, negsuc, subℕ}
 use Rattle.permset.specs.Sets.{width, member, within}
 use Rattle.table.specs.declared.Constant.the-variants as constants
+use Rattle.table.specs.declared.Operation.{Operation}
 use Rattle.table.specs.Words.{literals, constantNumber}
 use Rattle.table.specs.Code.{Code, Node, Leaf, One, Two, Within, Linked, NodeLinked, LeafLinked}
 use Rattle.calculus.specs.Constraint.{C, B, P, L, Sets, Obeys, range}
@@ -24,11 +25,12 @@ use Rattle.calculus.specs.Values.{onAtom, onFunction, onFields, onCell, 
 use Rattle.calculus.specs.Machine.{Control, eval, give, stopped, Frame, first, second, third, again, Effect, Move, stop, begin, yield, found}
 use Rattle.calculus.specs.Machine.{leafStep, termStep, oneStep, choose, firstStep, withField, twoStep, secondStep, frameStep, step}
 use Rattle.calculus.proofs.Guarantee.Relation.{Sub, signOf, stringElement, textElement, element, partOf, RecordAt, CellAt, In, Bound, FieldsIn}
-use Rattle.calculus.proofs.Guarantee.Relation.{Found, Cells, Leaks, Runs, Wait, Good, GoodMove}
+use Rattle.calculus.specs.Run.{started}
+use Rattle.calculus.proofs.Guarantee.Relation.{Found, Cells, Leaks, Runs, Wait, Good, GoodMove, GoodInstance}
 use Rattle.calculus.proofs.Guarantee.Values.{both, join, mono, mono-fields, weaken, moved, below, datum-in, data-in, get-in, delete-in, get-data}
 use Rattle.calculus.proofs.Guarantee.Values.{delete-data, look-in, read-in, write-in, append-in, last-at, weaken-cells}
 use Rattle.calculus.proofs.Guarantee.Operations.{operate-in}
-use Rattle.calculus.proofs.Guarantee.Elements.{whole-sign, text-literal, member-below, made-back, Stands, stands}
+use Rattle.calculus.proofs.Guarantee.Elements.{whole-sign, text-literal, member-below, text-string, made-record, stands}
 use Rattle.calculus.proofs.Guarantee.Words.{in-range, wait-mono, part-sub, wait-more, enter, part-runs, flows, block-listed, start-good}
 
 
@@ -140,3 +142,319 @@ module _ (c : Code) (linked : Linked c) (ρ : ℕ) (e : Sets) (est : Estimate c 
       term-good (Node.while a b) q l o = begin-good (Node.while a b) q (l .0) (o .0)
       term-good (Node.branch a b d) q l o = begin-good (Node.branch a b d) q (l .0) (o .0)
       term-good (Node.update a b d) q l o = begin-good (Node.update a b d) q (l .0) (o .0)
+
+      -- ---- after the first part
+
+      one-good : (k : One) (a : ℕ) (v : Value) → c .node p ≡ Node.one k a → Obeys e (oneRule c p k a) → In c e h ty v (e (C a))
+        → Fine (oneStep k v fs cs)
+      unfolding oneStep oneRule onCell isCell makes oneMakes
+      one-good One.cell a v q o i =
+          ( tt
+          , ( ty ++ (p ∷ [])
+            , append-in c e h (ty ++ (p ∷ [])) cs ty v p
+              (weaken c e h ty (p ∷ []) v (e (B p)) (mono c e h ty v (e (C a)) (e (B p)) (o .1) i))
+              (weaken-cells c e h ty (p ∷ []) cs ty cells)
+            , ( e (C p)
+              , (p, (runs .inside, at-node (λ n. isCell (makes n)) (Node.one One.cell a) q tt), o .0, last-at c e h ty cs ty p cells)
+              , wait-more c ρ e h ty p fs (e (C p)) waits
+              )
+            )
+          )
+      one-good One.read a (atom b) q o i = stop-good
+      one-good One.read a (function f us) q o i = stop-good
+      one-good One.read a (fields r) q o i = stop-good
+      one-good One.read a (cell j) q o i =
+          found-good (getElem? cs j) (e (B (i .0))) (e (C p)) (o (i .0) (in-range (c .size) (i .0) (i .1 .0)) (i .1 .1) (i .2))
+          (read-in c e h ty cs ty j (i .0) (i .3) cells)
+          waits
+
+      first-good : (n : Node) (v : Value) → c .node p ≡ n → NodeLinked c p n → Obeys e (flow c p n) → In c e h ty v (e (C (partOf n 0)))
+        → Fine (firstStep p vs n v fs cs)
+      unfolding firstStep flow known constantElement constantNumber
+      first-good Node.gap v q l o i = stop-good
+      first-good (Node.block n s g) v q l o i = stop-good
+      first-good (Node.leaf k) v q l o i = stop-good
+      first-good (Node.one k a) v q l o i = one-good k a v q (o .1) i
+      first-good (Node.two k a b) v q l o i =
+          ( tt
+          , ( ty
+            , cells
+            , ( part-runs c ρ e h ty p b vs runs (l .2) (o .1 .0 .0) (o .1 .0 .1)
+              , (runs, part-in 0 (Node.two k a b) v q i, part-sub c ρ e h ty p 1 (Node.two k a b) q, waits)
+              )
+            )
+          )
+      first-good (Node.bind a b) v q l o i =
+          ( tt
+          , ( ty
+            , cells
+            , ( enter c ρ e h ty b (c .home p) (p ∷ c .scope p) (bound v vs) (l .1) (runs .home) (o .1 .0 .0)
+                (λ x t. runs .leaks x (o .1 .0 .1 x t))
+                (mono c e h ty v (e (C a)) (e (B p)) (o .1 .1 .0) i, runs .binders)
+              , wait-mono c ρ e h ty fs (e (C b)) (e (C p)) (o .1 .1 .1) waits
+              )
+            )
+          )
+      first-good (Node.while a b) v q l o i =
+          choose-good v (e (C a)) (begin b vs (again p vs ∷ fs) cs) (yield undefined fs cs) i
+          (λ t. (tt, (ty, cells, (part-runs c ρ e h ty p b vs runs (l .1) (o .1 .1 .0 t) (o .1 .0), (runs, waits)))))
+          (λ t. yield-good undefined (e (C p)) (tt, o .1 .1 .1 t) waits)
+      first-good (Node.branch a b d) v q l o i =
+          choose-good v (e (C a)) (begin b vs fs cs) (begin d vs fs cs) i
+          (λ t. ( tt
+                , ( ty
+                  , cells
+                  , ( part-runs c ρ e h ty p b vs runs (l .1) (o .1 .1 .1 .0 t) (o .1 .0)
+                    , wait-mono c ρ e h ty fs (e (C b)) (e (C p)) (o .1 .1 .1 .1 .1 .0) waits
+                    )
+                  )
+                ))
+          (λ t. ( tt
+                , ( ty
+                  , cells
+                  , ( part-runs c ρ e h ty p d vs runs (l .2) (o .1 .1 .1 .1 .0 t) (o .1 .1 .0)
+                    , wait-mono c ρ e h ty fs (e (C d)) (e (C p)) (o .1 .1 .1 .1 .1 .1) waits
+                    )
+                  )
+                ))
+      first-good (Node.update a b d) v q l o i =
+          ( tt
+          , ( ty
+            , cells
+            , ( part-runs c ρ e h ty p b vs runs (l .1) (o .1 .0 .0) (o .1 .0 .1)
+              , (runs, part-in 0 (Node.update a b d) v q i, part-sub c ρ e h ty p 1 (Node.update a b d) q, waits)
+              )
+            )
+          )
+
+      -- ---- after the second part
+
+      -- each record of a part, read at any field, gives what p holds
+      get-good : (a d k : ℕ) (r : Fields) → Obeys e (twoRule c p Two.get a d) → In c e h ty (fields r) (e (C a)) → T (e (C d) (textElement k))
+        → In c e h ty (getField r k) (e (C p))
+      unfolding twoRule
+      get-good a d k r o (inl i) t =
+          let g = o (textElement k) (text-string k) t .1 (i .1) in
+          datum-in c e h ty (e (C p)) (λ x l. g x (in-range (E.plain c) x l)) (getField r k) (get-data r k (c .names) (i .0))
+      get-good a d k r o (inr i) t =
+          let g = o (textElement k) (text-string k) t .0 (i .0) (in-range (c .size) (i .0) (i .1 .0)) (i .1 .1) (i .2) in
+          get-in c e h ty r k (e (B (i .0))) (e (C p)) (g .0) (g .1) (i .3)
+
+      delete-good : (a d k : ℕ) (r : Fields) → Obeys e (twoRule c p Two.delete a d) → In c e h ty (fields r) (e (C a))
+        → T (e (C d) (textElement k))
+        → In c e h ty (fields (deleteField r k)) (e (C p))
+      unfolding twoRule anyRecord
+      delete-good a d k r o (inl i) t =
+          inl
+          ( delete-data r k (c .names) (i .0)
+          , o (textElement k) (text-string k) t E.opponentRecord (in-range (E.elements c) E.opponentRecord (omega arith)) tt (i .1)
+          )
+      delete-good a d k r o (inr i) t =
+          inr
+          ( i .0
+          , i .1
+          , o (textElement k) (text-string k) t (E.made c (i .0)) (in-range (E.elements c) (E.made c (i .0)) (omega (arith, i .1 .0)))
+            (made-record c (i .0) (i .1 .1))
+            (i .2)
+          , delete-in c e h ty r k (e (B (i .0))) (i .3)
+          )
+
+      apply-good : (a d : ℕ) (v w : Value) → Obeys e (twoRule c p Two.apply a d) → In c e h ty v (e (C a)) → In c e h ty w (e (C d))
+        → Fine (twoStep Two.apply v w fs cs)
+      unfolding twoStep twoRule onFunction isFunction makes leafMakes
+      apply-good a d (atom b) w o i j = stop-good
+      apply-good a d (fields r) w o i j = stop-good
+      apply-good a d (cell k) w o i j = stop-good
+      apply-good a d (function f us) w o i j =
+          let g = o f (in-range (c .size) f (i .0)) (subst (λ (n : Node). T (isFunction (makes n))) (sym (i .1)) tt) (i .3) in
+          ( tt
+          , ( ty
+            , cells
+            , ( enter c ρ e h ty (suc f) (c .home f) (f ∷ c .scope f) (bound w us)
+                (subst (λ (n : Node). NodeLinked c f n) (i .1) (linked .nodes f (i .0)))
+                (i .2)
+                (g .0)
+                (λ x t. runs .leaks x (g .1 .1 .1 x t))
+                (mono c e h ty w (e (C d)) (e (B f)) (g .1 .0) j, i .4)
+              , wait-mono c ρ e h ty fs (e (C (suc f))) (e (C p)) (g .1 .1 .0) waits
+              )
+            )
+          )
+
+      assign-good : (a d : ℕ) (v w : Value) → Obeys e (twoRule c p Two.assign a d) → In c e h ty v (e (C a)) → In c e h ty w (e (C d))
+        → Fine (twoStep Two.assign v w fs cs)
+      unfolding twoStep twoRule onCell
+      assign-good a d (atom b) w o i j = stop-good
+      assign-good a d (function f us) w o i j = stop-good
+      assign-good a d (fields r) w o i j = stop-good
+      assign-good a d (cell k) w o i j =
+          let g = o (i .0) (in-range (c .size) (i .0) (i .1 .0)) (i .1 .1) (i .2) in
+          ( tt
+          , ( ty
+            , write-in c e h ty cs ty k (i .0) w (i .3) (mono c e h ty w (e (C d)) (e (B (i .0))) (g .1) j) cells
+            , (e (C p), mono c e h ty w (e (C d)) (e (C p)) (g .0) j, waits)
+            )
+          )
+
+      operation-good : (f : Operation) (a d : ℕ) (v w : Value) → Obeys e (twoRule c p (Two.operation f) a d) → In c e h ty v (e (C a))
+        → In c e h ty w (e (C d))
+        → Fine (twoStep (Two.operation f) v w fs cs)
+      unfolding twoStep twoRule onAtom
+      operation-good f a d (function g us) w o i j = stop-good
+      operation-good f a d (fields r) w o i j = stop-good
+      operation-good f a d (cell k) w o i j = stop-good
+      operation-good f a d (atom x) (function g us) o i j = stop-good
+      operation-good f a d (atom x) (fields r) o i j = stop-good
+      operation-good f a d (atom x) (cell k) o i j = stop-good
+      operation-good f a d (atom x) (atom y) o i j =
+          found-good (operate f x y) (e (C p)) (e (C p)) (λ z t. t)
+          (operate-in c e h ty (e (C p)) f x y (i .0) (j .0)
+          (o (element x) (in-range (E.plain c) (element x) (below c x (i .0))) (i .1) (element y)
+          (in-range (E.plain c) (element y) (below c y (j .0)))
+          (j .1)))
+          waits
+
+      -- a handler that the send may start is live and holds the message
+      sent-good : (r a d n b : ℕ) (w : Value) → Obeys e (twoRule c p (Two.send r) a d) → T (e (C a) (E.nameElement n)) → In c e h ty w (e (C d))
+        → T (plain w)
+        → T (admits n r held (c .node b))
+        → GoodInstance c ρ e (started b w)
+      unfolding twoRule admits permissions
+      sent-good r a d n b w o i j k t =
+          let all = both (eqb (nameOf (c .node b)) n && within r (permsOf (c .node b))) (guarded (c .node b) held) t in
+          let two = both (eqb (nameOf (c .node b)) n) (within r (permsOf (c .node b))) (all .0) in
+          let s = stands c e h ty w (e (C d)) j in
+          let g =
+                  o .1 (s .0) (s .3 k) (s .2) b (block-listed c linked ρ e est b held (all .1))
+                  (join (eqb (nameOf (c .node b)) (nameOf (c .node b)) && within r (permsOf (c .node b))) (guarded (c .node b) (permsOf (c .node (c .home p))))
+                  (join (eqb (nameOf (c .node b)) (nameOf (c .node b))) (within r (permsOf (c .node b))) (eqb-refl (nameOf (c .node b))) (two .1))
+                  (subst (λ (m : ℕ). T (guarded (c .node b) (permsOf (c .node m)))) (sym (runs .home)) (all .1)))
+                  (subst (λ (m : ℕ). T (e (C a) (E.nameElement m))) (sym (eqb→eq (nameOf (c .node b)) n (two .0))) i)
+          in
+          start-good c linked ρ e est b held w (all .1) (g .0) (λ x u. runs .leaks x (g .1 .1 x u))
+          (moved c e h ty b [] w (e (B b)) k (s .4 (e (B b)) (g .1 .0 (s .0) (in-range (E.elements c) (s .0) (s .1)) (s .3 k) (s .2))))
+
+      send-good : (r a d : ℕ) (v w : Value) → Obeys e (twoRule c p (Two.send r) a d) → In c e h ty v (e (C a)) → In c e h ty w (e (C d))
+        → Fine (twoStep (Two.send r) v w fs cs)
+      unfolding twoStep twoRule onAtom onName known constantElement constantNumber
+      send-good r a d (function g us) w o i j = stop-good
+      send-good r a d (fields f) w o i j = stop-good
+      send-good r a d (cell k) w o i j = stop-good
+      send-good r a d (atom (constant k)) w o i j = stop-good
+      send-good r a d (atom (number z)) w o i j = stop-good
+      send-good r a d (atom (text n)) w o i j = stop-good
+      send-good r a d (atom (named n)) w o i j =
+          (λ b k t. sent-good r a d n b w o (i .1) j k t, (ty, cells, (e (C p), (tt, o .0), waits)))
+
+      two-good : (t : Two) (a d : ℕ) (v w : Value) → Obeys e (twoRule c p t a d) → In c e h ty v (e (C a)) → In c e h ty w (e (C d))
+        → Fine (twoStep t v w fs cs)
+      unfolding twoStep twoRule
+      two-good Two.apply a d v w o i j = apply-good a d v w o i j
+      two-good Two.assign a d v w o i j = assign-good a d v w o i j
+      two-good (Two.operation f) a d v w o i j = operation-good f a d v w o i j
+      two-good (Two.send r) a d v w o i j = send-good r a d v w o i j
+      two-good Two.sequence a d v w o i j = yield-good w (e (C p)) (mono c e h ty w (e (C d)) (e (C p)) o j) waits
+      two-good Two.get a d v w o i j =
+          field-good v w (e (C a)) (e (C d)) (λ r k. yield (getField r k) fs cs) i j
+          (λ r k x t. yield-good (getField r k) (e (C p)) (get-good a d k r o x t) waits)
+      two-good Two.delete a d v w o i j =
+          field-good v w (e (C a)) (e (C d)) (λ r k. yield (fields (deleteField r k)) fs cs) i j
+          (λ r k x t. yield-good (fields (deleteField r k)) (e (C p)) (delete-good a d k r o x t) waits)
+
+      second-good : (n : Node) (v w : Value) → c .node p ≡ n → NodeLinked c p n → Obeys e (flow c p n)
+        → In c e h ty v (e (C (partOf n 0)))
+        → In c e h ty w (e (C (partOf n 1)))
+        → Fine (secondStep p vs n v w fs cs)
+      unfolding secondStep flow
+      second-good Node.gap v w q l o i j = stop-good
+      second-good (Node.block n s g) v w q l o i j = stop-good
+      second-good (Node.leaf k) v w q l o i j = stop-good
+      second-good (Node.one k a) v w q l o i j = stop-good
+      second-good (Node.two t a d) v w q l o i j = two-good t a d v w (o .1 .1) i j
+      second-good (Node.bind a d) v w q l o i j = stop-good
+      second-good (Node.while a d) v w q l o i j = stop-good
+      second-good (Node.branch a b d) v w q l o i j = stop-good
+      second-good (Node.update a b d) v w q l o i j =
+          ( tt
+          , ( ty
+            , cells
+            , (part-runs c ρ e h ty p d vs runs (l .2) (o .1 .1 .0 .0) (o .1 .1 .0 .1), (runs, (a, b, d, q, i, j, λ x t. t), waits))
+            )
+          )
+
+      -- ---- after the third part
+
+      -- the new record holds the value and what the old one held
+      set-good : (a b d k : ℕ) (r : Fields) (u : Value) → c .node p ≡ Node.update a b d → Obeys e (flow c p (Node.update a b d))
+        → In c e h ty (fields r) (e (C a))
+        → T (e (C b) (textElement k))
+        → In c e h ty u (e (C d))
+        → In c e h ty (fields (setField r k u)) (e (C p))
+      unfolding flow setField isRecord makes anyRecord
+      set-good a b d k r u q o (inl i) t j =
+          let f = o .1 .1 .1 (textElement k) (text-string k) t in
+          let g = f .0 E.opponentRecord tt (i .1) in
+          inr
+          ( p
+          , (runs .inside, at-node (λ n. isRecord (makes n)) (Node.update a b d) q tt)
+          , g .0
+          , ( mono c e h ty u (e (C d)) (e (B p)) (g .1) j
+            , data-in c e h ty (e (B p)) (λ x l. f .1 .1 (i .1) x (in-range (E.plain c) x l)) (deleteField r k) (delete-data r k (c .names) (i .0))
+            )
+          )
+      set-good a b d k r u q o (inr i) t j =
+          let f = o .1 .1 .1 (textElement k) (text-string k) t in
+          let g = f .0 (E.made c (i .0)) (made-record c (i .0) (i .1 .1)) (i .2) in
+          inr
+          ( p
+          , (runs .inside, at-node (λ n. isRecord (makes n)) (Node.update a b d) q tt)
+          , g .0
+          , ( mono c e h ty u (e (C d)) (e (B p)) (g .1) j
+            , delete-in c e h ty r k (e (B p))
+              (mono-fields c e h ty r (e (B (i .0))) (e (B p)) (f .1 .0 (i .0) (in-range (c .size) (i .0) (i .1 .0)) (i .1 .1) (i .2)) (i .3))
+            )
+          )
+
+      third-good : (a b d : ℕ) (v w u : Value) → c .node p ≡ Node.update a b d → Obeys e (flow c p (Node.update a b d))
+        → In c e h ty v (e (C a))
+        → In c e h ty w (e (C b))
+        → In c e h ty u (e (C d))
+        → Fine (withField v w (λ r k. yield (fields (setField r k u)) fs cs))
+      third-good a b d v w u q o i j m =
+          field-good v w (e (C a)) (e (C b)) (λ r k. yield (fields (setField r k u)) fs cs) i j
+          (λ r k x t. yield-good (fields (setField r k u)) (e (C p)) (set-good a b d k r u q o x t m) waits)
+
+  -- ---- every step
+
+  -- what the rules say at a running word
+  flow-at : (ty : List ℕ) (p : ℕ) (vs : Environment) → Runs c ρ e h ty p vs → Obeys e (flow c p (c .node p))
+  flow-at ty p vs r = flows c linked ρ e est p (r .inside) (r .live)
+
+  frame-good : (ty : List ℕ) (cs : List Value) (f : Frame) (fs : List Frame) (v : Value) (S : ℕ → Bool) → Cells c e h ty cs ty
+    → In c e h ty v S
+    → Wait c ρ e h ty (f ∷ fs) S
+    → Fine (frameStep c f v fs cs)
+  unfolding frameStep
+  frame-good ty cs (first p vs) fs v S k i w =
+      first-good ty cs k fs p vs (w .0) (w .2) (c .node p) v refl (linked .nodes p (w .0 .inside)) (flow-at ty p vs (w .0))
+      (mono c e h ty v S (e (C (partOf (c .node p) 0))) (w .1) i)
+  frame-good ty cs (second p vs u) fs v S k i w =
+      second-good ty cs k fs p vs (w .0) (w .3) (c .node p) u v refl (linked .nodes p (w .0 .inside)) (flow-at ty p vs (w .0)) (w .1)
+      (mono c e h ty v S (e (C (partOf (c .node p) 1))) (w .2) i)
+  frame-good ty cs (third p vs u t) fs v S k i w =
+      let d = w .1 in
+      third-good ty cs k fs p vs (w .0) (w .2) (d .0) (d .1) (d .2) u t v (d .3)
+      (subst (λ (n : Node). Obeys e (flow c p n)) (d .3) (flow-at ty p vs (w .0)))
+      (d .4)
+      (d .5)
+      (mono c e h ty v S (e (C (d .2))) (d .6) i)
+  frame-good ty cs (again p vs) fs v S k i w = (tt, (ty, k, w))
+
+  pub step-good : (k : Control) (fs : List Frame) (cs : List Value) → Good c ρ e h k fs cs → Fine (step c held k fs cs)
+  unfolding step
+  step-good (eval p vs) fs cs g =
+      let r = g .2 .0 in
+      term-good (g .0) cs (g .1) fs p vs r (g .2 .1) (c .node p) refl (linked .nodes p (r .inside)) (flow-at (g .0) p vs r)
+  step-good (give v) [] cs g = tt
+  step-good (give v) (f ∷ fs) cs g = frame-good (g .0) cs f fs v (g .2 .0) (g .1) (g .2 .1) (g .2 .2)
+  step-good stopped fs cs g = tt
