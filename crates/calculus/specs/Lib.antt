@@ -5,3 +5,4 @@ pub mod Values
 pub mod Machine
 pub mod Run
 pub mod Runs
+pub mod Guarantee

@@ -29,8 +29,8 @@ whole-sign (suc n) l =
     go (eqb (suc n) 0) (ltb (suc n) (2 ^ 23)) (ltb (suc n) (2 ^ 24)) (eqb·suc-zero n) (lt→ltb (suc n) (2 ^ 24) l)
   where
     go : (z t u : Bool) → z ≡ false → T u
-      → signOf (elim t [ true ↦ pos (suc n) | false ↦ cond u (negsuc (2 ^ 24 - suc (suc n))) (pos (suc n - 2 ^ 24)) ])
-      ≡ (elim z as (λ b. ℕ) [ true ↦ E.nought | false ↦ elim t as (λ b. ℕ) [ true ↦ E.positive | false ↦ E.negative ] ])
+        → signOf (elim t [ true ↦ pos (suc n) | false ↦ cond u (negsuc (2 ^ 24 - suc (suc n))) (pos (suc n - 2 ^ 24)) ])
+        ≡ (elim z as (λ b. ℕ) [ true ↦ E.nought | false ↦ elim t as (λ b. ℕ) [ true ↦ E.positive | false ↦ E.negative ] ])
     go z true true q k = rw q
     go z false true q k = rw q
     go z t false q k = absurd k

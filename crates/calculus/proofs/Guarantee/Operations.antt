@@ -94,7 +94,7 @@ bounds (number (negsuc n)) = omega arith
 bounds (text n) = go (ltb n literals) (ltb→lt n literals)
   where
     go : (t : Bool) → (T t → n < literals)
-      → (8 ≤ stringElement t n) × (stringElement t n ≤ 31)
+        → (8 ≤ stringElement t n) × (stringElement t n ≤ 31)
     go true f = omega (arith, f tt)
     go false f = omega arith
 bounds (named n) = omega arith
@@ -141,7 +141,7 @@ unfolding isMany
 many-texts m n d = go (ltb m literals) (ltb n literals)
   where
     go : (s t : Bool) → stringElement s m ≡ stringElement t n
-      → T (isMany (stringElement s m))
+        → T (isMany (stringElement s m))
     go true true q = absurd (apart m n d (omega arith))
     go true false q = absurd (omega arith)
     go false t q = tt
@@ -179,7 +179,7 @@ compares c a k =
     (not-T (eqb (element a) E.opponentRecord) (λ t. seven a (eqb→eq (element a) E.opponentRecord t)))
 
 equal-element : (c : Code) (a b : Atom) → T (known a (c .names)) → T (known b (c .names))
-  → List·Memᴰ (truthElement (same a b)) (equalResults c (element a) (element b))
+    → List·Memᴰ (truthElement (same a b)) (equalResults c (element a) (element b))
 unfolding equalResults
 equal-element c a b k l =
     go (same a b) (comparable c (element a) && comparable c (element b)) (eqb (element a) (element b)) (isMany (element a))
@@ -188,11 +188,11 @@ equal-element c a b k l =
     (λ d q. many a b d (eqb→eq (element a) (element b) q))
   where
     go : (s t q m : Bool) → T t → (T s → T q) → (T (not s) → T q → T m)
-      → List·Memᴰ (truthElement s)
-      (elim t [
-        | true ↦ elim q [ true ↦ elim m [ true ↦ E.truth ∷ E.falsehood ∷ [] | false ↦ E.truth ∷ [] ] | false ↦ E.falsehood ∷ [] ]
-        | false ↦ []
-      ])
+        → List·Memᴰ (truthElement s)
+        (elim t [
+          | true ↦ elim q [ true ↦ elim m [ true ↦ E.truth ∷ E.falsehood ∷ [] | false ↦ E.truth ∷ [] ] | false ↦ E.falsehood ∷ [] ]
+          | false ↦ []
+        ])
     go s false q m t f g = absurd t
     go true true true true t f g = any-truth true
     go true true true false t f g = List·Memᴰ·head refl

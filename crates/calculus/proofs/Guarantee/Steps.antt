@@ -33,7 +33,6 @@ use Rattle.calculus.proofs.Guarantee.Operations.{operate-in}
 use Rattle.calculus.proofs.Guarantee.Elements.{whole-sign, text-literal, member-below, text-string, made-record, stands}
 use Rattle.calculus.proofs.Guarantee.Words.{in-range, wait-mono, part-sub, wait-more, enter, part-runs, flows, block-listed, start-good}
 
-
 module _ (c : Code) (linked : Linked c) (ρ : ℕ) (e : Sets) (est : Estimate c ρ e) (h : ℕ) where
   -- the instance's permissions
   abbrev held : ℕ
@@ -56,7 +55,7 @@ module _ (c : Code) (linked : Linked c) (ρ : ℕ) (e : Sets) (est : Estimate c 
     found-good (some v) S U s i w = yield-good v U (mono c e h ty v S U s i) w
 
     choose-good : (v : Value) (S : ℕ → Bool) (l r : Move) → In c e h ty v S → (T (S E.truth) → Fine l) → (T (S E.falsehood) → Fine r)
-      → Fine (choose v l r)
+        → Fine (choose v l r)
     unfolding choose onAtom onTruth constantElement constantNumber
     choose-good (atom (constant constants.Undefined)) S l r i f g = stop-good
     choose-good (atom (constant constants.Unit)) S l r i f g = stop-good
@@ -70,8 +69,8 @@ module _ (c : Code) (linked : Linked c) (ρ : ℕ) (e : Sets) (est : Estimate c 
     choose-good (cell j) S l r i f g = stop-good
 
     field-good : (v w : Value) (S U : ℕ → Bool) (m : Fields → ℕ → Move) → In c e h ty v S → In c e h ty w U
-      → ((r : Fields) (k : ℕ) → In c e h ty (fields r) S → T (U (textElement k)) → Fine (m r k))
-      → Fine (withField v w m)
+        → ((r : Fields) (k : ℕ) → In c e h ty (fields r) S → T (U (textElement k)) → Fine (m r k))
+        → Fine (withField v w m)
     unfolding withField onFields onAtom onText
     field-good (atom a) w S U m i j f = stop-good
     field-good (function p vs) w S U m i j f = stop-good
@@ -96,7 +95,7 @@ module _ (c : Code) (linked : Linked c) (ρ : ℕ) (e : Sets) (est : Estimate c 
 
       -- the first part begins
       begin-good : (n : Node) → c .node p ≡ n → Within c (partOf n 0) (c .home p) (c .scope p) → Obeys e (part p (partOf n 0))
-        → Fine (begin (partOf n 0) vs (first p vs ∷ fs) cs)
+          → Fine (begin (partOf n 0) vs (first p vs ∷ fs) cs)
       begin-good n q w o =
           (tt, (ty, cells, (part-runs c ρ e h ty p (partOf n 0) vs runs w (o .0) (o .1), (runs, part-sub c ρ e h ty p 0 n q, waits))))
 
@@ -123,10 +122,10 @@ module _ (c : Code) (linked : Linked c) (ρ : ℕ) (e : Sets) (est : Estimate c 
           owned t = subst (λ (b : ℕ). T (within r (permsOf (c .node b)))) (sym (runs .home)) (subst T (sym t) tt)
 
           go : (t : Bool) → within r held ≡ t → Fine (elim t [ true ↦ Move.go (Effect.exercises r) (give unit) fs cs | false ↦ stop ])
-          go true t =
-              ( λ x m. runs .leaks x (o (owned t) .0 x (in-range width x (member-below r x l m)) m)
-              , (ty, cells, (e (C p), (tt, o (owned t) .1), waits))
-              )
+          go true t = (
+            λ x m. runs .leaks x (o (owned t) .0 x (in-range width x (member-below r x l m)) m),
+            (ty, cells, (e (C p), (tt, o (owned t) .1), waits)),
+          )
           go false t = stop-good
 
       -- ---- parts that run
@@ -146,20 +145,22 @@ module _ (c : Code) (linked : Linked c) (ρ : ℕ) (e : Sets) (est : Estimate c 
       -- ---- after the first part
 
       one-good : (k : One) (a : ℕ) (v : Value) → c .node p ≡ Node.one k a → Obeys e (oneRule c p k a) → In c e h ty v (e (C a))
-        → Fine (oneStep k v fs cs)
+          → Fine (oneStep k v fs cs)
       unfolding oneStep oneRule onCell isCell makes oneMakes
-      one-good One.cell a v q o i =
-          ( tt
-          , ( ty ++ (p ∷ [])
-            , append-in c e h (ty ++ (p ∷ [])) cs ty v p
+      one-good One.cell a v q o i = (
+        tt,
+        (
+          ty ++ (p ∷ []),
+          append-in c e h (ty ++ (p ∷ [])) cs ty v p
               (weaken c e h ty (p ∷ []) v (e (B p)) (mono c e h ty v (e (C a)) (e (B p)) (o .1) i))
-              (weaken-cells c e h ty (p ∷ []) cs ty cells)
-            , ( e (C p)
-              , (p, (runs .inside, at-node (λ n. isCell (makes n)) (Node.one One.cell a) q tt), o .0, last-at c e h ty cs ty p cells)
-              , wait-more c ρ e h ty p fs (e (C p)) waits
-              )
-            )
-          )
+              (weaken-cells c e h ty (p ∷ []) cs ty cells),
+          (
+            e (C p),
+            (p, (runs .inside, at-node (λ n. isCell (makes n)) (Node.one One.cell a) q tt), o .0, last-at c e h ty cs ty p cells),
+            wait-more c ρ e h ty p fs (e (C p)) waits,
+          ),
+        ),
+      )
       one-good One.read a (atom b) q o i = stop-good
       one-good One.read a (function f us) q o i = stop-good
       one-good One.read a (fields r) q o i = stop-good
@@ -169,69 +170,81 @@ module _ (c : Code) (linked : Linked c) (ρ : ℕ) (e : Sets) (est : Estimate c 
           waits
 
       first-good : (n : Node) (v : Value) → c .node p ≡ n → NodeLinked c p n → Obeys e (flow c p n) → In c e h ty v (e (C (partOf n 0)))
-        → Fine (firstStep p vs n v fs cs)
+          → Fine (firstStep p vs n v fs cs)
       unfolding firstStep flow known constantElement constantNumber
       first-good Node.gap v q l o i = stop-good
       first-good (Node.block n s g) v q l o i = stop-good
       first-good (Node.leaf k) v q l o i = stop-good
       first-good (Node.one k a) v q l o i = one-good k a v q (o .1) i
-      first-good (Node.two k a b) v q l o i =
-          ( tt
-          , ( ty
-            , cells
-            , ( part-runs c ρ e h ty p b vs runs (l .2) (o .1 .0 .0) (o .1 .0 .1)
-              , (runs, part-in 0 (Node.two k a b) v q i, part-sub c ρ e h ty p 1 (Node.two k a b) q, waits)
-              )
-            )
-          )
-      first-good (Node.bind a b) v q l o i =
-          ( tt
-          , ( ty
-            , cells
-            , ( enter c ρ e h ty b (c .home p) (p ∷ c .scope p) (bound v vs) (l .1) (runs .home) (o .1 .0 .0)
+      first-good (Node.two k a b) v q l o i = (
+        tt,
+        (
+          ty,
+          cells,
+          (
+            part-runs c ρ e h ty p b vs runs (l .2) (o .1 .0 .0) (o .1 .0 .1),
+            (runs, part-in 0 (Node.two k a b) v q i, part-sub c ρ e h ty p 1 (Node.two k a b) q, waits),
+          ),
+        ),
+      )
+      first-good (Node.bind a b) v q l o i = (
+        tt,
+        (
+          ty,
+          cells,
+          (
+            enter c ρ e h ty b (c .home p) (p ∷ c .scope p) (bound v vs) (l .1) (runs .home) (o .1 .0 .0)
                 (λ x t. runs .leaks x (o .1 .0 .1 x t))
-                (mono c e h ty v (e (C a)) (e (B p)) (o .1 .1 .0) i, runs .binders)
-              , wait-mono c ρ e h ty fs (e (C b)) (e (C p)) (o .1 .1 .1) waits
-              )
-            )
-          )
+                (mono c e h ty v (e (C a)) (e (B p)) (o .1 .1 .0) i, runs .binders),
+            wait-mono c ρ e h ty fs (e (C b)) (e (C p)) (o .1 .1 .1) waits,
+          ),
+        ),
+      )
       first-good (Node.while a b) v q l o i =
           choose-good v (e (C a)) (begin b vs (again p vs ∷ fs) cs) (yield undefined fs cs) i
           (λ t. (tt, (ty, cells, (part-runs c ρ e h ty p b vs runs (l .1) (o .1 .1 .0 t) (o .1 .0), (runs, waits)))))
           (λ t. yield-good undefined (e (C p)) (tt, o .1 .1 .1 t) waits)
       first-good (Node.branch a b d) v q l o i =
           choose-good v (e (C a)) (begin b vs fs cs) (begin d vs fs cs) i
-          (λ t. ( tt
-                , ( ty
-                  , cells
-                  , ( part-runs c ρ e h ty p b vs runs (l .1) (o .1 .1 .1 .0 t) (o .1 .0)
-                    , wait-mono c ρ e h ty fs (e (C b)) (e (C p)) (o .1 .1 .1 .1 .1 .0) waits
-                    )
-                  )
-                ))
-          (λ t. ( tt
-                , ( ty
-                  , cells
-                  , ( part-runs c ρ e h ty p d vs runs (l .2) (o .1 .1 .1 .1 .0 t) (o .1 .1 .0)
-                    , wait-mono c ρ e h ty fs (e (C d)) (e (C p)) (o .1 .1 .1 .1 .1 .1) waits
-                    )
-                  )
-                ))
-      first-good (Node.update a b d) v q l o i =
-          ( tt
-          , ( ty
-            , cells
-            , ( part-runs c ρ e h ty p b vs runs (l .1) (o .1 .0 .0) (o .1 .0 .1)
-              , (runs, part-in 0 (Node.update a b d) v q i, part-sub c ρ e h ty p 1 (Node.update a b d) q, waits)
-              )
-            )
-          )
+          (λ t. (
+            tt,
+            (
+              ty,
+              cells,
+              (
+                part-runs c ρ e h ty p b vs runs (l .1) (o .1 .1 .1 .0 t) (o .1 .0),
+                wait-mono c ρ e h ty fs (e (C b)) (e (C p)) (o .1 .1 .1 .1 .1 .0) waits,
+              ),
+            ),
+          ))
+          (λ t. (
+            tt,
+            (
+              ty,
+              cells,
+              (
+                part-runs c ρ e h ty p d vs runs (l .2) (o .1 .1 .1 .1 .0 t) (o .1 .1 .0),
+                wait-mono c ρ e h ty fs (e (C d)) (e (C p)) (o .1 .1 .1 .1 .1 .1) waits,
+              ),
+            ),
+          ))
+      first-good (Node.update a b d) v q l o i = (
+        tt,
+        (
+          ty,
+          cells,
+          (
+            part-runs c ρ e h ty p b vs runs (l .1) (o .1 .0 .0) (o .1 .0 .1),
+            (runs, part-in 0 (Node.update a b d) v q i, part-sub c ρ e h ty p 1 (Node.update a b d) q, waits),
+          ),
+        ),
+      )
 
       -- ---- after the second part
 
       -- each record of a part, read at any field, gives what p holds
       get-good : (a d k : ℕ) (r : Fields) → Obeys e (twoRule c p Two.get a d) → In c e h ty (fields r) (e (C a)) → T (e (C d) (textElement k))
-        → In c e h ty (getField r k) (e (C p))
+          → In c e h ty (getField r k) (e (C p))
       unfolding twoRule
       get-good a d k r o (inl i) t =
           let g = o (textElement k) (text-string k) t .1 (i .1) in
@@ -241,64 +254,67 @@ module _ (c : Code) (linked : Linked c) (ρ : ℕ) (e : Sets) (est : Estimate c 
           get-in c e h ty r k (e (B (i .0))) (e (C p)) (g .0) (g .1) (i .3)
 
       delete-good : (a d k : ℕ) (r : Fields) → Obeys e (twoRule c p Two.delete a d) → In c e h ty (fields r) (e (C a))
-        → T (e (C d) (textElement k))
-        → In c e h ty (fields (deleteField r k)) (e (C p))
+          → T (e (C d) (textElement k))
+          → In c e h ty (fields (deleteField r k)) (e (C p))
       unfolding twoRule anyRecord
       delete-good a d k r o (inl i) t =
-          inl
-          ( delete-data r k (c .names) (i .0)
-          , o (textElement k) (text-string k) t E.opponentRecord (in-range (E.elements c) E.opponentRecord (omega arith)) tt (i .1)
+          inl (
+            delete-data r k (c .names) (i .0),
+            o (textElement k) (text-string k) t E.opponentRecord (in-range (E.elements c) E.opponentRecord (omega arith)) tt (i .1),
           )
       delete-good a d k r o (inr i) t =
-          inr
-          ( i .0
-          , i .1
-          , o (textElement k) (text-string k) t (E.made c (i .0)) (in-range (E.elements c) (E.made c (i .0)) (omega (arith, i .1 .0)))
-            (made-record c (i .0) (i .1 .1))
-            (i .2)
-          , delete-in c e h ty r k (e (B (i .0))) (i .3)
+          inr (
+            i .0,
+            i .1,
+            o (textElement k) (text-string k) t (E.made c (i .0)) (in-range (E.elements c) (E.made c (i .0)) (omega (arith, i .1 .0)))
+                (made-record c (i .0) (i .1 .1))
+                (i .2),
+            delete-in c e h ty r k (e (B (i .0))) (i .3),
           )
 
       apply-good : (a d : ℕ) (v w : Value) → Obeys e (twoRule c p Two.apply a d) → In c e h ty v (e (C a)) → In c e h ty w (e (C d))
-        → Fine (twoStep Two.apply v w fs cs)
+          → Fine (twoStep Two.apply v w fs cs)
       unfolding twoStep twoRule onFunction isFunction makes leafMakes
       apply-good a d (atom b) w o i j = stop-good
       apply-good a d (fields r) w o i j = stop-good
       apply-good a d (cell k) w o i j = stop-good
       apply-good a d (function f us) w o i j =
-          let g = o f (in-range (c .size) f (i .0)) (subst (λ (n : Node). T (isFunction (makes n))) (sym (i .1)) tt) (i .3) in
-          ( tt
-          , ( ty
-            , cells
-            , ( enter c ρ e h ty (suc f) (c .home f) (f ∷ c .scope f) (bound w us)
-                (subst (λ (n : Node). NodeLinked c f n) (i .1) (linked .nodes f (i .0)))
-                (i .2)
-                (g .0)
-                (λ x t. runs .leaks x (g .1 .1 .1 x t))
-                (mono c e h ty w (e (C d)) (e (B f)) (g .1 .0) j, i .4)
-              , wait-mono c ρ e h ty fs (e (C (suc f))) (e (C p)) (g .1 .1 .0) waits
-              )
-            )
+          let g = o f (in-range (c .size) f (i .0)) (subst (λ (n : Node). T (isFunction (makes n))) (sym (i .1)) tt) (i .3) in (
+            tt,
+            (
+              ty,
+              cells,
+              (
+                enter c ρ e h ty (suc f) (c .home f) (f ∷ c .scope f) (bound w us)
+                    (subst (λ (n : Node). NodeLinked c f n) (i .1) (linked .nodes f (i .0)))
+                    (i .2)
+                    (g .0)
+                    (λ x t. runs .leaks x (g .1 .1 .1 x t))
+                    (mono c e h ty w (e (C d)) (e (B f)) (g .1 .0) j, i .4),
+                wait-mono c ρ e h ty fs (e (C (suc f))) (e (C p)) (g .1 .1 .0) waits,
+              ),
+            ),
           )
 
       assign-good : (a d : ℕ) (v w : Value) → Obeys e (twoRule c p Two.assign a d) → In c e h ty v (e (C a)) → In c e h ty w (e (C d))
-        → Fine (twoStep Two.assign v w fs cs)
+          → Fine (twoStep Two.assign v w fs cs)
       unfolding twoStep twoRule onCell
       assign-good a d (atom b) w o i j = stop-good
       assign-good a d (function f us) w o i j = stop-good
       assign-good a d (fields r) w o i j = stop-good
       assign-good a d (cell k) w o i j =
-          let g = o (i .0) (in-range (c .size) (i .0) (i .1 .0)) (i .1 .1) (i .2) in
-          ( tt
-          , ( ty
-            , write-in c e h ty cs ty k (i .0) w (i .3) (mono c e h ty w (e (C d)) (e (B (i .0))) (g .1) j) cells
-            , (e (C p), mono c e h ty w (e (C d)) (e (C p)) (g .0) j, waits)
-            )
+          let g = o (i .0) (in-range (c .size) (i .0) (i .1 .0)) (i .1 .1) (i .2) in (
+            tt,
+            (
+              ty,
+              write-in c e h ty cs ty k (i .0) w (i .3) (mono c e h ty w (e (C d)) (e (B (i .0))) (g .1) j) cells,
+              (e (C p), mono c e h ty w (e (C d)) (e (C p)) (g .0) j, waits),
+            ),
           )
 
       operation-good : (f : Operation) (a d : ℕ) (v w : Value) → Obeys e (twoRule c p (Two.operation f) a d) → In c e h ty v (e (C a))
-        → In c e h ty w (e (C d))
-        → Fine (twoStep (Two.operation f) v w fs cs)
+          → In c e h ty w (e (C d))
+          → Fine (twoStep (Two.operation f) v w fs cs)
       unfolding twoStep twoRule onAtom
       operation-good f a d (function g us) w o i j = stop-good
       operation-good f a d (fields r) w o i j = stop-good
@@ -316,26 +332,26 @@ module _ (c : Code) (linked : Linked c) (ρ : ℕ) (e : Sets) (est : Estimate c 
 
       -- a handler that the send may start is live and holds the message
       sent-good : (r a d n b : ℕ) (w : Value) → Obeys e (twoRule c p (Two.send r) a d) → T (e (C a) (E.nameElement n)) → In c e h ty w (e (C d))
-        → T (plain w)
-        → T (admits n r held (c .node b))
-        → GoodInstance c ρ e (started b w)
+          → T (plain w)
+          → T (admits n r held (c .node b))
+          → GoodInstance c ρ e (started b w)
       unfolding twoRule admits permissions
       sent-good r a d n b w o i j k t =
           let all = both (eqb (nameOf (c .node b)) n && within r (permsOf (c .node b))) (guarded (c .node b) held) t in
           let two = both (eqb (nameOf (c .node b)) n) (within r (permsOf (c .node b))) (all .0) in
           let s = stands c e h ty w (e (C d)) j in
           let g =
-                  o .1 (s .0) (s .3 k) (s .2) b (block-listed c linked ρ e est b held (all .1))
-                  (join (eqb (nameOf (c .node b)) (nameOf (c .node b)) && within r (permsOf (c .node b))) (guarded (c .node b) (permsOf (c .node (c .home p))))
-                  (join (eqb (nameOf (c .node b)) (nameOf (c .node b))) (within r (permsOf (c .node b))) (eqb-refl (nameOf (c .node b))) (two .1))
-                  (subst (λ (m : ℕ). T (guarded (c .node b) (permsOf (c .node m)))) (sym (runs .home)) (all .1)))
-                  (subst (λ (m : ℕ). T (e (C a) (E.nameElement m))) (sym (eqb→eq (nameOf (c .node b)) n (two .0))) i)
+          o .1 (s .0) (s .3 k) (s .2) b (block-listed c linked ρ e est b held (all .1))
+          (join (eqb (nameOf (c .node b)) (nameOf (c .node b)) && within r (permsOf (c .node b))) (guarded (c .node b) (permsOf (c .node (c .home p))))
+          (join (eqb (nameOf (c .node b)) (nameOf (c .node b))) (within r (permsOf (c .node b))) (eqb-refl (nameOf (c .node b))) (two .1))
+          (subst (λ (m : ℕ). T (guarded (c .node b) (permsOf (c .node m)))) (sym (runs .home)) (all .1)))
+          (subst (λ (m : ℕ). T (e (C a) (E.nameElement m))) (sym (eqb→eq (nameOf (c .node b)) n (two .0))) i)
           in
           start-good c linked ρ e est b held w (all .1) (g .0) (λ x u. runs .leaks x (g .1 .1 x u))
           (moved c e h ty b [] w (e (B b)) k (s .4 (e (B b)) (g .1 .0 (s .0) (in-range (E.elements c) (s .0) (s .1)) (s .3 k) (s .2))))
 
       send-good : (r a d : ℕ) (v w : Value) → Obeys e (twoRule c p (Two.send r) a d) → In c e h ty v (e (C a)) → In c e h ty w (e (C d))
-        → Fine (twoStep (Two.send r) v w fs cs)
+          → Fine (twoStep (Two.send r) v w fs cs)
       unfolding twoStep twoRule onAtom onName known constantElement constantNumber
       send-good r a d (function g us) w o i j = stop-good
       send-good r a d (fields f) w o i j = stop-good
@@ -347,7 +363,7 @@ module _ (c : Code) (linked : Linked c) (ρ : ℕ) (e : Sets) (est : Estimate c 
           (λ b k t. sent-good r a d n b w o (i .1) j k t, (ty, cells, (e (C p), (tt, o .0), waits)))
 
       two-good : (t : Two) (a d : ℕ) (v w : Value) → Obeys e (twoRule c p t a d) → In c e h ty v (e (C a)) → In c e h ty w (e (C d))
-        → Fine (twoStep t v w fs cs)
+          → Fine (twoStep t v w fs cs)
       unfolding twoStep twoRule
       two-good Two.apply a d v w o i j = apply-good a d v w o i j
       two-good Two.assign a d v w o i j = assign-good a d v w o i j
@@ -362,9 +378,9 @@ module _ (c : Code) (linked : Linked c) (ρ : ℕ) (e : Sets) (est : Estimate c 
           (λ r k x t. yield-good (fields (deleteField r k)) (e (C p)) (delete-good a d k r o x t) waits)
 
       second-good : (n : Node) (v w : Value) → c .node p ≡ n → NodeLinked c p n → Obeys e (flow c p n)
-        → In c e h ty v (e (C (partOf n 0)))
-        → In c e h ty w (e (C (partOf n 1)))
-        → Fine (secondStep p vs n v w fs cs)
+          → In c e h ty v (e (C (partOf n 0)))
+          → In c e h ty w (e (C (partOf n 1)))
+          → Fine (secondStep p vs n v w fs cs)
       unfolding secondStep flow
       second-good Node.gap v w q l o i j = stop-good
       second-good (Node.block n s g) v w q l o i j = stop-good
@@ -374,52 +390,55 @@ module _ (c : Code) (linked : Linked c) (ρ : ℕ) (e : Sets) (est : Estimate c 
       second-good (Node.bind a d) v w q l o i j = stop-good
       second-good (Node.while a d) v w q l o i j = stop-good
       second-good (Node.branch a b d) v w q l o i j = stop-good
-      second-good (Node.update a b d) v w q l o i j =
-          ( tt
-          , ( ty
-            , cells
-            , (part-runs c ρ e h ty p d vs runs (l .2) (o .1 .1 .0 .0) (o .1 .1 .0 .1), (runs, (a, b, d, q, i, j, λ x t. t), waits))
-            )
-          )
+      second-good (Node.update a b d) v w q l o i j = (
+        tt,
+        (
+          ty,
+          cells,
+          (part-runs c ρ e h ty p d vs runs (l .2) (o .1 .1 .0 .0) (o .1 .1 .0 .1), (runs, (a, b, d, q, i, j, λ x t. t), waits)),
+        ),
+      )
 
       -- ---- after the third part
 
       -- the new record holds the value and what the old one held
       set-good : (a b d k : ℕ) (r : Fields) (u : Value) → c .node p ≡ Node.update a b d → Obeys e (flow c p (Node.update a b d))
-        → In c e h ty (fields r) (e (C a))
-        → T (e (C b) (textElement k))
-        → In c e h ty u (e (C d))
-        → In c e h ty (fields (setField r k u)) (e (C p))
+          → In c e h ty (fields r) (e (C a))
+          → T (e (C b) (textElement k))
+          → In c e h ty u (e (C d))
+          → In c e h ty (fields (setField r k u)) (e (C p))
       unfolding flow setField isRecord makes anyRecord
       set-good a b d k r u q o (inl i) t j =
           let f = o .1 .1 .1 (textElement k) (text-string k) t in
           let g = f .0 E.opponentRecord tt (i .1) in
-          inr
-          ( p
-          , (runs .inside, at-node (λ n. isRecord (makes n)) (Node.update a b d) q tt)
-          , g .0
-          , ( mono c e h ty u (e (C d)) (e (B p)) (g .1) j
-            , data-in c e h ty (e (B p)) (λ x l. f .1 .1 (i .1) x (in-range (E.plain c) x l)) (deleteField r k) (delete-data r k (c .names) (i .0))
-            )
+          inr (
+            p,
+            (runs .inside, at-node (λ n. isRecord (makes n)) (Node.update a b d) q tt),
+            g .0,
+            (
+              mono c e h ty u (e (C d)) (e (B p)) (g .1) j,
+              data-in c e h ty (e (B p)) (λ x l. f .1 .1 (i .1) x (in-range (E.plain c) x l)) (deleteField r k) (delete-data r k (c .names) (i .0)),
+            ),
           )
       set-good a b d k r u q o (inr i) t j =
           let f = o .1 .1 .1 (textElement k) (text-string k) t in
           let g = f .0 (E.made c (i .0)) (made-record c (i .0) (i .1 .1)) (i .2) in
-          inr
-          ( p
-          , (runs .inside, at-node (λ n. isRecord (makes n)) (Node.update a b d) q tt)
-          , g .0
-          , ( mono c e h ty u (e (C d)) (e (B p)) (g .1) j
-            , delete-in c e h ty r k (e (B p))
-              (mono-fields c e h ty r (e (B (i .0))) (e (B p)) (f .1 .0 (i .0) (in-range (c .size) (i .0) (i .1 .0)) (i .1 .1) (i .2)) (i .3))
-            )
+          inr (
+            p,
+            (runs .inside, at-node (λ n. isRecord (makes n)) (Node.update a b d) q tt),
+            g .0,
+            (
+              mono c e h ty u (e (C d)) (e (B p)) (g .1) j,
+              delete-in c e h ty r k (e (B p))
+                  (mono-fields c e h ty r (e (B (i .0))) (e (B p)) (f .1 .0 (i .0) (in-range (c .size) (i .0) (i .1 .0)) (i .1 .1) (i .2)) (i .3)),
+            ),
           )
 
       third-good : (a b d : ℕ) (v w u : Value) → c .node p ≡ Node.update a b d → Obeys e (flow c p (Node.update a b d))
-        → In c e h ty v (e (C a))
-        → In c e h ty w (e (C b))
-        → In c e h ty u (e (C d))
-        → Fine (withField v w (λ r k. yield (fields (setField r k u)) fs cs))
+          → In c e h ty v (e (C a))
+          → In c e h ty w (e (C b))
+          → In c e h ty u (e (C d))
+          → Fine (withField v w (λ r k. yield (fields (setField r k u)) fs cs))
       third-good a b d v w u q o i j m =
           field-good v w (e (C a)) (e (C b)) (λ r k. yield (fields (setField r k u)) fs cs) i j
           (λ r k x t. yield-good (fields (setField r k u)) (e (C p)) (set-good a b d k r u q o x t m) waits)
@@ -431,9 +450,9 @@ module _ (c : Code) (linked : Linked c) (ρ : ℕ) (e : Sets) (est : Estimate c 
   flow-at ty p vs r = flows c linked ρ e est p (r .inside) (r .live)
 
   frame-good : (ty : List ℕ) (cs : List Value) (f : Frame) (fs : List Frame) (v : Value) (S : ℕ → Bool) → Cells c e h ty cs ty
-    → In c e h ty v S
-    → Wait c ρ e h ty (f ∷ fs) S
-    → Fine (frameStep c f v fs cs)
+      → In c e h ty v S
+      → Wait c ρ e h ty (f ∷ fs) S
+      → Fine (frameStep c f v fs cs)
   unfolding frameStep
   frame-good ty cs (first p vs) fs v S k i w =
       first-good ty cs k fs p vs (w .0) (w .2) (c .node p) v refl (linked .nodes p (w .0 .inside)) (flow-at ty p vs (w .0))

@@ -71,6 +71,7 @@ module _ (c : Code) (e : Sets) (h : ℕ) (ty more : List ℕ) where
 module _ (c : Code) (e : Sets) (h : ℕ) (ty : List ℕ) (g : ℕ) (uy : List ℕ) where
   mutual
     unfolding plain
+
     pub moved : (v : Value) (S : ℕ → Bool) → T (plain v) → In c e h ty v S → In c e g uy v S
     moved (atom a) S p i = i
     moved (function f vs) S p i = absurd p
@@ -139,7 +140,7 @@ module _ (c : Code) (e : Sets) (h : ℕ) (ty : List ℕ) where
   delete-in (field j v r) k S i = go (eqb j k) (delete-in r k S (i .1))
     where
       go : (t : Bool) → FieldsIn c e h ty (deleteField r k) S
-        → FieldsIn c e h ty (elim t [ true ↦ deleteField r k | false ↦ field j v (deleteField r k) ]) S
+          → FieldsIn c e h ty (elim t [ true ↦ deleteField r k | false ↦ field j v (deleteField r k) ]) S
       go true g = g
       go false g = (i .0, g)
 
@@ -158,7 +159,7 @@ delete-data empty k n d = tt
 delete-data (field j v r) k n d = go (eqb j k) (delete-data r k n (both (datum v n) (dataFields r n) d .1))
   where
     go : (t : Bool) → T (dataFields (deleteField r k) n)
-      → T (dataFields (elim t [ true ↦ deleteField r k | false ↦ field j v (deleteField r k) ]) n)
+        → T (dataFields (elim t [ true ↦ deleteField r k | false ↦ field j v (deleteField r k) ]) n)
     go true g = g
     go false g = join (datum v n) (dataFields (deleteField r k) n) (both (datum v n) (dataFields r n) d .0) g
 
@@ -176,21 +177,21 @@ module _ (c : Code) (e : Sets) (h : ℕ) (ty : List ℕ) where
   look-in (bound v vs) (q ∷ s) (suc n) b = look-in vs s n (b .1)
 
   pub read-in : (cs : List Value) (qs : List ℕ) (i q : ℕ) → getElem? qs i ≡ some q → Cells c e h ty cs qs
-    → Found c e h ty (getElem? cs i) (e (B q))
+      → Found c e h ty (getElem? cs i) (e (B q))
   read-in [] qs i q g k = tt
   read-in (v ∷ cs) [] i q g k = absurd k
   read-in (v ∷ cs) (p ∷ qs) zero q g k = subst (λ (x : ℕ). In c e h ty v (e (B x))) (same-some p q g) (k .0)
   read-in (v ∷ cs) (p ∷ qs) (suc i) q g k = read-in cs qs i q g (k .1)
 
   pub write-in : (cs : List Value) (qs : List ℕ) (i q : ℕ) (w : Value) → getElem? qs i ≡ some q → In c e h ty w (e (B q))
-    → Cells c e h ty cs qs → Cells c e h ty (set cs i w) qs
+      → Cells c e h ty cs qs → Cells c e h ty (set cs i w) qs
   write-in [] qs i q w g j k = k
   write-in (v ∷ cs) [] i q w g j k = absurd k
   write-in (v ∷ cs) (p ∷ qs) zero q w g j k = (subst (λ (x : ℕ). In c e h ty w (e (B x))) (sym (same-some p q g)) j, k .1)
   write-in (v ∷ cs) (p ∷ qs) (suc i) q w g j k = (k .0, write-in cs qs i q w g j (k .1))
 
   pub append-in : (cs : List Value) (qs : List ℕ) (v : Value) (q : ℕ) → In c e h ty v (e (B q)) → Cells c e h ty cs qs
-    → Cells c e h ty (cs ++ (v ∷ [])) (qs ++ (q ∷ []))
+      → Cells c e h ty (cs ++ (v ∷ [])) (qs ++ (q ∷ []))
   append-in [] [] v q i k = (i, tt)
   append-in [] (p ∷ qs) v q i k = absurd k
   append-in (u ∷ cs) [] v q i k = absurd k
@@ -203,7 +204,7 @@ module _ (c : Code) (e : Sets) (h : ℕ) (ty : List ℕ) where
   last-at (u ∷ cs) (p ∷ qs) q k = last-at cs qs q (k .1)
 
 pub weaken-cells : (c : Code) (e : Sets) (h : ℕ) (ty more : List ℕ) (cs : List Value) (qs : List ℕ) → Cells c e h ty cs qs
-  → Cells c e h (ty ++ more) cs qs
+    → Cells c e h (ty ++ more) cs qs
 weaken-cells c e h ty more [] [] k = tt
 weaken-cells c e h ty more [] (q ∷ qs) k = k
 weaken-cells c e h ty more (v ∷ cs) [] k = k

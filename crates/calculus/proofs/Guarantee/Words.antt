@@ -62,17 +62,17 @@ module _ (c : Code) (ρ : ℕ) (e : Sets) (h : ℕ) (ty : List ℕ) where
   wait-more m (second p vs v ∷ fs) S w =
       (runs-more p m vs (w .0), weaken c e h ty (m ∷ []) v (e (C (partOf (c .node p) 0))) (w .1), w .2, wait-more m fs (e (C p)) (w .3))
   wait-more m (third p vs u v ∷ fs) S w =
-      let k = w .1 in
-      ( runs-more p m vs (w .0)
-      , (k .0, k .1, k .2, k .3, weaken c e h ty (m ∷ []) u (e (C (k .0))) (k .4), weaken c e h ty (m ∷ []) v (e (C (k .1))) (k .5), k .6)
-      , wait-more m fs (e (C p)) (w .2)
+      let k = w .1 in (
+        runs-more p m vs (w .0),
+        (k .0, k .1, k .2, k .3, weaken c e h ty (m ∷ []) u (e (C (k .0))) (k .4), weaken c e h ty (m ∷ []) v (e (C (k .1))) (k .5), k .6),
+        wait-more m fs (e (C p)) (w .2),
       )
   wait-more m (again p vs ∷ fs) S w = (runs-more p m vs (w .0), wait-more m fs (e (C p)) (w .1))
 
   -- a word under the binders s may run
   pub enter : (q g : ℕ) (s : List ℕ) (vs : Environment) → Within c q g s → g ≡ h → T (e (L q) 0) → Leaks c ρ e q
-    → Bound c e h ty vs s
-    → Runs c ρ e h ty q vs
+      → Bound c e h ty vs s
+      → Runs c ρ e h ty q vs
   enter q g s vs w k l m b =
       record {
         inside = w .inside;
@@ -84,8 +84,8 @@ module _ (c : Code) (ρ : ℕ) (e : Sets) (h : ℕ) (ty : List ℕ) where
 
   -- a part of the running word p
   pub part-runs : (p q : ℕ) (vs : Environment) → Runs c ρ e h ty p vs → Within c q (c .home p) (c .scope p) → T (e (L q) 0)
-    → Sub (e (P q)) (e (P p))
-    → Runs c ρ e h ty q vs
+      → Sub (e (P q)) (e (P p))
+      → Runs c ρ e h ty q vs
   part-runs p q vs r w l s = enter q (c .home p) (c .scope p) vs w (r .home) l (λ x t. r .leaks x (s x t)) (r .binders)
 
 -- ---- handlers
@@ -121,17 +121,17 @@ module _ (c : Code) (linked : Linked c) (ρ : ℕ) (e : Sets) (est : Estimate c 
 
   -- a live block, whose permissions are in the leak, may start on a message that it holds
   pub start-good : (b s : ℕ) (v : Value) → T (guarded (c .node b) s) → T (e (L b) 0) → Leaks c ρ e b → In c e b [] v (e (B b))
-    → GoodInstance c ρ e (started b v)
+      → GoodInstance c ρ e (started b v)
   unfolding guarded flow
   start-good b s v g l m i = go (c .node b) g (linked .nodes b (guard-inside b s g)) (flows b (guard-inside b s g) l)
     where
       go : (n : Node) → T (guarded n s) → NodeLinked c b n → Obeys e (flow c b n) → GoodInstance c ρ e (started b v)
       go Node.gap t k o = absurd t
-      go (Node.block n u z) t k o =
-          ( []
-          , tt
-          , (enter c ρ e b [] (b + 3) b (b ∷ []) (bound v closed) (k .3) refl (o .0) (λ x p. m x (o .1 x p)) (i, tt), tt)
-          )
+      go (Node.block n u z) t k o = (
+        [],
+        tt,
+        (enter c ρ e b [] (b + 3) b (b ∷ []) (bound v closed) (k .3) refl (o .0) (λ x p. m x (o .1 x p)) (i, tt), tt),
+      )
       go (Node.leaf z) t k o = absurd t
       go (Node.one z a) t k o = absurd t
       go (Node.two z a d) t k o = absurd t
