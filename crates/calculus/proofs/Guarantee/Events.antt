@@ -58,7 +58,7 @@ module _ (c : Code) (linked : Linked c) (ρ : ℕ) (e : Sets) (est : Estimate c 
   unfolding sent
   sent-good h r n v none is rs before k g s w = (g, s)
   sent-good h r n v (some b) is rs before k g s w =
-      starts-good (plain v && admits n r (permsOf (c .node h)) (c .node b)) is rs (started b v) before
+      starts-good (plain v && admits n r (permsOf (c .node h)) (c .node b)) is rs (started (permsOf (c .node b)) b v) before
       (λ t. let p = both (plain v) (admits n r (permsOf (c .node h)) (c .node b)) t in k b (p .0) (p .1))
       g
       s
@@ -76,25 +76,28 @@ module _ (c : Code) (linked : Linked c) (ρ : ℕ) (e : Sets) (est : Estimate c 
 
   moved-good : (h i : ℕ) (choice : Option ℕ) (m : Move) (is : List Instance) (rs : List ℕ) → GoodMove c ρ e h m → Every is
       → GoodSets c ρ e rs
-      → GoodWorld c ρ e (moved c h i choice m is rs)
+      → GoodWorld c ρ e (moved c (permsOf (c .node h)) i choice m is rs)
   unfolding moved
   moved-good h i choice stay is rs k g s = (g, s)
   moved-good h i choice (go f l fs cs) is rs k g s =
-      effect-good h f choice (set is i (running h l fs cs)) rs (world is rs) (k .0) (set-instance is i (running h l fs cs) (k .1) g) s (g, s)
+      let x = running (permsOf (c .node h)) l fs cs in
+      effect-good h f choice (set is i x) rs (world is rs) (k .0) (set-instance is i x (h, refl, k .1) g) s (g, s)
 
   stepped-good : (i : ℕ) (choice : Option ℕ) (o : Option Instance) (is : List Instance) (rs : List ℕ) → One o → Every is
       → GoodSets c ρ e rs
       → GoodWorld c ρ e (stepped c i choice o is rs)
   unfolding stepped
   stepped-good i choice none is rs k g s = (g, s)
-  stepped-good i choice (some (running h l fs cs)) is rs k g s =
-      moved-good h i choice (step c (permsOf (c .node h)) l fs cs) is rs (step-good c linked ρ e est h l fs cs k) g s
+  stepped-good i choice (some (running held l fs cs)) is rs k g s =
+      let h = k .0 in
+      subst (λ (a : ℕ). GoodWorld c ρ e (moved c a i choice (step c a l fs cs) is rs)) (sym (k .1))
+      (moved-good h i choice (step c (permsOf (c .node h)) l fs cs) is rs (step-good c linked ρ e est h l fs cs (k .2)) g s)
 
   act-good : (w : World) (x : Event) → GoodWorld c ρ e w → GoodWorld c ρ e (act c ρ w x)
   unfolding act
   act-good (world is rs) (steps i choice) g = stepped-good i choice (getElem? is i) is rs (get-instance is i (g .0)) (g .0) (g .1)
   act-good (world is rs) (starts b v) g =
-      starts-good (datum v (c .names) && guarded (c .node b) ρ) is rs (started b v) (world is rs)
+      starts-good (datum v (c .names) && guarded (c .node b) ρ) is rs (started (permsOf (c .node b)) b v) (world is rs)
       (λ t. let p = both (datum v (c .names)) (guarded (c .node b) ρ) t in opponent-good c linked ρ e est b v (p .1) (p .0))
       (g .0)
       (g .1)

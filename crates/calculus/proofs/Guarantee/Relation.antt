@@ -137,16 +137,20 @@ module _ (c : Code) (ρ : ℕ) (e : Sets) (h : ℕ) where
   abbrev pub Good : Control → List Frame → List Value → Type 0
   Good k fs cs = (ty : List ℕ) × Cells c e h ty cs ty × Holds ty k fs
 
-abbrev pub GoodInstance : Code → ℕ → Sets → Instance → Type 0
-GoodInstance c ρ e (running h k fs cs) = Good c ρ e h k fs cs
-
 module _ (c : Code) (ρ : ℕ) (e : Sets) where
+  -- the instance runs a handler with its permissions
+  abbrev pub GoodInstance : Instance → Type 0
+  GoodInstance (running held k fs cs) = (h : ℕ) × (held ≡ permsOf (c .node h)) × Good c ρ e h k fs cs
+
+  abbrev pub Starts : ℕ → Value → Type 0
+  Starts b v = GoodInstance (started (permsOf (c .node b)) b v)
+
   -- what is exercised is in the leak, and any instance that a send may start is good
   abbrev pub GoodEffect : ℕ → Effect → Type 0
   GoodEffect h silent = Unit {0}
   GoodEffect h (exercises r) = (x : ℕ) → T (member r x) → leakOf c ρ e x
   GoodEffect h (sends r n v) =
-      (b : ℕ) → T (plain v) → T (admits n r (permsOf (c .node h)) (c .node b)) → GoodInstance c ρ e (started b v)
+      (b : ℕ) → T (plain v) → T (admits n r (permsOf (c .node h)) (c .node b)) → Starts b v
 
   abbrev pub GoodMove : ℕ → Move → Type 0
   GoodMove h stay = Unit {0}
@@ -154,7 +158,7 @@ module _ (c : Code) (ρ : ℕ) (e : Sets) where
 
   abbrev pub GoodInstances : List Instance → Type 0
   GoodInstances [] = Unit {0}
-  GoodInstances (i ∷ is) = GoodInstance c ρ e i × GoodInstances is
+  GoodInstances (i ∷ is) = GoodInstance i × GoodInstances is
 
   abbrev pub GoodSets : List ℕ → Type 0
   GoodSets [] = Unit {0}

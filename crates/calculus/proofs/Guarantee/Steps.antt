@@ -25,8 +25,7 @@ use Rattle.calculus.specs.Values.{onAtom, onFunction, onFields, onCell, 
 use Rattle.calculus.specs.Machine.{Control, eval, give, stopped, Frame, first, second, third, again, Effect, Move, stop, begin, yield, found}
 use Rattle.calculus.specs.Machine.{leafStep, termStep, oneStep, choose, firstStep, withField, twoStep, secondStep, frameStep, step}
 use Rattle.calculus.proofs.Guarantee.Relation.{Sub, signOf, stringElement, textElement, element, partOf, RecordAt, CellAt, In, Bound, FieldsIn}
-use Rattle.calculus.specs.Run.{started}
-use Rattle.calculus.proofs.Guarantee.Relation.{Found, Cells, Leaks, Runs, Wait, Good, GoodMove, GoodInstance}
+use Rattle.calculus.proofs.Guarantee.Relation.{Found, Cells, Leaks, Runs, Wait, Good, GoodMove, Starts}
 use Rattle.calculus.proofs.Guarantee.Values.{both, join, mono, mono-fields, weaken, moved, below, datum-in, data-in, get-in, delete-in, get-data}
 use Rattle.calculus.proofs.Guarantee.Values.{delete-data, look-in, read-in, write-in, append-in, last-at, weaken-cells}
 use Rattle.calculus.proofs.Guarantee.Operations.{operate-in}
@@ -334,7 +333,7 @@ module _ (c : Code) (linked : Linked c) (ρ : ℕ) (e : Sets) (est : Estimate c 
       sent-good : (r a d n b : ℕ) (w : Value) → Obeys e (twoRule c p (Two.send r) a d) → T (e (C a) (E.nameElement n)) → In c e h ty w (e (C d))
           → T (plain w)
           → T (admits n r held (c .node b))
-          → GoodInstance c ρ e (started b w)
+          → Starts c ρ e b w
       unfolding twoRule admits permissions
       sent-good r a d n b w o i j k t =
           let all = both (eqb (nameOf (c .node b)) n && within r (permsOf (c .node b))) (guarded (c .node b) held) t in

@@ -12,8 +12,7 @@ use Rattle.calculus.specs.Constraint.{C, B, P, L, Sets, Obeys, range}
 use Rattle.calculus.specs.Rules.{Estimate, rule, entry, flow, guarded}
 use Rattle.calculus.specs.Values.{Value, Environment, closed, bound, datum}
 use Rattle.calculus.specs.Machine.{Frame, first, second, third, again}
-use Rattle.calculus.specs.Run.{started}
-use Rattle.calculus.proofs.Guarantee.Relation.{Sub, partOf, In, Bound, Leaks, Runs, Wait, GoodInstance}
+use Rattle.calculus.proofs.Guarantee.Relation.{Sub, partOf, In, Bound, Leaks, Runs, Wait, Starts}
 use Rattle.calculus.proofs.Guarantee.Values.{datum-in, weaken, weaken-bound}
 
 -- ---- numbers below a bound
@@ -121,17 +120,15 @@ module _ (c : Code) (linked : Linked c) (ρ : ℕ) (e : Sets) (est : Estimate c 
 
   -- a live block, whose permissions are in the leak, may start on a message that it holds
   pub start-good : (b s : ℕ) (v : Value) → T (guarded (c .node b) s) → T (e (L b) 0) → Leaks c ρ e b → In c e b [] v (e (B b))
-      → GoodInstance c ρ e (started b v)
+      → Starts c ρ e b v
   unfolding guarded flow
   start-good b s v g l m i = go (c .node b) g (linked .nodes b (guard-inside b s g)) (flows b (guard-inside b s g) l)
     where
-      go : (n : Node) → T (guarded n s) → NodeLinked c b n → Obeys e (flow c b n) → GoodInstance c ρ e (started b v)
+      go : (n : Node) → T (guarded n s) → NodeLinked c b n → Obeys e (flow c b n) → Starts c ρ e b v
       go Node.gap t k o = absurd t
-      go (Node.block n u z) t k o = (
-        [],
-        tt,
-        (enter c ρ e b [] (b + 3) b (b ∷ []) (bound v closed) (k .3) refl (o .0) (λ x p. m x (o .1 x p)) (i, tt), tt),
-      )
+      go (Node.block n u z) t k o =
+          let r = enter c ρ e b [] (b + 3) b (b ∷ []) (bound v closed) (k .3) refl (o .0) (λ x p. m x (o .1 x p)) (i, tt) in
+          (b, refl, ([], tt, (r, tt)))
       go (Node.leaf z) t k o = absurd t
       go (Node.one z a) t k o = absurd t
       go (Node.two z a d) t k o = absurd t
@@ -141,7 +138,7 @@ module _ (c : Code) (linked : Linked c) (ρ : ℕ) (e : Sets) (est : Estimate c 
       go (Node.update a d z) t k o = absurd t
 
   -- the opponent's start
-  pub opponent-good : (b : ℕ) (v : Value) → T (guarded (c .node b) ρ) → T (datum v (c .names)) → GoodInstance c ρ e (started b v)
+  pub opponent-good : (b : ℕ) (v : Value) → T (guarded (c .node b) ρ) → T (datum v (c .names)) → Starts c ρ e b v
   unfolding rule entry
   opponent-good b v g d =
       let o = est b (guard-inside b ρ g) .0 g in
