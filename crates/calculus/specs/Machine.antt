@@ -1,5 +1,5 @@
--- The steps of one instance (document 01, "The machine"): parts begin left to right, each to its value, and then the term itself steps
--- or stops. Assumes nothing of the code: where a word is no term the instance stops.
+-- The steps of one instance (document 01, "The machine"): parts run left to right, each to its value, and only then the term itself
+-- steps or stops. Nothing is assumed of the code: where no term stands the instance stops.
 use Prim.Native.Nat.{ℕ, suc}
 use mathlib.Core.Bool.{Bool, true, false}
 use mathlib.Core.Option.{Option, none, some}
@@ -31,17 +31,20 @@ pub data Effect : Type 0 where
   exercises : (set : ℕ) → Effect
   sends : (required target : ℕ) → (message : Value) → Effect
 
--- no step, or a step to what the instance is then at, its frames and its cells
+-- no step, where the instance has finished or stopped; or a step: its effect, what the instance is then at, its frames and its cells
 pub data Move : Type 0 where
   stay : Move
   go : Effect → Control → List Frame → List Value → Move
 
+-- the term is done, and its value goes to the first frame
 abbrev pub yield : Value → List Frame → List Value → Move
 yield v fs cs = go Effect.silent (give v) fs cs
 
+-- the term at p begins
 abbrev pub begin : ℕ → Environment → List Frame → List Value → Move
 begin p vs fs cs = go Effect.silent (eval p vs) fs cs
 
+-- "It stops for good where no step is given."
 abbrev pub stop : Move
 stop = go Effect.silent stopped [] []
 
@@ -50,7 +53,8 @@ unfoldable pub found : Option Value → List Frame → List Value → Move
 found none fs cs = stop
 found (some v) fs cs = yield v fs cs
 
--- Terms with no part that runs, at the word p. `held` are the instance's permissions.
+-- A term with no part that runs, at the word p. "Exercise of r proceeds and yields unit if r is within the instance's permissions;
+-- otherwise the instance stops." `held` are these permissions.
 unfoldable pub leafStep : ℕ → ℕ → Environment → Leaf → List Frame → List Value → Move
 leafStep held p vs (Leaf.constant k) fs cs = yield (atom (Atom.constant k)) fs cs
 leafStep held p vs (Leaf.number n) fs cs = yield (atom (Atom.number (whole n))) fs cs
@@ -62,7 +66,7 @@ leafStep held p vs Leaf.empty fs cs = yield (fields Fields.empty) fs cs
 leafStep held p vs (Leaf.exercise r) fs cs =
     elim (within r held) [ true ↦ go (Effect.exercises r) (give unit) fs cs | false ↦ stop ]
 
--- a term whose parts run: the first one begins
+-- the term at p: where it has parts that run, the first one begins
 unfoldable pub termStep : ℕ → ℕ → Environment → Node → List Frame → List Value → Move
 termStep held p vs Node.gap fs cs = stop
 termStep held p vs (Node.block n s g) fs cs = stop
@@ -74,15 +78,16 @@ termStep held p vs (Node.while a b) fs cs = begin a vs (first p vs ∷ fs) cs
 termStep held p vs (Node.branch a b d) fs cs = begin a vs (first p vs ∷ fs) cs
 termStep held p vs (Node.update a b d) fs cs = begin a vs (first p vs ∷ fs) cs
 
+-- a term with one part, which gave v: a new cell stands after the others, and a cell is read
 unfoldable pub oneStep : One → Value → List Frame → List Value → Move
 oneStep One.cell v fs cs = yield (cell (length cs)) fs (cs ++ (v ∷ []))
 oneStep One.read v fs cs = onCell v (λ i. found (getElem? cs i) fs cs) stop
 
--- a while or an if whose condition gave v: what runs on true and on false
+-- what an if or a while does where its condition gave v: "branching on anything but true or false" stops
 unfoldable pub choose : Value → Move → Move → Move
 choose v left right = onAtom v (λ a. onTruth a (λ t. elim t [ true ↦ left | false ↦ right ]) stop) stop
 
--- the term at p, whose first part gave v
+-- the term at p, whose first part gave v. "While ends in undefined."
 unfoldable pub firstStep : ℕ → Environment → Node → Value → List Frame → List Value → Move
 firstStep p vs Node.gap v fs cs = stop
 firstStep p vs (Node.block n s g) v fs cs = stop
@@ -94,11 +99,11 @@ firstStep p vs (Node.while a b) v fs cs = choose v (begin b vs (again p vs ∷ f
 firstStep p vs (Node.branch a b d) v fs cs = choose v (begin b vs fs cs) (begin d vs fs cs)
 firstStep p vs (Node.update a b d) v fs cs = begin b vs (second p vs v ∷ fs) cs
 
--- what a record and a string are needed for
+-- "Get, set or delete on a non-record or with a non-string" stops.
 unfoldable pub withField : Value → Value → (Fields → ℕ → Move) → Move
 withField v w f = onFields v (λ r. onAtom w (λ a. onText a (λ k. f r k) stop) stop) stop
 
--- a term with two parts, which gave v and w
+-- a term with two parts, which gave v and w. "Assign yields the value." "Send yields unit if its target is a name."
 unfoldable pub twoStep : Two → Value → Value → List Frame → List Value → Move
 twoStep Two.apply v w fs cs = onFunction v (λ p vs. begin (suc p) (bound w vs) fs cs) stop
 twoStep Two.sequence v w fs cs = yield w fs cs
@@ -120,13 +125,14 @@ secondStep p vs (Node.while a b) v w fs cs = stop
 secondStep p vs (Node.branch a b d) v w fs cs = stop
 secondStep p vs (Node.update a b d) v w fs cs = begin d vs (third p vs v w ∷ fs) cs
 
--- the value u for the first frame
+-- the first frame is given the value u; after its body a while begins again
 unfoldable pub frameStep : Code → Frame → Value → List Frame → List Value → Move
 frameStep c (first p vs) u fs cs = firstStep p vs (c .node p) u fs cs
 frameStep c (second p vs v) u fs cs = secondStep p vs (c .node p) v u fs cs
 frameStep c (third p vs v w) u fs cs = withField v w (λ r k. yield (fields (setField r k u)) fs cs)
 frameStep c (again p vs) u fs cs = begin p vs fs cs
 
+-- one step of an instance with the permissions `held`
 unfoldable pub step : Code → ℕ → Control → List Frame → List Value → Move
 step c held (eval p vs) fs cs = termStep held p vs (c .node p) fs cs
 step c held (give v) [] cs = stay
