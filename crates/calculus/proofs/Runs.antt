@@ -10,12 +10,12 @@ use Rattle.calculus.specs.Values.{whole, look, getField, deleteField, se
 use Rattle.calculus.specs.Values.{onAtom, onFunction, onFields, onCell, onNumber, onText, onName, onTruth}
 use Rattle.calculus.specs.Machine.{step, frameStep, secondStep, twoStep, withField, firstStep, choose, oneStep, termStep}
 use Rattle.calculus.specs.Machine.{leafStep, found}
-use Rattle.calculus.specs.Run.{run, after, act, stepped, moved, effect, sent}
+use Rattle.calculus.specs.Run.{run, after, act, stepped, moved, effect, sent, joined}
 use Rattle.calculus.specs.Runs.{examples, outcome, reached, expected}
 
 pub runs : map reached examples ≡ map expected examples
 unfolding
-    examples reached expected outcome run after act stepped moved effect sent step frameStep secondStep twoStep withField firstStep
+    examples reached expected outcome run after act stepped moved effect sent joined step frameStep secondStep twoStep withField firstStep
     choose oneStep termStep leafStep found whole look getField deleteField setField plain known datum sameNumber same operate onAtom
     onFunction onFields onCell onNumber onText onName onTruth nameOf permsOf guarded admits member within code nodeFor scopeFor homeFor
     blocksFrom taskAt tasks trace part skip termNode next under kind argument partsByKind parts arity termsByKind termOf constantOf

@@ -31,15 +31,17 @@ pub data Event : Type 0 where
 abbrev pub started : (s b : ℕ) → Value → Instance
 started s b v = running s (Control.eval (b + 3) (Environment.bound v Environment.closed)) [] []
 
--- A send by an instance that holds these permissions: nothing starts, or the handler at b if the send allows it. `is` are the instances
+-- one instance more where the test holds, and the world `before` where it does not
+unfoldable pub joined : Bool → Instance → List Instance → List ℕ → (before : World) → World
+joined true x is rs before = world (is ++ (x ∷ [])) rs
+joined false x is rs before = before
+
+-- A send by an instance with the permissions `held`: it starts nothing, or the handler at b if the send allows it. `is` are the instances
 -- after the send's step, and `before` is the world before it: a choice that the send does not allow changes nothing.
-unfoldable pub sent : Code → (held required target : ℕ) → Value → Option ℕ → List Instance → List ℕ → World → World
+unfoldable pub sent : Code → (held required target : ℕ) → Value → Option ℕ → List Instance → List ℕ → (before : World) → World
 sent c held r n v none is rs before = world is rs
 sent c held r n v (some b) is rs before =
-    elim (plain v && admits n r held (c .node b)) [
-      | true ↦ world (is ++ (started (permsOf (c .node b)) b v ∷ [])) rs
-      | false ↦ before
-    ]
+    joined (plain v && admits n r held (c .node b)) (started (permsOf (c .node b)) b v) is rs before
 
 unfoldable pub effect : Code → (held : ℕ) → Effect → Option ℕ → List Instance → List ℕ → World → World
 effect c held Effect.silent choice is rs before = world is rs
@@ -58,10 +60,7 @@ stepped c i choice (some (running held k fs cs)) is rs = moved c held i choice (
 unfoldable pub act : Code → ℕ → World → Event → World
 act c ρ (world is rs) (steps i choice) = stepped c i choice (getElem? is i) is rs
 act c ρ (world is rs) (starts b v) =
-    elim (datum v (c .names) && guarded (c .node b) ρ) [
-      | true ↦ world (is ++ (started (permsOf (c .node b)) b v ∷ [])) rs
-      | false ↦ world is rs
-    ]
+    joined (datum v (c .names) && guarded (c .node b) ρ) (started (permsOf (c .node b)) b v) is rs (world is rs)
 
 -- the events of a list, each on what the last one left
 unfoldable pub after : Code → ℕ → World → List Event → World

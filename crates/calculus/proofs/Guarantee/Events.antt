@@ -12,7 +12,7 @@ use Rattle.calculus.specs.Constraint.{Sets}
 use Rattle.calculus.specs.Rules.{Estimate, leakOf, permsOf, guarded, admits}
 use Rattle.calculus.specs.Values.{Value, plain, datum}
 use Rattle.calculus.specs.Machine.{Effect, silent, exercises, sends, Move, stay, go, step}
-use Rattle.calculus.specs.Run.{Instance, running, World, world, nothing, Event, steps, starts, started, sent, effect, moved, stepped, act}
+use Rattle.calculus.specs.Run.{Instance, running, World, world, nothing, Event, steps, starts, started, joined, sent, effect, moved, stepped, act}
 use Rattle.calculus.specs.Run.{after, run, exercised}
 use Rattle.calculus.proofs.Guarantee.Relation.{GoodInstance, GoodEffect, GoodMove, GoodInstances, GoodSets, GoodWorld}
 use Rattle.calculus.proofs.Guarantee.Values.{both}
@@ -45,7 +45,8 @@ module _ (c : Code) (linked : Linked c) (ρ : ℕ) (e : Sets) (est : Estimate c 
   starts-good : (t : Bool) (is : List Instance) (rs : List ℕ) (x : Instance) (before : World) → (T t → GoodInstance c ρ e x) → Every is
       → GoodSets c ρ e rs
       → GoodWorld c ρ e before
-      → GoodWorld c ρ e (elim t [ true ↦ world (is ++ (x ∷ [])) rs | false ↦ before ])
+      → GoodWorld c ρ e (joined t x is rs before)
+  unfolding joined
   starts-good true is rs x before k g s w = (add-instance is x (k tt) g, s)
   starts-good false is rs x before k g s w = w
 
