@@ -13,12 +13,8 @@ use lib.Pow.{pow-lt}
 use lib.ListN.{length, getD, replicate, List·getD-eq-default}
 use lib.Seq.{ext-getD}
 use Rattle.permset.specs.Sets.{member}
-use Rattle.calculus.specs.Layout.{bit, pour, mark}
+use Rattle.calculus.specs.Layout.{bit, pour, mark, Words}
 use Rattle.calculus.proofs.Digits.{T-or, T-or-left, T-or-right, member-or, member-none, member-single, member-single-only, member-ext}
-
--- every word has 32 digits
-abbrev pub Words : List ℕ → Type 0
-Words ws = (k : ℕ) → getD ws k 0 < 2 ^ 32
 
 -- the digits of ws are among those of xs
 abbrev pub _≼_ : List ℕ → List ℕ → Type 0

@@ -81,7 +81,6 @@ module _ (c : Code) (ρ : ℕ) where
 
 -- the set digits of 32-bit words
 unfoldable pub facts : List ℕ → ℕ
-unfolding onesIn
 facts [] = 0
 facts (w ∷ ws) = onesIn 32 w + facts ws
 

@@ -1,9 +1,10 @@
 -- The words of an estimate (document 01, "Estimate"): where each row stands, and which sets a list of words holds.
-use Prim.Native.Nat.{ℕ, zero, suc, _+_, _*_, _/_, _%_, _^_}
+use Prim.Native.Nat.{ℕ, zero, suc, _+_, _*_, _/_, _%_, _^_, _<_}
+use mathlib.Core.Path.{_≡_}
 use mathlib.Core.List.{List, [], _∷_}
-use mathlib.Core.Bool.{Bool, _&&_}
-use lib.ListN.{getD, take, drop}
-use lib.Dec.{ltb}
+use mathlib.Core.Bool.{Bool, true, false, _&&_}
+use lib.ListN.{getD, take, drop, length as lengthOf}
+use lib.Dec.{T, ltb}
 use lib.Bits.{bitOr}
 use Rattle.permset.specs.Sets.{width, member}
 use Rattle.table.specs.Code.{Code}
@@ -71,14 +72,14 @@ module _ (c : Code) where
   place r v = 32 * base r + shift r + v
 
   -- v may be in the row r
-  unfoldable pub inside : Row → ℕ → Bool
+  unfoldable pub allowed : Row → ℕ → Bool
   unfolding owner span
-  inside r v = ltb (owner r) (c .size) && ltb v (span r)
+  allowed r v = ltb (owner r) (c .size) && ltb v (span r)
 
   -- the sets that a list of words holds
   unfoldable pub sets : List ℕ → Sets
-  unfolding inside place bit
-  sets ws r v = inside r v && bit ws (place r v)
+  unfolding allowed place bit
+  sets ws r v = allowed r v && bit ws (place r v)
 
   -- the words of a set that may be passed on to another, its digits from 0 on; a flag is not
   unfoldable pub content : List ℕ → Row → List ℕ
@@ -87,3 +88,26 @@ module _ (c : Code) where
   content ws (B i) = take rowWords (drop (base (B i)) ws)
   content ws (P i) = getD ws (base (P i)) 0 % 2 ^ width ∷ []
   content ws (L i) = []
+
+  -- digit n is that of an element of a row: "other bits are zero"
+  unfoldable pub used : ℕ → Bool
+  unfolding rowWords
+  used n =
+      elim (ltb n (32 * (2 * c .size * rowWords))) [
+        | true ↦ ltb (n % (32 * rowWords)) (elements c)
+        | false ↦ ltb (n % 32) (suc width)
+      ]
+
+-- every word has 32 digits
+abbrev pub Words : List ℕ → Type 0
+Words ws = (k : ℕ) → getD ws k 0 < 2 ^ 32
+
+-- the words of an estimate: as many as there are to be, and no stray bit
+pub record WellFormed (c : Code) (ws : List ℕ) : Type 0 where
+  pub long : lengthOf ws ≡ length c
+  pub words : Words ws
+  pub clean : (n : ℕ) → T (bit ws n) → T (used c n)
+
+-- the sets of ws lie inside those of e
+abbrev pub LiesIn : Code → List ℕ → Sets → Type 0
+LiesIn c ws e = (r : Row) (v : ℕ) → T (sets c ws r v) → T (e r v)
