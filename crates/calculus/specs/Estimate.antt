@@ -57,6 +57,10 @@ same [] (y ∷ ys) = false
 same (x ∷ xs) [] = false
 same (x ∷ xs) (y ∷ ys) = elim (eqb x y) [ true ↦ same xs ys | false ↦ false ]
 
+-- the most facts that an estimate may have
+unfoldable pub mostFacts : Code → ℕ
+mostFacts c = c .size * (2 * elements c + suc width)
+
 module _ (c : Code) (ρ : ℕ) where
   -- each rule once
   unfoldable pub sweep : List ℕ → List ℕ
@@ -69,13 +73,9 @@ module _ (c : Code) (ρ : ℕ) where
   close zero ws = ws
   close (suc n) ws = whole (sweep ws) (λ xs. elim (same xs ws) [ true ↦ ws | false ↦ close n xs ])
 
-  -- the most facts that an estimate may have
-  unfoldable pub mostFacts : ℕ
-  mostFacts = c .size * (2 * elements c + suc width)
-
   unfoldable pub estimate : List ℕ
   unfolding close length mostFacts
-  estimate = close mostFacts (replicate (length c) 0)
+  estimate = close (mostFacts c) (replicate (length c) 0)
 
 -- ---- what is read from an estimate
 

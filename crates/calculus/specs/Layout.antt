@@ -2,9 +2,9 @@
 use Prim.Native.Nat.{ℕ, zero, suc, _+_, _*_, _/_, _%_, _^_, _<_}
 use mathlib.Core.Path.{_≡_}
 use mathlib.Core.List.{List, [], _∷_}
-use mathlib.Core.Bool.{Bool, true, false, _&&_}
+use mathlib.Core.Bool.{Bool, _&&_, _||_}
 use lib.ListN.{getD, take, drop, length as lengthOf}
-use lib.Dec.{T, ltb}
+use lib.Dec.{T, leb, ltb}
 use lib.Bits.{bitOr}
 use Rattle.permset.specs.Sets.{width, member}
 use Rattle.table.specs.Code.{Code}
@@ -93,10 +93,8 @@ module _ (c : Code) where
   unfoldable pub used : ℕ → Bool
   unfolding rowWords
   used n =
-      elim (ltb n (32 * (2 * c .size * rowWords))) [
-        | true ↦ ltb (n % (32 * rowWords)) (elements c)
-        | false ↦ ltb (n % 32) (suc width)
-      ]
+      ltb n (32 * (2 * c .size * rowWords)) && ltb (n % (32 * rowWords)) (elements c)
+      || leb (32 * (2 * c .size * rowWords)) n && ltb (n % 32) (suc width)
 
 -- every word has 32 digits
 abbrev pub Words : List ℕ → Type 0
