@@ -20,10 +20,10 @@ use Rattle.calculus.proofs.Counting.{count, count-ext, count-add, count
 
 module _ (c : Code) where
   -- the digits of a value set or a held set, and of all of them
-  abbrev digits : ℕ
+  abbrev pub digits : ℕ
   digits = 32 * rowWords c
 
-  abbrev low : ℕ
+  abbrev pub low : ℕ
   low = 32 * (2 * c .size * rowWords c)
 
   pub fits-row : elements c ≤ digits
@@ -54,18 +54,18 @@ module _ (c : Code) where
 
   -- ---- the rows by their numbers: C(i) is row 2i, B(i) row 2i+1; the permissions and flags come after them
 
-  place-C : (i v : ℕ) → place c (C i) v ≡ 2 * i * digits + v
+  pub place-C : (i v : ℕ) → place c (C i) v ≡ 2 * i * digits + v
   unfolding place base shift
   place-C i v = let e : 32 * (2 * i * rowWords c) ≡ 2 * i * digits = mul-left-comm 32 (2 * i) (rowWords c) in omega arith
 
-  place-B : (i v : ℕ) → place c (B i) v ≡ suc (2 * i) * digits + v
+  pub place-B : (i v : ℕ) → place c (B i) v ≡ suc (2 * i) * digits + v
   unfolding place base shift
   place-B i v =
       let e : 32 * (2 * i * rowWords c) ≡ 2 * i * digits = mul-left-comm 32 (2 * i) (rowWords c) in
       let f : suc (2 * i) * digits ≡ 2 * i * digits + digits = suc-mul (2 * i) digits in
       omega arith
 
-  place-P : (i v : ℕ) → place c (P i) v ≡ low + (32 * i + v)
+  pub place-P : (i v : ℕ) → place c (P i) v ≡ low + (32 * i + v)
   unfolding place base shift
   place-P i v = omega arith
 
@@ -247,6 +247,9 @@ module _ (c : Code) where
   in-row i j h k =
       let l : i * digits + j < low = subst (λ (x : ℕ). i * digits + j < x) low-digits (digits-lt h k) in
       rw (lt-ltb (i * digits + j) low l, lt-leb low (i * digits + j) l, digits-mod i k) (or-false (ltb j (elements c)))
+
+  pub used-row : (q v : ℕ) → q < 2 * c .size → v < digits → T (used c (q * digits + v)) → v < elements c
+  used-row q v h k u = ltb→lt v (elements c) (subst T (in-row q v h k) u)
 
   in-word : (i j : ℕ) → i < c .size → j < 32 → used c (2 * c .size * digits + (i * 32 + j)) ≡ ltb j (suc width)
   unfolding used
