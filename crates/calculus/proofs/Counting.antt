@@ -69,7 +69,7 @@ count-add (suc m) n f =
     ap (λ (j : ℕ). count j f) (suc-add m n) ∙ ap (λ (j : ℕ). one (f 0) + j) (count-add m n (λ k. f (suc k)))
     ∙ sym (add-assoc (one (f 0)) (count m (λ k. f (suc k))) (count n (λ k. f (suc (m + k)))))
     ∙ ap (λ (j : ℕ). one (f 0) + count m (λ k. f (suc k)) + j)
-      (count-ext n (λ k. f (suc (m + k))) (λ k. f (suc m + k)) (λ k h. ap f (sym (suc-add m k))))
+    (count-ext n (λ k. f (suc (m + k))) (λ k. f (suc m + k)) (λ k h. ap f (sym (suc-add m k))))
 
 -- m blocks of g numbers, each with the same test
 pub count-blocks : (m g : ℕ) (f h : ℕ → Bool) → ((i j : ℕ) → i < m → j < g → f (i * g + j) ≡ h j) → count (m * g) f ≡ m * count g h
@@ -78,8 +78,8 @@ count-blocks zero g f h e = ap (λ (j : ℕ). count j f) (zero-mul g) ∙ sym (z
 count-blocks (suc m) g f h e =
     ap (λ (j : ℕ). count j f) (suc-mul m g ∙ add-comm (m * g) g) ∙ count-add g (m * g) f
     ∙ ap₂ (λ (a b : ℕ). a + b)
-      (count-ext g f h (λ j l. ap f (sym (zero-add j) ∙ ap (λ (x : ℕ). x + j) (sym (zero-mul g))) ∙ e 0 j (omega arith) l))
-      (count-blocks m g (λ k. f (g + k)) h (λ i j a b. ap f (shifted i j) ∙ e (suc i) j (omega arith) b))
+    (count-ext g f h (λ j l. ap f (sym (zero-add j) ∙ ap (λ (x : ℕ). x + j) (sym (zero-mul g))) ∙ e 0 j (omega arith) l))
+    (count-blocks m g (λ k. f (g + k)) h (λ i j a b. ap f (shifted i j) ∙ e (suc i) j (omega arith) b))
     ∙ add-comm (count g h) (m * count g h) ∙ sym (suc-mul m (count g h))
   where
     shifted : (i j : ℕ) → g + (i * g + j) ≡ suc i * g + j

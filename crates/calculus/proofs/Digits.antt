@@ -141,10 +141,10 @@ pub member-ext : (n x y : ℕ) → x < 2 ^ n → y < 2 ^ n → ((i : ℕ) → i 
 member-ext zero x y hx hy e = lt-one hx ∙ sym (lt-one hy)
 member-ext (suc n) x y hx hy e =
     let low : x % 2 ≡ y % 2 =
-        digit-eq (x % 2) (y % 2) (mod-lt x two-pos) (mod-lt y two-pos) (sym (member-zero x) ∙ e zero (omega arith) ∙ member-zero y)
+    digit-eq (x % 2) (y % 2) (mod-lt x two-pos) (mod-lt y two-pos) (sym (member-zero x) ∙ e zero (omega arith) ∙ member-zero y)
     in
     let rest : x / 2 ≡ y / 2 =
-        member-ext n (x / 2) (y / 2) (half-lt n hx) (half-lt n hy)
-        (λ i h. sym (member-suc x i) ∙ e (suc i) (omega arith) ∙ member-suc y i)
+    member-ext n (x / 2) (y / 2) (half-lt n hx) (half-lt n hy)
+    (λ i h. sym (member-suc x i) ∙ e (suc i) (omega arith) ∙ member-suc y i)
     in
     sym (div-add-mod' x 2) ∙ ap₂ (λ (a b : ℕ). a * 2 + b) rest low ∙ div-add-mod' y 2

@@ -153,15 +153,18 @@ module _ (c : Code) where
             may = is-allowed (B i) (n % digits) (omega arith) k;
             here = sym (div-add-mod' n digits) ∙ ap (λ (x : ℕ). x * digits + n % digits) (sym e ∙ t) ∙ sym (place-B i (n % digits));
           }
+
       below : n < low → n % digits < elements c → At n
       below l k =
           let q : n / digits < 2 * c .size = div-lt-iff-lt-mul digits-pos .1 (rw low-digits l) in
           parity (n / digits) (n / digits / 2) refl q k refl (decLt (n / digits % 2) 1)
+
       flag : (i d : ℕ) → n ≡ low + (32 * i + d) → i < c .size → d < suc width → Dec (d < width) → At n
       flag i d e l k (yes z) = record { row = P i; element = d; may = is-allowed (P i) d l z; here = e ∙ sym (place-P i d) }
       flag i d e l k (no z) =
           let t : d ≡ width + 0 = omega arith in
           record { row = L i; element = 0; may = is-allowed (L i) 0 l (omega arith); here = e ∙ ap (λ (x : ℕ). low + (32 * i + x)) t ∙ sym (place-L i 0) }
+
       above : low ≤ n → n % 32 < suc width → At n
       above l k = flag ((n - low) / 32) (n % 32) (omega arith) (omega (arith, length-digits)) k (decLt (n % 32) width)
 
@@ -263,8 +266,8 @@ module _ (c : Code) where
       ap (λ (n : ℕ). count n (used c)) (length-digits ∙ ap₂ (λ (a b : ℕ). a + b) (sym low-digits) (mul-comm 32 (c .size)))
       ∙ count-add (2 * c .size * digits) (c .size * 32) (used c)
       ∙ ap₂ (λ (a b : ℕ). a + b)
-        (count-blocks (2 * c .size) digits (used c) (λ j. ltb j (elements c)) in-row
-        ∙ ap (λ (n : ℕ). 2 * c .size * n) (count-below digits (elements c) fits-row))
-        (count-blocks (c .size) 32 (λ k. used c (2 * c .size * digits + k)) (λ j. ltb j (suc width)) in-word
-        ∙ ap (λ (n : ℕ). c .size * n) (count-below 32 (suc width) (lit≤ tt)))
+      (count-blocks (2 * c .size) digits (used c) (λ j. ltb j (elements c)) in-row
+      ∙ ap (λ (n : ℕ). 2 * c .size * n) (count-below digits (elements c) fits-row))
+      (count-blocks (c .size) 32 (λ k. used c (2 * c .size * digits + k)) (λ j. ltb j (suc width)) in-word
+      ∙ ap (λ (n : ℕ). c .size * n) (count-below 32 (suc width) (lit≤ tt)))
       ∙ total (c .size) (elements c)

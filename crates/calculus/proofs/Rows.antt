@@ -80,7 +80,7 @@ module _ (c : Code) where
         let k : m < digits c = row-short (base c r) (rowWords c) m h in
         let p : place c r m ≡ q * digits c + m = omega arith in
         let b : T (bit ws (place c r m)) =
-            subst T (row-bit (base c r) (rowWords c) m k ∙ ap (λ (n : ℕ). bit ws n) (omega arith)) h
+        subst T (row-bit (base c r) (rowWords c) m k ∙ ap (λ (n : ℕ). bit ws n) (omega arith)) h
         in
         let u : m < elements c = used-row c q m l k (subst (λ (n : ℕ). T (used c n)) p (w .clean (place c r m) b)) in
         in-sets ws r m (is-allowed c r m o (omega arith)) b

@@ -21,7 +21,6 @@ abbrev pub _≼_ : List ℕ → List ℕ → Type 0
 ws ≼ xs = (n : ℕ) → T (bit ws n) → T (bit xs n)
 
 infix 30 _≼_
-
 -- ---- digits by word
 
 pos32 : zero < 32
@@ -153,7 +152,7 @@ pour-has ws at xs m l h =
     let r : (32 * at + m) % 32 ≡ m % 32 = omega arith in
     let k : at + m / 32 - at ≡ m / 32 = omega arith in
     let e : getD (pour ws at xs) (at + m / 32) 0 ≡ bitOr (getD ws (at + m / 32) 0) (getD xs (at + m / 32 - at) 0) =
-        getD-pour ws at xs (at + m / 32) (omega arith) (omega arith)
+    getD-pour ws at xs (at + m / 32) (omega arith) (omega arith)
     in
     rw (d, r, e, k, member-or) (T-or-right (member (getD ws (at + m / 32) 0) (m % 32)) (member (getD xs (m / 32) 0) (m % 32)) h)
 
@@ -195,7 +194,7 @@ unfolding mark
 mark-has ws n l =
     let e : 32 * (n / 32) + n % 32 ≡ n = omega arith in
     let h : T (bit (2 ^ (n % 32) ∷ []) (n % 32)) =
-        subst T (sym (bit-word (2 ^ (n % 32)) (n % 32) (mod-lt n pos32))) (member-single (n % 32))
+    subst T (sym (bit-word (2 ^ (n % 32)) (n % 32) (mod-lt n pos32))) (member-single (n % 32))
     in
     subst (λ (m : ℕ). T (bit (pour ws (n / 32) (2 ^ (n % 32) ∷ [])) m)) e
     (pour-has ws (n / 32) (2 ^ (n % 32) ∷ []) (n % 32) (rw e l) h)
