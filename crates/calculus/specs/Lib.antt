@@ -1,6 +1,10 @@
 pub mod Elements
 pub mod Constraint
 pub mod Rules
+pub mod Layout
+pub mod Estimate
+pub mod Answer
+pub mod Samples
 pub mod Values
 pub mod Machine
 pub mod Run

@@ -1,1 +1,1 @@
-// The flow rules, the least estimate, the machine and the guarantee: definitions and theorems alone.
+// The analysis as definitions and theorems: constraints, flow rules, least estimate, machine and guarantee. It has no functions.

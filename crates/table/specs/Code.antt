@@ -203,8 +203,9 @@ IsBlock (while a b) = ⊥
 IsBlock (branch a b d) = ⊥
 IsBlock (update a b d) = ⊥
 
--- each word's node is linked, nothing stands past the end, and what is listed as a block is one
+-- each word's node is linked, its binders are words of the code, nothing stands past the end, and what is listed as a block is one
 pub record Linked (c : Code) : Type 0 where
   pub nodes : (p : ℕ) → p < c .size → NodeLinked c p (c .node p)
+  pub binders : (p n : ℕ) → p < c .size → n < length (c .scope p) → getD (c .scope p) n 0 < c .size
   pub outside : (p : ℕ) → c .size ≤ p → c .node p ≡ gap
   pub listed : (b : ℕ) → List·Memᴰ b (c .blocks) → (b < c .size) × IsBlock (c .node b)
