@@ -3,7 +3,7 @@ pub mod Faults
 pub mod Stack
 pub mod Parts
 pub mod Blocks
+pub mod Scopes
 pub mod Linked
 pub mod Distinct
-pub mod Scopes
 pub mod Limits

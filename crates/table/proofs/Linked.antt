@@ -3,7 +3,7 @@ use mathlib.Core.Path.{_≡_, refl, sym, ap, _∙_, subst}
 use mathlib.Core.List.{List, [], _∷_}
 use mathlib.Core.Bool.{Bool, true, false}
 use Prim.Native.Nat.{ℕ, suc, _+_, _<_}
-use native.Mathlib.Nat.{le-trans, le-of-eq}
+use native.Mathlib.Nat.{le-trans, le-of-eq, lt-trans, not-suc-le-zero}
 use lib.ListN.{length, getD, List·getD-eq-default}
 use lib.Dec.{T, ltb, ltb→lt}
 use Rattle.table.specs.declared.Term.{Term}
@@ -12,9 +12,8 @@ use Rattle.table.specs.Scan.{Task, head, name, perms, guard, term, accep
 use Rattle.table.specs.Code.{part, tasks, taskAt, termNode, nodeFor, scopeFor, homeFor, code, Within, Part, Bound, NodeLinked}
 use Rattle.table.specs.Code.{IsBlock, Linked}
 use Rattle.table.proofs.Words.{Rows, done, _▸_, by-kind, argument-lt}
-use Rattle.table.proofs.Faults.{Stands, stands}
-use Rattle.table.proofs.Stack.{reach, at-step}
-use Rattle.table.proofs.Parts.{part-zero, part-inside, part-task, tasks-length}
+use Rattle.table.proofs.Parts.{part-zero, part-inside, part-task, tasks-length, term-stands}
+use Rattle.table.proofs.Scopes.{scoped}
 use Rattle.table.proofs.Blocks.{Block, block, block-listed, listed-block}
 
 -- what a term's node needs of its argument, its binders and its parts, by the row of its kind
@@ -82,16 +81,6 @@ module _ (ws : List ℕ) (p : ℕ) where
       ▸ done
 
 module _ (ws : List ℕ) (e : reading ws ≡ accepted) where
-  -- the word at p may stand for its task
-  pub place-stands : (p : ℕ) (l : p < length ws) → Stands (reach ws e p l .keys) (getD ws p 0) (taskAt ws p)
-  place-stands p l =
-      let r = reach ws e p l in
-      stands (r .keys) (getD ws p 0) (taskAt ws p) (at-step ws p (r .keys) (taskAt ws p) (r .below) (r .there) .faultless)
-
-  pub term-stands : (p d h : ℕ) (s : List ℕ) (l : p < length ws) → taskAt ws p ≡ term d h s
-      → Stands (reach ws e p l .keys) (getD ws p 0) (term d h s)
-  term-stands p d h s l t = subst (λ (u : Task). Stands (reach ws e p l .keys) (getD ws p 0) u) t (place-stands p l)
-
   -- a part of a term, as the code has it
   part-within : (p d h : ℕ) (s : List ℕ) → p < length ws → taskAt ws p ≡ term d h s → PartsLinked ws p (parts (getD ws p 0))
   unfolding PartsLinked code scopeFor homeFor arity
@@ -114,7 +103,7 @@ module _ (ws : List ℕ) (e : reading ws ≡ accepted) where
   unfolding RowLinked code scopeFor
   term-linked p d h s l t =
       let w = getD ws p 0 in
-      let f = term-stands p d h s l t in
+      let f = term-stands ws e p d h s l t in
       by-kind (RowLinked ws p (argument w)) w (f .0) (f .1) (rows ws p (argument w)) (f .2)
       (λ k. subst (λ (u : Task). argument w < length (scopeFor u)) (sym t) (f .3 k)) (part-within p d h s l t)
 
@@ -128,12 +117,21 @@ module _ (ws : List ℕ) (e : reading ws ≡ accepted) where
   node-linked p l guard t = tt
   node-linked p l (term d h s) t = term-linked p d h s l t
 
+  binder-inside : (p n : ℕ) → p < length ws → (t : Task) → taskAt ws p ≡ t → n < length (scopeFor t) → getD (scopeFor t) n 0 < length ws
+  unfolding scopeFor
+  binder-inside p n l (head m) t i = absurd (not-suc-le-zero i)
+  binder-inside p n l name t i = absurd (not-suc-le-zero i)
+  binder-inside p n l (perms m) t i = absurd (not-suc-le-zero i)
+  binder-inside p n l guard t i = absurd (not-suc-le-zero i)
+  binder-inside p n l (term d h s) t i = lt-trans (scoped ws e p d h s l t .binders-before n i) l
+
 -- the promise to the layers above
 pub linked : (ws : List ℕ) → reading ws ≡ accepted → Linked (code ws)
 unfolding code nodeFor taskAt
 linked ws e =
     record {
       nodes = λ p l. node-linked ws e p l (taskAt ws p) refl;
+      binders = λ p n l i. binder-inside ws e p n l (taskAt ws p) refl i;
       outside = λ p l.
           ap (nodeFor ws p) (List·getD-eq-default (tasks ws) (head 0) {n = p} (le-trans (le-of-eq (tasks-length ws e)) l));
       listed = λ b m.

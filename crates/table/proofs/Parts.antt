@@ -10,6 +10,7 @@ use lib.Seq.{drop-cons, drop-drop, drop-length, length-take-le}
 use Rattle.table.specs.Words.{parts, arity}
 use Rattle.table.specs.Scan.{Task, head, term, accepted, keep, under, next, scan, reading}
 use Rattle.table.specs.Code.{skip, part, endOf, trace, tasks, taskAt}
+use Rattle.table.proofs.Faults.{Stands, stands}
 use Rattle.table.proofs.Stack.{At, Step, at-step, at-pass, reach, Reached, LayeredAt, terms-parts, scan-step, scan-more}
 use Rattle.table.proofs.Stack.{refused-not-accepted}
 
@@ -113,6 +114,16 @@ module _ (ws : List ℕ) (e : reading ws ≡ accepted) where
   pub tasks-length : length (tasks ws) ≡ length ws
   unfolding tasks reading
   tasks-length = trace-length ws [] 0 (head (length ws) ∷ []) e
+
+  -- the word at p may stand for its task
+  pub place-stands : (p : ℕ) (l : p < length ws) → Stands (reach ws e p l .keys) (getD ws p 0) (taskAt ws p)
+  place-stands p l =
+      let r = reach ws e p l in
+      stands (r .keys) (getD ws p 0) (taskAt ws p) (at-step ws p (r .keys) (taskAt ws p) (r .below) (r .there) .faultless)
+
+  pub term-stands : (p d h : ℕ) (s : List ℕ) (l : p < length ws) → taskAt ws p ≡ term d h s
+      → Stands (reach ws e p l .keys) (getD ws p 0) (term d h s)
+  term-stands p d h s l t = subst (λ (u : Task). Stands (reach ws e p l .keys) (getD ws p 0) u) t (place-stands p l)
 
   -- a term: its part k is a term one deeper in the same block, under the same binders or also under the term itself
   module _ (p d h : ℕ) (s : List ℕ) (l : p < length ws) (t : taskAt ws p ≡ term d h s) where

@@ -10,7 +10,7 @@ use Rattle.table.specs.Words.{argument, parts, depths}
 use Rattle.table.specs.Scan.{Task, head, name, perms, guard, term, accepted, under, next, reading}
 use Rattle.table.specs.Code.{taskAt}
 use Rattle.table.proofs.Stack.{reach-with}
-use Rattle.table.proofs.Linked.{term-stands}
+use Rattle.table.proofs.Parts.{term-stands}
 
 -- ---- a fact of each task and the places up to its own
 
