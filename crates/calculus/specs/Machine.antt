@@ -1,7 +1,7 @@
 -- The steps of one instance (document 01, "The machine"): parts run left to right, each to its value, and only then the term itself
 -- steps or stops. Nothing is assumed of the code: where no term stands the instance stops.
 use Prim.Native.Nat.{ℕ, suc}
-use mathlib.Core.Bool.{Bool, true, false}
+use mathlib.Core.Bool.{true, false}
 use mathlib.Core.Option.{Option, none, some}
 use mathlib.Core.List.{List, [], _∷_, _++_}
 use lib.ListN.{length, set, getElem?}

@@ -1,23 +1,21 @@
 -- The elements of the table's literals, and the one element that stands for a value.
-use Prim.Native.Nat.{ℕ, zero, suc, _<_, _≤_, _+_, _-_, _/_, _%_, _^_}
+use Prim.Native.Nat.{ℕ, zero, suc, _<_, _+_, _-_, _^_}
 use native.Mathlib.Omega.{arith}
-use native.Mathlib.Nat.{div-eq-of-lt, lt-of-lt-of-le}
 use mathlib.Core.Path.{_≡_, refl, subst}
 use mathlib.Core.Logic.{inl, inr}
 use mathlib.Core.Bool.{Bool, true, false, not, cond, _&&_, _||_}
 use mathlib.Core.List.{List}
-use lib.Dec.{T, eqb, leb, ltb, le→leb, ltb→lt, lt→ltb, nltb→le, eqb·suc-zero}
+use lib.Dec.{T, eqb, leb, ltb, le→leb, ltb→lt, lt→ltb, eqb·suc-zero}
 use lib.IntN.{pos, negsuc}
-use lib.Pow.{pow-mono}
-use Rattle.permset.specs.Sets.{width, member}
 use Rattle.table.specs.Words.{literals}
 use Rattle.table.specs.Code.{Code}
 use Rattle.calculus.specs.Constraint.{Sets}
 use Rattle.calculus.specs.Elements as E
 use Rattle.calculus.specs.Elements.{sign, isString, anyRecord, isFunction, isRecord, isCell, makes, sendable, making}
 use Rattle.calculus.specs.Values.{Value, atom, function, fields, cell, whole, plain}
+use Rattle.calculus.proofs.Digits.{T-and, T-or-left, T-or-right}
 use Rattle.calculus.proofs.Guarantee.Relation.{signOf, stringElement, textElement, element, In}
-use Rattle.calculus.proofs.Guarantee.Values.{below, join}
+use Rattle.calculus.proofs.Guarantee.Values.{below}
 
 -- ---- literals of the table
 
@@ -42,26 +40,9 @@ text-literal n l = go (ltb n literals) (lt→ltb n literals l)
     go true k = refl
     go false k = absurd k
 
--- ---- members of a set
-
-pub member-below : (r x : ℕ) → r < 2 ^ width → T (member r x) → x < width
-unfolding member
-member-below r x l m = go (ltb x width) (ltb→lt x width) (nltb→le x width)
-  where
-    zero-bit : 2 ^ width ≤ 2 ^ x → r / 2 ^ x % 2 ≡ 0
-    zero-bit k = rw (div-eq-of-lt (lt-of-lt-of-le l k))
-
-    go : (t : Bool) → (T t → x < width) → (T (not t) → width ≤ x) → x < width
-    go true f g = f tt
-    go false f g = absurd (subst (λ (y : ℕ). T (eqb y 1)) (zero-bit (pow-mono (g tt))) m)
-
 -- ---- elements
 
-right : (t u : Bool) → T u → T (t || u)
-right true u k = tt
-right false u k = k
-
-pub made-back : (c : Code) (q : ℕ) → q ≡ E.made c q - E.plain c
+made-back : (c : Code) (q : ℕ) → q ≡ E.made c q - E.plain c
 made-back c q = omega arith
 
 -- every text is a string, and every record made at a word a record
@@ -71,15 +52,15 @@ text-string n = go (ltb n literals) (ltb→lt n literals)
   where
     go : (t : Bool) → (T t → n < literals) → T (leb E.otherString (stringElement t n) && ltb (stringElement t n) 32)
     go true f =
-        join (leb E.otherString (9 + n)) (ltb (9 + n) 32) (le→leb E.otherString (9 + n) (omega arith))
+        T-and (leb E.otherString (9 + n)) (ltb (9 + n) 32) (le→leb E.otherString (9 + n) (omega arith))
         (lt→ltb (9 + n) 32 (omega (arith, f tt)))
     go false f = tt
 
 pub made-record : (c : Code) (q : ℕ) → T (isRecord (makes (c .node q))) → T (anyRecord c (E.made c q))
 unfolding anyRecord making
 made-record c q r =
-    right (eqb (E.made c q) E.opponentRecord) (leb (E.plain c) (E.made c q) && isRecord (making c (E.made c q)))
-    (join (leb (E.plain c) (E.made c q)) (isRecord (making c (E.made c q))) (le→leb (E.plain c) (E.made c q) (omega arith))
+    T-or-right (eqb (E.made c q) E.opponentRecord) (leb (E.plain c) (E.made c q) && isRecord (making c (E.made c q)))
+    (T-and (leb (E.plain c) (E.made c q)) (isRecord (making c (E.made c q))) (le→leb (E.plain c) (E.made c q) (omega arith))
     (subst (λ (x : ℕ). T (isRecord (makes (c .node x)))) (made-back c q) r))
 
 -- the element that stands for a value of S: wherever it is, the value is
@@ -89,11 +70,8 @@ Stands c e h ty v S =
 
 below-sendable : (c : Code) (x : ℕ) → x < E.plain c → T (sendable c x)
 unfolding sendable
-below-sendable c x l = go (ltb x (E.plain c)) (not (isFunction (making c x) || isCell (making c x))) (lt→ltb x (E.plain c) l)
-  where
-    go : (t u : Bool) → T t → T (t || u)
-    go true u k = tt
-    go false u k = absurd k
+below-sendable c x l =
+    T-or-left (ltb x (E.plain c)) (not (isFunction (making c x) || isCell (making c x))) (lt→ltb x (E.plain c) l)
 
 neither : (m : E.Making) → T (isRecord m) → T (not (isFunction m || isCell m))
 unfolding isRecord isFunction isCell
@@ -105,7 +83,7 @@ neither E.aCell r = absurd r
 record-sendable : (c : Code) (q : ℕ) → T (isRecord (makes (c .node q))) → T (sendable c (E.made c q))
 unfolding sendable making
 record-sendable c q r =
-    right (ltb (E.made c q) (E.plain c)) (not (isFunction (making c (E.made c q)) || isCell (making c (E.made c q))))
+    T-or-right (ltb (E.made c q) (E.plain c)) (not (isFunction (making c (E.made c q)) || isCell (making c (E.made c q))))
     (subst (λ (x : ℕ). T (not (isFunction (makes (c .node x)) || isCell (makes (c .node x))))) (made-back c q) (neither (makes (c .node q)) r))
 
 pub stands : (c : Code) (e : Sets) (h : ℕ) (ty : List ℕ) (v : Value) (S : ℕ → Bool) → In c e h ty v S → Stands c e h ty v S

@@ -2,15 +2,12 @@
 use Prim.Native.Nat.{ℕ, zero, suc, _<_, _≤_, _+_, _-_}
 use native.Mathlib.Omega.{arith}
 use native.Mathlib.Nat.{zero-add, suc-add}
-use mathlib.Core.Path.{_≡_, refl, sym, subst, ap}
+use mathlib.Core.Path.{_≡_, refl, subst, ap}
 use mathlib.Core.Bool.{Bool, true, false, not, cond, _&&_}
-use mathlib.Core.Option.{Option, none, some}
 use mathlib.Core.List.{List, [], _∷_, List·Memᴰ, List·Memᴰ·head, List·Memᴰ·tail}
-use lib.ListN.{getD}
-use lib.Dec.{T, T-not, not-T, eqb, ltb, leb, eqb→eq, eqb-refl, ltb→lt, lt→ltb, leb·zero, leb·suc-suc, leb·suc-zero}
+use lib.Dec.{T, T-not, not-T, eqb, ltb, eqb→eq, eqb-refl, ltb→lt, lt→ltb, leb·zero, leb·suc-suc, leb·suc-zero}
 use lib.IntN.{ℤ, pos, negsuc, subℕ, _+ℤ_}
 use lib.Signed.{ltZ}
-use Rattle.table.specs.declared.Constant.{Constant}
 use Rattle.table.specs.declared.Constant.the-variants as constants
 use Rattle.table.specs.declared.Operation.{Operation}
 use Rattle.table.specs.declared.Operation.the-variants as operations
@@ -20,10 +17,11 @@ use Rattle.calculus.specs.Constraint.{Sets}
 use Rattle.calculus.specs.Elements as E
 use Rattle.calculus.specs.Elements.{constantElement, isSign, signPlace, sumSigns, lessSigns, bySigns, comparable, isMany}
 use Rattle.calculus.specs.Elements.{equalResults, results}
-use Rattle.calculus.specs.Values.{Atom, constant, number, text, named, known, Value, atom, truth}
+use Rattle.calculus.specs.Values.{Atom, constant, number, text, named, known, truth}
 use Rattle.calculus.specs.Values.{onNumber, sameNumber, same, operate}
+use Rattle.calculus.proofs.Digits.{T-and}
 use Rattle.calculus.proofs.Guarantee.Relation.{signOf, stringElement, textElement, element, In, Found}
-use Rattle.calculus.proofs.Guarantee.Values.{below, join}
+use Rattle.calculus.proofs.Guarantee.Values.{below}
 
 abbrev truthElement : Bool → ℕ
 truthElement true = E.truth
@@ -175,7 +173,7 @@ seven (named n) q = omega arith
 compares : (c : Code) (a : Atom) → T (known a (c .names)) → T (comparable c (element a))
 unfolding comparable
 compares c a k =
-    join (ltb (element a) (E.plain c)) (not (eqb (element a) E.opponentRecord)) (lt→ltb (element a) (E.plain c) (below c a k))
+    T-and (ltb (element a) (E.plain c)) (not (eqb (element a) E.opponentRecord)) (lt→ltb (element a) (E.plain c) (below c a k))
     (not-T (eqb (element a) E.opponentRecord) (λ t. seven a (eqb→eq (element a) E.opponentRecord t)))
 
 equal-element : (c : Code) (a b : Atom) → T (known a (c .names)) → T (known b (c .names))
@@ -183,7 +181,7 @@ equal-element : (c : Code) (a b : Atom) → T (known a (c .names)) → T (known 
 unfolding equalResults
 equal-element c a b k l =
     go (same a b) (comparable c (element a) && comparable c (element b)) (eqb (element a) (element b)) (isMany (element a))
-    (join (comparable c (element a)) (comparable c (element b)) (compares c a k) (compares c b l))
+    (T-and (comparable c (element a)) (comparable c (element b)) (compares c a k) (compares c b l))
     (λ s. subst (λ (x : ℕ). T (eqb (element a) x)) (same-element a b s) (eqb-refl (element a)))
     (λ d q. many a b d (eqb→eq (element a) (element b) q))
   where

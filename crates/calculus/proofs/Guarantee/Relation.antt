@@ -1,5 +1,5 @@
 -- What it is for a value to lie in a set of elements, for a word to run and for frames to wait, by the sets of an estimate.
-use Prim.Native.Nat.{ℕ, zero, suc, _<_, _≤_}
+use Prim.Native.Nat.{ℕ, zero, suc, _<_}
 use mathlib.Core.Path.{_≡_}
 use mathlib.Core.Logic.{_⊎_}
 use mathlib.Core.Bool.{Bool, true, false}
@@ -11,7 +11,7 @@ use lib.IntN.{ℤ, pos, negsuc}
 use Rattle.permset.specs.Sets.{member}
 use Rattle.table.specs.Words.{literals}
 use Rattle.table.specs.Code.{Code, Node, Leaf}
-use Rattle.calculus.specs.Constraint.{Row, C, B, P, L, Sets}
+use Rattle.calculus.specs.Constraint.{C, B, P, L, Sets}
 use Rattle.calculus.specs.Elements.{constantElement, literalElement, nameElement, negative, nought, positive}
 use Rattle.calculus.specs.Elements.{otherString, opponentRecord, made, makes, isRecord, isCell}
 use Rattle.calculus.specs.Rules.{leakOf, permsOf, admits}

@@ -1,36 +1,37 @@
 -- Every step of a good instance is good: one lemma for each kind of step, by cases on the node of the word.
-use Prim.Native.Nat.{ℕ, zero, suc, _<_, _≤_, _+_, _-_, _/_, _%_, _^_}
+use Prim.Native.Nat.{ℕ, suc}
 use native.Mathlib.Omega.{arith}
-use mathlib.Core.Path.{_≡_, refl, sym, subst, ap, _∙_}
-use mathlib.Core.Logic.{_⊎_, inl, inr}
-use mathlib.Core.Bool.{Bool, true, false, not, cond, _&&_, _||_}
+use mathlib.Core.Path.{_≡_, refl, sym, subst}
+use mathlib.Core.Logic.{inl, inr}
+use mathlib.Core.Bool.{Bool, true, false, _&&_}
 use mathlib.Core.Option.{Option, none, some}
 use mathlib.Core.List.{List, [], _∷_, _++_}
-use lib.ListN.{length, getD, getElem?, set}
-use lib.Dec.{T, T-not, eqb, ltb, leb, eqb→eq, eqb-refl, ltb→lt, lt→ltb, nltb→le}
-use lib.IntN.{ℤ, pos, negsuc, subℕ}
-use Rattle.permset.specs.Sets.{width, member, within}
+use lib.ListN.{getD, getElem?}
+use lib.Dec.{T, eqb, eqb→eq, eqb-refl, lt→ltb}
+use Rattle.permset.specs.Sets.{width, within}
 use Rattle.table.specs.declared.Constant.the-variants as constants
 use Rattle.table.specs.declared.Operation.{Operation}
-use Rattle.table.specs.Words.{literals, constantNumber}
+use Rattle.table.specs.Words.{constantNumber}
 use Rattle.table.specs.Code.{Code, Node, Leaf, One, Two, Within, Linked, NodeLinked, LeafLinked}
-use Rattle.calculus.specs.Constraint.{C, B, P, L, Sets, Obeys, range}
+use Rattle.calculus.specs.Constraint.{C, B, Sets, Obeys}
 use Rattle.calculus.specs.Elements as E
-use Rattle.calculus.specs.Elements.{constantElement, sign, isString, isFunction, isRecord, isCell, leafMakes, oneMakes, makes, anyRecord, sendable, making}
-use Rattle.calculus.specs.Rules.{Estimate, rule, entry, flow, guarded, permsOf, nameOf, permissions, admits, leafRule, oneRule, twoRule, leakOf, part}
-use Rattle.calculus.specs.Values.{Atom, constant, number, text, named, known, datum, dataFields, plain}
-use Rattle.calculus.specs.Values.{Value, atom, function, fields, cell, Environment, closed, bound, Fields, empty, field}
+use Rattle.calculus.specs.Elements.{constantElement, isFunction, isRecord, isCell, leafMakes, oneMakes, makes, anyRecord}
+use Rattle.calculus.specs.Rules.{Estimate, flow, guarded, permsOf, nameOf, permissions, admits, leafRule, oneRule, twoRule, part}
+use Rattle.calculus.specs.Values.{constant, number, text, named, known, plain}
+use Rattle.calculus.specs.Values.{Value, atom, function, fields, cell, Environment, bound, Fields, empty}
 use Rattle.calculus.specs.Values.{undefined, unit, whole, look, getField, setField, deleteField, operate}
-use Rattle.calculus.specs.Values.{onAtom, onFunction, onFields, onCell, onNumber, onText, onName, onTruth}
+use Rattle.calculus.specs.Values.{onAtom, onFunction, onFields, onCell, onText, onName, onTruth}
 use Rattle.calculus.specs.Machine.{Control, eval, give, stopped, Frame, first, second, third, again, Effect, Move, stop, begin, yield, found}
 use Rattle.calculus.specs.Machine.{leafStep, termStep, oneStep, choose, firstStep, withField, twoStep, secondStep, frameStep, step}
-use Rattle.calculus.proofs.Guarantee.Relation.{Sub, signOf, stringElement, textElement, element, partOf, RecordAt, CellAt, In, Bound, FieldsIn}
-use Rattle.calculus.proofs.Guarantee.Relation.{Found, Cells, Leaks, Runs, Wait, Good, GoodMove, Starts}
-use Rattle.calculus.proofs.Guarantee.Values.{both, join, mono, mono-fields, weaken, moved, below, datum-in, data-in, get-in, delete-in, get-data}
+use Rattle.calculus.proofs.Digits.{T-and, member-lt}
+use Rattle.calculus.proofs.Ranges.{below-in}
+use Rattle.calculus.proofs.Guarantee.Relation.{Sub, textElement, element, partOf, In}
+use Rattle.calculus.proofs.Guarantee.Relation.{Found, Cells, Runs, Wait, Good, GoodMove, Starts}
+use Rattle.calculus.proofs.Guarantee.Values.{both, mono, mono-fields, weaken, moved, below, datum-in, data-in, get-in, delete-in, get-data}
 use Rattle.calculus.proofs.Guarantee.Values.{delete-data, look-in, read-in, write-in, append-in, last-at, weaken-cells}
 use Rattle.calculus.proofs.Guarantee.Operations.{operate-in}
-use Rattle.calculus.proofs.Guarantee.Elements.{whole-sign, text-literal, member-below, text-string, made-record, stands}
-use Rattle.calculus.proofs.Guarantee.Words.{in-range, wait-mono, part-sub, wait-more, enter, part-runs, flows, block-listed, start-good}
+use Rattle.calculus.proofs.Guarantee.Elements.{whole-sign, text-literal, text-string, made-record, stands}
+use Rattle.calculus.proofs.Guarantee.Words.{wait-mono, part-sub, wait-more, enter, part-runs, flows, block-listed, start-good}
 
 module _ (c : Code) (linked : Linked c) (ρ : ℕ) (e : Sets) (est : Estimate c ρ e) (h : ℕ) where
   -- the instance's permissions
@@ -122,7 +123,7 @@ module _ (c : Code) (linked : Linked c) (ρ : ℕ) (e : Sets) (est : Estimate c 
 
           go : (t : Bool) → within r held ≡ t → Fine (elim t [ true ↦ Move.go (Effect.exercises r) (give unit) fs cs | false ↦ stop ])
           go true t = (
-            λ x m. runs .leaks x (o (owned t) .0 x (in-range width x (member-below r x l m)) m),
+            λ x m. runs .leaks x (o (owned t) .0 x (below-in (member-lt width r x l m)) m),
             (ty, cells, (e (C p), (tt, o (owned t) .1), waits)),
           )
           go false t = stop-good
@@ -164,7 +165,7 @@ module _ (c : Code) (linked : Linked c) (ρ : ℕ) (e : Sets) (est : Estimate c 
       one-good One.read a (function f us) q o i = stop-good
       one-good One.read a (fields r) q o i = stop-good
       one-good One.read a (cell j) q o i =
-          found-good (getElem? cs j) (e (B (i .0))) (e (C p)) (o (i .0) (in-range (c .size) (i .0) (i .1 .0)) (i .1 .1) (i .2))
+          found-good (getElem? cs j) (e (B (i .0))) (e (C p)) (o (i .0) (below-in (i .1 .0)) (i .1 .1) (i .2))
           (read-in c e h ty cs ty j (i .0) (i .3) cells)
           waits
 
@@ -247,9 +248,9 @@ module _ (c : Code) (linked : Linked c) (ρ : ℕ) (e : Sets) (est : Estimate c 
       unfolding twoRule
       get-good a d k r o (inl i) t =
           let g = o (textElement k) (text-string k) t .1 (i .1) in
-          datum-in c e h ty (e (C p)) (λ x l. g x (in-range (E.plain c) x l)) (getField r k) (get-data r k (c .names) (i .0))
+          datum-in c e h ty (e (C p)) (λ x l. g x (below-in l)) (getField r k) (get-data r k (c .names) (i .0))
       get-good a d k r o (inr i) t =
-          let g = o (textElement k) (text-string k) t .0 (i .0) (in-range (c .size) (i .0) (i .1 .0)) (i .1 .1) (i .2) in
+          let g = o (textElement k) (text-string k) t .0 (i .0) (below-in (i .1 .0)) (i .1 .1) (i .2) in
           get-in c e h ty r k (e (B (i .0))) (e (C p)) (g .0) (g .1) (i .3)
 
       delete-good : (a d k : ℕ) (r : Fields) → Obeys e (twoRule c p Two.delete a d) → In c e h ty (fields r) (e (C a))
@@ -259,13 +260,13 @@ module _ (c : Code) (linked : Linked c) (ρ : ℕ) (e : Sets) (est : Estimate c 
       delete-good a d k r o (inl i) t =
           inl (
             delete-data r k (c .names) (i .0),
-            o (textElement k) (text-string k) t E.opponentRecord (in-range (E.elements c) E.opponentRecord (omega arith)) tt (i .1),
+            o (textElement k) (text-string k) t E.opponentRecord (below-in (omega arith)) tt (i .1),
           )
       delete-good a d k r o (inr i) t =
           inr (
             i .0,
             i .1,
-            o (textElement k) (text-string k) t (E.made c (i .0)) (in-range (E.elements c) (E.made c (i .0)) (omega (arith, i .1 .0)))
+            o (textElement k) (text-string k) t (E.made c (i .0)) (below-in (omega (arith, i .1 .0)))
                 (made-record c (i .0) (i .1 .1))
                 (i .2),
             delete-in c e h ty r k (e (B (i .0))) (i .3),
@@ -278,7 +279,7 @@ module _ (c : Code) (linked : Linked c) (ρ : ℕ) (e : Sets) (est : Estimate c 
       apply-good a d (fields r) w o i j = stop-good
       apply-good a d (cell k) w o i j = stop-good
       apply-good a d (function f us) w o i j =
-          let g = o f (in-range (c .size) f (i .0)) (subst (λ (n : Node). T (isFunction (makes n))) (sym (i .1)) tt) (i .3) in (
+          let g = o f (below-in (i .0)) (subst (λ (n : Node). T (isFunction (makes n))) (sym (i .1)) tt) (i .3) in (
             tt,
             (
               ty,
@@ -302,7 +303,7 @@ module _ (c : Code) (linked : Linked c) (ρ : ℕ) (e : Sets) (est : Estimate c 
       assign-good a d (function f us) w o i j = stop-good
       assign-good a d (fields r) w o i j = stop-good
       assign-good a d (cell k) w o i j =
-          let g = o (i .0) (in-range (c .size) (i .0) (i .1 .0)) (i .1 .1) (i .2) in (
+          let g = o (i .0) (below-in (i .1 .0)) (i .1 .1) (i .2) in (
             tt,
             (
               ty,
@@ -324,8 +325,8 @@ module _ (c : Code) (linked : Linked c) (ρ : ℕ) (e : Sets) (est : Estimate c 
       operation-good f a d (atom x) (atom y) o i j =
           found-good (operate f x y) (e (C p)) (e (C p)) (λ z t. t)
           (operate-in c e h ty (e (C p)) f x y (i .0) (j .0)
-          (o (element x) (in-range (E.plain c) (element x) (below c x (i .0))) (i .1) (element y)
-          (in-range (E.plain c) (element y) (below c y (j .0)))
+          (o (element x) (below-in (below c x (i .0))) (i .1) (element y)
+          (below-in (below c y (j .0)))
           (j .1)))
           waits
 
@@ -341,13 +342,13 @@ module _ (c : Code) (linked : Linked c) (ρ : ℕ) (e : Sets) (est : Estimate c 
           let s = stands c e h ty w (e (C d)) j in
           let g =
           o .1 (s .0) (s .3 k) (s .2) b (block-listed c linked ρ e est b held (all .1))
-          (join (eqb (nameOf (c .node b)) (nameOf (c .node b)) && within r (permsOf (c .node b))) (guarded (c .node b) (permsOf (c .node (c .home p))))
-          (join (eqb (nameOf (c .node b)) (nameOf (c .node b))) (within r (permsOf (c .node b))) (eqb-refl (nameOf (c .node b))) (two .1))
+          (T-and (eqb (nameOf (c .node b)) (nameOf (c .node b)) && within r (permsOf (c .node b))) (guarded (c .node b) (permsOf (c .node (c .home p))))
+          (T-and (eqb (nameOf (c .node b)) (nameOf (c .node b))) (within r (permsOf (c .node b))) (eqb-refl (nameOf (c .node b))) (two .1))
           (subst (λ (m : ℕ). T (guarded (c .node b) (permsOf (c .node m)))) (sym (runs .home)) (all .1)))
           (subst (λ (m : ℕ). T (e (C a) (E.nameElement m))) (sym (eqb→eq (nameOf (c .node b)) n (two .0))) i)
           in
           start-good c linked ρ e est b held w (all .1) (g .0) (λ x u. runs .leaks x (g .1 .1 x u))
-          (moved c e h ty b [] w (e (B b)) k (s .4 (e (B b)) (g .1 .0 (s .0) (in-range (E.elements c) (s .0) (s .1)) (s .3 k) (s .2))))
+          (moved c e h ty b [] w (e (B b)) k (s .4 (e (B b)) (g .1 .0 (s .0) (below-in (s .1)) (s .3 k) (s .2))))
 
       send-good : (r a d : ℕ) (v w : Value) → Obeys e (twoRule c p (Two.send r) a d) → In c e h ty v (e (C a)) → In c e h ty w (e (C d))
           → Fine (twoStep (Two.send r) v w fs cs)
@@ -416,7 +417,7 @@ module _ (c : Code) (linked : Linked c) (ρ : ℕ) (e : Sets) (est : Estimate c 
             g .0,
             (
               mono c e h ty u (e (C d)) (e (B p)) (g .1) j,
-              data-in c e h ty (e (B p)) (λ x l. f .1 .1 (i .1) x (in-range (E.plain c) x l)) (deleteField r k) (delete-data r k (c .names) (i .0)),
+              data-in c e h ty (e (B p)) (λ x l. f .1 .1 (i .1) x (below-in l)) (deleteField r k) (delete-data r k (c .names) (i .0)),
             ),
           )
       set-good a b d k r u q o (inr i) t j =
@@ -429,7 +430,7 @@ module _ (c : Code) (linked : Linked c) (ρ : ℕ) (e : Sets) (est : Estimate c 
             (
               mono c e h ty u (e (C d)) (e (B p)) (g .1) j,
               delete-in c e h ty r k (e (B p))
-                  (mono-fields c e h ty r (e (B (i .0))) (e (B p)) (f .1 .0 (i .0) (in-range (c .size) (i .0) (i .1 .0)) (i .1 .1) (i .2)) (i .3)),
+                  (mono-fields c e h ty r (e (B (i .0))) (e (B p)) (f .1 .0 (i .0) (below-in (i .1 .0)) (i .1 .1) (i .2)) (i .3)),
             ),
           )
 

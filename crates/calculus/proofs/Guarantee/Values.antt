@@ -1,10 +1,10 @@
 -- How values lie in sets: larger sets, more cells, other instances, the opponent's data, and the fields of records.
-use Prim.Native.Nat.{ℕ, zero, suc, _<_, _≤_, _+_}
+use Prim.Native.Nat.{ℕ, zero, suc, _<_}
 use native.Mathlib.Omega.{arith}
 use mathlib.Core.Path.{_≡_, refl, sym, subst}
-use mathlib.Core.Logic.{_⊎_, inl, inr}
+use mathlib.Core.Logic.{inl, inr}
 use mathlib.Core.Bool.{Bool, true, false, _&&_}
-use mathlib.Core.Option.{Option, none, some}
+use mathlib.Core.Option.{some}
 use mathlib.Core.List.{List, [], _∷_, _++_}
 use lib.ListN.{length, getD, getElem?, set}
 use lib.Dec.{T, ltb, ltb→lt, eqb}
@@ -17,16 +17,12 @@ use Rattle.calculus.specs.Elements as E
 use Rattle.calculus.specs.Elements.{constantElement}
 use Rattle.calculus.specs.Values.{Atom, constant, number, text, named, known, datum, dataFields, plain, plainFields}
 use Rattle.calculus.specs.Values.{Value, atom, function, fields, cell, Environment, closed, bound, Fields, empty, field}
-use Rattle.calculus.specs.Values.{undefined, look, getField, deleteField, setField}
+use Rattle.calculus.specs.Values.{undefined, look, getField, deleteField}
+use Rattle.calculus.proofs.Digits.{T-and, T-fst, T-snd}
 use Rattle.calculus.proofs.Guarantee.Relation.{Sub, signOf, stringElement, textElement, element, In, Bound, FieldsIn, Found, Cells}
 
 pub both : (a b : Bool) → T (a && b) → T a × T b
-both true b h = (tt, h)
-both false b h = absurd h
-
-pub join : (a b : Bool) → T a → T b → T (a && b)
-join true b h k = k
-join false b h k = absurd h
+both a b h = (T-fst a b h, T-snd a b h)
 
 module _ (c : Code) (e : Sets) (h : ℕ) (ty : List ℕ) where
   pub mono : (v : Value) (S U : ℕ → Bool) → Sub S U → In c e h ty v S → In c e h ty v U
@@ -161,7 +157,7 @@ delete-data (field j v r) k n d = go (eqb j k) (delete-data r k n (both (datum v
     go : (t : Bool) → T (dataFields (deleteField r k) n)
         → T (dataFields (elim t [ true ↦ deleteField r k | false ↦ field j v (deleteField r k) ]) n)
     go true g = g
-    go false g = join (datum v n) (dataFields (deleteField r k) n) (both (datum v n) (dataFields r n) d .0) g
+    go false g = T-and (datum v n) (dataFields (deleteField r k) n) (both (datum v n) (dataFields r n) d .0) g
 
 -- ---- variables and cells
 

@@ -1,33 +1,17 @@
 -- What the rules give at a live word: its parts may run, more values may be waited for, and a handler may start.
-use Prim.Native.Nat.{ℕ, zero, suc, _<_, _≤_, _+_}
-use native.Mathlib.Omega.{arith}
-use native.Mathlib.Nat.{eq-or-lt-of-le}
+use Prim.Native.Nat.{ℕ, _<_, _≤_, _+_}
 use mathlib.Core.Path.{_≡_, refl, sym, subst, _∙_}
-use mathlib.Core.Logic.{_⊎_, inl, inr}
-use mathlib.Core.Bool.{Bool, true, false}
-use mathlib.Core.List.{List, [], _∷_, _++_, List·Memᴰ, List·Memᴰ·head, List·Memᴰ·tail}
+use mathlib.Core.Bool.{Bool, true, false, not}
+use mathlib.Core.List.{List, [], _∷_, _++_, List·Memᴰ}
 use lib.Dec.{T, ltb, ltb→lt, nltb→le}
 use Rattle.table.specs.Code.{Code, Node, Within, Linked, NodeLinked}
-use Rattle.calculus.specs.Constraint.{C, B, P, L, Sets, Obeys, range}
+use Rattle.calculus.specs.Constraint.{C, B, P, L, Sets, Obeys}
 use Rattle.calculus.specs.Rules.{Estimate, rule, entry, flow, guarded}
 use Rattle.calculus.specs.Values.{Value, Environment, closed, bound, datum}
 use Rattle.calculus.specs.Machine.{Frame, first, second, third, again}
+use Rattle.calculus.proofs.Ranges.{below-in}
 use Rattle.calculus.proofs.Guarantee.Relation.{Sub, partOf, In, Bound, Leaks, Runs, Wait, Starts}
 use Rattle.calculus.proofs.Guarantee.Values.{datum-in, weaken, weaken-bound}
-
--- ---- numbers below a bound
-
-range-has : (n i j : ℕ) → j ≤ i → i < j + n → List·Memᴰ i (range n j)
-unfolding range
-range-has zero i j l m = absurd (omega arith)
-range-has (suc n) i j l m = go (λ d. range-has n i (suc j) d (omega arith)) (eq-or-lt-of-le l)
-  where
-    go : (suc j ≤ i → List·Memᴰ i (range n (suc j))) → (j ≡ i) ⊎ (j < i) → List·Memᴰ i (j ∷ range n (suc j))
-    go f (inl q) = List·Memᴰ·head (sym q)
-    go f (inr d) = List·Memᴰ·tail (f d)
-
-pub in-range : (n i : ℕ) → i < n → List·Memᴰ i (range n 0)
-in-range n i l = range-has n i 0 (omega arith) (omega arith)
 
 -- ---- the frames
 
@@ -99,7 +83,7 @@ module _ (c : Code) (linked : Linked c) (ρ : ℕ) (e : Sets) (est : Estimate c 
   unfolding guarded
   guard-inside b s g = go (ltb b (c .size)) (ltb→lt b (c .size)) (nltb→le b (c .size))
     where
-      go : (t : Bool) → (T t → b < c .size) → (T (mathlib.Core.Bool.not t) → c .size ≤ b) → b < c .size
+      go : (t : Bool) → (T t → b < c .size) → (T (not t) → c .size ≤ b) → b < c .size
       go true f k = f tt
       go false f k = absurd (subst (λ (n : Node). T (guarded n s)) (linked .outside b (k tt)) g)
 
@@ -143,4 +127,4 @@ module _ (c : Code) (linked : Linked c) (ρ : ℕ) (e : Sets) (est : Estimate c 
   opponent-good b v g d =
       let o = est b (guard-inside b ρ g) .0 g in
       start-good b ρ v g (o .0) (λ x t. (b, block-listed b ρ g, g, t))
-      (datum-in c e b [] (e (B b)) (λ x l. o .1 x (in-range _ x l)) v d)
+      (datum-in c e b [] (e (B b)) (λ x l. o .1 x (below-in l)) v d)
