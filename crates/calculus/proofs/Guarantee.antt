@@ -1,10 +1,11 @@
 -- Demand 3: nobody who holds ρ alone can cause a handler to exercise a permission outside the leak.
 use Prim.Native.Nat.{ℕ, zero, suc}
 use mathlib.Core.Path.{_≡_, refl, sym, _∙_, subst, ap}
-use mathlib.Core.List.{List}
+use mathlib.Core.List.{List, List·Memᴰ}
 use native.Mathlib.Omega.{arith}
 use lib.Dec.{T}
-use Rattle.permset.specs.Sets.{member}
+use Rattle.permset.specs.Sets.{member, within}
+use Rattle.permset.proofs.Laws.{member-within}
 use Rattle.table.specs.Scan.{Outcome, accepted, refused as unreadable, reading, firstOf}
 use Rattle.table.specs.Code.{Code, Linked, code}
 use Rattle.table.proofs.Linked.{linked}
@@ -13,7 +14,7 @@ use Rattle.calculus.specs.Rules.{Estimate, leakOf}
 use Rattle.calculus.specs.Layout.{sets}
 use Rattle.calculus.specs.Estimate.{whole, estimate, leak}
 use Rattle.calculus.specs.Answer.{Verdict, Answer, refused, verdict, judge, callerTests, analysis, answer}
-use Rattle.calculus.specs.Run.{Event, run}
+use Rattle.calculus.specs.Run.{Event, run, exercised}
 use Rattle.calculus.specs.Guarantee.{Exercised, Covers}
 use Rattle.calculus.proofs.Firing.{whole-is}
 use Rattle.calculus.proofs.Least.{estimate-well, estimate-obeys}
@@ -36,6 +37,10 @@ guarantee c k ρ e est events x (r, m, t) = exercised-good c k ρ e est (run c �
 pub covers : (c : Code) → Linked c → (ρ : ℕ) (e : Sets) → Estimate c ρ e
     → (s : ℕ) → ((x : ℕ) → leakOf c ρ e x → T (member s x)) → Covers c ρ s
 covers c k ρ e est s f events x m = f x (guarantee c k ρ e est events x m)
+
+-- Every set that is exercised is within a set that covers every run.
+pub covers-within : (c : Code) (ρ s : ℕ) → Covers c ρ s → (events : List Event) (r : ℕ) → List·Memᴰ r (exercised (run c ρ events)) → T (within r s)
+covers-within c ρ s f events r m = member-within r s (λ x t. f events x (r, m, t))
 
 -- The leak of an accepted table covers every run, by its words alone.
 pub leak-covers : (ws : List ℕ) → reading ws ≡ accepted → (ρ : ℕ) → Covers (code ws) ρ (leak (code ws) ρ (estimate (code ws) ρ))

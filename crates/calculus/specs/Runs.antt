@@ -7,7 +7,7 @@ use mathlib.Core.List.{List, [], _∷_, _++_}
 use lib.ListN.{length, replicate}
 use Rattle.table.specs.Words.{wordOf}
 use Rattle.table.specs.Code.{code}
-use Rattle.calculus.specs.Values.{fields, field, empty, unit, truth}
+use Rattle.calculus.specs.Values.{named, atom, cell, fields, field, empty, unit, truth}
 use Rattle.calculus.specs.Run.{Event, steps, starts, World, world, run}
 
 -- a table, the opponent's set and a list of events, with what is to come of them
@@ -45,6 +45,12 @@ examples =
     ∷ example (relays 2 0 []) 0
     (starts 1 unit ∷ times 4 0 ++ steps 0 (some 7) ∷ times 1 1)
     (2 ∷ []) 2
+    -- a send to the name that the opponent's message gives; a cell is no datum, and starts nothing
+    ∷ example
+    (0x01000002 ∷ 0x02000000 ∷ 0x03000008 ∷ 0x04000000 ∷ 0x23000000 ∷ 0x14000000 ∷ 0x10000001
+    ∷ 0x02000001 ∷ 0x03000002 ∷ 0x04000008 ∷ 0x24000002 ∷ []) 0
+    (starts 1 (cell 0) ∷ starts 1 (atom (named 1)) ∷ times 4 0 ++ steps 0 (some 7) ∷ times 1 1)
+    (2 ∷ []) 2
     -- *twins*: the required set 4 leaves the second twin, and to choose the first changes nothing
     ∷ example (relays 3 4 twin) 0
     (starts 1 unit ∷ times 4 0 ++ steps 0 (some 7) ∷ steps 0 (some 11) ∷ times 1 1)
@@ -78,6 +84,31 @@ examples =
     ∷ example (alone 0 (0x19000000 ∷ 0x1b000002 ∷ 0x1d000000 ∷ 0x14000000 ∷ 0x12000000 ∷ 0x10000000 ∷ 0x24000001 ∷ 0x24000002 ∷ [])) 0
     (starts 1 (fields (field 1 unit (field 99 unit empty))) ∷ starts 1 (fields (field 0 unit empty)) ∷ times 20 0 ++ times 20 1)
     (2 ∷ 1 ∷ []) 2
+    -- a key that is there twice: the first one counts
+    ∷ example (alone 0 (0x19000000 ∷ 0x1d000000 ∷ 0x14000000 ∷ 0x12000000 ∷ 0x24000001 ∷ 0x24000002 ∷ [])) 0
+    (starts 1 (fields (field 0 (truth true) (field 0 (truth false) empty))) ∷ times 20 0)
+    (1 ∷ []) 1
+    -- two fields set and the first deleted again: it reads undefined, and the other one true
+    ∷ example (alone 0
+    (0x18000000
+    ∷ 0x19000000 ∷ 0x1b000002 ∷ 0x1d000000 ∷ 0x1f000000 ∷ 0x1e000000 ∷ 0x1e000000 ∷ 0x1c000000 ∷ 0x12000000 ∷ 0x10000002 ∷ 0x12000001
+    ∷ 0x10000002 ∷ 0x12000000 ∷ 0x12000000 ∷ 0x10000000 ∷ 0x24000001 ∷ 0x24000000
+    ∷ 0x19000000 ∷ 0x1d000000 ∷ 0x1f000000 ∷ 0x1e000000 ∷ 0x1e000000 ∷ 0x1c000000 ∷ 0x12000000 ∷ 0x10000002 ∷ 0x12000001 ∷ 0x10000002
+    ∷ 0x12000000 ∷ 0x12000001 ∷ 0x24000002 ∷ 0x24000000 ∷ [])) 0
+    (starts 1 unit ∷ times 60 0)
+    (2 ∷ 1 ∷ []) 1
+    -- numbers are unbounded: 8388607 is less than its double; and -1 is less than 0
+    ∷ example (alone 0
+    (0x18000000 ∷ 0x19000000 ∷ 0x1b000001 ∷ 0x117fffff ∷ 0x1b000000 ∷ 0x117fffff ∷ 0x117fffff ∷ 0x24000001 ∷ 0x24000000
+    ∷ 0x19000000 ∷ 0x1b000001 ∷ 0x11ffffff ∷ 0x11000000 ∷ 0x24000002 ∷ 0x24000000 ∷ [])) 0
+    (starts 1 unit ∷ times 40 0)
+    (2 ∷ 1 ∷ []) 1
+    -- `equal` with a record stops, whatever the other side is; with different sorts it is false
+    ∷ example (alone 0
+    (0x18000000 ∷ 0x19000000 ∷ 0x1b000002 ∷ 0x13000001 ∷ 0x11000001 ∷ 0x24000000 ∷ 0x24000002
+    ∷ 0x18000000 ∷ 0x1b000002 ∷ 0x1c000000 ∷ 0x11000001 ∷ 0x24000001 ∷ [])) 0
+    (starts 1 unit ∷ times 40 0)
+    (2 ∷ []) 1
     -- a while that ends once its body has written false to the cell that it reads
     ∷ example (alone 0
     (0x17000000 ∷ 0x20000000 ∷ 0x10000002 ∷ 0x18000000 ∷ 0x1a000000 ∷ 0x21000000 ∷ 0x14000000 ∷ 0x22000000 ∷ 0x14000000 ∷ 0x10000003
