@@ -23,6 +23,7 @@ pub mod Relation
 pub mod Values
 pub mod Operations
 pub mod Elements
+pub mod Records
 pub mod Words
 pub mod Steps
 pub mod Events

@@ -1,37 +1,37 @@
 -- Every step of a good instance is good: one lemma for each kind of step, by cases on the node of the word.
 use Prim.Native.Nat.{ℕ, suc}
-use native.Mathlib.Omega.{arith}
 use mathlib.Core.Path.{_≡_, refl, sym, subst}
-use mathlib.Core.Logic.{inl, inr}
-use mathlib.Core.Bool.{Bool, true, false, _&&_}
+use mathlib.Core.Logic.{inr}
+use mathlib.Core.Bool.{Bool, true, false}
 use mathlib.Core.Option.{Option, none, some}
 use mathlib.Core.List.{List, [], _∷_, _++_}
 use lib.ListN.{getD, getElem?}
-use lib.Dec.{T, eqb, eqb→eq, eqb-refl, lt→ltb}
+use lib.Dec.{T, lt→ltb}
 use Rattle.permset.specs.Sets.{width, within}
 use Rattle.table.specs.declared.Constant.the-variants as constants
 use Rattle.table.specs.declared.Operation.{Operation}
 use Rattle.table.specs.Words.{constantNumber}
 use Rattle.table.specs.Code.{Code, Node, Leaf, One, Two, Within, Linked, NodeLinked, LeafLinked}
-use Rattle.calculus.specs.Constraint.{C, B, Sets, Obeys}
+use Rattle.calculus.specs.Constraint.{C, B, P, L, Sets, Obeys}
 use Rattle.calculus.specs.Elements as E
-use Rattle.calculus.specs.Elements.{constantElement, isFunction, isRecord, isCell, leafMakes, oneMakes, makes, anyRecord}
-use Rattle.calculus.specs.Rules.{Estimate, flow, guarded, permsOf, nameOf, permissions, admits, leafRule, oneRule, twoRule, part}
-use Rattle.calculus.specs.Values.{constant, number, text, named, known, plain}
+use Rattle.calculus.specs.Elements.{constantElement, isFunction, isRecord, isCell, leafMakes, oneMakes, makes}
+use Rattle.calculus.specs.Rules.{Estimate, flow, permsOf, permissions, leafRule, oneRule, twoRule, part}
+use Rattle.calculus.specs.Values.{constant, number, text, named, known}
 use Rattle.calculus.specs.Values.{Value, atom, function, fields, cell, Environment, bound, Fields, empty}
 use Rattle.calculus.specs.Values.{undefined, unit, whole, look, getField, setField, deleteField, operate}
 use Rattle.calculus.specs.Values.{onAtom, onFunction, onFields, onCell, onText, onName, onTruth}
 use Rattle.calculus.specs.Machine.{Control, eval, give, stopped, Frame, first, second, third, again, Effect, Move, stop, begin, yield, found}
 use Rattle.calculus.specs.Machine.{leafStep, termStep, oneStep, choose, firstStep, withField, twoStep, secondStep, frameStep, step}
-use Rattle.calculus.proofs.Digits.{T-and, member-lt}
+use Rattle.calculus.proofs.Digits.{member-lt}
 use Rattle.calculus.proofs.Ranges.{below-in}
 use Rattle.calculus.proofs.Guarantee.Relation.{Sub, textElement, element, partOf, In}
-use Rattle.calculus.proofs.Guarantee.Relation.{Found, Cells, Runs, Wait, Good, GoodMove, Starts}
-use Rattle.calculus.proofs.Guarantee.Values.{both, mono, mono-fields, weaken, moved, below, datum-in, data-in, get-in, delete-in, get-data}
-use Rattle.calculus.proofs.Guarantee.Values.{delete-data, look-in, read-in, write-in, append-in, last-at, weaken-cells}
+use Rattle.calculus.proofs.Guarantee.Relation.{Found, Cells, Runs, Wait, Good, GoodMove}
+use Rattle.calculus.proofs.Guarantee.Values.{mono, weaken, below}
+use Rattle.calculus.proofs.Guarantee.Values.{look-in, read-in, write-in, append-in, last-at, weaken-cells}
 use Rattle.calculus.proofs.Guarantee.Operations.{operate-in}
-use Rattle.calculus.proofs.Guarantee.Elements.{whole-sign, text-literal, text-string, made-record, stands}
-use Rattle.calculus.proofs.Guarantee.Words.{wait-mono, part-sub, wait-more, enter, part-runs, flows, block-listed, start-good}
+use Rattle.calculus.proofs.Guarantee.Elements.{whole-sign, text-literal}
+use Rattle.calculus.proofs.Guarantee.Records.{get-good, delete-good, set-good}
+use Rattle.calculus.proofs.Guarantee.Words.{sent-good, wait-mono, part-sub, wait-more, enter, part-runs, flows}
 
 module _ (c : Code) (linked : Linked c) (ρ : ℕ) (e : Sets) (est : Estimate c ρ e) (h : ℕ) where
   -- the instance's permissions
@@ -44,17 +44,29 @@ module _ (c : Code) (linked : Linked c) (ρ : ℕ) (e : Sets) (est : Estimate c 
   stop-good : Fine stop
   stop-good = (tt, ([], tt, tt))
 
-  -- what an instance has when it steps: its cells, and frames that wait for a value of the word p
+  -- what an instance has when it steps: cells that were made at ty, and frames
   module _ (ty : List ℕ) (cs : List Value) (cells : Cells c e h ty cs ty) (fs : List Frame) where
-    yield-good : (v : Value) (S : ℕ → Bool) → In c e h ty v S → Wait c ρ e h ty fs S → Fine (yield v fs cs)
+    abbrev Has : Value → (ℕ → Bool) → Type 0
+    Has v S = In c e h ty v S
+
+    abbrev Waits : List Frame → (ℕ → Bool) → Type 0
+    Waits gs S = Wait c ρ e h ty gs S
+
+    more : (v : Value) (S U : ℕ → Bool) → Sub S U → Has v S → Has v U
+    more v S U s i = mono c e h ty v S U s i
+
+    yield-good : (v : Value) (S : ℕ → Bool) → Has v S → Waits fs S → Fine (yield v fs cs)
     yield-good v S i w = (tt, (ty, cells, (S, i, w)))
 
-    found-good : (o : Option Value) (S U : ℕ → Bool) → Sub S U → Found c e h ty o S → Wait c ρ e h ty fs U → Fine (found o fs cs)
+    begin-good : (q : ℕ) (us : Environment) (gs : List Frame) → Runs c ρ e h ty q us → Waits gs (e (C q)) → Fine (begin q us gs cs)
+    begin-good q us gs r w = (tt, (ty, cells, (r, w)))
+
+    found-good : (o : Option Value) (S U : ℕ → Bool) → Sub S U → Found c e h ty o S → Waits fs U → Fine (found o fs cs)
     unfolding found
     found-good none S U s i w = stop-good
-    found-good (some v) S U s i w = yield-good v U (mono c e h ty v S U s i) w
+    found-good (some v) S U s i w = yield-good v U (more v S U s i) w
 
-    choose-good : (v : Value) (S : ℕ → Bool) (l r : Move) → In c e h ty v S → (T (S E.truth) → Fine l) → (T (S E.falsehood) → Fine r)
+    choose-good : (v : Value) (S : ℕ → Bool) (l r : Move) → Has v S → (T (S E.truth) → Fine l) → (T (S E.falsehood) → Fine r)
         → Fine (choose v l r)
     unfolding choose onAtom onTruth constantElement constantNumber
     choose-good (atom (constant constants.Undefined)) S l r i f g = stop-good
@@ -68,8 +80,8 @@ module _ (c : Code) (linked : Linked c) (ρ : ℕ) (e : Sets) (est : Estimate c 
     choose-good (fields r′) S l r i f g = stop-good
     choose-good (cell j) S l r i f g = stop-good
 
-    field-good : (v w : Value) (S U : ℕ → Bool) (m : Fields → ℕ → Move) → In c e h ty v S → In c e h ty w U
-        → ((r : Fields) (k : ℕ) → In c e h ty (fields r) S → T (U (textElement k)) → Fine (m r k))
+    field-good : (v w : Value) (S U : ℕ → Bool) (m : Fields → ℕ → Move) → Has v S → Has w U
+        → ((r : Fields) (k : ℕ) → Has (fields r) S → T (U (textElement k)) → Fine (m r k))
         → Fine (withField v w m)
     unfolding withField onFields onAtom onText
     field-good (atom a) w S U m i j f = stop-good
@@ -84,20 +96,23 @@ module _ (c : Code) (linked : Linked c) (ρ : ℕ) (e : Sets) (est : Estimate c 
     field-good (fields r) (cell k) S U m i j f = stop-good
 
     -- the term at p, which runs under vs, and what the frames below wait for
-    module _ (p : ℕ) (vs : Environment) (runs : Runs c ρ e h ty p vs) (waits : Wait c ρ e h ty fs (e (C p))) where
+    module _ (p : ℕ) (vs : Environment) (runs : Runs c ρ e h ty p vs) (waits : Waits fs (e (C p))) where
       at-node : (f : Node → Bool) (n : Node) → c .node p ≡ n → T (f n) → T (f (c .node p))
       at-node f n q t = subst (λ (m : Node). T (f m)) (sym q) t
 
       -- a value of the part k of the node n is one of the same part at p
-      part-in : (k : ℕ) (n : Node) (v : Value) → c .node p ≡ n → In c e h ty v (e (C (partOf n k))) → In c e h ty v (e (C (partOf (c .node p) k)))
-      part-in k n v q i =
-          mono c e h ty v (e (C (partOf n k))) (e (C (partOf (c .node p) k))) (part-sub c ρ e h ty p k n q) i
+      part-at : (k : ℕ) (n : Node) → c .node p ≡ n → Sub (e (C (partOf n k))) (e (C (partOf (c .node p) k)))
+      part-at k n q = part-sub c ρ e h ty p k n q
 
-      -- the first part begins
-      begin-good : (n : Node) → c .node p ≡ n → Within c (partOf n 0) (c .home p) (c .scope p) → Obeys e (part p (partOf n 0))
-          → Fine (begin (partOf n 0) vs (first p vs ∷ fs) cs)
-      begin-good n q w o =
-          (tt, (ty, cells, (part-runs c ρ e h ty p (partOf n 0) vs runs w (o .0) (o .1), (runs, part-sub c ρ e h ty p 0 n q, waits))))
+      part-in : (k : ℕ) (n : Node) (v : Value) → c .node p ≡ n → Has v (e (C (partOf n k))) → Has v (e (C (partOf (c .node p) k)))
+      part-in k n v q i = more v (e (C (partOf n k))) (e (C (partOf (c .node p) k))) (part-at k n q) i
+
+      -- a part of p runs, and what waits for p waits for a word whose values are p's
+      runs-part : (q : ℕ) → Within c q (c .home p) (c .scope p) → T (e (L q) 0) → Sub (e (P q)) (e (P p)) → Runs c ρ e h ty q vs
+      runs-part q w l s = part-runs c ρ e h ty p q vs runs w l s
+
+      waits-for : (q : ℕ) → Sub (e (C q)) (e (C p)) → Waits fs (e (C q))
+      waits-for q s = wait-mono c ρ e h ty fs (e (C q)) (e (C p)) s waits
 
       -- ---- terms with no part that runs
 
@@ -130,21 +145,32 @@ module _ (c : Code) (linked : Linked c) (ρ : ℕ) (e : Sets) (est : Estimate c 
 
       -- ---- parts that run
 
+      first-begins : (n : Node) → c .node p ≡ n → Within c (partOf n 0) (c .home p) (c .scope p) → Obeys e (part p (partOf n 0))
+          → Fine (begin (partOf n 0) vs (first p vs ∷ fs) cs)
+      first-begins n q w o =
+          begin-good (partOf n 0) vs (first p vs ∷ fs) (runs-part (partOf n 0) w (o .0) (o .1)) (runs, part-at 0 n q, waits)
+
+      second-begins : (n : Node) (v : Value) → c .node p ≡ n → Within c (partOf n 1) (c .home p) (c .scope p) → Obeys e (part p (partOf n 1))
+          → Has v (e (C (partOf n 0)))
+          → Fine (begin (partOf n 1) vs (second p vs v ∷ fs) cs)
+      second-begins n v q w o i =
+          begin-good (partOf n 1) vs (second p vs v ∷ fs) (runs-part (partOf n 1) w (o .0) (o .1)) (runs, part-in 0 n v q i, part-at 1 n q, waits)
+
       term-good : (n : Node) → c .node p ≡ n → NodeLinked c p n → Obeys e (flow c p n) → Fine (termStep held p vs n fs cs)
       unfolding termStep flow
       term-good Node.gap q l o = stop-good
       term-good (Node.block n s g) q l o = stop-good
       term-good (Node.leaf k) q l o = leaf-good k q l o
-      term-good (Node.one k a) q l o = begin-good (Node.one k a) q l (o .0)
-      term-good (Node.two k a b) q l o = begin-good (Node.two k a b) q (l .1) (o .0)
-      term-good (Node.bind a b) q l o = begin-good (Node.bind a b) q (l .0) (o .0)
-      term-good (Node.while a b) q l o = begin-good (Node.while a b) q (l .0) (o .0)
-      term-good (Node.branch a b d) q l o = begin-good (Node.branch a b d) q (l .0) (o .0)
-      term-good (Node.update a b d) q l o = begin-good (Node.update a b d) q (l .0) (o .0)
+      term-good (Node.one k a) q l o = first-begins (Node.one k a) q l (o .0)
+      term-good (Node.two k a b) q l o = first-begins (Node.two k a b) q (l .1) (o .0)
+      term-good (Node.bind a b) q l o = first-begins (Node.bind a b) q (l .0) (o .0)
+      term-good (Node.while a b) q l o = first-begins (Node.while a b) q (l .0) (o .0)
+      term-good (Node.branch a b d) q l o = first-begins (Node.branch a b d) q (l .0) (o .0)
+      term-good (Node.update a b d) q l o = first-begins (Node.update a b d) q (l .0) (o .0)
 
       -- ---- after the first part
 
-      one-good : (k : One) (a : ℕ) (v : Value) → c .node p ≡ Node.one k a → Obeys e (oneRule c p k a) → In c e h ty v (e (C a))
+      one-good : (k : One) (a : ℕ) (v : Value) → c .node p ≡ Node.one k a → Obeys e (oneRule c p k a) → Has v (e (C a))
           → Fine (oneStep k v fs cs)
       unfolding oneStep oneRule onCell isCell makes oneMakes
       one-good One.cell a v q o i = (
@@ -152,7 +178,7 @@ module _ (c : Code) (linked : Linked c) (ρ : ℕ) (e : Sets) (est : Estimate c 
         (
           ty ++ (p ∷ []),
           append-in c e h (ty ++ (p ∷ [])) cs ty v p
-              (weaken c e h ty (p ∷ []) v (e (B p)) (mono c e h ty v (e (C a)) (e (B p)) (o .1) i))
+              (weaken c e h ty (p ∷ []) v (e (B p)) (more v (e (C a)) (e (B p)) (o .1) i))
               (weaken-cells c e h ty (p ∷ []) cs ty cells),
           (
             e (C p),
@@ -169,134 +195,50 @@ module _ (c : Code) (linked : Linked c) (ρ : ℕ) (e : Sets) (est : Estimate c 
           (read-in c e h ty cs ty j (i .0) (i .3) cells)
           waits
 
-      first-good : (n : Node) (v : Value) → c .node p ≡ n → NodeLinked c p n → Obeys e (flow c p n) → In c e h ty v (e (C (partOf n 0)))
+      first-good : (n : Node) (v : Value) → c .node p ≡ n → NodeLinked c p n → Obeys e (flow c p n) → Has v (e (C (partOf n 0)))
           → Fine (firstStep p vs n v fs cs)
       unfolding firstStep flow known constantElement constantNumber
       first-good Node.gap v q l o i = stop-good
       first-good (Node.block n s g) v q l o i = stop-good
       first-good (Node.leaf k) v q l o i = stop-good
       first-good (Node.one k a) v q l o i = one-good k a v q (o .1) i
-      first-good (Node.two k a b) v q l o i = (
-        tt,
-        (
-          ty,
-          cells,
-          (
-            part-runs c ρ e h ty p b vs runs (l .2) (o .1 .0 .0) (o .1 .0 .1),
-            (runs, part-in 0 (Node.two k a b) v q i, part-sub c ρ e h ty p 1 (Node.two k a b) q, waits),
-          ),
-        ),
-      )
-      first-good (Node.bind a b) v q l o i = (
-        tt,
-        (
-          ty,
-          cells,
-          (
-            enter c ρ e h ty b (c .home p) (p ∷ c .scope p) (bound v vs) (l .1) (runs .home) (o .1 .0 .0)
-                (λ x t. runs .leaks x (o .1 .0 .1 x t))
-                (mono c e h ty v (e (C a)) (e (B p)) (o .1 .1 .0) i, runs .binders),
-            wait-mono c ρ e h ty fs (e (C b)) (e (C p)) (o .1 .1 .1) waits,
-          ),
-        ),
-      )
+      first-good (Node.two k a b) v q l o i = second-begins (Node.two k a b) v q (l .2) (o .1 .0) i
+      first-good (Node.bind a b) v q l o i =
+          begin-good b (bound v vs) fs
+          (enter c ρ e h ty b (c .home p) (p ∷ c .scope p) (bound v vs) (l .1) (runs .home) (o .1 .0 .0)
+          (λ x t. runs .leaks x (o .1 .0 .1 x t))
+          (more v (e (C a)) (e (B p)) (o .1 .1 .0) i, runs .binders))
+          (waits-for b (o .1 .1 .1))
       first-good (Node.while a b) v q l o i =
           choose-good v (e (C a)) (begin b vs (again p vs ∷ fs) cs) (yield undefined fs cs) i
-          (λ t. (tt, (ty, cells, (part-runs c ρ e h ty p b vs runs (l .1) (o .1 .1 .0 t) (o .1 .0), (runs, waits)))))
+          (λ t. begin-good b vs (again p vs ∷ fs) (runs-part b (l .1) (o .1 .1 .0 t) (o .1 .0)) (runs, waits))
           (λ t. yield-good undefined (e (C p)) (tt, o .1 .1 .1 t) waits)
       first-good (Node.branch a b d) v q l o i =
           choose-good v (e (C a)) (begin b vs fs cs) (begin d vs fs cs) i
-          (λ t. (
-            tt,
-            (
-              ty,
-              cells,
-              (
-                part-runs c ρ e h ty p b vs runs (l .1) (o .1 .1 .1 .0 t) (o .1 .0),
-                wait-mono c ρ e h ty fs (e (C b)) (e (C p)) (o .1 .1 .1 .1 .1 .0) waits,
-              ),
-            ),
-          ))
-          (λ t. (
-            tt,
-            (
-              ty,
-              cells,
-              (
-                part-runs c ρ e h ty p d vs runs (l .2) (o .1 .1 .1 .1 .0 t) (o .1 .1 .0),
-                wait-mono c ρ e h ty fs (e (C d)) (e (C p)) (o .1 .1 .1 .1 .1 .1) waits,
-              ),
-            ),
-          ))
-      first-good (Node.update a b d) v q l o i = (
-        tt,
-        (
-          ty,
-          cells,
-          (
-            part-runs c ρ e h ty p b vs runs (l .1) (o .1 .0 .0) (o .1 .0 .1),
-            (runs, part-in 0 (Node.update a b d) v q i, part-sub c ρ e h ty p 1 (Node.update a b d) q, waits),
-          ),
-        ),
-      )
+          (λ t. begin-good b vs fs (runs-part b (l .1) (o .1 .1 .1 .0 t) (o .1 .0)) (waits-for b (o .1 .1 .1 .1 .1 .0)))
+          (λ t. begin-good d vs fs (runs-part d (l .2) (o .1 .1 .1 .1 .0 t) (o .1 .1 .0)) (waits-for d (o .1 .1 .1 .1 .1 .1)))
+      first-good (Node.update a b d) v q l o i = second-begins (Node.update a b d) v q (l .1) (o .1 .0) i
 
       -- ---- after the second part
 
-      -- each record of a part, read at any field, gives what p holds
-      get-good : (a d k : ℕ) (r : Fields) → Obeys e (twoRule c p Two.get a d) → In c e h ty (fields r) (e (C a)) → T (e (C d) (textElement k))
-          → In c e h ty (getField r k) (e (C p))
-      unfolding twoRule
-      get-good a d k r o (inl i) t =
-          let g = o (textElement k) (text-string k) t .1 (i .1) in
-          datum-in c e h ty (e (C p)) (λ x l. g x (below-in l)) (getField r k) (get-data r k (c .names) (i .0))
-      get-good a d k r o (inr i) t =
-          let g = o (textElement k) (text-string k) t .0 (i .0) (below-in (i .1 .0)) (i .1 .1) (i .2) in
-          get-in c e h ty r k (e (B (i .0))) (e (C p)) (g .0) (g .1) (i .3)
-
-      delete-good : (a d k : ℕ) (r : Fields) → Obeys e (twoRule c p Two.delete a d) → In c e h ty (fields r) (e (C a))
-          → T (e (C d) (textElement k))
-          → In c e h ty (fields (deleteField r k)) (e (C p))
-      unfolding twoRule anyRecord
-      delete-good a d k r o (inl i) t =
-          inl (
-            delete-data r k (c .names) (i .0),
-            o (textElement k) (text-string k) t E.opponentRecord (below-in (omega arith)) tt (i .1),
-          )
-      delete-good a d k r o (inr i) t =
-          inr (
-            i .0,
-            i .1,
-            o (textElement k) (text-string k) t (E.made c (i .0)) (below-in (omega (arith, i .1 .0)))
-                (made-record c (i .0) (i .1 .1))
-                (i .2),
-            delete-in c e h ty r k (e (B (i .0))) (i .3),
-          )
-
-      apply-good : (a d : ℕ) (v w : Value) → Obeys e (twoRule c p Two.apply a d) → In c e h ty v (e (C a)) → In c e h ty w (e (C d))
+      apply-good : (a d : ℕ) (v w : Value) → Obeys e (twoRule c p Two.apply a d) → Has v (e (C a)) → Has w (e (C d))
           → Fine (twoStep Two.apply v w fs cs)
       unfolding twoStep twoRule onFunction isFunction makes leafMakes
       apply-good a d (atom b) w o i j = stop-good
       apply-good a d (fields r) w o i j = stop-good
       apply-good a d (cell k) w o i j = stop-good
       apply-good a d (function f us) w o i j =
-          let g = o f (below-in (i .0)) (subst (λ (n : Node). T (isFunction (makes n))) (sym (i .1)) tt) (i .3) in (
-            tt,
-            (
-              ty,
-              cells,
-              (
-                enter c ρ e h ty (suc f) (c .home f) (f ∷ c .scope f) (bound w us)
-                    (subst (λ (n : Node). NodeLinked c f n) (i .1) (linked .nodes f (i .0)))
-                    (i .2)
-                    (g .0)
-                    (λ x t. runs .leaks x (g .1 .1 .1 x t))
-                    (mono c e h ty w (e (C d)) (e (B f)) (g .1 .0) j, i .4),
-                wait-mono c ρ e h ty fs (e (C (suc f))) (e (C p)) (g .1 .1 .0) waits,
-              ),
-            ),
-          )
+          let g = o f (below-in (i .0)) (subst (λ (n : Node). T (isFunction (makes n))) (sym (i .1)) tt) (i .3) in
+          begin-good (suc f) (bound w us) fs
+          (enter c ρ e h ty (suc f) (c .home f) (f ∷ c .scope f) (bound w us)
+          (subst (λ (n : Node). NodeLinked c f n) (i .1) (linked .nodes f (i .0)))
+          (i .2)
+          (g .0)
+          (λ x t. runs .leaks x (g .1 .1 .1 x t))
+          (more w (e (C d)) (e (B f)) (g .1 .0) j, i .4))
+          (waits-for (suc f) (g .1 .1 .0))
 
-      assign-good : (a d : ℕ) (v w : Value) → Obeys e (twoRule c p Two.assign a d) → In c e h ty v (e (C a)) → In c e h ty w (e (C d))
+      assign-good : (a d : ℕ) (v w : Value) → Obeys e (twoRule c p Two.assign a d) → Has v (e (C a)) → Has w (e (C d))
           → Fine (twoStep Two.assign v w fs cs)
       unfolding twoStep twoRule onCell
       assign-good a d (atom b) w o i j = stop-good
@@ -307,13 +249,13 @@ module _ (c : Code) (linked : Linked c) (ρ : ℕ) (e : Sets) (est : Estimate c 
             tt,
             (
               ty,
-              write-in c e h ty cs ty k (i .0) w (i .3) (mono c e h ty w (e (C d)) (e (B (i .0))) (g .1) j) cells,
-              (e (C p), mono c e h ty w (e (C d)) (e (C p)) (g .0) j, waits),
+              write-in c e h ty cs ty k (i .0) w (i .3) (more w (e (C d)) (e (B (i .0))) (g .1) j) cells,
+              (e (C p), more w (e (C d)) (e (C p)) (g .0) j, waits),
             ),
           )
 
-      operation-good : (f : Operation) (a d : ℕ) (v w : Value) → Obeys e (twoRule c p (Two.operation f) a d) → In c e h ty v (e (C a))
-          → In c e h ty w (e (C d))
+      operation-good : (f : Operation) (a d : ℕ) (v w : Value) → Obeys e (twoRule c p (Two.operation f) a d) → Has v (e (C a))
+          → Has w (e (C d))
           → Fine (twoStep (Two.operation f) v w fs cs)
       unfolding twoStep twoRule onAtom
       operation-good f a d (function g us) w o i j = stop-good
@@ -330,27 +272,7 @@ module _ (c : Code) (linked : Linked c) (ρ : ℕ) (e : Sets) (est : Estimate c 
           (j .1)))
           waits
 
-      -- a handler that the send may start is live and holds the message
-      sent-good : (r a d n b : ℕ) (w : Value) → Obeys e (twoRule c p (Two.send r) a d) → T (e (C a) (E.nameElement n)) → In c e h ty w (e (C d))
-          → T (plain w)
-          → T (admits n r held (c .node b))
-          → Starts c ρ e b w
-      unfolding twoRule admits permissions
-      sent-good r a d n b w o i j k t =
-          let all = both (eqb (nameOf (c .node b)) n && within r (permsOf (c .node b))) (guarded (c .node b) held) t in
-          let two = both (eqb (nameOf (c .node b)) n) (within r (permsOf (c .node b))) (all .0) in
-          let s = stands c e h ty w (e (C d)) j in
-          let g =
-          o .1 (s .0) (s .3 k) (s .2) b (block-listed c linked ρ e est b held (all .1))
-          (T-and (eqb (nameOf (c .node b)) (nameOf (c .node b)) && within r (permsOf (c .node b))) (guarded (c .node b) (permsOf (c .node (c .home p))))
-          (T-and (eqb (nameOf (c .node b)) (nameOf (c .node b))) (within r (permsOf (c .node b))) (eqb-refl (nameOf (c .node b))) (two .1))
-          (subst (λ (m : ℕ). T (guarded (c .node b) (permsOf (c .node m)))) (sym (runs .home)) (all .1)))
-          (subst (λ (m : ℕ). T (e (C a) (E.nameElement m))) (sym (eqb→eq (nameOf (c .node b)) n (two .0))) i)
-          in
-          start-good c linked ρ e est b held w (all .1) (g .0) (λ x u. runs .leaks x (g .1 .1 x u))
-          (moved c e h ty b [] w (e (B b)) k (s .4 (e (B b)) (g .1 .0 (s .0) (below-in (s .1)) (s .3 k) (s .2))))
-
-      send-good : (r a d : ℕ) (v w : Value) → Obeys e (twoRule c p (Two.send r) a d) → In c e h ty v (e (C a)) → In c e h ty w (e (C d))
+      send-good : (r a d : ℕ) (v w : Value) → Obeys e (twoRule c p (Two.send r) a d) → Has v (e (C a)) → Has w (e (C d))
           → Fine (twoStep (Two.send r) v w fs cs)
       unfolding twoStep twoRule onAtom onName known constantElement constantNumber
       send-good r a d (function g us) w o i j = stop-good
@@ -360,26 +282,26 @@ module _ (c : Code) (linked : Linked c) (ρ : ℕ) (e : Sets) (est : Estimate c 
       send-good r a d (atom (number z)) w o i j = stop-good
       send-good r a d (atom (text n)) w o i j = stop-good
       send-good r a d (atom (named n)) w o i j =
-          (λ b k t. sent-good r a d n b w o (i .1) j k t, (ty, cells, (e (C p), (tt, o .0), waits)))
+          (λ b k t. sent-good c linked ρ e est h ty p r a d n b w (runs .home) (runs .leaks) o (i .1) j k t, (ty, cells, (e (C p), (tt, o .0), waits)))
 
-      two-good : (t : Two) (a d : ℕ) (v w : Value) → Obeys e (twoRule c p t a d) → In c e h ty v (e (C a)) → In c e h ty w (e (C d))
+      two-good : (t : Two) (a d : ℕ) (v w : Value) → Obeys e (twoRule c p t a d) → Has v (e (C a)) → Has w (e (C d))
           → Fine (twoStep t v w fs cs)
       unfolding twoStep twoRule
       two-good Two.apply a d v w o i j = apply-good a d v w o i j
       two-good Two.assign a d v w o i j = assign-good a d v w o i j
       two-good (Two.operation f) a d v w o i j = operation-good f a d v w o i j
       two-good (Two.send r) a d v w o i j = send-good r a d v w o i j
-      two-good Two.sequence a d v w o i j = yield-good w (e (C p)) (mono c e h ty w (e (C d)) (e (C p)) o j) waits
+      two-good Two.sequence a d v w o i j = yield-good w (e (C p)) (more w (e (C d)) (e (C p)) o j) waits
       two-good Two.get a d v w o i j =
           field-good v w (e (C a)) (e (C d)) (λ r k. yield (getField r k) fs cs) i j
-          (λ r k x t. yield-good (getField r k) (e (C p)) (get-good a d k r o x t) waits)
+          (λ r k x t. yield-good (getField r k) (e (C p)) (get-good c e h ty p a d k r o x t) waits)
       two-good Two.delete a d v w o i j =
           field-good v w (e (C a)) (e (C d)) (λ r k. yield (fields (deleteField r k)) fs cs) i j
-          (λ r k x t. yield-good (fields (deleteField r k)) (e (C p)) (delete-good a d k r o x t) waits)
+          (λ r k x t. yield-good (fields (deleteField r k)) (e (C p)) (delete-good c e h ty p a d k r o x t) waits)
 
       second-good : (n : Node) (v w : Value) → c .node p ≡ n → NodeLinked c p n → Obeys e (flow c p n)
-          → In c e h ty v (e (C (partOf n 0)))
-          → In c e h ty w (e (C (partOf n 1)))
+          → Has v (e (C (partOf n 0)))
+          → Has w (e (C (partOf n 1)))
           → Fine (secondStep p vs n v w fs cs)
       unfolding secondStep flow
       second-good Node.gap v w q l o i j = stop-good
@@ -390,58 +312,19 @@ module _ (c : Code) (linked : Linked c) (ρ : ℕ) (e : Sets) (est : Estimate c 
       second-good (Node.bind a d) v w q l o i j = stop-good
       second-good (Node.while a d) v w q l o i j = stop-good
       second-good (Node.branch a b d) v w q l o i j = stop-good
-      second-good (Node.update a b d) v w q l o i j = (
-        tt,
-        (
-          ty,
-          cells,
-          (part-runs c ρ e h ty p d vs runs (l .2) (o .1 .1 .0 .0) (o .1 .1 .0 .1), (runs, (a, b, d, q, i, j, λ x t. t), waits)),
-        ),
-      )
+      second-good (Node.update a b d) v w q l o i j =
+          begin-good d vs (third p vs v w ∷ fs) (runs-part d (l .2) (o .1 .1 .0 .0) (o .1 .1 .0 .1)) (runs, (a, b, d, q, i, j, λ x t. t), waits)
 
       -- ---- after the third part
 
-      -- the new record holds the value and what the old one held
-      set-good : (a b d k : ℕ) (r : Fields) (u : Value) → c .node p ≡ Node.update a b d → Obeys e (flow c p (Node.update a b d))
-          → In c e h ty (fields r) (e (C a))
-          → T (e (C b) (textElement k))
-          → In c e h ty u (e (C d))
-          → In c e h ty (fields (setField r k u)) (e (C p))
-      unfolding flow setField isRecord makes anyRecord
-      set-good a b d k r u q o (inl i) t j =
-          let f = o .1 .1 .1 (textElement k) (text-string k) t in
-          let g = f .0 E.opponentRecord tt (i .1) in
-          inr (
-            p,
-            (runs .inside, at-node (λ n. isRecord (makes n)) (Node.update a b d) q tt),
-            g .0,
-            (
-              mono c e h ty u (e (C d)) (e (B p)) (g .1) j,
-              data-in c e h ty (e (B p)) (λ x l. f .1 .1 (i .1) x (below-in l)) (deleteField r k) (delete-data r k (c .names) (i .0)),
-            ),
-          )
-      set-good a b d k r u q o (inr i) t j =
-          let f = o .1 .1 .1 (textElement k) (text-string k) t in
-          let g = f .0 (E.made c (i .0)) (made-record c (i .0) (i .1 .1)) (i .2) in
-          inr (
-            p,
-            (runs .inside, at-node (λ n. isRecord (makes n)) (Node.update a b d) q tt),
-            g .0,
-            (
-              mono c e h ty u (e (C d)) (e (B p)) (g .1) j,
-              delete-in c e h ty r k (e (B p))
-                  (mono-fields c e h ty r (e (B (i .0))) (e (B p)) (f .1 .0 (i .0) (below-in (i .1 .0)) (i .1 .1) (i .2)) (i .3)),
-            ),
-          )
-
       third-good : (a b d : ℕ) (v w u : Value) → c .node p ≡ Node.update a b d → Obeys e (flow c p (Node.update a b d))
-          → In c e h ty v (e (C a))
-          → In c e h ty w (e (C b))
-          → In c e h ty u (e (C d))
+          → Has v (e (C a))
+          → Has w (e (C b))
+          → Has u (e (C d))
           → Fine (withField v w (λ r k. yield (fields (setField r k u)) fs cs))
       third-good a b d v w u q o i j m =
           field-good v w (e (C a)) (e (C b)) (λ r k. yield (fields (setField r k u)) fs cs) i j
-          (λ r k x t. yield-good (fields (setField r k u)) (e (C p)) (set-good a b d k r u q o x t m) waits)
+          (λ r k x t. yield-good (fields (setField r k u)) (e (C p)) (set-good c e h ty p a b d k r u (runs .inside) q o x t m) waits)
 
   -- ---- every step
 
