@@ -1,0 +1,12 @@
+pub mod Elements
+pub mod Constraint
+pub mod Rules
+pub mod Layout
+pub mod Estimate
+pub mod Answer
+pub mod Samples
+pub mod Values
+pub mod Machine
+pub mod Run
+pub mod Runs
+pub mod Guarantee
