@@ -10,3 +10,4 @@ pub mod Limits
 pub mod LinkReads
 pub mod LinkEnds
 pub mod LinkMeaning
+pub mod Nodes
