@@ -9,5 +9,6 @@ pub mod Distinct
 pub mod Limits
 pub mod LinkReads
 pub mod LinkEnds
+pub mod LinkBinders
 pub mod LinkMeaning
 pub mod Nodes

@@ -1,8 +1,8 @@
 -- The code of an accepted table from what `item_at` and `link_at` answer: node, home and binder of each word.
-use mathlib.Core.Path.{_≡_, refl, sym, ap, ap₂, _∙_, subst}
+use mathlib.Core.Path.{_≡_, refl, sym, ap, ap₂, _∙_}
 use mathlib.Core.Logic.{_≢_}
-use mathlib.Core.List.{List, [], _∷_}
-use mathlib.Core.Bool.{Bool, true, false}
+use mathlib.Core.List.{List}
+use mathlib.Core.Bool.{Bool}
 use Prim.Native.Nat.{ℕ, suc, _≤_, _<_}
 use native.Mathlib.Nat.{suc-inj}
 use native.Mathlib.Decide.{decLt}
@@ -26,7 +26,7 @@ use Rattle.table.proofs.Faults.{Stands}
 use Rattle.table.proofs.Stack.{reach}
 use Rattle.table.proofs.Parts.{part-zero, part-suc, part-inside, place-stands, term-stands}
 use Rattle.table.proofs.Linked.{linked as code-linked}
-use Rattle.table.proofs.LinkMeaning.{link-end, link-block, link-term, Done, counted, counted-variable}
+use Rattle.table.proofs.LinkMeaning.{link-end, link-term, counted-variable}
 
 -- the node of an item whose parts, as far as it has them, stand at a, b and d
 unfoldable pub itemNode : Item → ℕ → ℕ → ℕ → Node
