@@ -72,7 +72,11 @@ module _ (ws : List ℕ) where
 
   pub same-binder : (l : List ℕ) (p b : ℕ) → p < length l → b < 2 ^ 10 → Same l (withBinder l p b)
   same-binder l p b h k =
-      record { long = length-binder l p b; ends = λ q. go (λ x. x .end) refl q (ℕ-discrete q p); homes = λ q. go (λ x. x .home) refl q (ℕ-discrete q p) }
+      record {
+        long = length-binder l p b;
+        ends = λ q. go (λ x. x .end) refl q (ℕ-discrete q p);
+        homes = λ q. go (λ x. x .home) refl q (ℕ-discrete q p);
+      }
     where
       go : (f : Link → ℕ) → f (record { end = linkAt l p .end; binder = b; home = linkAt l p .home }) ≡ f (linkAt l p)
           → (q : ℕ) → Dec (q ≡ p) → f (linkAt (withBinder l p b) q) ≡ f (linkAt l q)
@@ -115,7 +119,8 @@ module _ (ws : List ℕ) (e : reading ws ≡ accepted) where
         let one = same-binder ws l q v (lt-of-lt-of-le (z .0) long) k in
         let past : q < r = lt-of-lt-of-le (end-after ws q) (spans-le ws (endOf ws q) ms r (z .1)) in
         let rest =
-        bind-parts ms l₁ (endOf ws q) r us (subst (λ (n : ℕ). length ws ≤ n) (sym (one .long)) long) (λ x y t. one .ends x ∙ ended x y t) b (z .1)
+        bind-parts ms l₁ (endOf ws q) r us (subst (λ (n : ℕ). length ws ≤ n) (sym (one .long)) long)
+        (λ x y t. one .ends x ∙ ended x y t) b (z .1)
         (laid-agree ws l l₁ r us (λ x y. binder-other l q v x (λ t. let c : ⊥ = omega arith in c)) a) in
         subst (λ (n : ℕ). Bound ws l (bindParts l₁ p (getD s 0 0) ms n) q r (map (partTask p d h s) (m ∷ ms)) us) (sym next)
         (record {

@@ -224,7 +224,9 @@ module _ (ws : List ℕ) (e : reading ws ≡ accepted) (l₀ : List ℕ) (room :
           record {
             long = length-home l₁ p (cur ws (suc p)) ∙ mid .same .long ∙ inv .long;
             rest = λ q i.
-                home-other l₁ p (cur ws (suc p)) q (λ z. let k = st .inside in let c : ⊥ = omega arith in c) ∙ mid .rest q i ∙ inv .rest q i;
+                home-other l₁ p (cur ws (suc p)) q (λ z. let k = st .inside in let c : ⊥ = omega arith in c)
+                ∙ mid .rest q i
+                ∙ inv .rest q i;
             right = λ q i k. end-at q (ℕ-discrete q p) ∙ mid .same .ends q ∙ inv .right q i k;
             layered = layered-next p (getD ws p 0) t ts (inv .layered);
             homed = homed;
@@ -284,7 +286,8 @@ module _ (ws : List ℕ) (e : reading ws ≡ accepted) (l₀ : List ℕ) (room :
           let b : getD s 0 0 < 2 ^ 10 = subst (λ (n : ℕ). n < 2 ^ 10) (laid .0) (link-packs l p .1) in
           let z =
           bind-parts ws e p d h s (size-le ws e) i (parts w) l (suc p) (endOf ws p) ts wide r b
-          (subst (λ (n : ℕ). Spans ws n (parts w) (endOf ws p)) (part-zero ws p) (spans-parts ws e p d h s (size-le ws e) i t (parts w) 0 (omega arith) refl))
+          (subst (λ (n : ℕ). Spans ws n (parts w) (endOf ws p)) (part-zero ws p)
+          (spans-parts ws e p d h s (size-le ws e) i t (parts w) 0 (omega arith) refl))
           (laid .1) in
           subst (λ (m : List ℕ). Mid l m p (term d h s) ts)
           (sym (bind-term w p l k m ∙ ap (λ (n : ℕ). bindParts l p n (parts w) (suc p)) (laid .0)))
@@ -318,7 +321,8 @@ module _ (ws : List ℕ) (e : reading ws ≡ accepted) (l₀ : List ℕ) (room :
             before = λ q y. binder-other l p (getD s (argument w) 0) q (λ z. let c : ⊥ = omega arith in c);
             rest = λ q y. binder-other l p (getD s (argument w) 0) q (λ z. let c : ⊥ = omega arith in c);
             laid =
-                subst (λ (bs : List Bool). Laid ws (withBinder l p (getD s (argument w) 0)) (suc p) (map (partTask p d h s) bs ++ ts)) (sym none)
+                subst (λ (bs : List Bool). Laid ws (withBinder l p (getD s (argument w) 0)) (suc p) (map (partTask p d h s) bs ++ ts))
+                (sym none)
                 (laid-agree ws l (withBinder l p (getD s (argument w) 0)) (suc p) ts
                 (λ q y. binder-other l p (getD s (argument w) 0) q (λ z. let c : ⊥ = omega arith in c))
                 (subst (λ (n : ℕ). Laid ws l n ts) here (laid .1)));
@@ -394,15 +398,16 @@ module _ (ws : List ℕ) (e : reading ws ≡ accepted) (l₀ : List ℕ) (room :
       (homed-parts p d h (cur ws (suc p)) s (inv .homed .0 ∙ sym c) (parts w))
       (subst (λ (b : ℕ). All (HomedTask b) ts) (sym c) (inv .homed .1)))
     where
-      mid : Dec (kind (getD ws p 0) ≡ 20) → Mid (passed ws first-pass p) (bindWord (getD ws p 0) p (passed ws first-pass p)) p (term d h s) ts
+      mid : Dec (kind (getD ws p 0) ≡ 20)
+          → Mid (passed ws first-pass p) (bindWord (getD ws p 0) p (passed ws first-pass p)) p (term d h s) ts
       mid (yes k) =
           let f = stands keys (getD ws p 0) (term d h s) (st .faultless) in
-          mid-variable p (passed ws first-pass p) ts (st .inside) (wide p (passed ws first-pass p) keys (term d h s) ts st inv) d h s (st .task)
-          (inv .laid) k (f .3 k) (inv .done)
+          mid-variable p (passed ws first-pass p) ts (st .inside) (wide p (passed ws first-pass p) keys (term d h s) ts st inv)
+          d h s (st .task) (inv .laid) k (f .3 k) (inv .done)
       mid (no k) =
           let f = stands keys (getD ws p 0) (term d h s) (st .faultless) in
-          mid-parts p (passed ws first-pass p) ts (st .inside) (wide p (passed ws first-pass p) keys (term d h s) ts st inv) d h s (st .task)
-          (inv .laid) (λ z. let c : ⊥ = omega arith in c) k (inv .right)
+          mid-parts p (passed ws first-pass p) ts (st .inside) (wide p (passed ws first-pass p) keys (term d h s) ts st inv)
+          d h s (st .task) (inv .laid) (λ z. let c : ⊥ = omega arith in c) k (inv .right)
 
   linked-passed : linked ws l₀ ≡ passed ws first-pass (0 + length ws)
   unfolding linked first-pass passed cur

@@ -63,11 +63,13 @@ module _ (l : List ℕ) (p b : ℕ) where
   unfolding withHome
   home-other q h = getD-set-other l p q _ 0 h
 
-  pub binder-same : p < length l → b < 2 ^ 10 → linkAt (withBinder l p b) p ≡ record { end = linkAt l p .end; binder = b; home = linkAt l p .home }
+  pub binder-same : p < length l → b < 2 ^ 10
+      → linkAt (withBinder l p b) p ≡ record { end = linkAt l p .end; binder = b; home = linkAt l p .home }
   unfolding withBinder
   binder-same h k = let r = link-packs l p in link-set l p _ h (r .0, k, r .2)
 
-  pub home-same : p < length l → b < 2 ^ 10 → linkAt (withHome l p b) p ≡ record { end = linkAt l p .end; binder = linkAt l p .binder; home = b }
+  pub home-same : p < length l → b < 2 ^ 10
+      → linkAt (withHome l p b) p ≡ record { end = linkAt l p .end; binder = linkAt l p .binder; home = b }
   unfolding withHome
   home-same h k = let r = link-packs l p in link-set l p _ h (r .0, r .1, k)
 

@@ -17,7 +17,8 @@ use Rattle.table.specs.declared.Term.{Term}
 use Rattle.table.specs.declared.Term.the-variants as terms
 use Rattle.table.specs.Words.{kind, argument, firstKind, parts, arity, partsByKind, limitsByKind, termsByKind, operationOf, termOf}
 use Rattle.table.specs.Scan.{Task, head, name, perms, guard, term, accepted, reading}
-use Rattle.table.specs.Code.{Node, gap, block, one, two, bind, while, branch, update, cell, read, apply, sequence, get, delete, assign, operation, send}
+use Rattle.table.specs.Code.{Node, gap, block, one, two, bind, while, branch, update, cell, read, apply, sequence, get, delete}
+use Rattle.table.specs.Code.{assign, operation, send}
 use Rattle.table.specs.Code.{part, endOf, taskAt, termNode, nodeFor, scopeFor, homeFor, code}
 use Rattle.table.specs.Item.{handlerAt, itemAt}
 use Rattle.table.specs.Links.{linkAt, linked}

@@ -157,7 +157,8 @@ module _ (ws : List ℕ) (e : reading ws ≡ accepted) (p d h : ℕ) (s : List �
 
   pub chained : Chained ws s
   chained =
-      every-term ws e (λ p d h s. Chained ws s) (λ p d h s q. q) (λ b t. (of-block t, tt)) (λ p d h s t q b a. chained-under ws p d h s t q b a)
+      every-term ws e (λ p d h s. Chained ws s) (λ p d h s q. q) (λ b t. (of-block t, tt))
+      (λ p d h s t q b a. chained-under ws p d h s t q b a)
       p d h s l t
 
   -- document 01's depth
