@@ -9,7 +9,7 @@ use Rattle.calculus.specs.Elements.{constantElement, sign, isString, lea
 use Rattle.calculus.specs.Elements.{sendable, anyRecord, isSign, signPlace, sumSigns, lessSigns, bySigns, comparable, isMany, equalResults, results}
 use Rattle.calculus.specs.Constraint.{range}
 use Rattle.calculus.specs.Rules.{nameOf, permsOf, guarded, permissions, admits, leafRule, oneRule, twoRule, flow, entry, rule}
-use Rattle.calculus.specs.Layout.{rowWords, length}
+use Rattle.calculus.specs.Layout.{rowWords, estimateWords}
 use Rattle.calculus.specs.Samples.{passes, samples}
 
 pub samples-pass : T (passes samples)
@@ -17,5 +17,5 @@ unfolding onesIn kind argument partsByKind limitsByKind parts arity limit consta
     fault missing keep under next scan reading code skip part trace tasks taskAt termNode nodeFor scopeFor homeFor blocksFrom within member union
     difference lowest constantElement sign isString leafMakes oneMakes makes isFunction isRecord isCell making sendable anyRecord isSign signPlace
     sumSigns lessSigns bySigns comparable isMany equalResults results range nameOf permsOf guarded permissions admits leafRule oneRule twoRule
-    flow entry rule rowWords length passes samples
+    flow entry rule rowWords estimateWords passes samples
 samples-pass = tt
