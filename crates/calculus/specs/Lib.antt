@@ -5,3 +5,8 @@ pub mod Layout
 pub mod Estimate
 pub mod Answer
 pub mod Samples
+pub mod Values
+pub mod Machine
+pub mod Run
+pub mod Runs
+pub mod Guarantee

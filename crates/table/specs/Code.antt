@@ -62,6 +62,10 @@ skip (w ∷ ws) (suc n) = suc (skip ws (arity w + n))
 unfoldable pub part : List ℕ → ℕ → ℕ → ℕ
 part ws p k = suc p + skip (drop (suc p) ws) k
 
+-- the word after the term at p
+unfoldable pub endOf : List ℕ → ℕ → ℕ
+endOf ws p = part ws p (arity (getD ws p 0))
+
 -- the task that each word meets, from the place `at` on
 unfoldable pub trace : List ℕ → ℕ → List Task → List Task
 trace [] at ts = []

@@ -1,0 +1,127 @@
+-- Example runs of small tables: what is exercised, the last one first, and how many instances were started. proofs/Runs.antt
+-- computes them from the words.
+use Prim.Native.Nat.{ℕ}
+use mathlib.Core.Bool.{true, false}
+use mathlib.Core.Option.{none, some}
+use mathlib.Core.List.{List, [], _∷_, _++_}
+use lib.ListN.{length, replicate}
+use Rattle.table.specs.Words.{wordOf}
+use Rattle.table.specs.Code.{code}
+use Rattle.calculus.specs.Values.{named, atom, cell, fields, field, empty, unit, truth}
+use Rattle.calculus.specs.Run.{Event, steps, starts, World, world, run}
+
+-- a table, the opponent's set and a list of events, with what is to come of them
+pub data Example : Type 0 where
+  example : (words : List ℕ) (ρ : ℕ) (events : List Event) (exercised : List ℕ) (instances : ℕ) → Example
+
+-- one handler with the permissions 3
+abbrev pub alone : (guard : ℕ) → List ℕ → List ℕ
+alone g body = 0x01000001 ∷ 0x02000000 ∷ 0x03000003 ∷ wordOf 4 g ∷ body
+
+-- a handler that sends its message to the name 1 with a required set, and handlers of that name, at the words 7 and 11
+abbrev pub relays : (handlers required : ℕ) → List ℕ → List ℕ
+relays n r rest =
+    wordOf 1 n ∷ 0x02000000 ∷ 0x03000008 ∷ 0x04000000 ∷ wordOf 35 r ∷ 0x13000001 ∷ 0x14000000
+    ∷ 0x02000001 ∷ 0x03000002 ∷ 0x04000008 ∷ 0x24000002 ∷ rest
+
+abbrev pub twin : List ℕ
+twin = 0x02000001 ∷ 0x03000004 ∷ 0x04000008 ∷ 0x24000004 ∷ []
+
+-- n steps of instance i that start nothing
+abbrev pub times : ℕ → ℕ → List Event
+times n i = replicate n (steps i none)
+
+unfoldable pub examples : List Example
+examples =
+    -- *direct* exercises 2. Steps of an absent and of a finished instance change nothing.
+    example (alone 0 (0x24000002 ∷ [])) 0
+    (starts 1 unit ∷ steps 1 none ∷ times 3 0)
+    (2 ∷ []) 1
+    -- an exercise beyond the instance's permissions stops it
+    ∷ example (alone 0 (0x24000004 ∷ [])) 0
+    (starts 1 unit ∷ times 3 0)
+    [] 1
+    -- *relay* exercises 2 through a send
+    ∷ example (relays 2 0 []) 0
+    (starts 1 unit ∷ times 4 0 ++ steps 0 (some 7) ∷ times 1 1)
+    (2 ∷ []) 2
+    -- a send to the name that the opponent's message gives; a cell is no datum, and starts nothing
+    ∷ example
+    (0x01000002 ∷ 0x02000000 ∷ 0x03000008 ∷ 0x04000000 ∷ 0x23000000 ∷ 0x14000000 ∷ 0x10000001
+    ∷ 0x02000001 ∷ 0x03000002 ∷ 0x04000008 ∷ 0x24000002 ∷ []) 0
+    (starts 1 (cell 0) ∷ starts 1 (atom (named 1)) ∷ times 4 0 ++ steps 0 (some 7) ∷ times 1 1)
+    (2 ∷ []) 2
+    -- *twins*: the required set 4 leaves the second twin, and to choose the first changes nothing
+    ∷ example (relays 3 4 twin) 0
+    (starts 1 unit ∷ times 4 0 ++ steps 0 (some 7) ∷ steps 0 (some 11) ∷ times 1 1)
+    (4 ∷ []) 2
+    -- where both twins may be started one send starts one of them
+    ∷ example (relays 3 0 twin) 0
+    (starts 1 unit ∷ times 4 0 ++ steps 0 (some 7) ∷ steps 0 (some 11) ∷ times 1 1 ++ times 1 2)
+    (2 ∷ []) 2
+    -- a message that holds a function, here in a record, starts nothing; the send itself yields, and what follows it runs
+    ∷ example (0x01000002 ∷ 0x02000000 ∷ 0x03000008 ∷ 0x04000000 ∷ 0x18000000
+    ∷ 0x23000000 ∷ 0x13000001 ∷ 0x1e000000 ∷ 0x1c000000 ∷ 0x12000000 ∷ 0x15000000 ∷ 0x10000000
+    ∷ 0x24000008 ∷ 0x02000001 ∷ 0x03000002 ∷ 0x04000008 ∷ 0x24000002 ∷ []) 0
+    (starts 1 unit ∷ times 11 0 ++ steps 0 (some 13) ∷ times 9 1 ++ times 9 0)
+    (8 ∷ []) 1
+    -- a start whose guard is not within ρ changes nothing
+    ∷ example (alone 4 (0x24000002 ∷ [])) 0
+    (starts 1 unit ∷ times 3 0)
+    [] 0
+    -- the same where it is
+    ∷ example (alone 4 (0x24000002 ∷ [])) 4
+    (starts 1 unit ∷ times 3 0)
+    (2 ∷ []) 1
+    -- Two instances make a cell each with false in it. The one whose message is true writes true to its own; then each exercises 1 if its
+    -- cell has true, and 2 if not.
+    ∷ example (alone 0
+    (0x17000000 ∷ 0x20000000 ∷ 0x10000003 ∷ 0x18000000 ∷ 0x19000000 ∷ 0x14000001 ∷ 0x22000000 ∷ 0x14000000 ∷ 0x10000002 ∷ 0x10000001
+    ∷ 0x19000000 ∷ 0x21000000 ∷ 0x14000000 ∷ 0x24000001 ∷ 0x24000002 ∷ [])) 0
+    (starts 1 (truth true) ∷ starts 1 (truth false) ∷ times 6 0 ++ times 6 1 ++ times 30 0 ++ times 30 1)
+    (2 ∷ 1 ∷ []) 2
+    -- a record of the opponent's, read at literal 0: undefined, and so 1, where it has other fields; 2 where it has that one
+    ∷ example (alone 0 (0x19000000 ∷ 0x1b000002 ∷ 0x1d000000 ∷ 0x14000000 ∷ 0x12000000 ∷ 0x10000000 ∷ 0x24000001 ∷ 0x24000002 ∷ [])) 0
+    (starts 1 (fields (field 1 unit (field 99 unit empty))) ∷ starts 1 (fields (field 0 unit empty)) ∷ times 20 0 ++ times 20 1)
+    (2 ∷ 1 ∷ []) 2
+    -- a key that is there twice: the first one counts
+    ∷ example (alone 0 (0x19000000 ∷ 0x1d000000 ∷ 0x14000000 ∷ 0x12000000 ∷ 0x24000001 ∷ 0x24000002 ∷ [])) 0
+    (starts 1 (fields (field 0 (truth true) (field 0 (truth false) empty))) ∷ times 20 0)
+    (1 ∷ []) 1
+    -- two fields set and the first deleted again: it reads undefined, and the other one true
+    ∷ example (alone 0
+    (0x18000000
+    ∷ 0x19000000 ∷ 0x1b000002 ∷ 0x1d000000 ∷ 0x1f000000 ∷ 0x1e000000 ∷ 0x1e000000 ∷ 0x1c000000 ∷ 0x12000000 ∷ 0x10000002 ∷ 0x12000001
+    ∷ 0x10000002 ∷ 0x12000000 ∷ 0x12000000 ∷ 0x10000000 ∷ 0x24000001 ∷ 0x24000000
+    ∷ 0x19000000 ∷ 0x1d000000 ∷ 0x1f000000 ∷ 0x1e000000 ∷ 0x1e000000 ∷ 0x1c000000 ∷ 0x12000000 ∷ 0x10000002 ∷ 0x12000001 ∷ 0x10000002
+    ∷ 0x12000000 ∷ 0x12000001 ∷ 0x24000002 ∷ 0x24000000 ∷ [])) 0
+    (starts 1 unit ∷ times 60 0)
+    (2 ∷ 1 ∷ []) 1
+    -- numbers are unbounded: 8388607 is less than its double; and -1 is less than 0
+    ∷ example (alone 0
+    (0x18000000 ∷ 0x19000000 ∷ 0x1b000001 ∷ 0x117fffff ∷ 0x1b000000 ∷ 0x117fffff ∷ 0x117fffff ∷ 0x24000001 ∷ 0x24000000
+    ∷ 0x19000000 ∷ 0x1b000001 ∷ 0x11ffffff ∷ 0x11000000 ∷ 0x24000002 ∷ 0x24000000 ∷ [])) 0
+    (starts 1 unit ∷ times 40 0)
+    (2 ∷ 1 ∷ []) 1
+    -- `equal` with a record stops, whatever the other side is; with different sorts it is false
+    ∷ example (alone 0
+    (0x18000000 ∷ 0x19000000 ∷ 0x1b000002 ∷ 0x13000001 ∷ 0x11000001 ∷ 0x24000000 ∷ 0x24000002
+    ∷ 0x18000000 ∷ 0x1b000002 ∷ 0x1c000000 ∷ 0x11000001 ∷ 0x24000001 ∷ [])) 0
+    (starts 1 unit ∷ times 40 0)
+    (2 ∷ []) 1
+    -- a while that ends once its body has written false to the cell that it reads
+    ∷ example (alone 0
+    (0x17000000 ∷ 0x20000000 ∷ 0x10000002 ∷ 0x18000000 ∷ 0x1a000000 ∷ 0x21000000 ∷ 0x14000000 ∷ 0x22000000 ∷ 0x14000000 ∷ 0x10000003
+    ∷ 0x24000001 ∷ [])) 0
+    (starts 1 unit ∷ times 40 0)
+    (1 ∷ []) 1
+    ∷ []
+
+unfoldable pub outcome : World → List ℕ × ℕ
+outcome (world is rs) = (rs, length is)
+
+unfoldable pub reached : Example → List ℕ × ℕ
+reached (example ws ρ events rs n) = outcome (run (code ws) ρ events)
+
+unfoldable pub expected : Example → List ℕ × ℕ
+expected (example ws ρ events rs n) = (rs, n)

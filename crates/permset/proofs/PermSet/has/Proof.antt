@@ -1,0 +1,21 @@
+-- `PermSet::has` meets its contract.
+use mathlib.Core.Path.{sym}
+use borrow.Author.Needs.{needs}
+use Rattle.permset.proofs.Laws.{member-beyond}
+use Rattle.permset.specs.Sets.{member}
+use Rattle.permset.proofs.PermSet.has.Statement.{statement}
+use Rattle.permset.proofs.PermSet.has.Tie as tie
+
+returns : tie.Need-returns
+returns c =
+    sym (member-beyond 32 _ _ (search needs) (search needs))
+
+shr-result : tie.Need-shr-result
+shr-result c = search needs
+
+returns-2 : tie.Need-returns-2
+unfolding member
+returns-2 c = search needs
+
+pub has-spec : {M : Type 1} → statement M
+has-spec = tie.close (tie.spec returns shr-result returns-2)

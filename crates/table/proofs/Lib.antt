@@ -1,0 +1,9 @@
+pub mod TermWords
+pub mod Faults
+pub mod Stack
+pub mod Parts
+pub mod Blocks
+pub mod Scopes
+pub mod Linked
+pub mod Distinct
+pub mod Limits
