@@ -7,12 +7,12 @@ use mathlib.Core.Bool.{Bool, true, false}
 use native.Mathlib.Decide.{decLt}
 use native.Mathlib.Omega.{arith}
 use lib.Dec.{T, eqb, eqb→eq, eqb-refl, lit<}
-use lib.ListN.{length, getD, replicate, length-replicate}
+use lib.ListN.{getD, replicate, length-replicate}
 use Rattle.table.specs.Code.{Code, Linked}
-use Rattle.calculus.specs.Constraint.{Row, Sets, Obeys, every}
+use Rattle.calculus.specs.Constraint.{Sets, every}
 use Rattle.calculus.specs.Rules.{rule, Estimate}
 use Rattle.calculus.specs.Layout.{bit, estimateWords, place, used, sets, WellFormed, LiesIn}
-use Rattle.calculus.specs.Estimate.{whole, fire, same, mostFacts, sweep, close, estimate, facts}
+use Rattle.calculus.specs.Estimate.{same, mostFacts, sweep, close, estimate, facts}
 use Rattle.calculus.proofs.Slices.{_≼_, bit-short, bit-zero, words-ext}
 use Rattle.calculus.proofs.Counting.{count, count-mono, count-equal, facts-count}
 use Rattle.calculus.proofs.Places.{At, used-place, count-used}

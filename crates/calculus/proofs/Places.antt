@@ -1,9 +1,9 @@
 -- Where the rows of an estimate stand: no two elements share a digit, every used digit is an element's, and how many digits are used.
-use Prim.Native.Nat.{ℕ, zero, suc, _+_, _-_, _*_, _/_, _%_, _^_, _≤_, _<_}
+use Prim.Native.Nat.{ℕ, zero, suc, _+_, _-_, _*_, _/_, _%_, _≤_, _<_}
 use mathlib.Core.Path.{_≡_, refl, sym, ap, ap₂, _∙_, subst}
 use mathlib.Core.Bool.{Bool, true, false, _&&_, or-false}
 use mathlib.Core.Logic.{⊎-elim}
-use native.Mathlib.Nat.{mod-lt, div-add-mod', mul-left-comm, mul-add, mul-comm, suc-mul, div-lt-iff-lt-mul, mul-assoc}
+use native.Mathlib.Nat.{div-add-mod', mul-left-comm, mul-add, mul-comm, suc-mul, div-lt-iff-lt-mul, mul-assoc}
 use native.Mathlib.Decide.{decLt}
 use native.Mathlib.Omega.{arith}
 use borrow.Author.Tests.{lt-ltb, le-ltb, lt-leb, le-leb}
@@ -16,7 +16,7 @@ use Rattle.calculus.specs.Constraint.{Row, C, B, P, L}
 use Rattle.calculus.specs.Layout.{owner, rowWords, estimateWords, base, shift, span, place, allowed, used}
 use Rattle.calculus.specs.Estimate.{mostFacts}
 use Rattle.calculus.proofs.Digits.{T-and, T-fst, T-snd, T-or, T-or-left, T-or-right}
-use Rattle.calculus.proofs.Counting.{count, count-ext, count-add, count-blocks, count-below}
+use Rattle.calculus.proofs.Counting.{count, count-add, count-blocks, count-below}
 
 module _ (c : Code) where
   -- the digits of a value set or a held set, and of all of them

@@ -8,7 +8,7 @@ use lib.Count.{onesIn}
 use Rattle.permset.specs.Sets.{width, union}
 use Rattle.table.specs.Code.{Code}
 use Rattle.calculus.specs.Elements.{elements}
-use Rattle.calculus.specs.Constraint.{Row, P, Rule, none, put, sub, given, some, only, each, every, _and_}
+use Rattle.calculus.specs.Constraint.{P, Rule, none, put, sub, given, some, only, each, every, _and_}
 use Rattle.calculus.specs.Rules.{rule, guarded}
 use Rattle.calculus.specs.Layout.{mark, pour, estimateWords, base, span, place, sets, content}
 

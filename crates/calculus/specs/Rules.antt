@@ -1,7 +1,7 @@
 -- The flow rules: the constraint of each word, in the order and the words of document 01, "Flow rules".
 use Prim.Native.Nat.{ℕ, suc, _+_, _<_}
-use mathlib.Core.List.{List, List·Memᴰ}
-use mathlib.Core.Bool.{Bool, true, false, _&&_}
+use mathlib.Core.List.{List·Memᴰ}
+use mathlib.Core.Bool.{Bool, false, _&&_}
 use lib.ListN.{getD}
 use lib.Dec.{T, eqb}
 use Rattle.permset.specs.Sets.{width, member, within}
