@@ -12,7 +12,7 @@ use Rattle.table.specs.declared.Term.the-variants as terms
 use Rattle.table.specs.Words.{argument}
 use Rattle.table.specs.Scan.{Task, head, name, perms, guard, term, accepted, has, key, keep, next, reading}
 use Rattle.table.specs.Code.{block as blockNode, taskAt, termNode, nodeFor, code, IsBlock}
-use Rattle.table.proofs.Words.{wordOf-injective}
+use Rattle.table.proofs.TermWords.{wordOf-injective}
 use Rattle.table.proofs.Faults.{Stands, stands}
 use Rattle.table.proofs.Stack.{At, Fact, at-step, at-end, walk, has-keep}
 use Rattle.table.proofs.Blocks.{opened, block}

@@ -1,4 +1,4 @@
-pub mod Words
+pub mod TermWords
 pub mod Faults
 pub mod Stack
 pub mod Parts
@@ -7,3 +7,6 @@ pub mod Scopes
 pub mod Linked
 pub mod Distinct
 pub mod Limits
+pub mod LinkReads
+pub mod LinkEnds
+pub mod LinkMeaning

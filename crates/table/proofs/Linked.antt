@@ -11,7 +11,7 @@ use Rattle.table.specs.Words.{argument, firstKind, partsByKind, limitsBy
 use Rattle.table.specs.Scan.{Task, head, name, perms, guard, term, accepted, under, reading}
 use Rattle.table.specs.Code.{part, tasks, taskAt, termNode, nodeFor, scopeFor, homeFor, code, Within, Part, Bound, NodeLinked}
 use Rattle.table.specs.Code.{IsBlock, Linked}
-use Rattle.table.proofs.Words.{Rows, done, _▸_, by-kind, argument-lt}
+use Rattle.table.proofs.TermWords.{Rows, done, _▸_, by-kind, argument-lt}
 use Rattle.table.proofs.Parts.{part-zero, part-inside, part-task, tasks-length, term-stands}
 use Rattle.table.proofs.Scopes.{scoped}
 use Rattle.table.proofs.Blocks.{Block, block, block-listed, listed-block}

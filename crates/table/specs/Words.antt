@@ -12,11 +12,11 @@ use Rattle.table.specs.declared.Term.{Term}
 use Rattle.table.specs.declared.Term.the-variants as terms
 
 -- the top 8 bits
-unfoldable pub kind : ℕ → ℕ
+abbrev pub kind : ℕ → ℕ
 kind w = w / 2 ^ 24
 
 -- the low 24 bits
-unfoldable pub argument : ℕ → ℕ
+abbrev pub argument : ℕ → ℕ
 argument w = w % 2 ^ 24
 
 -- the word of a kind and an argument
@@ -103,6 +103,11 @@ parts w = getD partsByKind (kind w - firstKind) []
 -- how many parts a term has
 unfoldable pub arity : ℕ → ℕ
 arity w = length (parts w)
+
+-- 1 for a part that has the term itself as its innermost binder
+abbrev pub mark : Bool → ℕ
+mark true = 1
+mark false = 0
 
 -- the first argument out of range, by the word
 unfoldable pub limit : ℕ → ℕ

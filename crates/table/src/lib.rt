@@ -1,4 +1,8 @@
-// The reading of a system table.
+// The reading of a system table: the terms, the refusals, and what the layers above see of an accepted table.
+pub mod links;
+pub mod read;
+pub mod words;
+
 use permset::PermSet;
 
 pub enum Constant {
@@ -14,6 +18,7 @@ pub enum Operation {
     Equal,
 }
 
+// A term: a case for each of kinds 16 to 36, in their order. `word` of specs/Words.antt gives each its word.
 pub enum Term {
     Constant(Constant),
     Number(u32),
@@ -36,4 +41,47 @@ pub enum Term {
     Assign,
     Send(PermSet),
     Exercise(PermSet),
+}
+
+// Why a table is refused, and at which word: a case for each of numbers 1 to 12, in their order. `number` and `place` of
+// specs/Answer.antt give each its number and place.
+pub enum Refusal {
+    NotTable,
+    TooManyWords,
+    TooManyHandlers,
+    NotBlock(usize),
+    NameRange(usize),
+    KeyUsed(usize),
+    NotTerm(usize),
+    NoTerm(usize),
+    ArgumentRange(usize),
+    NoBinder(usize),
+    TooDeep(usize),
+    Trailing(usize),
+}
+
+pub enum Reading {
+    Accepted,
+    Refused(Refusal),
+}
+
+// A block's name, permissions and guard.
+pub struct Handler {
+    pub name: u32,
+    pub perms: PermSet,
+    pub guard: PermSet,
+}
+
+// What stands at a word of an accepted table: nothing of its own, the first word of a block, or a term.
+pub enum Item {
+    Gap,
+    Block(Handler),
+    Term(Term),
+}
+
+// Of a term: the word after it, its innermost binder (of a variable: the binder that it counts to), and the first word of its block.
+pub struct Link {
+    pub end: usize,
+    pub binder: usize,
+    pub home: usize,
 }

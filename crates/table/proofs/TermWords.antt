@@ -1,4 +1,4 @@
--- Laws of words: a word is its kind and its argument, and words and terms correspond where both are in range.
+-- Laws of words: a word is its kind and its argument, the rows of the kinds, and words and terms correspond where both are in range.
 use mathlib.Core.Path.{_≡_, refl, sym, ap, _∙_, subst}
 use mathlib.Core.List.{List, [], _∷_}
 use mathlib.Core.Bool.{Bool}

@@ -1,0 +1,3 @@
+-- Laws that the proofs of the links share.
+pub mod Iterate
+pub mod Passes

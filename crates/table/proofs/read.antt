@@ -1,0 +1,4 @@
+-- Laws that the proofs of the reading share.
+pub mod BlockWords
+pub mod Parts
+pub mod Steps

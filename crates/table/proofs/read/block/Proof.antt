@@ -1,0 +1,250 @@
+-- `table::read::block` meets its contract: at each place the scan goes on, or stops, by what is found there.
+-- Assumes nothing.
+use mathlib.Core.Path.{_≡_, refl, sym, ap, ap₂, subst, _∙_}
+use mathlib.Core.Bool.{true, false}
+use mathlib.Core.List.{List, [], _∷_}
+use Prim.Native.Nat.{ℕ, _+_, _<_}
+use native.Mathlib.Nat.{add-assoc}
+use native.Mathlib.Omega.{arith}
+use lib.ListN.{length, getD, drop}
+use borrow.Author.Needs.{needs}
+use Rattle.table.specs.declared.read.Found.the-variants as found
+use Rattle.table.specs.declared.read.Step.{Step}
+use Rattle.table.specs.Words.{argument, kind}
+use Rattle.table.specs.Scan.{Task, Outcome, name, perms, guard, term, has, key, scan}
+use Rattle.table.specs.Answer.{number, place}
+use Rattle.table.specs.Rest.{FoundAt, afterStep, afterBlock}
+use Rattle.table.proofs.read.BlockWords.{Has, no-name, no-perms, no-guard, name-range, key-used, after-name, after-perms, after-guard}
+use Rattle.table.proofs.read.block.Statement.{statement}
+use Rattle.table.proofs.read.block.Tie as tie
+
+-- what is given: the words, the place, and the keys of the blocks before
+abbrev ws : tie.Start → List ℕ
+ws s = s .args .words .now
+
+abbrev at : tie.Start → ℕ
+at s = s .args .at
+
+abbrev ks : tie.Start → List ℕ
+ks s = drop (s .args .start) (s .args .keys .now)
+
+-- the scan of the whole block, and what comes after its first word
+abbrev whole : tie.Start → List Task → Outcome
+whole s ts = scan (drop (at s) (ws s)) (ks s) (at s) (name ∷ ts)
+
+abbrev body : tie.Start → List Task → List Task
+body s ts = guard ∷ term 1 (at s) (at s ∷ []) ∷ ts
+
+abbrev start6 : tie.After-known-told → tie.Start
+start6 c = c .before .before .before .before .before .before
+
+abbrev start7 : tie.Else1 → tie.Start
+start7 c = c .before .before .before .before .before .before .before
+
+abbrev start11 : tie.After-known-told2 → tie.Start
+start11 c = c .before .before .before .before .before .before .before .before .before .before .before
+
+abbrev start13 : tie.Else2 → tie.Start
+start13 c = c .before .before .before .before .before .before .before .before .before .before .before .before .before
+
+abbrev start16 : tie.After-enum-told3 → tie.Start
+start16 c = c .before .before .before .before .before .before .before .before .before .before .before .before .before .before .before .before
+
+-- the name's word, and what is left after it
+name-found : (c : tie.After-known-told) → FoundAt (ws (start6 c)) (at (start6 c)) 2 (found.Argument (c .before .name .given .0 .0))
+name-found c = subst (FoundAt (ws (start6 c)) (at (start6 c)) 2) (c .before .name .given .1) (c .before .before .before .block-word .ensures)
+
+after-first : (c : tie.Else1) (ts : List Task)
+    → whole (start7 c) ts ≡ scan (drop (at (start7 c) + 1) (ws (start7 c))) (ks (start7 c)) (at (start7 c) + 1) (perms (c .before .before .name .given .0 .0) ∷ body (start7 c) ts)
+after-first c ts =
+    let s = start7 c in
+    let f = name-found (c .before) in
+    after-name (ws s) (ks s) (at s) ts (f .0, f .1) (subst (λ (a : ℕ). a < 32) (f .2) (omega arith))
+    ∙ ap (λ (a : ℕ). scan (drop (at (s) + 1) (ws (s))) (ks s) (at (s) + 1) (perms a ∷ body s ts)) (sym (f .2))
+
+-- the permissions' word, and what is left after it
+perms-found : (c : tie.After-known-told2)
+    → FoundAt (ws (start11 c)) (at (start11 c) + 1) 3 (found.Argument (c .before .perms .given .0 .0))
+perms-found c = subst (FoundAt (ws (start11 c)) (at (start11 c) + 1) 3) (c .before .perms .given .1) (c .before .before .before .block-word2 .ensures)
+
+after-second : (c : tie.Else2) (ts : List Task)
+    → whole (start13 c) ts
+    ≡ scan (drop (at (start13 c) + 2) (ws (start13 c))) (key (c .before .before .before .before .before .before .before .before .name .given .0 .0) (c .before .before .before .perms .given .0 .0) ∷ ks (start13 c)) (at (start13 c) + 2) (body (start13 c) ts)
+after-second c ts =
+    let s = start13 c in
+    let n = c .before .before .before .before .before .before .before .before .name .given .0 .0 in
+    let f = perms-found (c .before .before) in
+    let free : has (ks s) (key n (argument (getD (ws s) (at s + 1) 0))) ≡ false =
+    ap (λ (a : ℕ). has (ks s) (key n a)) (sym (f .2)) ∙ sym (c .before .used .ensures) ∙ c .if2 .left in
+    after-first (c .before .before .before .before .before .before) ts
+    ∙ after-perms (ws s) (ks s) (at s + 1) (body s ts) n (f .0, f .1) free
+    ∙ ap₂ (λ (a p : ℕ). scan (drop p (ws s)) (key n a ∷ ks s) p (body s ts)) (sym (f .2)) (add-assoc (at s) 1 1)
+
+-- the guard's word, and what is left after it
+guard-found : (c : tie.After-enum-told3)
+    → FoundAt (ws (start16 c)) (at (start16 c) + 2) 4 (found.Argument (c .enum-told3 .given .0 .0))
+guard-found c = subst (FoundAt (ws (start16 c)) (at (start16 c) + 2) 4) (c .enum-told3 .given .1) (c .before .before .block-word3 .ensures)
+
+after-third : (c : tie.After-enum-told3) (ts : List Task)
+    → whole (start16 c) ts
+    ≡ scan (drop (at (start16 c) + 3) (ws (start16 c))) (key (c .before .before .before .before .before .before .before .before .before .before .before .name .given .0 .0) (c .before .before .before .before .before .before .perms .given .0 .0) ∷ ks (start16 c)) (at (start16 c) + 3) (term 1 (at (start16 c)) (at (start16 c) ∷ []) ∷ ts)
+after-third c ts =
+    let s = start16 c in
+    let keys = key (c .before .before .before .before .before .before .before .before .before .before .before .name .given .0 .0) (c .before .before .before .before .before .before .perms .given .0 .0) ∷ ks s in
+    let rest = term 1 (at s) (at s ∷ []) ∷ ts in
+    let f = guard-found c in
+    after-second (c .before .before .before) ts
+    ∙ after-guard (ws s) keys (at s + 2) rest (f .0, f .1)
+    ∙ ap (λ (p : ℕ). scan (drop p (ws s)) keys p rest) (add-assoc (at s) 2 1)
+
+-- the body, whose reading ended in r
+after-body : (c : tie.After-term) (r : Step) → c .term .result ≡ r → (ts : List Task)
+    → whole (c .before .before .before .before .before .before .before .before .before .before .before .before .before .before .before .before .before) ts
+    ≡ afterStep r (ws (c .before .before .before .before .before .before .before .before .before .before .before .before .before .before .before .before .before)) (key (c .before .before .before .before .before .before .before .before .before .before .before .before .name .given .0 .0) (c .before .before .before .before .before .before .before .perms .given .0 .0) ∷ ks (c .before .before .before .before .before .before .before .before .before .before .before .before .before .before .before .before .before)) ts
+after-body c r e ts =
+    let s = c .before .before .before .before .before .before .before .before .before .before .before .before .before .before .before .before .before in
+    let keys = key (c .before .before .before .before .before .before .before .before .before .before .before .before .name .given .0 .0) (c .before .before .before .before .before .before .before .perms .given .0 .0) ∷ ks s in
+    after-third (c .before) ts
+    ∙ c .term .ensures keys (at s) (at s ∷ []) ts refl
+    ∙ ap (λ (x : Step). afterStep x (ws s) keys ts) e
+
+block-word-requires : tie.Need-block-word-requires
+block-word-requires c κs = search needs
+
+enum-known-name : tie.Need-enum-known-name
+enum-known-name c = search needs
+
+enum-told : tie.Need-enum-told
+enum-told c = search needs
+
+returns : tie.Need-returns
+unfolding afterBlock number place
+returns c = λ ts.
+    let s = c .before .before .before .before .before in
+    no-name (ws s) (ks s) (at s) ts (subst (FoundAt (ws s) (at s) 2) (c .enum-told .given .1) (c .before .before .block-word .ensures))
+
+returns-2 : tie.Need-returns-2
+unfolding afterBlock number place
+returns-2 c = λ ts.
+    let s = c .before .before .before .before .before .before .before in
+    let f = name-found (c .before) in
+    name-range (ws s) (ks s) (at s) ts (f .0, f .1) (omega arith)
+
+add-block-word : tie.Need-add-block-word
+add-block-word c = let f = name-found (c .before) in omega arith
+
+block-word-requires-2 : tie.Need-block-word-requires-2
+block-word-requires-2 c κs = search needs
+
+enum-known-perms : tie.Need-enum-known-perms
+enum-known-perms c = search needs
+
+enum-told-2 : tie.Need-enum-told-2
+enum-told-2 c = search needs
+
+add-t16 : tie.Need-add-t16
+add-t16 c = let f = name-found (c .before .before .before .before) in omega arith
+
+returns-3 : tie.Need-returns-3
+unfolding afterBlock number place
+returns-3 c = λ ts.
+    let s = start7 (c .before .before .before) in
+    after-first (c .before .before .before) ts
+    ∙ no-perms (ws s) (ks s) (at s + 1) (body s ts) _ (subst (FoundAt (ws s) (at s + 1) 3) (c .enum-told2 .given .1) (c .before .before .block-word2 .ensures))
+
+mul-key : tie.Need-mul-key
+mul-key c = search needs
+
+add-key : tie.Need-add-key
+add-key c = let f = perms-found c in omega arith
+
+used-requires : tie.Need-used-requires
+used-requires c κs = search needs
+
+add-t20 : tie.Need-add-t20
+add-t20 c = let f = name-found (c .before .before .before .before .before .before .before) in omega arith
+
+returns-4 : tie.Need-returns-4
+unfolding afterBlock number place
+returns-4 c = λ ts.
+    let s = c .before .before .before .before .before .before .before .before .before .before .before .before .before in
+    let n = c .before .before .before .before .before .before .before .before .name .given .0 .0 in
+    let f = perms-found (c .before .before) in
+    let taken : has (ks s) (key n (argument (getD (ws s) (at s + 1) 0))) ≡ true =
+    ap (λ (a : ℕ). has (ks s) (key n a)) (sym (f .2)) ∙ sym (c .before .used .ensures) ∙ c .if2 .taken in
+    after-first (c .before .before .before .before .before .before) ts ∙ key-used (ws s) (ks s) (at s + 1) (body s ts) n (f .0, f .1) taken
+
+add-block-word-2 : tie.Need-add-block-word-2
+add-block-word-2 c = let f = perms-found (c .before .before) in omega arith
+
+block-word-requires-3 : tie.Need-block-word-requires-3
+block-word-requires-3 c κs = search needs
+
+enum-told-3 : tie.Need-enum-told-3
+enum-told-3 c = search needs
+
+enum-told-4 : tie.Need-enum-told-4
+enum-told-4 c = search needs
+
+add-t23 : tie.Need-add-t23
+add-t23 c = let f = perms-found (c .before .before .before .before .before) in omega arith
+
+returns-5 : tie.Need-returns-5
+unfolding afterBlock number place
+returns-5 c = λ ts.
+    let s = start13 (c .before .before .before) in
+    after-second (c .before .before .before) ts
+    ∙ no-guard (ws s) _ (at s + 2) _ (subst (FoundAt (ws s) (at s + 2) 4) (c .enum-told4 .given .1) (c .before .before .block-word3 .ensures))
+
+add-term : tie.Need-add-term
+add-term c = let f = guard-found c in omega arith
+
+term-requires : tie.Need-term-requires
+term-requires c κs = search needs
+
+enum-known-next : tie.Need-enum-known-next
+enum-known-next c = search needs
+
+enum-known-r : tie.Need-enum-known-r
+enum-known-r c = search needs
+
+returns-6 : tie.Need-returns-6
+unfolding afterStep afterBlock
+returns-6 c = after-body (c .before .before .before) _ (c .before .next .given .1)
+
+returns-7 : tie.Need-returns-7
+unfolding afterStep afterBlock
+returns-7 c = after-body (c .before .before .before) _ (c .before .r .given .1)
+
+pub block-spec : {M : Type 1} → statement M
+block-spec =
+    tie.close
+    (tie.spec
+    block-word-requires
+    enum-known-name
+    enum-told
+    returns
+    returns-2
+    add-block-word
+    block-word-requires-2
+    enum-known-perms
+    enum-told-2
+    add-t16
+    returns-3
+    mul-key
+    add-key
+    used-requires
+    add-t20
+    returns-4
+    add-block-word-2
+    block-word-requires-3
+    enum-told-3
+    enum-told-4
+    add-t23
+    returns-5
+    add-term
+    term-requires
+    enum-known-next
+    enum-known-r
+    returns-6
+    returns-7)

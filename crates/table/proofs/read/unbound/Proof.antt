@@ -1,0 +1,17 @@
+-- `table::read::unbound` meets its contract.
+-- Assumes nothing.
+use mathlib.Core.Path.{sym, ap}
+use mathlib.Core.Bool.{Bool, _&&_}
+use lib.Dec.{leb}
+use borrow.Author.Tests.{eq-eqb, ne-eqb}
+use Rattle.table.proofs.read.unbound.Statement.{statement}
+use Rattle.table.proofs.read.unbound.Tie as tie
+
+returns : tie.Need-returns
+returns c = simp (eq-eqb _ _ (c .if1 .taken))
+
+returns-2 : tie.Need-returns-2
+returns-2 c = simp (ne-eqb _ _ (c .if1 .left))
+
+pub unbound-spec : {M : Type 1} → statement M
+unbound-spec = tie.close (tie.spec returns returns-2)
