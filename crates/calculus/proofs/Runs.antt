@@ -2,7 +2,7 @@
 use mathlib.Core.Path.{_≡_, refl}
 use mathlib.Core.List.{map}
 use Rattle.permset.specs.Sets.{member, within}
-use Rattle.table.specs.Words.{kind, argument, partsByKind, parts, arity, termsByKind, termOf, constantOf, operationOf, constantNumber}
+use Rattle.table.specs.Words.{partsByKind, parts, arity, termsByKind, termOf, constantOf, operationOf, constantNumber}
 use Rattle.table.specs.Scan.{next, under}
 use Rattle.table.specs.Code.{code, nodeFor, scopeFor, homeFor, blocksFrom, taskAt, tasks, trace, part, skip, termNode}
 use Rattle.calculus.specs.Rules.{nameOf, permsOf, guarded, admits}
@@ -18,6 +18,6 @@ unfolding
     examples reached expected outcome run after act stepped moved effect sent joined step frameStep secondStep twoStep withField firstStep
     choose oneStep termStep leafStep found whole look getField deleteField setField plain known datum sameNumber same operate onAtom
     onFunction onFields onCell onNumber onText onName onTruth nameOf permsOf guarded admits member within code nodeFor scopeFor homeFor
-    blocksFrom taskAt tasks trace part skip termNode next under kind argument partsByKind parts arity termsByKind termOf constantOf
+    blocksFrom taskAt tasks trace part skip termNode next under partsByKind parts arity termsByKind termOf constantOf
     operationOf constantNumber
 runs = refl
