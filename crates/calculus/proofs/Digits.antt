@@ -1,5 +1,5 @@
 -- Laws of the binary digits of a number: `member s i` is digit i of s.
-use Prim.Native.Nat.{ℕ, zero, suc, _+_, _*_, _/_, _%_, _^_, _≤_, _<_, max}
+use Prim.Native.Nat.{ℕ, zero, suc, _+_, _*_, _/_, _%_, _^_, _≤_, _<_, min, max}
 use mathlib.Core.Path.{_≡_, refl, sym, ap, ap₂, _∙_, subst}
 use mathlib.Core.Bool.{Bool, true, false, _&&_, _||_, or-false}
 use mathlib.Core.Logic.{_⊎_, inl, inr}
@@ -103,6 +103,33 @@ member-or a b zero =
 member-or a b (suc i) =
     member-suc (bitOr a b) i ∙ ap (λ (x : ℕ). member x i) (or-half a b) ∙ member-or (a / 2) (b / 2) i
     ∙ ap₂ (λ (x y : Bool). x || y) (sym (member-suc a i)) (sym (member-suc b i))
+
+min-digit : (x y : ℕ) → x < 2 → y < 2 → eqb (min x y) 1 ≡ (eqb x 1 && eqb y 1)
+min-digit zero zero h k = refl
+min-digit zero (suc zero) h k = refl
+min-digit zero (suc (suc y)) h k = absurd (omega arith)
+min-digit (suc zero) zero h k = refl
+min-digit (suc zero) (suc zero) h k = refl
+min-digit (suc zero) (suc (suc y)) h k = absurd (omega arith)
+min-digit (suc (suc x)) y h k = absurd (omega arith)
+
+and-half : (a b : ℕ) → bitAnd a b / 2 ≡ bitAnd (a / 2) (b / 2)
+and-half a b =
+    let h : min (a % 2) (b % 2) < 2 = omega (arith, mod-lt a two-pos) in
+    ap (λ (x : ℕ). x / 2) (and-step a b) ∙ digits-div (bitAnd (a / 2) (b / 2)) h
+
+and-low : (a b : ℕ) → bitAnd a b % 2 ≡ min (a % 2) (b % 2)
+and-low a b =
+    let h : min (a % 2) (b % 2) < 2 = omega (arith, mod-lt a two-pos) in
+    ap (λ (x : ℕ). x % 2) (and-step a b) ∙ digits-mod (bitAnd (a / 2) (b / 2)) h
+
+pub member-and : (a b i : ℕ) → member (bitAnd a b) i ≡ (member a i && member b i)
+member-and a b zero =
+    member-zero (bitAnd a b) ∙ ap (λ (x : ℕ). eqb x 1) (and-low a b) ∙ min-digit (a % 2) (b % 2) (mod-lt a two-pos) (mod-lt b two-pos)
+    ∙ ap₂ (λ (x y : Bool). x && y) (sym (member-zero a)) (sym (member-zero b))
+member-and a b (suc i) =
+    member-suc (bitAnd a b) i ∙ ap (λ (x : ℕ). member x i) (and-half a b) ∙ member-and (a / 2) (b / 2) i
+    ∙ ap₂ (λ (x y : Bool). x && y) (sym (member-suc a i)) (sym (member-suc b i))
 
 -- ---- the low digits
 

@@ -25,7 +25,7 @@ use Rattle.calculus.proofs.Digits.{T-and, T-fst, T-snd}
 use Rattle.calculus.proofs.Places.{is-allowed}
 use Rattle.calculus.proofs.Rows.{Alike}
 use Rattle.calculus.proofs.Firing.{Fits}
-use Rattle.calculus.proofs.Ranges.{in-below}
+use Rattle.calculus.proofs.Ranges.{in-below, range-bound}
 
 -- ---- results are truths and signs, all below 7
 
@@ -189,10 +189,10 @@ module _ (c : Code) (k : Linked c) where
     two-fits apply a d l n =
         λ f m t.
         let b : suc f < c .size = body-lt f (in-below m) t in
-        (may-L b, (CB n (in-below m), (CC b h, PP b h)))
+        (may-L b, (CB n (in-below m), (CC b h, PP (omega arith) (omega arith))))
     two-fits sequence a d l n = CC n h
     two-fits get a d l n =
-        ((λ q m t. (BC (in-below m) h, may-C h (omega arith))), λ v m. let b : v < plain c = in-below m in may-C h (omega arith))
+        ((λ q m t. (BC (in-below m) h, may-C h (omega arith))), λ v m. may-C h (omega (arith, range-bound _ _ v m)))
     two-fits delete a d l n = λ v m t. may-C h (in-below m)
     two-fits assign a d l n = λ q m t. (CC n h, CB n (in-below m))
     two-fits (operation o) a d l n =
@@ -225,7 +225,7 @@ module _ (c : Code) (k : Linked c) where
           part-fits (l .2 .inside),
           (
             (may-C h (omega arith), CB (l .2 .inside) h),
-            ((λ q m t. BB (in-below m) h), λ v m. let b : v < plain c = in-below m in may-B h (omega arith)),
+            ((λ q m t. BB (in-below m) h), λ v m. may-B h (omega (arith, range-bound _ _ v m))),
           ),
         ),
       ),
@@ -234,4 +234,4 @@ module _ (c : Code) (k : Linked c) where
     pub rule-fits : (ρ : ℕ) → Fits c (rule c ρ p)
     unfolding rule entry
     rule-fits ρ =
-        ((λ t. (may-L h, λ v m. let b : v < plain c = in-below m in may-B h (omega arith))), flow-fits (c .node p) (k .nodes p h))
+        ((λ t. (may-L h, λ v m. may-B h (omega (arith, range-bound _ _ v m)))), flow-fits (c .node p) (k .nodes p h))

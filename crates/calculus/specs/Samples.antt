@@ -7,7 +7,7 @@ use mathlib.Core.Option.{Option, none, some}
 use lib.ListN.{length}
 use lib.Dec.{eqb}
 use Rattle.table.specs.Code.{code}
-use Rattle.calculus.specs.Layout.{length as estimateWords}
+use Rattle.calculus.specs.Layout.{estimateWords}
 use Rattle.calculus.specs.Estimate.{same, estimate}
 use Rattle.calculus.specs.Answer.{Answer, refused, verdict, Verdict, answer, ownBound, workWords}
 
