@@ -10,10 +10,10 @@ use Rattle.calculus.specs.Layout.{sets}
 use Rattle.calculus.specs.Estimate.{whole, estimate, leak}
 use Rattle.calculus.specs.Answer.{Verdict, Answer, refused, verdict, judge, callerTests, analysis, answer}
 use Rattle.calculus.specs.Guarantee.{Covers}
+use Rattle.calculus.proofs.Guarantee.{covers}
 use Rattle.calculus.proofs.Firing.{whole-is}
 use Rattle.calculus.proofs.Least.{estimate-well, estimate-obeys}
 use Rattle.calculus.proofs.Leak.{leak-to}
-use Rattle.calculus.proofs.Guarantee.{covers}
 
 -- The leak of an accepted table covers every run, by its words alone.
 pub leak-covers : (ws : List ℕ) → reading ws ≡ accepted → (ρ : ℕ) → Covers (code ws) ρ (leak (code ws) ρ (estimate (code ws) ρ))
