@@ -5,11 +5,12 @@
 //! No set of values depends on a set of permissions: those are solved last, over the links found for the values.
 
 use crate::estimate::*;
-use crate::table::{kind::*, within, Table};
+use crate::table::{kind::*, within, Table, MOST_WORDS};
 
 const ALL: u64 = u64::MAX;
 const STRINGS: u64 = 0xffff_ff00;
 const NONE: u32 = u32::MAX;
+const MOST_ROW: usize = (FIRST_MADE + MOST_WORDS) / 32;
 
 /// The signs of sums, one row for each sign of the first number; bit 0 negative, bit 1 zero, bit 2 positive.
 const ADD: [[u64; 3]; 3] = [[1, 1, 7], [1, 2, 4], [7, 4, 4]];
@@ -143,7 +144,7 @@ impl<'a> Solver<'a> {
             }
             self.number(part);
         }
-        if kind == SET || kind == CELL {
+        if makes_record(kind) || kind == CELL {
             self.give_turn(b(p));
         }
         self.give_turn(c(p));
@@ -220,19 +221,23 @@ impl<'a> Solver<'a> {
         } else {
             (&high[..row], &mut low[to * row..][..row])
         };
-        let mut added = 0;
-        for (k, (target, source)) in target.iter_mut().zip(source).enumerate() {
-            let source = keep(k, *source);
-            added |= source & !*target;
-            *target |= source;
-        }
+        let added = target.iter().zip(source).enumerate().fold(0, |added, (k, (target, &source))| added | keep(k, source) & !target);
         if added != 0 {
+            target.iter_mut().zip(source).enumerate().for_each(|(k, (target, &source))| *target |= keep(k, source));
             self.wait(to);
         }
     }
 
     fn flow(&mut self, from: usize, to: usize) {
         self.flow_kept(from, to, |_, word| word);
+    }
+
+    /// As flow, where the reader is new: a row that waits comes to all its readers at its turn.
+    fn catch_up(&mut self, from: usize, to: usize) {
+        let turn = usize::from(self.turn_of[from]);
+        if self.waiting[turn / 64] >> (turn % 64) & 1 == 0 {
+            self.flow(from, to);
+        }
     }
 
     fn link(&mut self, i: usize, user: usize) {
@@ -258,7 +263,7 @@ impl<'a> Solver<'a> {
         let table = self.table;
         match table.kind(p) {
             CONSTANT | NUMBER | LITERAL | NAME => self.put(c(p), element(table, p)),
-            VARIABLE => self.flow(b(table.binder(p)), c(p)),
+            VARIABLE => self.catch_up(b(table.binder(p)), c(p)),
             FUNCTION | EMPTY => self.put(c(p), made(p)),
             CELL => {
                 self.put(c(p), made(p));
@@ -283,11 +288,15 @@ impl<'a> Solver<'a> {
 
     /// Word p follows the made elements in C(p + 1) that it did not follow before.
     fn follow(&mut self, p: usize, made: Made) {
-        for k in FIRST_MADE / 32..self.row {
-            let followed = p * self.row + k;
-            let fresh = self.values(p + 1)[k] & self.made[made as usize][k] & !self.followed[followed];
-            self.followed[followed] |= fresh;
-            for bit in bits(fresh) {
+        let mut fresh = [0; MOST_ROW];
+        let followed = &mut self.followed[p * self.row..][..self.row];
+        let values = &self.rows[c(p + 1) * self.row..][..self.row];
+        for (((fresh, followed), values), made) in fresh.iter_mut().zip(followed).zip(values).zip(&self.made[made as usize]) {
+            *fresh = values & made & !*followed;
+            *followed |= *fresh;
+        }
+        for (k, word) in fresh.into_iter().enumerate() {
+            for bit in bits(word) {
                 self.follow_one(p, 32 * k + bit - FIRST_MADE);
             }
         }
@@ -295,35 +304,26 @@ impl<'a> Solver<'a> {
 
     fn follow_one(&mut self, p: usize, q: usize) {
         let table = self.table;
+        if table.kind(p) != ASSIGN {
+            self.link(q, p);
+        }
         match table.kind(p) {
             APPLY => {
-                self.link(q, p);
                 self.wake(q + 1);
-                self.flow(c(table.part(p, 1)), b(q));
-                self.flow(c(q + 1), c(p));
+                self.catch_up(c(table.part(p, 1)), b(q));
+                self.catch_up(c(q + 1), c(p));
             }
             GET => {
-                self.link(q, p);
                 self.put(c(p), UNDEFINED);
-                self.flow(b(q), c(p));
+                self.catch_up(b(q), c(p));
             }
-            SET => {
-                self.link(q, p);
-                self.flow(b(q), b(p));
+            SET => self.catch_up(b(q), b(p)),
+            READ => self.catch_up(b(q), c(p)),
+            _ => {
+                self.catch_up(c(table.part(p, 1)), c(p));
+                self.catch_up(c(table.part(p, 1)), b(q));
             }
-            READ => {
-                self.link(q, p);
-                self.flow(b(q), c(p));
-            }
-            ASSIGN => self.assign(p, q),
-            _ => unreachable!(),
         }
-    }
-
-    fn assign(&mut self, p: usize, q: usize) {
-        let second = self.table.part(p, 1);
-        self.flow(c(second), c(p));
-        self.flow(c(second), b(q));
     }
 
     /// C(second) of word p, an apply or an assign, goes to B of all it follows.
