@@ -1,8 +1,10 @@
-//! Random tables, data and events, each from a fixed seed.
+//! Random tables, calls, data and events, each from a fixed seed.
 
+use crate::estimate::Layout;
 use crate::machine::{Event, Fields, Value, World};
-use crate::table::{arguments, arity, kind::*, Table, LITERALS, MOST_DEPTH, MOST_WORDS, NAMES};
+use crate::table::{arguments, arity, kind::*, Table, LITERALS, MOST_DEPTH, MOST_WORDS, NAMES, OWN_SET};
 use crate::terms::{block, system, word, Term};
+use crate::verdict::bytes_of;
 
 /// A small generator of pseudo-random numbers (splitmix64).
 pub struct Random(pub u64);
@@ -141,9 +143,10 @@ impl Author<'_> {
         self.out.push(word(kind, argument));
     }
 
-    /// A binder of this sort, if there is one.
+    /// A binder of this sort, if there is one; at times any binder.
     fn variable(&mut self, sort: Sort) -> Option<u32> {
-        let indices: Vec<usize> = (0..self.scope.len()).filter(|&i| sort == Sort::Any || self.scope[self.scope.len() - 1 - i] == sort).collect();
+        let any = sort == Sort::Any || self.random.once_in(20);
+        let indices: Vec<usize> = (0..self.scope.len()).filter(|&i| any || self.scope[self.scope.len() - 1 - i] == sort).collect();
         (!indices.is_empty()).then(|| *self.random.pick(&indices) as u32)
     }
 
@@ -281,7 +284,7 @@ impl Author<'_> {
             Any => match self.random.below(10) {
                 0..=2 => {
                     let required = self.random.permissions(1);
-                    let message = self.sort();
+                    let message = if self.random.once_in(2) { Record } else { self.sort() };
                     self.parts(SEND, required, budget, depth, [Name, message]);
                 }
                 3 | 4 => self.exercise(),
@@ -331,7 +334,8 @@ pub fn sensible_table(random: &mut Random, words: usize, most_handlers: usize) -
     let mut size = 1;
     for (name, permissions) in keys {
         let guard = if random.once_in(2) { 0 } else { random.permissions(2) };
-        let mut author = Author { random: &mut *random, scope: vec![Sort::Any], permissions, names: names.clone(), out: vec![] };
+        let message = *random.pick(&[Sort::Any, Sort::Record, Sort::Record, Sort::Record, Sort::Truth, Sort::Text, Sort::Name]);
+        let mut author = Author { random: &mut *random, scope: vec![message], permissions, names: names.clone(), out: vec![] };
         author.body(each.saturating_sub(3));
         let made = block(name, permissions, guard, author.out);
         if size + made.len() <= words {
@@ -399,9 +403,48 @@ pub fn random_words(random: &mut Random) -> Vec<u32> {
     words
 }
 
+/// A call of the C interface.
+#[derive(Clone)]
+pub struct Call {
+    pub system: Vec<u8>,
+    pub rho: u32,
+    pub bound: u32,
+    pub estimate: Vec<u8>,
+    pub work: Vec<u8>,
+}
+
+/// A call on a table of any sort, with slices that may be short and sets that may be malformed.
+pub fn call(random: &mut Random) -> Call {
+    let words = match random.below(6) {
+        0 => random_words(random),
+        1 | 2 => {
+            let words = table(random);
+            damaged(random, words)
+        }
+        _ => table(random),
+    };
+    let mut system = bytes_of(&words);
+    if random.once_in(30) {
+        system.push(random.next() as u8);
+    }
+    let rho = if random.once_in(30) { 1 << (24 + random.below(8)) } else { random.permissions(4) };
+    let bound = match random.below(8) {
+        0 => OWN_SET,
+        1 => 1 << random.below(32),
+        _ => random.permissions(8),
+    };
+    let mut slice = |words: usize| {
+        let bytes = if random.once_in(20) { random.below(4 * words + 1) } else { 4 * words + random.below(11) };
+        (0..bytes).map(|_| random.next() as u8).collect()
+    };
+    let estimate = slice(Layout::of(words.len()).total());
+    let work = slice(4 * words.len());
+    Call { system, rho, bound, estimate, work }
+}
+
 /// An opponent's datum.
 pub fn datum(random: &mut Random, depth: usize) -> Value {
-    match random.below(if depth > 3 { 6 } else { 8 }) {
+    match random.below(if depth > 3 { 6 } else { 9 }) {
         0 => random.pick(&[Value::Undefined, Value::Unit]).clone(),
         1 => Value::Truth(random.once_in(2)),
         2 => Value::Number(random.below(7) as i128 - 3),

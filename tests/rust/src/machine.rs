@@ -133,6 +133,11 @@ impl Instance {
         }
     }
 
+    /// The permissions of its handler.
+    fn permissions(&self, table: &Table) -> u32 {
+        table.argument(self.home + 1)
+    }
+
     /// Neither stopped nor finished.
     pub fn running(&self) -> bool {
         match self.control {
@@ -186,7 +191,7 @@ impl Instance {
             }
             FUNCTION => Function(p, env),
             EMPTY => Fields::new(Some(p), vec![]),
-            EXERCISE if within(argument, table.permissions(p)) => Unit,
+            EXERCISE if within(argument, self.permissions(table)) => Unit,
             EXERCISE => return None,
             _ => {
                 self.run_part(table, p, 0, env, vec![]);
@@ -307,7 +312,7 @@ impl World {
         };
         let started = match (target, choice) {
             (Name(name), Some(handler)) => match table.blocks.get(handler) {
-                Some(block) if block.name == *name && block.admits(table.argument(p), table.permissions(p)) && message.plain() => {
+                Some(block) if block.name == *name && block.admits(table.argument(p), instance.permissions(table)) && message.plain() => {
                     Some(Instance::new(block.start, message.clone()))
                 }
                 _ => return,

@@ -2,10 +2,11 @@
 
 use peer::check::broken;
 use peer::estimate::{Layout, FALSE, NEGATIVE, POSITIVE, TRUE, ZERO};
-use peer::generate::{damaged, random_words, table, Random};
+use peer::generate::{call, damaged, random_words, table, Random};
 use peer::inputs::inputs;
 use peer::naive::{self, pair};
-use peer::table::{read, Table};
+use peer::table::{read, Table, OWN_SET};
+use peer::verdict::{bytes_of, verdict_of_bytes, words_of};
 use peer::{estimate, solve};
 
 fn rounds(usual: u64) -> u64 {
@@ -72,6 +73,33 @@ fn solvers_agree_on_damaged_tables() {
     // 2 and 11 need a table made for them.
     let seen = refusals.iter().enumerate().filter(|(number, _)| ![2, 11].contains(number));
     assert!(seen.into_iter().all(|(_, &count)| count > 0), "{refusals:?}");
+}
+
+/// Calls of the C interface against the naive solver, byte by byte.
+#[test]
+fn calls_of_the_c_interface() {
+    let mut random = Random(5);
+    let mut counts = std::collections::BTreeMap::new();
+    for _ in 0..rounds(5000) {
+        let mut call = call(&mut random);
+        let before = call.clone();
+        let answer = verdict_of_bytes(&call.system, call.rho, call.bound, &mut call.estimate, &mut call.work);
+        *counts.entry((answer >> 16 & 0xff) * (answer >> 32)).or_insert(0) += 1;
+        let mut expected = before.clone();
+        if answer >> 32 == 0 {
+            let words = words_of(&call.system);
+            let table = read(&words).unwrap();
+            let naive = naive::solve(&table, call.rho);
+            let leak = estimate::leak(&table, call.rho, &naive);
+            let bound = if call.bound == OWN_SET { call.rho } else { call.bound };
+            assert_eq!(answer, u64::from(leak) + if leak & !bound != 0 { 1 << 24 } else { 0 });
+            expected.estimate[..4 * naive.len()].copy_from_slice(&bytes_of(&naive));
+            expected.work[..16 * words.len()].fill(0);
+        }
+        assert!(call.estimate == expected.estimate && call.work == expected.work);
+    }
+    println!("accepted (0) and refused calls: {counts:?}");
+    assert!([0, 1, 3, 4, 5, 6, 7, 8, 9, 10, 12, 20, 21, 22, 30, 31].iter().all(|number| counts.contains_key(number)), "{counts:?}");
 }
 
 /// A fact taken away or a bit added is found, unless other facts bear the estimate without it.

@@ -84,7 +84,7 @@ fn what_is_exercised_lies_in_the_leak() {
     let rounds: u64 = std::env::var("PEER_ROUNDS").map_or(1, |times| times.parse().expect("PEER_ROUNDS is a number"));
     let mut random = Random(4);
     let mut counts = Counts::default();
-    for _ in 0..6000 * rounds {
+    for _ in 0..20_000 * rounds {
         let size = 20 + random.below(180);
         let words = sensible_table(&mut random, size, 6);
         let table = read(&words).unwrap();
