@@ -98,9 +98,7 @@ impl Checker<'_> {
                         && (!self.c(part(0), OPPONENT) || made_anew && (0..64).all(|x| self.b(p, x)))
             }
             DELETE => {
-                !string()
-                    || self.each(part(0), &records, |q| self.c(p, made(q)))
-                        && (!self.c(part(0), OPPONENT) || self.c(p, OPPONENT))
+                !string() || self.each(part(0), &records, |q| self.c(p, made(q))) && (!self.c(part(0), OPPONENT) || self.c(p, OPPONENT))
             }
             READ => self.each(part(0), &[CELL], |q| self.sub(|x| self.b(q, x), |x| self.c(p, x))),
             ASSIGN => self.each(part(0), &[CELL], |q| self.sub(|x| self.c(part(1), x), |x| self.c(p, x) && self.b(q, x))),
@@ -116,9 +114,7 @@ impl Checker<'_> {
         let forbidden = |x: usize| x >= FIRST_MADE && matches!(table.kind(x - FIRST_MADE), FUNCTION | CELL);
         let sent = |x| self.c(message, x) && !forbidden(x);
         let could_start = |name: u32, permissions: u32, guard: u32| {
-            self.c(target, FIRST_NAME + name as usize)
-                && within(table.argument(p), permissions)
-                && within(guard, table.permissions(p))
+            self.c(target, FIRST_NAME + name as usize) && within(table.argument(p), permissions) && within(guard, table.permissions(p))
         };
         !self.elements().any(sent)
             || table.blocks.iter().all(|h| {

@@ -1,7 +1,7 @@
 //! Random tables, calls, data and events, each from a fixed seed.
 
 use crate::estimate::Layout;
-use crate::machine::{Event, Fields, Value, World};
+use crate::machine::{Event, Value, World};
 use crate::table::{arguments, arity, kind::*, Table, LITERALS, MOST_DEPTH, MOST_WORDS, NAMES, OWN_SET};
 use crate::terms::{block, system, word, Term};
 use crate::verdict::bytes_of;
@@ -10,7 +10,7 @@ use crate::verdict::bytes_of;
 pub struct Random(pub u64);
 
 impl Random {
-    pub fn next(&mut self) -> u64 {
+    pub fn number(&mut self) -> u64 {
         self.0 = self.0.wrapping_add(0x9e37_79b9_7f4a_7c15);
         let mut x = self.0;
         x = (x ^ x >> 30).wrapping_mul(0xbf58_476d_1ce4_e5b9);
@@ -19,7 +19,7 @@ impl Random {
     }
 
     pub fn below(&mut self, limit: usize) -> usize {
-        (self.next() % limit as u64) as usize
+        (self.number() % limit as u64) as usize
     }
 
     /// True once in this many times.
@@ -42,7 +42,7 @@ fn keys(random: &mut Random, handlers: usize) -> Vec<(u32, u32)> {
     let names = 1 + random.below(NAMES as usize);
     let mut keys: Vec<(u32, u32)> = Vec::new();
     while keys.len() < handlers {
-        let permissions = if random.once_in(4) { random.next() as u32 >> 8 } else { random.permissions(10) };
+        let permissions = if random.once_in(4) { random.number() as u32 >> 8 } else { random.permissions(10) };
         let key = (random.below(names) as u32, permissions);
         if !keys.contains(&key) {
             keys.push(key);
@@ -86,7 +86,13 @@ fn exact_term(random: &mut Random, words: usize, depth: usize, scope: usize, lea
         let most = (left - after).min(room(depth + 1));
         let size = match after {
             0 => left,
-            _ if lean => if random.once_in(2) { least } else { most },
+            _ if lean => {
+                if random.once_in(2) {
+                    least
+                } else {
+                    most
+                }
+            }
             _ => least + random.below(most - least + 1),
         };
         let binds = kind == FUNCTION || kind == LET && k == 1;
@@ -366,7 +372,7 @@ pub fn damaged(random: &mut Random, mut words: Vec<u32>) -> Vec<u32> {
             0 => words[at] = any_word(random),
             1 => words[at] ^= 1 << random.below(32),
             2 => words.truncate(at),
-            3 => words.extend((0..1 + random.below(5)).map(|_| random.next() as u32).collect::<Vec<_>>()),
+            3 => words.extend((0..1 + random.below(5)).map(|_| random.number() as u32).collect::<Vec<_>>()),
             4 => {
                 let other = random.below(words.len());
                 words.swap(at, other);
@@ -388,7 +394,7 @@ pub fn damaged(random: &mut Random, mut words: Vec<u32>) -> Vec<u32> {
 pub fn any_word(random: &mut Random) -> u32 {
     let kind = random.below(40) as u8;
     match random.below(3) {
-        0 => random.next() as u32,
+        0 => random.number() as u32,
         1 => word(kind, random.below(40) as u32),
         _ => word(kind, 0),
     }
@@ -425,7 +431,7 @@ pub fn call(random: &mut Random) -> Call {
     };
     let mut system = bytes_of(&words);
     if random.once_in(30) {
-        system.push(random.next() as u8);
+        system.push(random.number() as u8);
     }
     let rho = if random.once_in(30) { 1 << (24 + random.below(8)) } else { random.permissions(4) };
     let bound = match random.below(8) {
@@ -435,7 +441,7 @@ pub fn call(random: &mut Random) -> Call {
     };
     let mut slice = |words: usize| {
         let bytes = if random.once_in(20) { random.below(4 * words + 1) } else { 4 * words + random.below(11) };
-        (0..bytes).map(|_| random.next() as u8).collect()
+        (0..bytes).map(|_| random.number() as u8).collect()
     };
     let estimate = slice(Layout::of(words.len()).total());
     let work = slice(4 * words.len());
@@ -448,15 +454,15 @@ pub fn datum(random: &mut Random, depth: usize) -> Value {
         0 => random.pick(&[Value::Undefined, Value::Unit]).clone(),
         1 => Value::Truth(random.once_in(2)),
         2 => Value::Number(random.below(7) as i128 - 3),
-        3 => Value::Number(i128::from(random.next() as i64 >> 20)),
+        3 => Value::Number(i128::from(random.number() as i64 >> 20)),
         4 => {
             let most = *random.pick(&[3, LITERALS as usize + 5]);
             Value::Text(random.below(most) as u32)
         }
         5 => Value::Name(random.below(NAMES as usize) as u32),
         _ => {
-            let fields = (0..random.below(4)).map(|_| (random.below(4) as u32, datum(random, depth + 1))).collect();
-            Fields::new(None, fields)
+            let fields = (0..random.below(4)).map(|_| (*random.pick(&[0, 1, 2, 40]), datum(random, depth + 1))).collect();
+            Value::record(None, fields)
         }
     }
 }

@@ -1,8 +1,8 @@
 //! The benchmark's inputs: systems of 64 to 1,024 words that are hard for a solver in different ways.
 
-use crate::estimate::facts;
+use crate::estimate::{facts, Layout};
 use crate::generate::{sensible_table, Random};
-use crate::naive;
+use crate::solve::solve;
 use crate::table;
 use crate::terms::*;
 
@@ -14,6 +14,11 @@ pub struct Input {
 
 const SIZES: [usize; 3] = [64, 256, 1024];
 const TARGET: u32 = 0x10;
+/// The opponent's set of the random systems.
+const RHO: u32 = 0x0f;
+
+/// Where each of so many things stands.
+type Order = fn(usize) -> Vec<usize>;
 
 /// A chain of handlers: each gets the message of the one before and hands `body` of it on. Only the first is open to the
 /// opponent, only the last exercises. `order` is where in the table each stands.
@@ -44,8 +49,8 @@ fn mixed(count: usize) -> Vec<usize> {
 
 /// The largest valid system of the family that has at most this many words.
 fn largest(words: usize, family: impl Fn(usize) -> Vec<u32>) -> Vec<u32> {
-    let fits = |system: &Vec<u32>| system.len() <= words && table::read(system).is_ok();
-    (1..200).map(family).filter(fits).last().expect("the smallest system fits")
+    let fitting = (1..).map(family).take_while(|system| system.len() <= words);
+    fitting.filter(|system| table::read(system).is_ok()).last().expect("the smallest system fits")
 }
 
 /// `count` binders around a body, each bound to `first` (which sees the binders before it).
@@ -68,7 +73,7 @@ fn let_chain(order: &[usize], lets: usize) -> Vec<u32> {
 }
 
 /// Cells, each given the content of the one before, in this order of statements; two handlers.
-fn cell_chain(cells: usize, order: fn(usize) -> Vec<usize>) -> Vec<u32> {
+fn cell_chain(cells: usize, order: Order) -> Vec<u32> {
     handlers(&forward(3), |next| {
         let at = |i: usize| variable(cells - 1 - i);
         let mut steps: Vec<Term> = order(cells - 1).into_iter().map(|i| assign(at(i + 1), content(at(i)))).collect();
@@ -78,8 +83,18 @@ fn cell_chain(cells: usize, order: fn(usize) -> Vec<usize>) -> Vec<u32> {
     })
 }
 
+/// Cells in a ring, each with a record of its own and given the content of the one before; two handlers.
+fn cell_ring(cells: usize, order: Order) -> Vec<u32> {
+    handlers(&forward(3), |next| {
+        let at = |i: usize| variable(cells - 1 - i % cells);
+        let mut steps: Vec<Term> = order(cells).into_iter().map(|i| assign(at(i + 1), content(at(i)))).collect();
+        steps.push(send(0, next, content(at(0))));
+        binders(cells, |_| cell(empty()), sequence(&steps))
+    })
+}
+
 /// Functions in cells, each calling the next, defined in this order; the last hands its argument back; two handlers.
-fn call_chain(functions: usize, order: fn(usize) -> Vec<usize>) -> Vec<u32> {
+fn call_chain(functions: usize, order: Order) -> Vec<u32> {
     handlers(&forward(3), |next| {
         let at = |i: usize, inside: usize| variable(functions - 1 - i + inside);
         let calls = |i: usize| function(apply(content(at(i + 1, 1)), variable(0)));
@@ -125,10 +140,10 @@ fn dense(count: usize, start: Term, statements: &[Term]) -> Vec<u32> {
     system(&[block(0, TARGET, 0, bind(cell(start), sequence(&[sequence(&statements), exercise(TARGET)])))])
 }
 
-/// Nested as deeply as can be, each level with another word; as many handlers as fit.
+/// Nested nearly as deeply as can be, each level with another word; as many handlers as fit.
 fn deep(count: usize) -> Vec<u32> {
     let nest = |end: Term| {
-        (0..39).fold(end, |inner, level| match level % 5 {
+        (0..38).fold(end, |inner, level| match level % 5 {
             0 => set(empty(), literal(0), inner),
             1 => branch(constant(2), inner, exercise(TARGET)),
             2 => apply(function(inner), empty()),
@@ -136,7 +151,8 @@ fn deep(count: usize) -> Vec<u32> {
             _ => get(set(empty(), literal(1), inner), literal(1)),
         })
     };
-    system(&(0..count as u32).map(|i| block(i, TARGET, 0, nest(send(0, name((i + 1) % count as u32), variable(0))))).collect::<Vec<_>>())
+    let end = |next: u32| sequence(&[exercise(TARGET), send(0, name(next), variable(0))]);
+    system(&(0..count as u32).map(|i| block(i, TARGET, 0, nest(end((i + 1) % count as u32)))).collect::<Vec<_>>())
 }
 
 /// So many handlers, each sending the message with a record of its own to several others.
@@ -161,7 +177,9 @@ fn random(words: usize, seed: u64) -> Vec<u32> {
     let systems = (0..40).map(|_| sensible_table(&mut random, words, 32)).filter(|system| system.len() * 5 > words * 4);
     let facts = |system: &Vec<u32>| {
         let table = table::read(system).expect("a valid table");
-        facts(&table, &naive::solve(&table, 0x0f))
+        let mut estimate = vec![0; Layout::of(table.size()).total()];
+        solve(&table, RHO, &mut estimate);
+        facts(&table, &estimate)
     };
     systems.max_by_key(facts).expect("one of them is large enough")
 }
@@ -169,7 +187,7 @@ fn random(words: usize, seed: u64) -> Vec<u32> {
 pub fn inputs() -> Vec<Input> {
     let mut inputs: Vec<Input> = Vec::new();
     let mut add = |name: String, rho: u32, words: Vec<u32>| inputs.push(Input { name, rho, words });
-    let orders: [(&str, fn(usize) -> Vec<usize>); 3] = [("forward", forward), ("backward", backward), ("mixed", mixed)];
+    let orders: [(&str, Order); 3] = [("forward", forward), ("backward", backward), ("mixed", mixed)];
     for words in SIZES {
         for (order_name, order) in orders {
             let mut sized = |name: &str, family: &dyn Fn(usize) -> Vec<u32>| {
@@ -178,6 +196,7 @@ pub fn inputs() -> Vec<Input> {
             sized("handlers", &|more| record_chain(&order(if words == 64 { 8 } else { 32 }), more - 1));
             sized("lets", &|lets| let_chain(&order(if words == 1024 { 7 } else { 3 }), lets));
             sized("cells", &|cells| cell_chain(cells, order));
+            sized("rings", &|cells| cell_ring(cells, order));
             sized("calls", &|functions| call_chain(functions, order));
         }
         let mut sized = |name: &str, family: fn(usize) -> Vec<u32>| add(format!("{name}-{words}"), 0, largest(words, family));
@@ -195,7 +214,7 @@ pub fn inputs() -> Vec<Input> {
     add("one-name-1024".into(), 0, one_name(3));
     for words in [64, 256, 512, 1024] {
         for seed in 1..=3 {
-            add(format!("random-{words}-{seed}"), 0x0f, random(words, seed));
+            add(format!("random-{words}-{seed}"), RHO, random(words, seed));
         }
     }
     inputs

@@ -41,11 +41,6 @@ pub struct Fields {
 }
 
 impl Fields {
-    pub fn new(made: Option<usize>, fields: Vec<(u32, Value)>) -> Value {
-        let plain = fields.iter().all(|(_, value)| value.plain());
-        Record(Rc::new(Fields { made, plain, fields }))
-    }
-
     fn get(&self, key: u32) -> Value {
         let field = self.fields.iter().find(|(name, _)| *name == key);
         field.map_or(Undefined, |(_, value)| value.clone())
@@ -57,6 +52,12 @@ impl Fields {
 }
 
 impl Value {
+    /// A record made at this word, or the opponent's.
+    pub fn record(made: Option<usize>, fields: Vec<(u32, Value)>) -> Value {
+        let plain = fields.iter().all(|(_, value)| value.plain());
+        Record(Rc::new(Fields { made, plain, fields }))
+    }
+
     pub fn plain(&self) -> bool {
         match self {
             Function(..) | Cell(_) => false,
@@ -122,7 +123,13 @@ impl Instance {
         match value {
             Undefined => UNDEFINED,
             Unit => UNIT,
-            Truth(truth) => if *truth { TRUE } else { FALSE },
+            Truth(truth) => {
+                if *truth {
+                    TRUE
+                } else {
+                    FALSE
+                }
+            }
             Number(number) => sign(*number),
             Text(text) if *text < LITERALS => FIRST_LITERAL + *text as usize,
             Text(_) => OTHER_STRING,
@@ -190,7 +197,7 @@ impl Instance {
                 binding.expect("every variable of an accepted table has its binder").value.clone()
             }
             FUNCTION => Function(p, env),
-            EMPTY => Fields::new(Some(p), vec![]),
+            EMPTY => Value::record(Some(p), vec![]),
             EXERCISE if within(argument, self.permissions(table)) => Unit,
             EXERCISE => return None,
             _ => {
@@ -254,9 +261,9 @@ impl Instance {
             (SET, [Record(record), Text(key), value]) => {
                 let mut fields = record.without(*key);
                 fields.push((*key, value.clone()));
-                Some(Fields::new(Some(p), fields))
+                Some(Value::record(Some(p), fields))
             }
-            (DELETE, [Record(record), Text(key)]) => Some(Fields::new(record.made, record.without(*key))),
+            (DELETE, [Record(record), Text(key)]) => Some(Value::record(record.made, record.without(*key))),
             (CELL, [value]) => {
                 self.cells.push((p, value.clone()));
                 Some(Cell(self.cells.len() - 1))

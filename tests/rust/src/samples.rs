@@ -73,7 +73,13 @@ pub fn samples() -> Vec<Sample> {
     add("depth 65", system(&[block(0, 3, 0, nested(65))]), 0, Refused(11, 68));
     add("1,024 words", large(1024), 0, Leak(0, None));
     add("1,025 words", large(1025), 0, Refused(2, 0));
-    samples.push(Sample { name: "relay, the opponent's own set as bound", words: hex(RELAY), rho: 2, bound: OWN_SET, expected: Leak(2, None) });
+    samples.push(Sample {
+        name: "relay, the opponent's own set as bound",
+        words: hex(RELAY),
+        rho: 2,
+        bound: OWN_SET,
+        expected: Leak(2, None),
+    });
     samples.extend(traps());
     samples
 }

@@ -216,11 +216,8 @@ impl<'a> Solver<'a> {
         }
         let row = self.row;
         let (low, high) = self.rows.split_at_mut(from.max(to) * row);
-        let (source, target) = if from < to {
-            (&low[from * row..][..row], &mut high[..row])
-        } else {
-            (&high[..row], &mut low[to * row..][..row])
-        };
+        let (source, target) =
+            if from < to { (&low[from * row..][..row], &mut high[..row]) } else { (&high[..row], &mut low[to * row..][..row]) };
         let added = target.iter().zip(source).enumerate().fold(0, |added, (k, (target, &source))| added | keep(k, source) & !target);
         if added != 0 {
             target.iter_mut().zip(source).enumerate().for_each(|(k, (target, &source))| *target |= keep(k, source));

@@ -144,7 +144,10 @@ fn sentences_of_the_machine() {
     assert_eq!(value(apply(number(0), number(7))), None);
     let count_down = |body: Term| {
         let below = operation(1, content(variable(0)), number(3));
-        bind(cell(number(0)), term(WHILE, 0, [below, sequence(&[body, assign(variable(0), operation(0, content(variable(0)), number(1)))])]))
+        bind(
+            cell(number(0)),
+            term(WHILE, 0, [below, sequence(&[body, assign(variable(0), operation(0, content(variable(0)), number(1)))])]),
+        )
     };
     assert_eq!(alone(count_down(exercise(1))), (Some(Value::Undefined), 1));
     assert_eq!(alone(sequence(&[exercise(1), exercise(0x100), exercise(2)])), (None, 1));
@@ -157,7 +160,8 @@ fn sentences_of_the_machine() {
 fn choices_of_a_send() {
     let attempt = |required, message: Term, choice| {
         let sender = block(0, 0x08, 0, send(required, name(1), message));
-        let table = read(&system(&[sender, block(1, 2, 8, exercise(2)), block(1, 4, 16, exercise(4)), block(2, 2, 0, exercise(2))])).unwrap();
+        let table =
+            read(&system(&[sender, block(1, 2, 8, exercise(2)), block(1, 4, 16, exercise(4)), block(2, 2, 0, exercise(2))])).unwrap();
         let mut world = World::empty();
         world.act(&table, 0, &Event::Start { handler: 0, datum: Value::Unit });
         while world.instances[0].sending(&table).is_none() {
