@@ -83,13 +83,15 @@ fn cell_chain(cells: usize, order: Order) -> Vec<u32> {
     })
 }
 
-/// Cells in a ring, each with a record of its own and given the content of the one before; two handlers.
-fn cell_ring(cells: usize, order: Order) -> Vec<u32> {
-    handlers(&forward(3), |next| {
-        let at = |i: usize| variable(cells - 1 - i % cells);
-        let mut steps: Vec<Term> = order(cells).into_iter().map(|i| assign(at(i + 1), content(at(i)))).collect();
+/// Twelve cells in a ring in each of some handlers, the first with the message and the others with a record of their own, each
+/// given the content of the one before in this order of statements.
+fn cell_rings(count: usize, order: Order) -> Vec<u32> {
+    const CELLS: usize = 12;
+    handlers(&forward(count + 1), |next| {
+        let at = |i: usize| variable(CELLS - 1 - i % CELLS);
+        let mut steps: Vec<Term> = order(CELLS).into_iter().map(|i| assign(at(i + 1), content(at(i)))).collect();
         steps.push(send(0, next, content(at(0))));
-        binders(cells, |_| cell(empty()), sequence(&steps))
+        binders(CELLS, |i| cell(if i == 0 { variable(0) } else { empty() }), sequence(&steps))
     })
 }
 
@@ -196,8 +198,10 @@ pub fn inputs() -> Vec<Input> {
             sized("handlers", &|more| record_chain(&order(if words == 64 { 8 } else { 32 }), more - 1));
             sized("lets", &|lets| let_chain(&order(if words == 1024 { 7 } else { 3 }), lets));
             sized("cells", &|cells| cell_chain(cells, order));
-            sized("rings", &|cells| cell_ring(cells, order));
             sized("calls", &|functions| call_chain(functions, order));
+            if words > 64 {
+                sized("rings", &|count| cell_rings(count, order));
+            }
         }
         let mut sized = |name: &str, family: fn(usize) -> Vec<u32>| add(format!("{name}-{words}"), 0, largest(words, family));
         sized("functions", function_chain);

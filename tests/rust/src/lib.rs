@@ -1,4 +1,6 @@
 //! An independent implementation of document 01, written from its text alone.
+//!
+//! `cargo test --release --offline` runs all tests; PEER_ROUNDS=20 before it makes the random ones 20 times as long.
 
 pub mod check;
 pub mod estimate;

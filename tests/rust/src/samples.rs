@@ -1,7 +1,7 @@
 //! Document 01's samples, starred or not, with what it says of them.
 
 use crate::table::{kind::*, OWN_SET};
-use crate::terms::{block, constant, exercise, system, word, Term};
+use crate::terms::*;
 
 /// What the document says: the leak, and the facts where it gives them; or a refusal's number and place.
 #[derive(Clone, Copy, Debug)]
@@ -84,24 +84,19 @@ pub fn samples() -> Vec<Sample> {
     samples
 }
 
-/// Tables on which an analyser that falls into one of the document's traps differs.
+/// Tables on which an analyser that falls into one of the document's traps differs; relay and twins are two more.
 fn traps() -> Vec<Sample> {
     let never_messaged = system(&[block(0, 1, 0, exercise(1)), block(1, 2, 8, exercise(2))]);
-    let any_string = body_equal(word(LITERAL, 5));
-    let any_name = body_equal(word(NAME, 9));
-    let senders = hex(&RELAY.replace("03000008", "0300000a").replace("03000002", "03000004"));
+    let equal = term(OPERATION, 2, [variable(0), literal(5)]);
+    let other_string = system(&[block(0, 3, 0, branch(equal, exercise(1), exercise(2)))]);
+    let other_name = system(&[block(0, 8, 0, send(0, variable(0), constant(1))), block(1, 2, 8, exercise(2))]);
+    let senders = system(&[block(0, 10, 0, send(0, name(1), variable(0))), block(1, 4, 8, exercise(2))]);
     [
         ("a handler never messaged", never_messaged, 1),
-        ("a literal that the opponent may send", any_string, 2),
-        ("a name that the opponent may send", any_name, 2),
+        ("the message may be another string than the table's", other_string, 3),
+        ("the message may be a name that stands in no term", other_name, 2),
         ("the sender has what the receiver exercises", senders, 0),
     ]
     .map(|(name, words, leak)| Sample { name, words, rho: 0, bound: 0, expected: Leak(leak, None) })
     .into()
-}
-
-/// Exercises 2 if the message equals this leaf.
-fn body_equal(leaf: u32) -> Vec<u32> {
-    let equal = vec![word(IF, 0), word(OPERATION, 2), word(VARIABLE, 0), leaf];
-    system(&[block(0, 3, 0, [equal, exercise(2), constant(0)].concat())])
 }
