@@ -5,7 +5,20 @@ use peer::verdict::bytes_of;
 use std::io::Write;
 use std::path::Path;
 use std::process::{Command, Stdio};
-use std::time::{Duration, Instant};
+use std::time::Duration;
+
+extern "C" {
+    /// POSIX getrusage; the four first numbers are user and system time, each in seconds and microseconds.
+    fn getrusage(who: i32, usage: *mut [i64; 18]) -> i32;
+}
+
+/// The processor time of all children that have ended, which other programs on the machine disturb less than the clock.
+fn children_time() -> Duration {
+    let mut usage = [0; 18];
+    let of_children = -1;
+    assert_eq!(unsafe { getrusage(of_children, &mut usage) }, 0);
+    Duration::from_micros((1_000_000 * (usage[0] + usage[2]) + usage[1] + usage[3]) as u64)
+}
 
 /// The best times of one repetition and of many are taken from this many runs each.
 const RUNS: usize = 5;
@@ -13,7 +26,7 @@ const RUNS: usize = 5;
 const ENOUGH: Duration = Duration::from_millis(40);
 
 fn run(program: &Path, input: &[u8], times: u64) -> (Duration, String) {
-    let start = Instant::now();
+    let start = children_time();
     let mut child = Command::new(program)
         .arg(times.to_string())
         .stdin(Stdio::piped())
@@ -22,7 +35,7 @@ fn run(program: &Path, input: &[u8], times: u64) -> (Duration, String) {
         .expect("the program can be started");
     child.stdin.take().unwrap().write_all(input).expect("the program reads its input");
     let output = child.wait_with_output().expect("the program ends");
-    (start.elapsed(), String::from_utf8(output.stdout).expect("the program prints text"))
+    (children_time() - start, String::from_utf8(output.stdout).expect("the program prints text"))
 }
 
 /// How many repetitions take long enough.
