@@ -162,7 +162,7 @@ module _ (c : Code) (k : Linked c) where
       go (branch a b d) l t = absurd t
       go (update a b d) l t = absurd t
 
-  -- ---- the rule of a word
+  -- ---- the rule of a word; where `omega` finds a bound, any word of the code would do
 
   module _ (p : ℕ) (h : p < c .size) where
     part-fits : {q : ℕ} → q < c .size → Fits c (part p q)
@@ -198,7 +198,7 @@ module _ (c : Code) (k : Linked c) where
     two-fits (operation o) a d l n =
         λ x mx y my z mz. let b : z < 7 = lows-mem (results c o x y) (results-low c o x y) z mz in may-C h (omega arith)
     two-fits (send r) a d l n =
-        (may-C h (omega arith), λ b m t. let q : b < c .size = k .listed b m .0 in (may-L q, ((λ v i s. may-B q (in-below i)), PP q h)))
+        (may-C h (omega arith), λ b m t. let q : b < c .size = k .listed b m .0 in (may-L q, ((λ v i s. may-B q (in-below i)), PP (omega arith) (omega arith))))
 
     flow-fits : (n : Node) → NodeLinked c p n → Fits c (flow c p n)
     unfolding flow
@@ -214,7 +214,7 @@ module _ (c : Code) (k : Linked c) where
       part-fits (l .0 .inside),
       (
         PP (l .1 .inside) h,
-        (PP (l .2 .inside) h, (may-L (l .1 .inside), (may-L (l .2 .inside), (CC (l .1 .inside) h, CC (l .2 .inside) h)))),
+        (PP (l .2 .inside) h, (may-L (omega arith), (may-L (omega arith), (CC (l .1 .inside) h, CC (l .2 .inside) h)))),
       ),
     )
     flow-fits (update a b d) l = (
@@ -225,7 +225,7 @@ module _ (c : Code) (k : Linked c) where
           part-fits (l .2 .inside),
           (
             (may-C h (omega arith), CB (l .2 .inside) h),
-            ((λ q m t. BB (in-below m) h), λ v m. may-B h (omega (arith, range-bound _ _ v m))),
+            ((λ q m t. let i : q < c .size = in-below m in BB (omega arith) (omega arith)), λ v m. may-B h (omega (arith, range-bound _ _ v m))),
           ),
         ),
       ),

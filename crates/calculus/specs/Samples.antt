@@ -1,5 +1,5 @@
 -- The starred samples of document 01 ("Samples on the wall"), from the words of a table to its refusal, or to its leak, facts and estimate,
--- and some more that tell apart readings which the starred ones do not. One claim covers the list: proofs/Samples.antt.
+-- and some more that tell apart readings which the starred ones do not. One claim covers the list: proofs/Claim.antt.
 use Prim.Native.Nat.{ℕ, _+_}
 use mathlib.Core.List.{List, [], _∷_, _++_}
 use mathlib.Core.Bool.{Bool, true, false, _&&_}

@@ -1,4 +1,4 @@
--- Every sample gives what document 01 says, computed from the definitions.
+-- The claim over the samples: each gives what document 01 says, computed from the definitions.
 use lib.Dec.{T}
 use lib.Count.{onesIn}
 use Rattle.permset.specs.Sets.{within, member, union, difference, lowest}
