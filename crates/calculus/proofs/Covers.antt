@@ -13,7 +13,7 @@ use Rattle.calculus.specs.Guarantee.{Covers}
 use Rattle.calculus.proofs.Guarantee.{covers}
 use Rattle.calculus.proofs.Firing.{whole-is}
 use Rattle.calculus.proofs.Least.{estimate-well, estimate-obeys}
-use Rattle.calculus.proofs.Leak.{leak-to}
+use Rattle.calculus.proofs.Leak.{leak-has}
 
 -- The leak of an accepted table covers every run, by its words alone.
 pub leak-covers : (ws : List ℕ) → reading ws ≡ accepted → (ρ : ℕ) → Covers (code ws) ρ (leak (code ws) ρ (estimate (code ws) ρ))
@@ -21,7 +21,7 @@ leak-covers ws a ρ =
     let c = code ws in
     let k = linked ws a in
     covers c k ρ (sets c (estimate c ρ)) (estimate-obeys c k ρ) (leak c ρ (estimate c ρ))
-    (leak-to c ρ (estimate c ρ) k (estimate-well c k ρ))
+    (leak-has c ρ (estimate c ρ) (estimate-well c k ρ))
 
 -- Every leak that a verdict reports, whatever the bound and the slices, covers every run.
 pub verdict-covers : (ws : List ℕ) (ρ bound est work : ℕ) (v : Verdict) → answer ws ρ bound est work ≡ verdict v
