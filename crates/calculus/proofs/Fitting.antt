@@ -29,14 +29,14 @@ use Rattle.calculus.proofs.Ranges.{in-below, range-bound}
 
 -- ---- results are truths and signs, all below 7
 
-constant-lt : (k : Constant) → constantElement k < 7
+pub constant-lt : (k : Constant) → constantElement k < 7
 unfolding constantElement constantNumber
 constant-lt constants.Undefined = lit< tt
 constant-lt constants.Unit = lit< tt
 constant-lt constants.True = lit< tt
 constant-lt constants.False = lit< tt
 
-sign-lt : (n : ℕ) → sign n < 7
+pub sign-lt : (n : ℕ) → sign n < 7
 unfolding sign
 sign-lt n = go (eqb n 0) (ltb n (2 ^ 23))
   where
@@ -92,6 +92,9 @@ results-low c operations.Equal x y = go (comparable c x && comparable c y) (eqb 
     go true true false = tt
     go true false d = tt
     go false b d = tt
+
+pub results-lt : (c : Code) (o : Operation) (x y z : ℕ) → List·Memᴰ z (results c o x y) → z < 7
+results-lt c o x y z m = lows-mem (results c o x y) (results-low c o x y) z m
 
 module _ (c : Code) (k : Linked c) where
   -- ---- elements and rows of words of the code
@@ -196,7 +199,7 @@ module _ (c : Code) (k : Linked c) where
     two-fits delete a d l n = λ v m t. may-C h (in-below m)
     two-fits assign a d l n = λ q m t. (CC n h, CB n (in-below m))
     two-fits (operation o) a d l n =
-        λ x mx y my z mz. let b : z < 7 = lows-mem (results c o x y) (results-low c o x y) z mz in may-C h (omega arith)
+        λ x mx y my z mz. let b : z < 7 = results-lt c o x y z mz in may-C h (omega arith)
     two-fits (send r) a d l n =
         (may-C h (omega arith), λ b m t. let q : b < c .size = k .listed b m .0 in (may-L q, ((λ v i s. may-B q (in-below i)), PP (omega arith) (omega arith))))
 
