@@ -45,7 +45,7 @@ taken : (b : Bool) (xs ys : List ℕ) → T b → elim b [ true ↦ xs | false �
 taken true xs ys h = refl
 taken false xs ys h = absurd h
 
-any-has : (n i : ℕ) (q : ℕ → Bool) (v : ℕ) → i ≤ v → v < i + n → T (q v) → T (anyFrom n i q)
+pub any-has : (n i : ℕ) (q : ℕ → Bool) (v : ℕ) → i ≤ v → v < i + n → T (q v) → T (anyFrom n i q)
 unfolding anyFrom
 any-has zero i q v h l t = absurd (omega arith)
 any-has (suc n) i q v h l t = go (λ m. any-has n (suc i) q v m (omega arith) t) (ℕ-discrete v i)
@@ -59,7 +59,7 @@ any-has (suc n) i q v h l t = go (λ m. any-has n (suc i) q v m (omega arith) t)
     go r (yes e) = holds (q i) (anyFrom n (suc i) q) (inl (subst (λ (x : ℕ). T (q x)) e t))
     go r (no e) = holds (q i) (anyFrom n (suc i) q) (inr (r (omega arith)))
 
-any-found : (n i : ℕ) (q : ℕ → Bool) → T (anyFrom n i q) → (v : ℕ) × T (q v)
+pub any-found : (n i : ℕ) (q : ℕ → Bool) → T (anyFrom n i q) → (v : ℕ) × T (q v)
 unfolding anyFrom
 any-found zero i q h = absurd h
 any-found (suc n) i q h = found (any-found n (suc i) q) (q i) refl h

@@ -62,7 +62,7 @@ difference-digit s t (suc i) =
 
 -- ---- the members of each set
 
-member-and : (s t i : ℕ) → member (bitAnd s t) i ≡ member s i && member t i
+pub member-and : (s t i : ℕ) → member (bitAnd s t) i ≡ member s i && member t i
 unfolding member digit
 member-and s t i =
     ap (λ (d : ℕ). eqb d 1) (and-digit s t i)
