@@ -6,7 +6,8 @@ use Rattle.table.specs.Words.{partsByKind, limitsByKind, parts, arity, limit, c
 use Rattle.table.specs.Scan.{firstOf, has, tests, fault, missing, keep, under, next, scan, reading}
 use Rattle.table.specs.Code.{code, skip, part, trace, tasks, taskAt, termNode, nodeFor, scopeFor, homeFor, blocksFrom}
 use Rattle.calculus.specs.Elements.{constantElement, sign, isString, leafMakes, oneMakes, makes, isFunction, isRecord, isCell, making}
-use Rattle.calculus.specs.Elements.{sendable, anyRecord, isSign, signPlace, sumSigns, lessSigns, bySigns, comparable, isMany, equalResults, results}
+use Rattle.calculus.specs.Elements.{sendable, anyRecord, isSign, signPlace, sumSigns, lessSigns, bySigns, comparable, isMany}
+use Rattle.calculus.specs.Elements.{equalResults, results}
 use Rattle.calculus.specs.Constraint.{range}
 use Rattle.calculus.specs.Rules.{nameOf, permsOf, guarded, permissions, admits, leafRule, oneRule, twoRule, flow, entry, rule}
 use Rattle.calculus.specs.Layout.{rowWords, estimateWords}

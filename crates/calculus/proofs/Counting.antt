@@ -53,7 +53,8 @@ one-equal false true h t = absurd (omega arith)
 one-equal false false h t = t
 
 -- where a count does not grow, nothing new passes
-pub count-equal : (n : ℕ) (f g : ℕ → Bool) → ((k : ℕ) → k < n → T (f k) → T (g k)) → count n g ≤ count n f → (k : ℕ) → k < n → T (g k) → T (f k)
+pub count-equal : (n : ℕ) (f g : ℕ → Bool) → ((k : ℕ) → k < n → T (f k) → T (g k)) → count n g ≤ count n f
+    → (k : ℕ) → k < n → T (g k) → T (f k)
 unfolding count
 count-equal zero f g h l k m t = absurd (omega arith)
 count-equal (suc n) f g h l zero m t =
@@ -64,7 +65,8 @@ count-equal (suc n) f g h l (suc k) m t =
 
 pub count-add : (m n : ℕ) (f : ℕ → Bool) → count (m + n) f ≡ count m f + count n (λ k. f (m + k))
 unfolding count
-count-add zero n f = rw (zero-add n, zero-add (count n (λ k. f (zero + k)))) (count-ext n f (λ k. f (zero + k)) (λ k h. ap f (sym (zero-add k))))
+count-add zero n f =
+    rw (zero-add n, zero-add (count n (λ k. f (zero + k)))) (count-ext n f (λ k. f (zero + k)) (λ k h. ap f (sym (zero-add k))))
 count-add (suc m) n f =
     ap (λ (j : ℕ). count j f) (suc-add m n) ∙ ap (λ (j : ℕ). one (f 0) + j) (count-add m n (λ k. f (suc k)))
     ∙ sym (add-assoc (one (f 0)) (count m (λ k. f (suc k))) (count n (λ k. f (suc (m + k)))))

@@ -13,10 +13,12 @@ use Rattle.table.specs.declared.Constant.the-variants as constants
 use Rattle.table.specs.declared.Operation.{Operation}
 use Rattle.table.specs.declared.Operation.the-variants as operations
 use Rattle.table.specs.Words.{constantNumber}
-use Rattle.table.specs.Code.{Code, Node, Leaf, One, Two, gap, block, leaf, one, two, bind, while, branch, update, Linked, NodeLinked, LeafLinked}
+use Rattle.table.specs.Code.{Code, Node, Leaf, One, Two, gap, block, leaf, one, two, bind, while, branch, update, Linked}
+use Rattle.table.specs.Code.{NodeLinked, LeafLinked}
 use Rattle.table.specs.Code.{constant, number, literal, named, variable, function, empty, exercise, cell, read}
 use Rattle.table.specs.Code.{apply, sequence, get, delete, assign, operation, send}
-use Rattle.calculus.specs.Elements.{elements, constantElement, sign, leafMakes, oneMakes, makes, isFunction, bySigns, sumSigns, lessSigns, equalResults, results}
+use Rattle.calculus.specs.Elements.{elements, constantElement, sign, leafMakes, oneMakes, makes, isFunction, bySigns}
+use Rattle.calculus.specs.Elements.{sumSigns, lessSigns, equalResults, results}
 use Rattle.calculus.specs.Elements.{isSign, signPlace, comparable, isMany, truth, falsehood}
 use Rattle.calculus.specs.Constraint.{C, B, P, L}
 use Rattle.calculus.specs.Rules.{part, leafRule, oneRule, twoRule, flow, entry, rule}
@@ -200,8 +202,12 @@ module _ (c : Code) (k : Linked c) where
     two-fits assign a d l n = λ q m t. (CC n h, CB n (in-below m))
     two-fits (operation o) a d l n =
         λ x mx y my z mz. let b : z < 7 = results-lt c o x y z mz in may-C h (omega arith)
-    two-fits (send r) a d l n =
-        (may-C h (omega arith), λ b m t. let q : b < c .size = k .listed b m .0 in (may-L q, ((λ v i s. may-B q (in-below i)), PP (omega arith) (omega arith))))
+    two-fits (send r) a d l n = (
+      may-C h (omega arith),
+      λ b m t.
+          let q : b < c .size = k .listed b m .0 in
+          (may-L q, ((λ v i s. may-B q (in-below i)), PP (omega arith) (omega arith))),
+    )
 
     flow-fits : (n : Node) → NodeLinked c p n → Fits c (flow c p n)
     unfolding flow
@@ -228,7 +234,10 @@ module _ (c : Code) (k : Linked c) where
           part-fits (l .2 .inside),
           (
             (may-C h (omega arith), CB (l .2 .inside) h),
-            ((λ q m t. let i : q < c .size = in-below m in BB (omega arith) (omega arith)), λ v m. may-B h (omega (arith, range-bound _ _ v m))),
+            (
+              (λ q m t. let i : q < c .size = in-below m in BB (omega arith) (omega arith)),
+              λ v m. may-B h (omega (arith, range-bound _ _ v m)),
+            ),
           ),
         ),
       ),

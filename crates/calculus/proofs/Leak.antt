@@ -11,7 +11,8 @@ use lib.Dec.{T, T-not, not-T, lit≤}
 use lib.ListN.{getD}
 use lib.Pow.{pow-pos}
 use Rattle.permset.specs.Sets.{width, member, union, difference, within, lowest}
-use Rattle.permset.proofs.Laws.{union-cases, in-union-left, in-union-right, member-empty, union-lt, within-member, difference-first, difference-second, in-difference}
+use Rattle.permset.proofs.Laws.{union-cases, in-union-left, in-union-right, member-empty, union-lt, within-member, difference-first}
+use Rattle.permset.proofs.Laws.{difference-second, in-difference}
 use Rattle.permset.proofs.Laws.{difference-lt, empty-difference, lowest-member, lowest-below, lowest-lt}
 use Rattle.table.specs.Code.{Code, Linked}
 use Rattle.calculus.specs.Constraint.{P, Sets}

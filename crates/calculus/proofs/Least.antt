@@ -51,7 +51,8 @@ module _ (c : Code) where
   lies-adds ws xs w i n h =
       let a : At c n = used-place c n (rw (← w .long) (bit-short ws n h)) (w .clean n h) in
       let b : T (bit ws (place c (a .row) (a .element))) = subst (λ (m : ℕ). T (bit ws m)) (a .here) h in
-      subst (λ (m : ℕ). T (bit xs m)) (sym (a .here)) (sets-bit c xs (a .row) (a .element) (i (a .row) (a .element) (in-sets c ws (a .row) (a .element) (a .may) b)))
+      subst (λ (m : ℕ). T (bit xs m)) (sym (a .here))
+      (sets-bit c xs (a .row) (a .element) (i (a .row) (a .element) (in-sets c ws (a .row) (a .element) (a .may) b)))
 
   -- two lists of words with the same sets are equal
   pub sets-ext : (ws xs : List ℕ) → WellFormed c ws → WellFormed c xs → LiesIn c ws (sets c xs) → LiesIn c xs (sets c ws) → ws ≡ xs
@@ -173,10 +174,12 @@ module _ (c : Code) where
       pub estimate-least : LiesIn c (estimate c ρ) e
       unfolding estimate
       estimate-least =
-          close-keeps Kept sweep-kept (mostFacts c) start (start-well, λ r v h. absurd (bit-zero (estimateWords c) (place c r v) (sets-bit c start r v h))) .1
+          close-keeps Kept sweep-kept (mostFacts c) start
+          (start-well, λ r v h. absurd (bit-zero (estimateWords c) (place c r v) (sets-bit c start r v h))) .1
 
     -- any words that obey every rule and lie inside every estimate that does are the estimate
-    pub estimate-unique : (ws : List ℕ) → WellFormed c ws → Estimate c ρ (sets c ws) → ((e : Sets) → Estimate c ρ e → LiesIn c ws e) → ws ≡ estimate c ρ
+    pub estimate-unique : (ws : List ℕ) → WellFormed c ws → Estimate c ρ (sets c ws) → ((e : Sets) → Estimate c ρ e → LiesIn c ws e)
+        → ws ≡ estimate c ρ
     estimate-unique ws w o l =
         sets-ext ws (estimate c ρ) w estimate-well (l (sets c (estimate c ρ)) estimate-obeys) (estimate-least (sets c ws) o)
 

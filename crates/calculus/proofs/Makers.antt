@@ -4,7 +4,8 @@ use mathlib.Core.Path.{_≡_, sym, subst}
 use mathlib.Core.Bool.{Bool, true, false, _||_}
 use native.Mathlib.Omega.{arith}
 use lib.Dec.{T, ltb, lt→ltb}
-use Rattle.table.specs.Code.{Code, Node, Leaf, One, Two, gap, block, leaf, one, two, bind, while, branch, update, Linked, LeafLinked, NodeLinked}
+use Rattle.table.specs.Code.{Code, Node, Leaf, One, Two, gap, block, leaf, one, two, bind, while, branch, update, Linked}
+use Rattle.table.specs.Code.{LeafLinked, NodeLinked}
 use Rattle.table.specs.Code.{constant, number, literal, named, variable, function, empty, exercise, cell, read}
 use Rattle.table.specs.Code.{apply, sequence, get, delete, assign, operation, send}
 use Rattle.calculus.specs.Elements.{plain, made, Making, nothing, aFunction, aRecord, aCell, makes, leafMakes, oneMakes, making}

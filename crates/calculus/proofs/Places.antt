@@ -163,7 +163,12 @@ module _ (c : Code) where
       flag i d e l k (yes z) = record { row = P i; element = d; may = is-allowed (P i) d l z; here = e ∙ sym (place-P i d) }
       flag i d e l k (no z) =
           let t : d ≡ width + 0 = omega arith in
-          record { row = L i; element = 0; may = is-allowed (L i) 0 l (omega arith); here = e ∙ ap (λ (x : ℕ). low + (32 * i + x)) t ∙ sym (place-L i 0) }
+          record {
+            row = L i;
+            element = 0;
+            may = is-allowed (L i) 0 l (omega arith);
+            here = e ∙ ap (λ (x : ℕ). low + (32 * i + x)) t ∙ sym (place-L i 0);
+          }
 
       above : low ≤ n → n % 32 < suc width → At n
       above l k = flag ((n - low) / 32) (n % 32) (omega arith) (omega (arith, length-digits)) k (decLt (n % 32) width)
@@ -233,7 +238,8 @@ module _ (c : Code) where
       let e : width + v - width ≡ v = omega arith in
       rw place-L (rw e at (word-back i (width + v) false (omega arith) (le-ltb (width + v) width (omega arith))))
 
-  pub place-injective : (r : Row) (v : ℕ) (s : Row) (w : ℕ) → T (allowed c r v) → T (allowed c s w) → place c r v ≡ place c s w → (r ≡ s) × (v ≡ w)
+  pub place-injective : (r : Row) (v : ℕ) (s : Row) (w : ℕ) → T (allowed c r v) → T (allowed c s w) → place c r v ≡ place c s w
+      → (r ≡ s) × (v ≡ w)
   place-injective r v s w h k e =
       (sym (back r v h .0) ∙ ap rowAt e ∙ back s w k .0, sym (back r v h .1) ∙ ap elementAt e ∙ back s w k .1)
 

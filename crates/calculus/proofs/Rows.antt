@@ -14,10 +14,13 @@ use Rattle.permset.specs.Sets.{width, member}
 use Rattle.table.specs.Code.{Code}
 use Rattle.calculus.specs.Elements.{elements}
 use Rattle.calculus.specs.Constraint.{Row, C, B, P, L, Sets}
-use Rattle.calculus.specs.Layout.{bit, pour, mark, owner, rowWords, base, shift, span, place, allowed, used, sets, content, Words, WellFormed, LiesIn}
+use Rattle.calculus.specs.Layout.{bit, pour, mark, owner, rowWords, base, shift, span, place, allowed, used, sets, content}
+use Rattle.calculus.specs.Layout.{Words, WellFormed, LiesIn}
 use Rattle.calculus.proofs.Digits.{T-and, T-fst, T-snd, member-low, member-lt}
-use Rattle.calculus.proofs.Slices.{bit-at, bit-word, bit-short, length-pour, pour-words, pour-new, pour-has, length-mark, mark-words, mark-new, mark-has}
-use Rattle.calculus.proofs.Places.{span-lt, is-allowed, place-used, place-lt, place-injective, place-C, place-B, digits, used-row, fits-row}
+use Rattle.calculus.proofs.Slices.{bit-at, bit-word, bit-short, length-pour, pour-words, pour-new, pour-has, length-mark}
+use Rattle.calculus.proofs.Slices.{mark-words, mark-new, mark-has}
+use Rattle.calculus.proofs.Places.{span-lt, is-allowed, place-used, place-lt, place-injective, place-C, place-B, digits}
+use Rattle.calculus.proofs.Places.{used-row, fits-row}
 
 module _ (c : Code) where
   -- two rows of the code that hold sets of one kind, so that the one may be passed on to the other
@@ -49,7 +52,8 @@ module _ (c : Code) where
     row-bit at n m h =
         let d : (32 * at + m) / 32 ≡ at + m / 32 = omega arith in
         let e : (32 * at + m) % 32 ≡ m % 32 = omega arith in
-        ap₂ (λ (x y : ℕ). member x y) (getD-take n (drop at ws) (m / 32) 0 (omega arith) ∙ getD-drop at ws (m / 32) 0 ∙ ap (λ (k : ℕ). getD ws k 0) (sym d)) (sym e)
+        ap₂ (λ (x y : ℕ). member x y)
+        (getD-take n (drop at ws) (m / 32) 0 (omega arith) ∙ getD-drop at ws (m / 32) 0 ∙ ap (λ (k : ℕ). getD ws k 0) (sym d)) (sym e)
 
     row-short : (at n m : ℕ) → T (bit (take n (drop at ws)) m) → m < 32 * n
     row-short at n m h = omega (arith, bit-short (take n (drop at ws)) m h, length-take n (drop at ws))
@@ -72,8 +76,8 @@ module _ (c : Code) where
     content-words (L i) k = lit< tt
 
     -- a digit of a row's words is an element of its set
-    value-sound : (r : Row) (q m : ℕ) → shift c r ≡ 0 → 32 * base c r ≡ q * digits c → q < 2 * c .size → owner r < c .size → span c r ≡ elements c
-        → T (bit (take (rowWords c) (drop (base c r) ws)) m) → T (sets c ws r m)
+    value-sound : (r : Row) (q m : ℕ) → shift c r ≡ 0 → 32 * base c r ≡ q * digits c → q < 2 * c .size → owner r < c .size
+        → span c r ≡ elements c → T (bit (take (rowWords c) (drop (base c r) ws)) m) → T (sets c ws r m)
     unfolding place
     value-sound r q m z e l o s h =
         let k : m < digits c = row-short (base c r) (rowWords c) m h in
@@ -99,7 +103,8 @@ module _ (c : Code) where
     content-sound (L i) m o h = absurd (omega (arith, bit-short [] m h))
 
     -- and the other way round
-    value-complete : (r : Row) (m : ℕ) → shift c r ≡ 0 → span c r ≡ elements c → T (sets c ws r m) → T (bit (take (rowWords c) (drop (base c r) ws)) m)
+    value-complete : (r : Row) (m : ℕ) → shift c r ≡ 0 → span c r ≡ elements c → T (sets c ws r m)
+        → T (bit (take (rowWords c) (drop (base c r) ws)) m)
     unfolding place
     value-complete r m z s h =
         let k : m < span c r = span-lt c r m (sets-allowed ws r m h) in
@@ -172,7 +177,8 @@ module _ (c : Code) where
             long = length-pour ws (base c b) (content c ws a) ∙ w .long;
             words = pour-words ws (base c b) (content c ws a) (w .words) (content-words a);
             clean =
-                λ n h. ⊎-elim (λ o. w .clean n o) (λ (x : New n). subst (λ (m : ℕ). T (used c m)) (sym (x .here)) (place-used c b (x .element) (x .may)))
+                λ n h. ⊎-elim (λ o. w .clean n o)
+                (λ (x : New n). subst (λ (m : ℕ). T (used c m)) (sym (x .here)) (place-used c b (x .element) (x .may)))
                 (sub-new n h);
           }
 

@@ -146,7 +146,8 @@ pour-new ws at xs n h = go (poured ws at xs (n / 32))
         ⊎-elim (λ a. inl a) (λ b. inr (omega arith, rw (d, m) b)) (T-or (member (getD ws (n / 32) 0) (n % 32)) _ o)
 
 -- and all of them are in, as far as the list goes
-pub pour-has : (ws : List ℕ) (at : ℕ) (xs : List ℕ) (m : ℕ) → 32 * at + m < 32 * length ws → T (bit xs m) → T (bit (pour ws at xs) (32 * at + m))
+pub pour-has : (ws : List ℕ) (at : ℕ) (xs : List ℕ) (m : ℕ) → 32 * at + m < 32 * length ws → T (bit xs m)
+    → T (bit (pour ws at xs) (32 * at + m))
 unfolding bit
 pour-has ws at xs m l h =
     let d : (32 * at + m) / 32 ≡ at + m / 32 = omega arith in
@@ -187,7 +188,11 @@ bit-single j m h =
 pub mark-new : (ws : List ℕ) (n m : ℕ) → T (bit (mark ws n) m) → T (bit ws m) ⊎ (m ≡ n)
 unfolding mark
 mark-new ws n m h =
-    ⊎-elim (λ a. inl a) (λ b. let j : m - 32 * (n / 32) ≡ n % 32 = bit-single (n % 32) (m - 32 * (n / 32)) (b .1) in let l : 32 * (n / 32) ≤ m = b .0 in inr (omega arith))
+    ⊎-elim (λ a. inl a)
+    (λ b.
+    let j : m - 32 * (n / 32) ≡ n % 32 = bit-single (n % 32) (m - 32 * (n / 32)) (b .1) in
+    let l : 32 * (n / 32) ≤ m = b .0 in
+    inr (omega arith))
     (pour-new ws (n / 32) (2 ^ (n % 32) ∷ []) m h)
 
 pub mark-has : (ws : List ℕ) (n : ℕ) → n < 32 * length ws → T (bit (mark ws n) n)

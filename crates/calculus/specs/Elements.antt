@@ -144,14 +144,22 @@ signPlace x y = 3 * (x - negative) + (y - negative)
 -- add: equal signs stay, zero is neutral, opposite signs give all three
 unfoldable pub sumSigns : List (List ℕ)
 sumSigns =
-    (negative ∷ []) ∷ (negative ∷ []) ∷ (negative ∷ nought ∷ positive ∷ []) ∷ (negative ∷ []) ∷ (nought ∷ []) ∷ (positive ∷ [])
+    -- negative with negative, zero, positive
+    (negative ∷ []) ∷ (negative ∷ []) ∷ (negative ∷ nought ∷ positive ∷ [])
+    -- zero with each
+    ∷ (negative ∷ []) ∷ (nought ∷ []) ∷ (positive ∷ [])
+    -- positive with each
     ∷ (negative ∷ nought ∷ positive ∷ []) ∷ (positive ∷ []) ∷ (positive ∷ []) ∷ []
 
 -- less: negative, zero, positive in that order; equal non-zero signs give both truths, zero with zero false
 unfoldable pub lessSigns : List (List ℕ)
 lessSigns =
-    (truth ∷ falsehood ∷ []) ∷ (truth ∷ []) ∷ (truth ∷ []) ∷ (falsehood ∷ []) ∷ (falsehood ∷ []) ∷ (truth ∷ []) ∷ (falsehood ∷ [])
-    ∷ (falsehood ∷ []) ∷ (truth ∷ falsehood ∷ []) ∷ []
+    -- negative with negative, zero, positive
+    (truth ∷ falsehood ∷ []) ∷ (truth ∷ []) ∷ (truth ∷ [])
+    -- zero with each
+    ∷ (falsehood ∷ []) ∷ (falsehood ∷ []) ∷ (truth ∷ [])
+    -- positive with each
+    ∷ (falsehood ∷ []) ∷ (falsehood ∷ []) ∷ (truth ∷ falsehood ∷ []) ∷ []
 
 -- the entry of two elements in a table of signs, and nothing where one is no sign
 unfoldable pub bySigns : List (List ℕ) → ℕ → ℕ → List ℕ

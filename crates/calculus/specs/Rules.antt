@@ -9,8 +9,10 @@ use Rattle.table.specs.Code.{Code, Node, Leaf, One, Two, gap, block, leaf, one,
 use Rattle.table.specs.Code.{constant, number, literal, named, variable, function, empty, exercise, cell, read}
 use Rattle.table.specs.Code.{apply, sequence, get, delete, assign, operation, send}
 use Rattle.calculus.specs.Elements.{constantElement, literalElement, nameElement, undefined, unit, truth, falsehood, opponentRecord}
-use Rattle.calculus.specs.Elements.{plain, made, elements, sign, isString, Making, isFunction, isRecord, isCell, makes, sendable, anyRecord, results}
-use Rattle.calculus.specs.Constraint.{Row, C, B, P, L, Sets, Rule, Obeys, none, put, sub, given, some, only, each, every, range, _and_}
+use Rattle.calculus.specs.Elements.{plain, made, elements, sign, isString, Making, isFunction, isRecord, isCell, makes}
+use Rattle.calculus.specs.Elements.{sendable, anyRecord, results}
+use Rattle.calculus.specs.Constraint.{Row, C, B, P, L, Sets, Rule, Obeys, none, put, sub, given, some, only, each, every}
+use Rattle.calculus.specs.Constraint.{range, _and_}
 
 -- ---- blocks
 
