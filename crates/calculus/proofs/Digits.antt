@@ -39,6 +39,10 @@ pub T-snd : (a b : Bool) → T (a && b) → T b
 T-snd true b h = h
 T-snd false b h = absurd h
 
+pub T-true : (a : Bool) → T a → a ≡ true
+T-true true h = refl
+T-true false h = absurd h
+
 -- ---- one digit, and the digits of two words or-ed
 
 pub member-or : (a b i : ℕ) → member (bitOr a b) i ≡ (member a i || member b i)
