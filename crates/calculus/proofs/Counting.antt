@@ -1,9 +1,9 @@
 -- Counts: how many numbers below a limit pass a test, and the facts of a list of words as such a count.
 use Prim.Native.Nat.{ℕ, zero, suc, _+_, _*_, _/_, _%_, _≤_, _<_}
-use mathlib.Core.Path.{_≡_, refl, sym, ap, ap₂, _∙_, subst}
+use mathlib.Core.Path.{_≡_, refl, sym, ap, ap₂, _∙_}
 use mathlib.Core.List.{List, [], _∷_}
 use mathlib.Core.Bool.{Bool, true, false}
-use native.Mathlib.Nat.{zero-add, suc-add, zero-mul, suc-mul, mul-suc, mul-zero, mod-lt, add-comm, add-assoc}
+use native.Mathlib.Nat.{zero-add, suc-add, zero-mul, suc-mul, mod-lt, add-comm, add-assoc}
 use native.Mathlib.Numerals.{one-add}
 use native.Mathlib.Omega.{arith}
 use borrow.Author.Tests.{lt-ltb, le-ltb}
@@ -13,7 +13,7 @@ use lib.ListN.{length, getD}
 use Rattle.permset.specs.Sets.{member}
 use Rattle.calculus.specs.Layout.{bit}
 use Rattle.calculus.specs.Estimate.{facts}
-use Rattle.calculus.proofs.Digits.{member-zero, member-suc}
+use Rattle.permset.proofs.Laws.{member-zero, member-suc}
 use Rattle.calculus.proofs.Slices.{bit-at}
 
 one : Bool → ℕ

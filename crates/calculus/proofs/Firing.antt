@@ -9,8 +9,8 @@ use native.Mathlib.Decide.{ℕ-discrete}
 use native.Mathlib.Omega.{arith}
 use lib.Dec.{T}
 use Rattle.table.specs.Code.{Code}
-use Rattle.calculus.specs.Constraint.{Row, Sets, Rule, Obeys, none, put, sub, given, some, only, each, _and_}
-use Rattle.calculus.specs.Layout.{bit, mark, pour, place, base, span, allowed, sets, content, WellFormed, LiesIn}
+use Rattle.calculus.specs.Constraint.{Sets, Rule, Obeys, none, put, sub, given, some, only, each, _and_}
+use Rattle.calculus.specs.Layout.{bit, place, base, span, allowed, sets, content, WellFormed, LiesIn}
 use Rattle.calculus.specs.Estimate.{strict, whole, anyFrom, through, fire}
 use Rattle.calculus.proofs.Digits.{T-and, T-fst, T-snd}
 use Rattle.calculus.proofs.Slices.{_≼_, words-ext, mark-adds, pour-adds}

@@ -1,31 +1,31 @@
 -- The flow rules of a linked code write into rows of the code alone.
-use Prim.Native.Nat.{ℕ, zero, suc, _+_, _-_, _*_, _^_, _≤_, _<_}
-use mathlib.Core.Path.{_≡_, refl, sym, ap, _∙_, subst}
+use Prim.Native.Nat.{ℕ, zero, suc, _^_, _<_}
+use mathlib.Core.Path.{refl}
 use mathlib.Core.List.{List, [], _∷_, List·Memᴰ, List·Memᴰ·cases-cons, List·Memᴰ·not-nil}
 use mathlib.Core.Bool.{Bool, true, false, _&&_}
 use mathlib.Core.Logic.{⊎-elim}
 use native.Mathlib.Omega.{arith}
 use lib.Dec.{T, eqb, ltb, ltb→lt, lit<}
-use lib.ListN.{length, getD}
-use Rattle.permset.specs.Sets.{width, member, within}
+use lib.ListN.{getD}
+use Rattle.permset.specs.Sets.{width}
 use Rattle.table.specs.declared.Constant.{Constant}
 use Rattle.table.specs.declared.Constant.the-variants as constants
 use Rattle.table.specs.declared.Operation.{Operation}
 use Rattle.table.specs.declared.Operation.the-variants as operations
-use Rattle.table.specs.Words.{constantNumber, literals}
+use Rattle.table.specs.Words.{constantNumber}
 use Rattle.table.specs.Code.{Code, Node, Leaf, One, Two, gap, block, leaf, one, two, bind, while, branch, update, Linked, NodeLinked, LeafLinked}
 use Rattle.table.specs.Code.{constant, number, literal, named, variable, function, empty, exercise, cell, read}
 use Rattle.table.specs.Code.{apply, sequence, get, delete, assign, operation, send}
-use Rattle.calculus.specs.Elements.{plain, elements, made, constantElement, sign, leafMakes, oneMakes, makes, isFunction, bySigns, sumSigns, lessSigns, equalResults, results}
+use Rattle.calculus.specs.Elements.{elements, constantElement, sign, leafMakes, oneMakes, makes, isFunction, bySigns, sumSigns, lessSigns, equalResults, results}
 use Rattle.calculus.specs.Elements.{isSign, signPlace, comparable, isMany, truth, falsehood}
-use Rattle.calculus.specs.Constraint.{Row, C, B, P, L, Rule, put, sub, every, _and_}
-use Rattle.calculus.specs.Rules.{guarded, live, fill, pass, eachMade, part, leafRule, oneRule, twoRule, flow, entry, rule}
+use Rattle.calculus.specs.Constraint.{C, B, P, L}
+use Rattle.calculus.specs.Rules.{part, leafRule, oneRule, twoRule, flow, entry, rule}
 use Rattle.calculus.specs.Layout.{owner, span, shift, allowed}
-use Rattle.calculus.proofs.Digits.{T-and, T-fst, T-snd}
+use Rattle.calculus.proofs.Digits.{T-fst, T-snd}
 use Rattle.calculus.proofs.Places.{is-allowed}
 use Rattle.calculus.proofs.Rows.{Alike}
 use Rattle.calculus.proofs.Firing.{Fits}
-use Rattle.calculus.proofs.Ranges.{in-below}
+use Rattle.calculus.proofs.Ranges.{in-below, range-bound}
 
 -- ---- results are truths and signs, all below 7
 
@@ -189,10 +189,10 @@ module _ (c : Code) (k : Linked c) where
     two-fits apply a d l n =
         λ f m t.
         let b : suc f < c .size = body-lt f (in-below m) t in
-        (may-L b, (CB n (in-below m), (CC b h, PP b h)))
+        (may-L b, (CB n (in-below m), (CC b h, PP (omega arith) (omega arith))))
     two-fits sequence a d l n = CC n h
     two-fits get a d l n =
-        ((λ q m t. (BC (in-below m) h, may-C h (omega arith))), λ v m. let b : v < plain c = in-below m in may-C h (omega arith))
+        ((λ q m t. (BC (in-below m) h, may-C h (omega arith))), λ v m. may-C h (omega (arith, range-bound _ _ v m)))
     two-fits delete a d l n = λ v m t. may-C h (in-below m)
     two-fits assign a d l n = λ q m t. (CC n h, CB n (in-below m))
     two-fits (operation o) a d l n =
@@ -225,7 +225,7 @@ module _ (c : Code) (k : Linked c) where
           part-fits (l .2 .inside),
           (
             (may-C h (omega arith), CB (l .2 .inside) h),
-            ((λ q m t. BB (in-below m) h), λ v m. let b : v < plain c = in-below m in may-B h (omega arith)),
+            ((λ q m t. BB (in-below m) h), λ v m. may-B h (omega (arith, range-bound _ _ v m))),
           ),
         ),
       ),
@@ -234,4 +234,4 @@ module _ (c : Code) (k : Linked c) where
     pub rule-fits : (ρ : ℕ) → Fits c (rule c ρ p)
     unfolding rule entry
     rule-fits ρ =
-        ((λ t. (may-L h, λ v m. let b : v < plain c = in-below m in may-B h (omega arith))), flow-fits (c .node p) (k .nodes p h))
+        ((λ t. (may-L h, λ v m. may-B h (omega (arith, range-bound _ _ v m)))), flow-fits (c .node p) (k .nodes p h))

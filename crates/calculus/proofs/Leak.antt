@@ -1,4 +1,5 @@
--- The leak as a number: its members are the permissions that are in the leak read from the sets of the estimate.
+-- The leak as a number: its members are the permissions that are in the leak read from the sets of the estimate, it lies inside the
+-- leak of every estimate that obeys the rules, and a bound fails precisely where it has a member outside.
 use Prim.Native.Nat.{ℕ, _<_, _^_, _%_}
 use mathlib.Core.Path.{_≡_, refl, sym, subst}
 use mathlib.Core.Logic.{⊎-elim}
@@ -6,20 +7,23 @@ use mathlib.Core.Bool.{Bool, true, false}
 use mathlib.Core.List.{List, [], _∷_, List·Memᴰ, List·Memᴰ·head, List·Memᴰ·tail}
 use native.Mathlib.Nat.{mod-lt}
 use native.Mathlib.Omega.{arith}
-use lib.Dec.{T}
+use lib.Dec.{T, T-not, not-T, lit≤}
 use lib.ListN.{getD}
 use lib.Pow.{pow-pos}
-use Rattle.permset.specs.Sets.{width, member, union}
-use Rattle.permset.proofs.Laws.{union-cases, in-union-left, in-union-right, member-empty}
+use Rattle.permset.specs.Sets.{width, member, union, difference, within, lowest}
+use Rattle.permset.proofs.Laws.{union-cases, in-union-left, in-union-right, member-empty, union-lt, within-member, difference-first, difference-second, in-difference}
+use Rattle.permset.proofs.Laws.{difference-lt, empty-difference, lowest-member, lowest-below, lowest-lt}
 use Rattle.table.specs.Code.{Code, Linked}
-use Rattle.calculus.specs.Constraint.{P}
-use Rattle.calculus.specs.Rules.{guarded, leakOf}
+use Rattle.calculus.specs.Constraint.{P, Sets}
+use Rattle.calculus.specs.Rules.{guarded, Estimate, leakOf}
 use Rattle.calculus.specs.Layout.{base, shift, span, owner, sets, content, WellFormed}
-use Rattle.calculus.specs.Estimate.{permissionsAt, leakAmong, leak}
+use Rattle.calculus.specs.Estimate.{permissionsAt, leakAmong, leak, estimate}
+use Rattle.calculus.specs.Answer.{boundUsed, judge}
 use Rattle.calculus.proofs.Digits.{member-lt}
 use Rattle.calculus.proofs.Slices.{bit-word}
 use Rattle.calculus.proofs.Places.{span-lt}
 use Rattle.calculus.proofs.Rows.{sets-allowed, content-complete, content-sound}
+use Rattle.calculus.proofs.Least.{estimate-well, estimate-least}
 
 module _ (c : Code) (ρ : ℕ) (ws : List ℕ) (w : WellFormed c ws) where
   -- the word of P(b), without the flag
@@ -86,3 +90,62 @@ module _ (c : Code) (ρ : ℕ) (ws : List ℕ) (w : WellFormed c ws) where
   pub leak-only : Linked c → (x : ℕ) → T (member (leak c ρ ws) x) → leakOf c ρ (sets c ws) x
   unfolding leak
   leak-only k x t = among-only (c .blocks) (λ b m. k .listed b m .0) x t
+
+-- ---- the reported leak, and a bound
+
+-- it lies inside the leak read from every estimate that obeys the rules
+pub leak-least : (c : Code) (k : Linked c) (ρ : ℕ) (e : Sets) → Estimate c ρ e → (x : ℕ) → T (member (leak c ρ (estimate c ρ)) x)
+    → leakOf c ρ e x
+leak-least c k ρ e o x h =
+    let l : leakOf c ρ (sets c (estimate c ρ)) x = leak-only c ρ (estimate c ρ) (estimate-well c k ρ) k x h in
+    (l .0, l .1, l .2, estimate-least c k ρ e o (P (l .0)) x (l .3))
+
+among-lt : (c : Code) (ρ : ℕ) (ws bs : List ℕ) → leakAmong c ρ ws bs < 2 ^ width
+unfolding leakAmong permissionsAt
+among-lt c ρ ws [] = pow-pos width
+among-lt c ρ ws (b ∷ bs) = go (guarded (c .node b) ρ) (among-lt c ρ ws bs)
+  where
+    go : (u : Bool) → leakAmong c ρ ws bs < 2 ^ width
+        → elim u [ true ↦ union (permissionsAt c ρ ws b) (leakAmong c ρ ws bs) | false ↦ leakAmong c ρ ws bs ] < 2 ^ width
+    go true h = union-lt width (permissionsAt c ρ ws b) (leakAmong c ρ ws bs) (mod-lt (getD ws (base c (P b)) 0) (pow-pos width)) h
+    go false h = h
+
+pub leak-lt : (c : Code) (ρ : ℕ) (ws : List ℕ) → leak c ρ ws < 2 ^ width
+unfolding leak
+leak-lt c ρ ws = among-lt c ρ ws (c .blocks)
+
+module _ (c : Code) (ρ bound : ℕ) (ws : List ℕ) where
+  -- x leaks and is not in the bound used
+  pub record Outside (x : ℕ) : Type 0 where
+    pub leaks : T (member (leak c ρ ws) x)
+    pub absent : T (member (boundUsed ρ bound) x) → ⊥
+
+  abbrev excess : ℕ
+  excess = difference (leak c ρ ws) (boundUsed ρ bound)
+
+  outside : (x : ℕ) → T (member excess x) → Outside x
+  outside x t =
+      record {
+        leaks = difference-first (leak c ρ ws) (boundUsed ρ bound) x t;
+        absent = difference-second (leak c ρ ws) (boundUsed ρ bound) x t;
+      }
+
+  -- a bound fails precisely where the leak has a member outside it, and the first one reported is the lowest of them
+  pub over-first : T (judge c ρ bound ws .over) → Outside (judge c ρ bound ws .first)
+  unfolding judge
+  over-first h =
+      outside (lowest excess)
+      (lowest-member excess
+      (lowest-lt 32 excess (lit≤ tt) (difference-lt 32 (leak c ρ ws) (boundUsed ρ bound) (omega (arith, leak-lt c ρ ws)))
+      (λ e. T-not (within (leak c ρ ws) (boundUsed ρ bound)) h (empty-difference (leak c ρ ws) (boundUsed ρ bound) e))))
+
+  pub outside-over : (x : ℕ) → Outside x → T (judge c ρ bound ws .over)
+  unfolding judge
+  outside-over x o =
+      not-T (within (leak c ρ ws) (boundUsed ρ bound))
+      (λ h. o .absent (within-member (leak c ρ ws) (boundUsed ρ bound) x h (o .leaks)))
+
+  pub first-lowest : (x : ℕ) → x < judge c ρ bound ws .first → Outside x → ⊥
+  unfolding judge
+  first-lowest x l o =
+      subst T (lowest-below excess x l) (in-difference (leak c ρ ws) (boundUsed ρ bound) x (o .leaks) (o .absent))

@@ -7,12 +7,12 @@ use mathlib.Core.Bool.{Bool, true, false}
 use native.Mathlib.Decide.{decLt}
 use native.Mathlib.Omega.{arith}
 use lib.Dec.{T, eqb, eqb→eq, eqb-refl, lit<}
-use lib.ListN.{length as lengthOf, getD, replicate, length-replicate}
+use lib.ListN.{getD, replicate, length-replicate}
 use Rattle.table.specs.Code.{Code, Linked}
-use Rattle.calculus.specs.Constraint.{Row, Sets, Obeys, every}
+use Rattle.calculus.specs.Constraint.{Sets, every}
 use Rattle.calculus.specs.Rules.{rule, Estimate}
-use Rattle.calculus.specs.Layout.{bit, length, place, used, sets, WellFormed, LiesIn}
-use Rattle.calculus.specs.Estimate.{whole, fire, same, mostFacts, sweep, close, estimate, facts}
+use Rattle.calculus.specs.Layout.{bit, estimateWords, place, used, sets, WellFormed, LiesIn}
+use Rattle.calculus.specs.Estimate.{same, mostFacts, sweep, close, estimate, facts}
 use Rattle.calculus.proofs.Slices.{_≼_, bit-short, bit-zero, words-ext}
 use Rattle.calculus.proofs.Counting.{count, count-mono, count-equal, facts-count}
 use Rattle.calculus.proofs.Places.{At, used-place, count-used}
@@ -61,16 +61,16 @@ module _ (c : Code) where
 
   pub facts-bound : (ws : List ℕ) → WellFormed c ws → facts ws ≤ mostFacts c
   facts-bound ws w =
-      let e : facts ws ≡ count (32 * length c) (bit ws) = facts-count ws ∙ ap (λ (n : ℕ). count (32 * n) (bit ws)) (w .long) in
-      omega (arith, count-mono (32 * length c) (bit ws) (used c) (λ n l. w .clean n), count-used c)
+      let e : facts ws ≡ count (32 * estimateWords c) (bit ws) = facts-count ws ∙ ap (λ (n : ℕ). count (32 * n) (bit ws)) (w .long) in
+      omega (arith, count-mono (32 * estimateWords c) (bit ws) (used c) (λ n l. w .clean n), count-used c)
 
   -- where facts do not grow, nothing is new
   facts-equal : (ws xs : List ℕ) → WellFormed c ws → WellFormed c xs → ws ≼ xs → facts xs ≤ facts ws → xs ≡ ws
   facts-equal ws xs w x a l =
-      let e : facts ws ≡ count (32 * length c) (bit ws) = facts-count ws ∙ ap (λ (n : ℕ). count (32 * n) (bit ws)) (w .long) in
-      let f : facts xs ≡ count (32 * length c) (bit xs) = facts-count xs ∙ ap (λ (n : ℕ). count (32 * n) (bit xs)) (x .long) in
+      let e : facts ws ≡ count (32 * estimateWords c) (bit ws) = facts-count ws ∙ ap (λ (n : ℕ). count (32 * n) (bit ws)) (w .long) in
+      let f : facts xs ≡ count (32 * estimateWords c) (bit xs) = facts-count xs ∙ ap (λ (n : ℕ). count (32 * n) (bit xs)) (x .long) in
       words-ext xs ws (x .long ∙ sym (w .long)) (x .words) (w .words)
-      (λ n h. count-equal (32 * length c) (bit ws) (bit xs) (λ m u. a m) (omega arith) n (rw (← x .long) (bit-short xs n h)) h) a
+      (λ n h. count-equal (32 * estimateWords c) (bit ws) (bit xs) (λ m u. a m) (omega arith) n (rw (← x .long) (bit-short xs n h)) h) a
 
   module _ (k : Linked c) (ρ : ℕ) where
     -- ---- a sweep
@@ -130,14 +130,14 @@ module _ (c : Code) where
     -- ---- the estimate
 
     abbrev start : List ℕ
-    start = replicate (length c) 0
+    start = replicate (estimateWords c) 0
 
     start-well : WellFormed c start
     start-well =
         record {
-          long = length-replicate (length c) 0;
-          words = λ i. zeros (length c) i;
-          clean = λ n h. absurd (bit-zero (length c) n h);
+          long = length-replicate (estimateWords c) 0;
+          words = λ i. zeros (estimateWords c) i;
+          clean = λ n h. absurd (bit-zero (estimateWords c) n h);
         }
       where
         zeros : (n i : ℕ) → getD (replicate n 0) i 0 < 2 ^ 32
@@ -173,7 +173,7 @@ module _ (c : Code) where
       pub estimate-least : LiesIn c (estimate c ρ) e
       unfolding estimate
       estimate-least =
-          close-keeps Kept sweep-kept (mostFacts c) start (start-well, λ r v h. absurd (bit-zero (length c) (place c r v) (sets-bit c start r v h))) .1
+          close-keeps Kept sweep-kept (mostFacts c) start (start-well, λ r v h. absurd (bit-zero (estimateWords c) (place c r v) (sets-bit c start r v h))) .1
 
     -- any words that obey every rule and lie inside every estimate that does are the estimate
     pub estimate-unique : (ws : List ℕ) → WellFormed c ws → Estimate c ρ (sets c ws) → ((e : Sets) → Estimate c ρ e → LiesIn c ws e) → ws ≡ estimate c ρ

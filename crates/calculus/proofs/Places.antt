@@ -1,9 +1,9 @@
 -- Where the rows of an estimate stand: no two elements share a digit, every used digit is an element's, and how many digits are used.
-use Prim.Native.Nat.{ℕ, zero, suc, _+_, _-_, _*_, _/_, _%_, _^_, _≤_, _<_}
+use Prim.Native.Nat.{ℕ, zero, suc, _+_, _-_, _*_, _/_, _%_, _≤_, _<_}
 use mathlib.Core.Path.{_≡_, refl, sym, ap, ap₂, _∙_, subst}
 use mathlib.Core.Bool.{Bool, true, false, _&&_, or-false}
 use mathlib.Core.Logic.{⊎-elim}
-use native.Mathlib.Nat.{mod-lt, div-add-mod', mul-left-comm, mul-add, mul-comm, suc-mul, div-lt-iff-lt-mul, mul-assoc}
+use native.Mathlib.Nat.{div-add-mod', mul-left-comm, mul-add, mul-comm, suc-mul, div-lt-iff-lt-mul, mul-assoc}
 use native.Mathlib.Decide.{decLt}
 use native.Mathlib.Omega.{arith}
 use borrow.Author.Tests.{lt-ltb, le-ltb, lt-leb, le-leb}
@@ -13,10 +13,10 @@ use Rattle.permset.specs.Sets.{width}
 use Rattle.table.specs.Code.{Code}
 use Rattle.calculus.specs.Elements.{elements}
 use Rattle.calculus.specs.Constraint.{Row, C, B, P, L}
-use Rattle.calculus.specs.Layout.{owner, rowWords, length, base, shift, span, place, allowed, used}
+use Rattle.calculus.specs.Layout.{owner, rowWords, estimateWords, base, shift, span, place, allowed, used}
 use Rattle.calculus.specs.Estimate.{mostFacts}
 use Rattle.calculus.proofs.Digits.{T-and, T-fst, T-snd, T-or, T-or-left, T-or-right}
-use Rattle.calculus.proofs.Counting.{count, count-ext, count-add, count-blocks, count-below}
+use Rattle.calculus.proofs.Counting.{count, count-add, count-blocks, count-below}
 
 module _ (c : Code) where
   -- the digits of a value set or a held set, and of all of them
@@ -36,8 +36,8 @@ module _ (c : Code) where
   low-digits : 2 * c .size * digits ≡ low
   low-digits = sym (mul-left-comm 32 (2 * c .size) (rowWords c))
 
-  length-digits : 32 * length c ≡ low + 32 * c .size
-  unfolding length
+  length-digits : 32 * estimateWords c ≡ low + 32 * c .size
+  unfolding estimateWords
   length-digits = mul-add 32 (2 * c .size * rowWords c) (c .size)
 
   pub owner-lt : (r : Row) (v : ℕ) → T (allowed c r v) → owner r < c .size
@@ -98,7 +98,7 @@ module _ (c : Code) where
   place-used (P i) v h = let a : v < width = span-lt (P i) v h in rw place-P (word-used i v (omega arith))
   place-used (L i) v h = let a : v < 1 = span-lt (L i) v h in rw place-L (word-used i (width + v) (omega arith))
 
-  pub place-lt : (r : Row) (v : ℕ) → T (allowed c r v) → place c r v < 32 * length c
+  pub place-lt : (r : Row) (v : ℕ) → T (allowed c r v) → place c r v < 32 * estimateWords c
   unfolding owner span
   place-lt (C i) v h =
       let a : i < c .size = owner-lt (C i) v h in
@@ -125,7 +125,7 @@ module _ (c : Code) where
     pub may : T (allowed c row element)
     pub here : n ≡ place c row element
 
-  pub used-place : (n : ℕ) → n < 32 * length c → T (used c n) → At n
+  pub used-place : (n : ℕ) → n < 32 * estimateWords c → T (used c n) → At n
   unfolding used owner span
   used-place n h u =
       ⊎-elim
@@ -260,7 +260,7 @@ module _ (c : Code) where
       let e : 2 * c .size * digits + (i * 32 + j) ≡ low + (32 * i + j) = omega (arith, low-digits) in
       rw (e, le-ltb (low + (32 * i + j)) low (omega arith), le-leb low (low + (32 * i + j)) (omega arith), word-digit i j k)
 
-  pub count-used : count (32 * length c) (used c) ≡ mostFacts c
+  pub count-used : count (32 * estimateWords c) (used c) ≡ mostFacts c
   unfolding mostFacts
   count-used =
       ap (λ (n : ℕ). count n (used c)) (length-digits ∙ ap₂ (λ (a b : ℕ). a + b) (sym low-digits) (mul-comm 32 (c .size)))

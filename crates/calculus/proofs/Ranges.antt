@@ -1,7 +1,7 @@
 -- Membership in a range of numbers.
 use Prim.Native.Nat.{ℕ, zero, suc, _+_, _≤_, _<_}
 use mathlib.Core.Path.{_≡_}
-use mathlib.Core.List.{List, [], _∷_, List·Memᴰ, List·Memᴰ·head, List·Memᴰ·tail, List·Memᴰ·cases-cons, List·Memᴰ·not-nil}
+use mathlib.Core.List.{List·Memᴰ, List·Memᴰ·head, List·Memᴰ·tail, List·Memᴰ·cases-cons, List·Memᴰ·not-nil}
 use mathlib.Core.Logic.{⊎-elim}
 use native.Mathlib.Decide.{ℕ-discrete}
 use native.Mathlib.Omega.{arith}
@@ -16,7 +16,7 @@ range-has (suc n) i k h l = go (λ m. range-has n (suc i) k m (omega arith)) (�
     go r (yes e) = List·Memᴰ·head e
     go r (no e) = List·Memᴰ·tail (r (omega arith))
 
-range-bound : (n i k : ℕ) → List·Memᴰ k (range n i) → k < i + n
+pub range-bound : (n i k : ℕ) → List·Memᴰ k (range n i) → k < i + n
 unfolding range
 range-bound zero i k m = absurd (List·Memᴰ·not-nil m)
 range-bound (suc n) i k m =

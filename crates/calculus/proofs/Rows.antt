@@ -1,24 +1,23 @@
 -- The sets that a list of words holds: how they change where one element is put, and where one row is or-ed into another.
-use Prim.Native.Nat.{ℕ, zero, suc, _+_, _-_, _*_, _/_, _%_, _^_, _≤_, _<_, min}
+use Prim.Native.Nat.{ℕ, zero, suc, _+_, _-_, _*_, _/_, _%_, _^_, _≤_, _<_}
 use mathlib.Core.Path.{_≡_, refl, sym, ap, ap₂, _∙_, subst}
 use mathlib.Core.List.{List, [], _∷_}
-use mathlib.Core.Bool.{Bool, true, false, _&&_}
 use mathlib.Core.Logic.{_⊎_, inl, inr, ⊎-elim}
-use native.Mathlib.Nat.{mod-lt, mod-le, mul-left-comm}
+use native.Mathlib.Nat.{mod-lt}
 use native.Mathlib.Decide.{decLt}
 use native.Mathlib.Omega.{arith}
-use lib.Dec.{T, ltb, ltb→lt, lt→ltb, lit<}
-use lib.ListN.{length as lengthOf, getD, take, drop, length-take, List·getD-eq-default}
+use lib.Dec.{T, lit<}
+use lib.ListN.{length, getD, take, drop, length-take, List·getD-eq-default}
 use lib.Seq.{getD-take, getD-drop}
-use lib.Pow.{pow-pos, pow-lt}
+use lib.Pow.{pow-pos}
 use Rattle.permset.specs.Sets.{width, member}
 use Rattle.table.specs.Code.{Code}
 use Rattle.calculus.specs.Elements.{elements}
 use Rattle.calculus.specs.Constraint.{Row, C, B, P, L, Sets}
-use Rattle.calculus.specs.Layout.{bit, pour, mark, owner, rowWords, length, base, shift, span, place, allowed, used, sets, content, Words, WellFormed, LiesIn}
+use Rattle.calculus.specs.Layout.{bit, pour, mark, owner, rowWords, base, shift, span, place, allowed, used, sets, content, Words, WellFormed, LiesIn}
 use Rattle.calculus.proofs.Digits.{T-and, T-fst, T-snd, member-low, member-lt}
-use Rattle.calculus.proofs.Slices.{_≼_, bit-at, bit-word, bit-short, length-pour, pour-words, pour-adds, pour-new, pour-has, length-mark, mark-words, mark-adds, mark-new, mark-has}
-use Rattle.calculus.proofs.Places.{owner-lt, span-lt, is-allowed, place-used, place-lt, place-injective, place-C, place-B, place-P, digits, used-row, fits-row}
+use Rattle.calculus.proofs.Slices.{bit-at, bit-word, bit-short, length-pour, pour-words, pour-new, pour-has, length-mark, mark-words, mark-new, mark-has}
+use Rattle.calculus.proofs.Places.{span-lt, is-allowed, place-used, place-lt, place-injective, place-C, place-B, digits, used-row, fits-row}
 
 module _ (c : Code) where
   -- two rows of the code that hold sets of one kind, so that the one may be passed on to the other
@@ -61,7 +60,7 @@ module _ (c : Code) where
         go : Dec (k < n) → getD (take n (drop at ws)) k 0 < 2 ^ 32
         go (yes h) = rw (getD-take n (drop at ws) k 0 h, getD-drop at ws k 0) (w .words (at + k))
         go (no h) =
-            let l : lengthOf (take n (drop at ws)) ≤ k = omega (arith, length-take n (drop at ws)) in
+            let l : length (take n (drop at ws)) ≤ k = omega (arith, length-take n (drop at ws)) in
             rw (List·getD-eq-default (take n (drop at ws)) 0 l) (lit< tt)
 
     pub content-words : (r : Row) → Words (content c ws r)

@@ -1,6 +1,5 @@
 -- Every sample gives what document 01 says, computed from the definitions.
-use mathlib.Core.Path.{_≡_, refl}
-use mathlib.Core.Bool.{true}
+use lib.Dec.{T}
 use lib.Count.{onesIn}
 use Rattle.permset.specs.Sets.{within, member, union, difference, lowest}
 use Rattle.table.specs.Words.{partsByKind, limitsByKind, parts, arity, limit, constantNumber, constantOf, operationOf, termsByKind, termOf}
@@ -10,13 +9,13 @@ use Rattle.calculus.specs.Elements.{constantElement, sign, isString, lea
 use Rattle.calculus.specs.Elements.{sendable, anyRecord, isSign, signPlace, sumSigns, lessSigns, bySigns, comparable, isMany, equalResults, results}
 use Rattle.calculus.specs.Constraint.{range}
 use Rattle.calculus.specs.Rules.{nameOf, permsOf, guarded, permissions, admits, leafRule, oneRule, twoRule, flow, entry, rule}
-use Rattle.calculus.specs.Layout.{rowWords, length}
+use Rattle.calculus.specs.Layout.{rowWords, estimateWords}
 use Rattle.calculus.specs.Samples.{passes, samples}
 
-pub samples-pass : passes samples ≡ true
+pub samples-pass : T (passes samples)
 unfolding onesIn partsByKind limitsByKind parts arity limit constantNumber constantOf operationOf termsByKind termOf firstOf has tests
     fault missing keep under next scan reading code skip part trace tasks taskAt termNode nodeFor scopeFor homeFor blocksFrom within member union
     difference lowest constantElement sign isString leafMakes oneMakes makes isFunction isRecord isCell making sendable anyRecord isSign signPlace
     sumSigns lessSigns bySigns comparable isMany equalResults results range nameOf permsOf guarded permissions admits leafRule oneRule twoRule
-    flow entry rule rowWords length passes samples
-samples-pass = refl
+    flow entry rule rowWords estimateWords passes samples
+samples-pass = tt

@@ -2,7 +2,7 @@
 use Prim.Native.Nat.{ℕ, zero, suc, _+_, _-_, _*_, _/_, _%_, _^_, _≤_, _<_}
 use mathlib.Core.Path.{_≡_, refl, sym, ap, ap₂, _∙_, subst}
 use mathlib.Core.List.{List, [], _∷_}
-use mathlib.Core.Bool.{Bool, true, false, _||_, or-false}
+use mathlib.Core.Bool.{Bool, true, false, _||_}
 use mathlib.Core.Logic.{_⊎_, inl, inr, ⊎-elim}
 use native.Mathlib.Nat.{mod-lt, sub-zero, suc-sub-suc}
 use native.Mathlib.Decide.{decLt}
@@ -13,8 +13,9 @@ use lib.Pow.{pow-lt}
 use lib.ListN.{length, getD, replicate, List·getD-eq-default}
 use lib.Seq.{ext-getD}
 use Rattle.permset.specs.Sets.{member}
+use Rattle.permset.proofs.Laws.{member-empty, same-below}
 use Rattle.calculus.specs.Layout.{bit, pour, mark, Words}
-use Rattle.calculus.proofs.Digits.{T-or, T-or-left, T-or-right, member-or, member-none, member-single, member-single-only, member-ext}
+use Rattle.calculus.proofs.Digits.{T-or, T-or-left, T-or-right, member-or, member-single, member-single-only}
 
 -- the digits of ws are among those of xs
 abbrev pub _≼_ : List ℕ → List ℕ → Type 0
@@ -41,11 +42,11 @@ bit-short ws n h = go (decLt (n / 32) (length ws))
     go (yes l) = omega arith
     go (no f) =
         let l : length ws ≤ n / 32 = omega arith in
-        absurd (subst T (ap (λ (x : ℕ). member x (n % 32)) (List·getD-eq-default ws 0 l) ∙ member-none (n % 32)) h)
+        absurd (subst T (ap (λ (x : ℕ). member x (n % 32)) (List·getD-eq-default ws 0 l) ∙ member-empty (n % 32)) h)
 
 pub bit-zero : (m n : ℕ) → T (bit (replicate m 0) n) → ⊥
 unfolding bit
-bit-zero m n h = subst T (ap (λ (x : ℕ). member x (n % 32)) (zeros m (n / 32)) ∙ member-none (n % 32)) h
+bit-zero m n h = subst T (ap (λ (x : ℕ). member x (n % 32)) (zeros m (n / 32)) ∙ member-empty (n % 32)) h
   where
     zeros : (m k : ℕ) → _≡_ {A = ℕ} (getD (replicate m 0) k 0) 0
     zeros zero k = refl
@@ -56,7 +57,7 @@ bit-zero m n h = subst T (ap (λ (x : ℕ). member x (n % 32)) (zeros m (n / 32)
 pub words-ext : (ws xs : List ℕ) → length ws ≡ length xs → Words ws → Words xs → ws ≼ xs → xs ≼ ws → ws ≡ xs
 words-ext ws xs e hw hx f g =
     ext-getD 0 ws xs e
-    (λ k h. member-ext 32 (getD ws k 0) (getD xs k 0) (hw k) (hx k)
+    (λ k h. same-below 32 (getD ws k 0) (getD xs k 0) (hw k) (hx k)
     (λ i l. both (member (getD ws k 0) i) (member (getD xs k 0) i)
     (λ t. subst T (bit-at xs k i l) (f (32 * k + i) (subst T (sym (bit-at ws k i l)) t)))
     (λ t. subst T (bit-at ws k i l) (g (32 * k + i) (subst T (sym (bit-at xs k i l)) t)))))

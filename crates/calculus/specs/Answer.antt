@@ -1,13 +1,13 @@
 -- The verdict on a system, and the answer for every input, refused ones too (document 01, "Flow rules" at its end and "Refused").
 use Prim.Native.Nat.{ℕ, zero, suc, _*_, _^_}
-use mathlib.Core.List.{List, [], _∷_}
+use mathlib.Core.List.{List, [], _∷_, _++_}
 use mathlib.Core.Bool.{Bool, true, false, not, _&&_}
-use lib.ListN.{length}
+use lib.ListN.{length, drop, replicate}
 use lib.Dec.{eqb, leb, ltb}
 use Rattle.permset.specs.Sets.{width, difference, within, lowest}
 use Rattle.table.specs.Scan.{accepted, refused as unreadable, reading, firstOf}
 use Rattle.table.specs.Code.{Code, code}
-use Rattle.calculus.specs.Layout.{length as estimateWords}
+use Rattle.calculus.specs.Layout.{estimateWords}
 use Rattle.calculus.specs.Estimate.{whole, estimate, facts, leak}
 
 -- the leak, the bound that it was compared with, whether the leak has a member outside it, the lowest such member (32 where there is
@@ -68,3 +68,23 @@ analysis c ρ bound est work =
 unfoldable pub answer : List ℕ → ℕ → ℕ → ℕ → ℕ → Answer
 unfolding analysis
 answer ws ρ bound est work = elim (reading ws) [ accepted ↦ analysis (code ws) ρ bound est work | unreadable n at ↦ refused n at ]
+
+-- ---- the lent slices after the call: a refusal leaves both as they were
+
+-- the estimate in the first words of its slice, and the rest untouched
+unfoldable pub estimateAfter : List ℕ → ℕ → ℕ → List ℕ → List ℕ → List ℕ
+unfolding answer estimate
+estimateAfter ws ρ bound est work =
+    elim (answer ws ρ bound (length est) (length work)) [
+      | refused n at ↦ est
+      | verdict v ↦ estimate (code ws) ρ ++ drop (estimateWords (code ws)) est
+    ]
+
+-- zeros in the first words of the work slice, and the rest untouched
+unfoldable pub workAfter : List ℕ → ℕ → ℕ → List ℕ → List ℕ → List ℕ
+unfolding answer
+workAfter ws ρ bound est work =
+    elim (answer ws ρ bound (length est) (length work)) [
+      | refused n at ↦ work
+      | verdict v ↦ replicate (workWords (length ws)) 0 ++ drop (workWords (length ws)) work
+    ]

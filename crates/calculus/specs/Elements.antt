@@ -9,7 +9,7 @@ use Rattle.table.specs.declared.Constant.{Constant}
 use Rattle.table.specs.declared.Operation.{Operation}
 use Rattle.table.specs.declared.Operation.the-variants as operations
 use Rattle.table.specs.Words.{constantNumber}
-use Rattle.table.specs.Code.{Code, Node, Leaf, One, Two, gap, block, leaf, one, two, bind, while, branch, update}
+use Rattle.table.specs.Code.{Code, Node, Leaf, One, gap, block, leaf, one, two, bind, while, branch, update}
 use Rattle.table.specs.Code.{constant, number, literal, named, variable, function, empty, exercise, cell, read}
 
 -- 0 undefined, 1 unit, 2 true, 3 false

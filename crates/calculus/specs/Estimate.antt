@@ -8,9 +8,9 @@ use lib.Count.{onesIn}
 use Rattle.permset.specs.Sets.{width, union}
 use Rattle.table.specs.Code.{Code}
 use Rattle.calculus.specs.Elements.{elements}
-use Rattle.calculus.specs.Constraint.{Row, P, Rule, none, put, sub, given, some, only, each, every, _and_}
+use Rattle.calculus.specs.Constraint.{P, Rule, none, put, sub, given, some, only, each, every, _and_}
 use Rattle.calculus.specs.Rules.{rule, guarded}
-use Rattle.calculus.specs.Layout.{mark, pour, length, base, span, place, sets, content}
+use Rattle.calculus.specs.Layout.{mark, pour, estimateWords, base, span, place, sets, content}
 
 -- ---- computing: `strict` and `whole` hand on a number and a list that are worked out
 
@@ -74,8 +74,8 @@ module _ (c : Code) (ρ : ℕ) where
   close (suc n) ws = whole (sweep ws) (λ xs. elim (same xs ws) [ true ↦ ws | false ↦ close n xs ])
 
   unfoldable pub estimate : List ℕ
-  unfolding close length mostFacts
-  estimate = close (mostFacts c) (replicate (length c) 0)
+  unfolding close estimateWords mostFacts
+  estimate = close (mostFacts c) (replicate (estimateWords c) 0)
 
 -- ---- what is read from an estimate
 

@@ -3,7 +3,7 @@ use Prim.Native.Nat.{ℕ, zero, suc, _+_, _*_, _/_, _%_, _^_, _<_}
 use mathlib.Core.Path.{_≡_}
 use mathlib.Core.List.{List, [], _∷_}
 use mathlib.Core.Bool.{Bool, _&&_, _||_}
-use lib.ListN.{getD, take, drop, length as lengthOf}
+use lib.ListN.{getD, take, drop, length}
 use lib.Dec.{T, leb, ltb}
 use lib.Bits.{bitOr}
 use Rattle.permset.specs.Sets.{width, member}
@@ -40,9 +40,9 @@ module _ (c : Code) where
   rowWords = (elements c + 31) / 32
 
   -- 2WR+W, the words of an estimate
-  unfoldable pub length : ℕ
+  unfoldable pub estimateWords : ℕ
   unfolding rowWords
-  length = 2 * c .size * rowWords + c .size
+  estimateWords = 2 * c .size * rowWords + c .size
 
   -- the first word of a row
   unfoldable pub base : Row → ℕ
@@ -102,7 +102,7 @@ Words ws = (k : ℕ) → getD ws k 0 < 2 ^ 32
 
 -- the words of an estimate: as many as there are to be, and no stray bit
 pub record WellFormed (c : Code) (ws : List ℕ) : Type 0 where
-  pub long : lengthOf ws ≡ length c
+  pub long : length ws ≡ estimateWords c
   pub words : Words ws
   pub clean : (n : ℕ) → T (bit ws n) → T (used c n)
 

@@ -1,7 +1,7 @@
 -- The flow rules: the constraint of each word, in the order and the words of document 01, "Flow rules".
 use Prim.Native.Nat.{ℕ, suc, _+_, _<_}
-use mathlib.Core.List.{List, List·Memᴰ}
-use mathlib.Core.Bool.{Bool, true, false, _&&_}
+use mathlib.Core.List.{List·Memᴰ}
+use mathlib.Core.Bool.{Bool, false, _&&_}
 use lib.ListN.{getD}
 use lib.Dec.{T, eqb}
 use Rattle.permset.specs.Sets.{width, member, within}
@@ -10,7 +10,7 @@ use Rattle.table.specs.Code.{constant, number, literal, named, variable, functi
 use Rattle.table.specs.Code.{apply, sequence, get, delete, assign, operation, send}
 use Rattle.calculus.specs.Elements.{constantElement, literalElement, nameElement, undefined, unit, truth, falsehood, opponentRecord}
 use Rattle.calculus.specs.Elements.{plain, made, elements, sign, isString, Making, isFunction, isRecord, isCell, makes, sendable, anyRecord, results}
-use Rattle.calculus.specs.Constraint.{Row, C, B, P, L, Sets, Rule, Obeys, none, put, sub, given, some, only, each, every, _and_}
+use Rattle.calculus.specs.Constraint.{Row, C, B, P, L, Sets, Rule, Obeys, none, put, sub, given, some, only, each, every, range, _and_}
 
 -- ---- blocks
 
@@ -66,7 +66,7 @@ live p = put (L p) 0
 module _ (c : Code) where
   -- "all 64" in r
   abbrev pub fill : Row → Rule
-  fill r = every (plain c) (λ v. put r v)
+  fill r = each (range (plain c) 0) (λ v. put r v)
 
   -- the elements of a with the property q are in b
   abbrev pub pass : Row → (ℕ → Bool) → Row → Rule

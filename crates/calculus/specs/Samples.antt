@@ -1,15 +1,14 @@
 -- The starred samples of document 01 ("Samples on the wall"), from the words of a table to its refusal, or to its leak, facts and estimate,
 -- and some more that tell apart readings which the starred ones do not. One claim covers the list: proofs/Samples.antt.
-use Prim.Native.Nat.{ℕ, suc, _+_, _*_}
+use Prim.Native.Nat.{ℕ, _+_}
 use mathlib.Core.List.{List, [], _∷_, _++_}
 use mathlib.Core.Bool.{Bool, true, false, _&&_}
-use mathlib.Core.Option.{Option, none, some}
 use lib.ListN.{length}
 use lib.Dec.{eqb}
 use Rattle.table.specs.Code.{code}
-use Rattle.calculus.specs.Layout.{length as estimateWords}
+use Rattle.calculus.specs.Layout.{estimateWords}
 use Rattle.calculus.specs.Estimate.{same, estimate}
-use Rattle.calculus.specs.Answer.{Answer, refused, verdict, Verdict, answer, ownBound, workWords}
+use Rattle.calculus.specs.Answer.{Answer, refused, verdict, answer, ownBound, workWords}
 
 -- what a sample is to give: a refusal, or a leak, and the facts and the words of the estimate where they are known
 pub data Expected : Type 0 where

@@ -147,11 +147,12 @@ in-difference s t i h k = rw member-difference (and-both (member s i) (not (memb
 
 -- ---- sets with the same members are equal
 
-member-zero : (s : ℕ) → member s 0 ≡ eqb (s % 2) 1
+-- the lowest digit, and the rest
+pub member-zero : (s : ℕ) → member s 0 ≡ eqb (s % 2) 1
 unfolding member
 member-zero s = let e : s / 1 % 2 ≡ s % 2 = omega arith in ap (λ (d : ℕ). eqb d 1) e
 
-member-suc : (s i : ℕ) → member s (suc i) ≡ member (s / 2) i
+pub member-suc : (s i : ℕ) → member s (suc i) ≡ member (s / 2) i
 unfolding member digit
 member-suc s i = ap (λ (d : ℕ). eqb d 1) (digit-suc s i)
 

@@ -7,3 +7,8 @@ pub mod Scopes
 pub mod Linked
 pub mod Distinct
 pub mod Limits
+pub mod LinkReads
+pub mod LinkEnds
+pub mod LinkBinders
+pub mod LinkMeaning
+pub mod Nodes

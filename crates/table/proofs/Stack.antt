@@ -203,7 +203,7 @@ pub names-layered : (ts : List Task) → Names ts → Layered ts
 names-layered [] h = tt
 names-layered (name ∷ ts) h = h
 
-names-more : (n : ℕ) (ts : List Task) → Names ts → Names (replicate n name ++ ts)
+pub names-more : (n : ℕ) (ts : List Task) → Names ts → Names (replicate n name ++ ts)
 names-more zero ts h = h
 names-more (suc n) ts h = names-more n ts h
 
@@ -211,7 +211,7 @@ terms-layered : (ts us : List Task) → Terms ts → Layered us → Layered (ts 
 terms-layered ts us none l = l
 terms-layered ts us (also {ts = ts′} r) l = terms-layered ts′ us r l
 
-layered-next : (at w : ℕ) (t : Task) (ts : List Task) → Layered (t ∷ ts) → Layered (next at w t ++ ts)
+pub layered-next : (at w : ℕ) (t : Task) (ts : List Task) → Layered (t ∷ ts) → Layered (next at w t ++ ts)
 unfolding next
 layered-next at w (head n) ts l = names-layered (replicate (argument w) name ++ ts) (names-more (argument w) ts l)
 layered-next at w name ts l = names-layered ts l

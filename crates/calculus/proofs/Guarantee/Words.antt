@@ -3,7 +3,7 @@ use Prim.Native.Nat.{ℕ, _<_, _≤_, _+_}
 use mathlib.Core.Path.{_≡_, refl, sym, subst, _∙_}
 use mathlib.Core.Bool.{Bool, true, false, not, _&&_}
 use mathlib.Core.List.{List, [], _∷_, _++_, List·Memᴰ}
-use lib.Dec.{T, eqb, eqb→eq, eqb-refl, ltb, ltb→lt, nltb→le}
+use lib.Dec.{T, eqb, eqb→eq, ltb, ltb→lt, nltb→le}
 use Rattle.permset.specs.Sets.{within}
 use Rattle.table.specs.Code.{Code, Node, Two, Within, Linked, NodeLinked}
 use Rattle.calculus.specs.Constraint.{C, B, P, L, Sets, Obeys}
@@ -11,7 +11,6 @@ use Rattle.calculus.specs.Elements.{nameElement}
 use Rattle.calculus.specs.Rules.{Estimate, rule, entry, flow, twoRule, nameOf, permsOf, permissions, guarded, admits}
 use Rattle.calculus.specs.Values.{Value, Environment, closed, bound, plain, datum}
 use Rattle.calculus.specs.Machine.{Frame, first, second, third, again}
-use Rattle.calculus.proofs.Digits.{T-and}
 use Rattle.calculus.proofs.Ranges.{below-in}
 use Rattle.calculus.proofs.Guarantee.Relation.{Sub, partOf, In, Bound, Leaks, Runs, Wait, Starts}
 use Rattle.calculus.proofs.Guarantee.Values.{both, moved, datum-in, weaken, weaken-bound}
@@ -77,6 +76,14 @@ module _ (c : Code) (ρ : ℕ) (e : Sets) (h : ℕ) (ty : List ℕ) where
 
 -- ---- handlers
 
+-- A handler that a send may start has the name that is sent to, the required permissions, and a guard within the sender's.
+admitted : (n r s : ℕ) (m : Node) → T (admits n r s m) → (nameOf m ≡ n) × T (within r (permsOf m)) × T (guarded m s)
+unfolding admits
+admitted n r s m t =
+    let all = both (eqb (nameOf m) n && within r (permsOf m)) (guarded m s) t in
+    let two = both (eqb (nameOf m) n) (within r (permsOf m)) (all .0) in
+    (eqb→eq (nameOf m) n (two .0), two .1, all .1)
+
 module _ (c : Code) (linked : Linked c) (ρ : ℕ) (e : Sets) (est : Estimate c ρ e) where
   pub flows : (p : ℕ) → p < c .size → T (e (L p) 0) → Obeys e (flow c p (c .node p))
   unfolding rule
@@ -133,7 +140,7 @@ module _ (c : Code) (linked : Linked c) (ρ : ℕ) (e : Sets) (est : Estimate c 
       start-good b ρ v g (o .0) (λ x t. (b, block-listed b ρ g, g, t))
       (datum-in c e b [] (e (B b)) (λ x l. o .1 x (below-in l)) v d)
 
-  -- A handler that a send at the word p of the block h may start is live and holds the message.
+  -- A handler that the send at the word p of the block h may start is live and holds the message.
   pub sent-good : (h : ℕ) (ty : List ℕ) (p r a d n b : ℕ) (v : Value) → c .home p ≡ h → Leaks c ρ e p
       → Obeys e (twoRule c p (Two.send r) a d)
       → T (e (C a) (nameElement n))
@@ -141,21 +148,17 @@ module _ (c : Code) (linked : Linked c) (ρ : ℕ) (e : Sets) (est : Estimate c 
       → T (plain v)
       → T (admits n r (permsOf (c .node h)) (c .node b))
       → Starts c ρ e b v
-  unfolding twoRule admits permissions
+  unfolding twoRule permissions
   sent-good h ty p r a d n b v q leaks o i j k t =
-      let m = c .node b in
-      let all = both (eqb (nameOf m) n && within r (permsOf m)) (guarded m (permsOf (c .node h))) t in
-      let two = both (eqb (nameOf m) n) (within r (permsOf m)) (all .0) in
+      let held = permsOf (c .node h) in
+      let f : T (guarded (c .node b) held) = admitted n r held (c .node b) t .2 in
+      let name : n ≡ nameOf (c .node b) = sym (admitted n r held (c .node b) t .0) in
       let s = stands c e h ty v (e (C d)) j in
-      -- the test for the handler's own name
-      let own =
-      T-and (eqb (nameOf m) (nameOf m) && within r (permsOf m)) (guarded m (permsOf (c .node (c .home p))))
-      (T-and (eqb (nameOf m) (nameOf m)) (within r (permsOf m)) (eqb-refl (nameOf m)) (two .1))
-      (subst (λ (g : ℕ). T (guarded m (permsOf (c .node g)))) (sym q) (all .1))
-      in
       let g =
-      o .1 (s .0) (s .3 k) (s .2) b (block-listed b (permsOf (c .node h)) (all .1)) own
-      (subst (λ (x : ℕ). T (e (C a) (nameElement x))) (sym (eqb→eq (nameOf m) n (two .0))) i)
+      o .1 (s .0) (s .3 k) (s .2) b (block-listed b held f)
+      (subst (λ (z : ℕ). T (admits (nameOf (c .node b)) r (permsOf (c .node z)) (c .node b))) (sym q)
+      (subst (λ (z : ℕ). T (admits z r held (c .node b))) name t))
+      (subst (λ (z : ℕ). T (e (C a) (nameElement z))) name i)
       in
-      start-good b (permsOf (c .node h)) v (all .1) (g .0) (λ x u. leaks x (g .1 .1 x u))
+      start-good b held v f (g .0) (λ x u. leaks x (g .1 .1 x u))
       (moved c e h ty b [] v (e (B b)) k (s .4 (e (B b)) (g .1 .0 (s .0) (below-in (s .1)) (s .3 k) (s .2))))

@@ -1,0 +1,149 @@
+//! Does an estimate obey every rule? Written apart from both solvers, as statements about single elements.
+
+use crate::estimate::*;
+use crate::naive::pair;
+use crate::table::{kind::*, within, Table};
+
+struct Checker<'a> {
+    table: &'a Table,
+    rho: u32,
+    layout: Layout,
+    estimate: &'a [u32],
+}
+
+impl Checker<'_> {
+    fn bit(&self, row: usize, x: usize) -> bool {
+        self.estimate[row * self.layout.row + x / 32] >> (x % 32) & 1 != 0
+    }
+
+    fn c(&self, i: usize, x: usize) -> bool {
+        self.bit(2 * i, x)
+    }
+
+    fn b(&self, i: usize, x: usize) -> bool {
+        self.bit(2 * i + 1, x)
+    }
+
+    fn p(&self, i: usize) -> u32 {
+        self.estimate[self.layout.rows() + i] & PERMISSIONS_MASK
+    }
+
+    fn live(&self, i: usize) -> bool {
+        self.estimate[self.layout.rows() + i] & LIVE != 0
+    }
+
+    fn elements(&self) -> std::ops::Range<usize> {
+        0..FIRST_MADE + self.layout.size
+    }
+
+    /// For every element: if the first holds of it, so does the second.
+    fn sub(&self, set: impl Fn(usize) -> bool, other: impl Fn(usize) -> bool) -> bool {
+        self.elements().all(|x| !set(x) || other(x))
+    }
+
+    /// For every word of these kinds with its element in C(p).
+    fn each(&self, p: usize, kinds: &[u8], holds: impl Fn(usize) -> bool) -> bool {
+        (0..self.layout.size).all(|q| !(kinds.contains(&self.table.kind(q)) && self.c(p, made(q))) || holds(q))
+    }
+
+    fn live_parts(&self, p: usize) -> bool {
+        let table = self.table;
+        let live_with_it = |k| match table.kind(p) {
+            FUNCTION => false,
+            IF | WHILE => k == 0,
+            _ => true,
+        };
+        table.parts(p).enumerate().all(|(k, part)| !live_with_it(k) || self.live(part))
+            && (table.kind(p) == FUNCTION || table.parts(p).all(|part| within(self.p(part), self.p(p))))
+    }
+
+    fn rule(&self, p: usize) -> bool {
+        let table = self.table;
+        let argument = table.argument(p);
+        let part = |k| table.part(p, k);
+        let records = [EMPTY, SET];
+        let string = || (OTHER_STRING..FIRST_NAME).any(|x| self.c(part(1), x));
+        match table.kind(p) {
+            CONSTANT | NUMBER | LITERAL | NAME => self.c(p, element(table, p)),
+            VARIABLE => self.sub(|x| self.b(table.binder(p), x), |x| self.c(p, x)),
+            FUNCTION | EMPTY => self.c(p, made(p)),
+            CELL => self.c(p, made(p)) && self.sub(|x| self.c(part(0), x), |x| self.b(p, x)),
+            APPLY => self.each(part(0), &[FUNCTION], |f| {
+                self.live(f + 1)
+                    && self.sub(|x| self.c(part(1), x), |x| self.b(f, x))
+                    && self.sub(|x| self.c(f + 1, x), |x| self.c(p, x))
+                    && within(self.p(f + 1), self.p(p))
+            }),
+            LET => self.sub(|x| self.c(part(0), x), |x| self.b(p, x)) && self.sub(|x| self.c(part(1), x), |x| self.c(p, x)),
+            SEQUENCE => self.sub(|x| self.c(part(1), x), |x| self.c(p, x)),
+            IF => {
+                (!self.c(part(0), TRUE) || self.live(part(1)))
+                    && (!self.c(part(0), FALSE) || self.live(part(2)))
+                    && self.sub(|x| self.c(part(1), x) || self.c(part(2), x), |x| self.c(p, x))
+            }
+            WHILE => (!self.c(part(0), TRUE) || self.live(part(1))) && (!self.c(part(0), FALSE) || self.c(p, UNDEFINED)),
+            OPERATION => (0..64).filter(|&x| self.c(part(0), x)).all(|x| {
+                let mut seconds = (0..64).filter(|&y| self.c(part(1), y));
+                seconds.all(|y| pair(argument, x, y).into_iter().all(|z| self.c(p, z)))
+            }),
+            GET => {
+                !string()
+                    || self.each(part(0), &records, |q| self.c(p, UNDEFINED) && self.sub(|x| self.b(q, x), |x| self.c(p, x)))
+                        && (!self.c(part(0), OPPONENT) || (0..64).all(|x| self.c(p, x)))
+            }
+            SET => {
+                let made_anew = self.c(p, made(p)) && self.sub(|x| self.c(part(2), x), |x| self.b(p, x));
+                !string()
+                    || self.each(part(0), &records, |q| made_anew && self.sub(|x| self.b(q, x), |x| self.b(p, x)))
+                        && (!self.c(part(0), OPPONENT) || made_anew && (0..64).all(|x| self.b(p, x)))
+            }
+            DELETE => {
+                !string() || self.each(part(0), &records, |q| self.c(p, made(q))) && (!self.c(part(0), OPPONENT) || self.c(p, OPPONENT))
+            }
+            READ => self.each(part(0), &[CELL], |q| self.sub(|x| self.b(q, x), |x| self.c(p, x))),
+            ASSIGN => self.each(part(0), &[CELL], |q| self.sub(|x| self.c(part(1), x), |x| self.c(p, x) && self.b(q, x))),
+            SEND => self.c(p, UNIT) && self.send(p),
+            EXERCISE => !within(argument, table.permissions(p)) || within(argument, self.p(p)) && self.c(p, UNIT),
+            _ => true,
+        }
+    }
+
+    fn send(&self, p: usize) -> bool {
+        let table = self.table;
+        let (target, message) = (table.part(p, 0), table.part(p, 1));
+        let forbidden = |x: usize| x >= FIRST_MADE && matches!(table.kind(x - FIRST_MADE), FUNCTION | CELL);
+        let sent = |x| self.c(message, x) && !forbidden(x);
+        let could_start = |name: u32, permissions: u32, guard: u32| {
+            self.c(target, FIRST_NAME + name as usize) && within(table.argument(p), permissions) && within(guard, table.permissions(p))
+        };
+        !self.elements().any(sent)
+            || table.blocks.iter().all(|h| {
+                !could_start(h.name, h.permissions, h.guard)
+                    || self.live(h.start) && self.sub(sent, |x| self.b(h.start, x)) && within(self.p(h.start), self.p(p))
+            })
+    }
+
+    fn entry(&self, b: usize) -> bool {
+        !within(self.table.argument(b + 2), self.rho) || self.live(b) && (0..64).all(|x| self.b(b, x))
+    }
+
+    /// Does every set bit stand for an element that some word makes, a permission or a flag?
+    fn no_stray_bit(&self) -> bool {
+        let makes = |x: usize| matches!(self.table.kind(x - FIRST_MADE), FUNCTION | EMPTY | SET | CELL);
+        let stands = |x| x < FIRST_MADE || x < FIRST_MADE + self.layout.size && makes(x);
+        (0..2 * self.layout.size).all(|row| (0..32 * self.layout.row).all(|x| !self.bit(row, x) || stands(x)))
+            && self.estimate[self.layout.rows()..].iter().all(|&word| within(word, LIVE | PERMISSIONS_MASK))
+    }
+}
+
+/// The lowest word with a broken rule, if any; a stray bit is the table's word 0.
+pub fn broken(table: &Table, rho: u32, estimate: &[u32]) -> Option<usize> {
+    let checker = Checker { table, rho, layout: Layout::of(table.size()), estimate };
+    if !checker.no_stray_bit() {
+        return Some(0);
+    }
+    (0..table.size()).find(|&p| {
+        let entry = table.kind(p) != BLOCK || checker.entry(p);
+        !entry || checker.live(p) && !(checker.live_parts(p) && checker.rule(p))
+    })
+}

@@ -1,0 +1,15 @@
+//! An independent implementation of document 01, written from its text alone.
+//!
+//! `cargo test --release --offline` runs all tests; PEER_ROUNDS=20 before it makes the random ones 20 times as long.
+
+pub mod check;
+pub mod estimate;
+pub mod generate;
+pub mod inputs;
+pub mod machine;
+pub mod naive;
+pub mod samples;
+pub mod solve;
+pub mod table;
+pub mod terms;
+pub mod verdict;
