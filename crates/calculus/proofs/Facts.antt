@@ -1,11 +1,12 @@
 -- Facts of parts of an estimate: words or-ed into a part change the facts of that part alone, and an estimate that gained no fact is
 -- unchanged.
-use Prim.Native.Nat.{ℕ, zero, suc, _+_, _*_, _≤_, _<_}
+use Prim.Native.Nat.{ℕ, zero, suc, _+_, _*_, _/_, _%_, _^_, _≤_, _<_}
 use mathlib.Core.Path.{_≡_, refl, sym, ap, _∙_}
 use mathlib.Core.List.{List, [], _∷_, _++_, append-assoc}
-use native.Mathlib.Nat.{zero-add, suc-add, add-assoc}
+use native.Mathlib.Nat.{zero-add, suc-add, add-assoc, pow-suc}
 use native.Mathlib.Omega.{arith}
-use lib.Count.{onesIn}
+use lib.Count.{onesIn, ones, ones-step}
+use lib.Arith.{lt-one}
 use lib.Bits.{bitOr}
 use lib.ListN.{length, getD, set, take, drop, take-append-drop}
 use lib.Seq.{take-nil, drop-nil, drop-drop}
@@ -19,6 +20,15 @@ unfolding facts
 facts-append [] ys = sym (zero-add (facts ys))
 facts-append (x ∷ xs) ys =
     ap (λ (n : ℕ). onesIn 32 x + n) (facts-append xs ys) ∙ sym (add-assoc (onesIn 32 x) (facts xs) (facts ys))
+
+-- the digits counted in a word of 32
+pub ones-word : (x : ℕ) → x < 2 ^ 32 → ones x ≡ onesIn 32 x
+unfolding onesIn ones
+ones-word x h = go 32 x h
+  where
+    go : (k n : ℕ) → n < 2 ^ k → ones n ≡ onesIn k n
+    go zero n l = ap ones (lt-one l)
+    go (suc k) n l = let e : 2 ^ suc k ≡ 2 ^ k * 2 = pow-suc 2 k in ones-step n ∙ ap (λ (m : ℕ). n % 2 + m) (go k (n / 2) (omega arith))
 
 pub facts-le : (ws xs : List ℕ) → length ws ≡ length xs → ws ≼ xs → facts ws ≤ facts xs
 facts-le ws xs e f =

@@ -48,7 +48,7 @@ sign-lt n = go (eqb n 0) (ltb n (2 ^ 23))
     go false false = lit< tt
 
 -- each number of a list is below 7, and each of a table's lists
-lows : List ℕ → Bool
+pub lows : List ℕ → Bool
 lows [] = true
 lows (x ∷ xs) = ltb x 7 && lows xs
 
@@ -56,7 +56,7 @@ low-rows : List (List ℕ) → Bool
 low-rows [] = true
 low-rows (r ∷ rs) = lows r && low-rows rs
 
-lows-mem : (xs : List ℕ) → T (lows xs) → (z : ℕ) → List·Memᴰ z xs → z < 7
+pub lows-mem : (xs : List ℕ) → T (lows xs) → (z : ℕ) → List·Memᴰ z xs → z < 7
 unfolding lows
 lows-mem [] h z m = absurd (List·Memᴰ·not-nil m)
 lows-mem (x ∷ xs) h z m =
@@ -77,7 +77,7 @@ by-signs t h x y = go (isSign x && isSign y)
     go true = low-at t h (signPlace x y)
     go false = tt
 
-results-low : (c : Code) (o : Operation) (x y : ℕ) → T (lows (results c o x y))
+pub results-low : (c : Code) (o : Operation) (x y : ℕ) → T (lows (results c o x y))
 unfolding results sumSigns lessSigns equalResults lows low-rows
 results-low c operations.Add x y = by-signs sumSigns tt x y
 results-low c operations.Less x y = by-signs lessSigns tt x y

@@ -1,0 +1,506 @@
+-- The results of equal, from the digits of two rows without the opponent's record: true where they share a digit; false where they
+-- share one that stands for more than one value, differ, or have more than one digit.
+use Prim.Native.Nat.{ℕ, zero, suc, _+_, _-_, _*_, _/_, _%_, _^_, _≤_, _<_}
+use mathlib.Core.Path.{_≡_, refl, sym, ap, ap₂, _∙_, subst}
+use mathlib.Core.List.{List, [], _∷_, List·Memᴰ, List·Memᴰ·head, List·Memᴰ·tail, List·Memᴰ·cases-cons, List·Memᴰ·not-nil}
+use mathlib.Core.Logic.{_⊎_, inl, inr, ⊎-elim}
+use mathlib.Core.Bool.{Bool, true, false, not, _&&_, _||_}
+use native.Mathlib.Nat.{lt-of-le-of-lt}
+use native.Mathlib.Decide.{decLt, ℕ-discrete}
+use native.Mathlib.Omega.{arith}
+use lib.Dec.{T, eqb, ltb, eqb→eq, eqb-refl, ltb→lt, lt→ltb, lit<, T-not}
+use lib.Bits.{bitAnd, bitOr, and-le-l}
+use lib.Count.{ones}
+use lib.ListN.{getD}
+use Rattle.permset.specs.Sets.{member, difference, lowest}
+use Rattle.permset.proofs.Laws.{member-empty, member-and, difference-first, difference-second, difference-lt, empty-difference, within-antisym, lowest-lt, lowest-member}
+use Rattle.table.specs.declared.Operation.the-variants as operations
+use Rattle.table.specs.Code.{Code}
+use Rattle.calculus.specs.Elements.{plain, comparable, isMany, equalResults, results}
+use Rattle.calculus.specs.Layout.{bit, Words}
+use Rattle.calculus.specs.Estimate.{facts}
+use Rattle.calculus.proofs.Digits.{T-and, T-fst, T-snd, T-true, T-or, T-or-left, T-or-right, member-or, member-single-only}
+use Rattle.calculus.proofs.Slices.{bit-at, bit-short}
+use Rattle.calculus.proofs.Counting.{count, facts-count}
+use Rattle.calculus.proofs.Several.{Two, some-two, two-some}
+use Rattle.calculus.proofs.Facts.{ones-word}
+use Rattle.calculus.proofs.Masks.{T-false, agree, agree-below, masked, bit-masked, nonzero, digit-nonzero, nonzero-digit, words-two}
+use Rattle.calculus.proofs.OperationMasks.{Gives, resultMask, results-are}
+
+-- one of two words has a digit
+unfoldable pub anyDigit : (x y : ℕ) → Bool
+anyDigit x y = not (eqb x 0 && eqb y 0)
+
+-- a first word without the opponent's record
+unfoldable pub comparables : ℕ → ℕ
+comparables x = bitAnd x 0xffffff7f
+
+-- truth where a digit is shared
+unfoldable pub sameMask : (a0 a1 d0 d1 : ℕ) → ℕ
+unfolding anyDigit
+sameMask a0 a1 d0 d1 = elim (anyDigit (bitAnd a0 d0) (bitAnd a1 d1)) [ true ↦ 4 | false ↦ 0 ]
+
+-- two different values: from one shared element that stands for more than one, or from two elements
+unfoldable pub apart : (a0 a1 d0 d1 : ℕ) → Bool
+unfolding ones
+apart a0 a1 d0 d1 = not (eqb (bitAnd (bitAnd a0 d0) 0x150) 0) || (not (eqb a0 d0 && eqb a1 d1) || ltb 1 (ones a0 + ones a1))
+
+-- falsehood where there are such
+unfoldable pub apartMask : (a0 a1 d0 d1 : ℕ) → ℕ
+unfolding apart
+apartMask a0 a1 d0 d1 = elim (apart a0 a1 d0 d1) [ true ↦ 8 | false ↦ 0 ]
+
+unfoldable pub equalMask : (a0 a1 d0 d1 : ℕ) → ℕ
+unfolding anyDigit sameMask apartMask
+equalMask a0 a1 d0 d1 =
+    elim (anyDigit a0 a1 && anyDigit d0 d1) [ true ↦ bitOr (sameMask a0 a1 d0 d1) (apartMask a0 a1 d0 d1) | false ↦ 0 ]
+
+-- ---- the digits of two words
+
+nonzero-two : (x y : ℕ) → nonzero (x ∷ y ∷ []) ≡ anyDigit x y
+unfolding nonzero anyDigit
+nonzero-two x y = go (eqb x 0) (eqb y 0)
+  where
+    go : (a b : Bool) → elim a [ true ↦ elim b [ true ↦ false | false ↦ true ] | false ↦ true ] ≡ not (a && b)
+    go true true = refl
+    go true false = refl
+    go false b = refl
+
+any-in : (x y n : ℕ) → T (bit (x ∷ y ∷ []) n) → T (anyDigit x y)
+any-in x y n h = subst T (nonzero-two x y) (digit-nonzero (x ∷ y ∷ []) n h)
+
+any-of : (x y : ℕ) → x < 2 ^ 32 → y < 2 ^ 32 → T (anyDigit x y) → (n : ℕ) × T (bit (x ∷ y ∷ []) n)
+any-of x y h k t = nonzero-digit (x ∷ y ∷ []) (words-two x y h k) (subst T (sym (nonzero-two x y)) t)
+
+count-two : (x y : ℕ) → x < 2 ^ 32 → y < 2 ^ 32 → ones x + ones y ≡ count 64 (bit (x ∷ y ∷ []))
+unfolding facts
+count-two x y h k = let e : ones x + ones y ≡ facts (x ∷ y ∷ []) = omega (arith, ones-word x h, ones-word y k) in e ∙ facts-count (x ∷ y ∷ [])
+
+-- 4, 6 and 8
+many-lt : (v : ℕ) → T (isMany v) → v < 9
+unfolding isMany
+many-lt v h =
+    ⊎-elim
+    (λ a. ⊎-elim (λ b. let e : v ≡ 4 = eqb→eq v 4 b in omega arith) (λ b. let e : v ≡ 6 = eqb→eq v 6 b in omega arith) (T-or (eqb v 4) (eqb v 6) a))
+    (λ b. let e : v ≡ 8 = eqb→eq v 8 b in omega arith) (T-or (eqb v 4 || eqb v 6) (eqb v 8) h)
+
+many-mask : (v : ℕ) → bit (0x150 ∷ []) v ≡ isMany v
+unfolding agree bit member isMany
+many-mask v = go (decLt v 32)
+  where
+    go : Dec (v < 32) → bit (0x150 ∷ []) v ≡ isMany v
+    go (yes l) = agree-below 32 (bit (0x150 ∷ [])) isMany tt v l
+    go (no l) =
+        T-false (bit (0x150 ∷ []) v) (λ h. l (omega (arith, bit-short (0x150 ∷ []) v h)))
+        ∙ sym (T-false (isMany v) (λ h. l (omega (arith, many-lt v h))))
+
+-- numbers that differ have a digit that only one of them has
+record Differ (f g : ℕ → Bool) : Type 0 where
+  digit : ℕ
+  one-sided : (T (f digit) × (T (g digit) → ⊥)) ⊎ (T (g digit) × (T (f digit) → ⊥))
+
+differ-number : (s t : ℕ) → s < 2 ^ 32 → t < 2 ^ 32 → (s ≡ t → ⊥) → (i : ℕ) × (i < 32) × ((T (member s i) × (T (member t i) → ⊥)) ⊎ (T (member t i) × (T (member s i) → ⊥)))
+differ-number s t hs ht n = go (ℕ-discrete (difference s t) 0) (ℕ-discrete (difference t s) 0)
+  where
+    low : (s t : ℕ) → s < 2 ^ 32 → (difference s t ≡ 0 → ⊥) → (i : ℕ) × (i < 32) × T (member s i) × (T (member t i) → ⊥)
+    low s t hs z =
+        let l : lowest (difference s t) < 32 = lowest-lt 32 (difference s t) (omega arith) (difference-lt 32 s t hs) z in
+        let m : T (member (difference s t) (lowest (difference s t))) = lowest-member (difference s t) l in (
+          lowest (difference s t),
+          l,
+          difference-first s t (lowest (difference s t)) m,
+          difference-second s t (lowest (difference s t)) m,
+        )
+
+    go : Dec (difference s t ≡ 0) → Dec (difference t s ≡ 0) → (i : ℕ) × (i < 32) × ((T (member s i) × (T (member t i) → ⊥)) ⊎ (T (member t i) × (T (member s i) → ⊥)))
+    go (no z) e = let x : (i : ℕ) × (i < 32) × T (member s i) × (T (member t i) → ⊥) = low s t hs z in (x .0, x .1, inl (x .2, x .3))
+    go (yes z) (no e) = let x : (i : ℕ) × (i < 32) × T (member t i) × (T (member s i) → ⊥) = low t s ht e in (x .0, x .1, inr (x .2, x .3))
+    go (yes z) (yes e) = absurd (n (within-antisym s t (empty-difference s t z) (empty-difference t s e)))
+
+-- what `equal` gives on two elements that it compares
+verdicts : ℕ → ℕ → List ℕ
+verdicts x y = elim (eqb x y) [ true ↦ elim (isMany x) [ true ↦ 2 ∷ 3 ∷ [] | false ↦ 2 ∷ [] ] | false ↦ 3 ∷ [] ]
+
+record Compared (f g : ℕ → Bool) (z : ℕ) : Type 0 where
+  left : ℕ
+  right : ℕ
+  in-left : T (f left)
+  in-right : T (g right)
+  verdict : List·Memᴰ z (verdicts left right)
+
+verdict-same : (x : ℕ) → List·Memᴰ {A = ℕ} 2 (verdicts x x)
+unfolding verdicts
+verdict-same x = go (eqb x x) (eqb-refl x) (isMany x)
+  where
+    go : (a : Bool) → T a → (b : Bool)
+        → List·Memᴰ {A = ℕ} 2 (elim a [ true ↦ elim b [ true ↦ 2 ∷ 3 ∷ [] | false ↦ 2 ∷ [] ] | false ↦ 3 ∷ [] ])
+    go true h true = List·Memᴰ·head refl
+    go true h false = List·Memᴰ·head refl
+    go false h b = absurd h
+
+verdict-many : (x : ℕ) → T (isMany x) → List·Memᴰ {A = ℕ} 3 (verdicts x x)
+unfolding verdicts
+verdict-many x t = go (eqb x x) (eqb-refl x) (isMany x) t
+  where
+    go : (a : Bool) → T a → (b : Bool) → T b
+        → List·Memᴰ {A = ℕ} 3 (elim a [ true ↦ elim b [ true ↦ 2 ∷ 3 ∷ [] | false ↦ 2 ∷ [] ] | false ↦ 3 ∷ [] ])
+    go true h true k = List·Memᴰ·tail (List·Memᴰ·head refl)
+    go true h false k = absurd k
+    go false h b k = absurd h
+
+verdict-apart : (x y : ℕ) → (x ≡ y → ⊥) → List·Memᴰ {A = ℕ} 3 (verdicts x y)
+unfolding verdicts
+verdict-apart x y n = go (eqb x y) refl
+  where
+    go : (a : Bool) → eqb x y ≡ a
+        → List·Memᴰ {A = ℕ} 3 (elim a [ true ↦ elim (isMany x) [ true ↦ 2 ∷ 3 ∷ [] | false ↦ 2 ∷ [] ] | false ↦ 3 ∷ [] ])
+    go true e = absurd (n (eqb→eq x y (subst T (sym e) tt)))
+    go false e = List·Memᴰ·head refl
+
+-- which verdict it is, and why
+data Reason (x y z : ℕ) : Type 0 where
+  alike : z ≡ 2 → x ≡ y → Reason x y z
+  many : z ≡ 3 → x ≡ y → T (isMany x) → Reason x y z
+  unlike : z ≡ 3 → (x ≡ y → ⊥) → Reason x y z
+
+reason : (x y z : ℕ) → List·Memᴰ z (verdicts x y) → Reason x y z
+unfolding verdicts
+reason x y z m = go (eqb x y) refl (isMany x) refl m
+  where
+    lone : (k : ℕ) → List·Memᴰ z (k ∷ []) → z ≡ k
+    lone k n = ⊎-elim (λ e. e) (λ r. absurd (List·Memᴰ·not-nil r)) (List·Memᴰ·cases-cons n)
+
+    go : (a : Bool) → eqb x y ≡ a → (b : Bool) → isMany x ≡ b
+        → List·Memᴰ z (elim a [ true ↦ elim b [ true ↦ 2 ∷ 3 ∷ [] | false ↦ 2 ∷ [] ] | false ↦ 3 ∷ [] ]) → Reason x y z
+    go true e true f n =
+        let q : x ≡ y = eqb→eq x y (subst T (sym e) tt) in
+        ⊎-elim (λ r. alike r q) (λ r. many (lone 3 r) q (subst T (sym f) tt)) (List·Memᴰ·cases-cons n)
+    go true e false f n = alike (lone 2 n) (eqb→eq x y (subst T (sym e) tt))
+    go false e b f n = unlike (lone 3 n) (λ q. subst T (sym (T-true (eqb x y) (subst (λ (u : ℕ). T (eqb x u)) q (eqb-refl x))) ∙ e) tt)
+
+nonzero-one : (x : ℕ) → nonzero (x ∷ []) ≡ not (eqb x 0)
+unfolding nonzero
+nonzero-one x = go (eqb x 0)
+  where
+    go : (a : Bool) → elim a [ true ↦ false | false ↦ true ] ≡ not a
+    go true = refl
+    go false = refl
+
+-- ---- the mask of two pairs of words
+
+module _ (a0 a1 d0 d1 : ℕ) (ha0 : a0 < 2 ^ 32) (ha1 : a1 < 2 ^ 32) (hd0 : d0 < 2 ^ 32) (hd1 : d1 < 2 ^ 32) where
+  abbrev A : ℕ → Bool
+  A = bit (a0 ∷ a1 ∷ [])
+
+  abbrev D : ℕ → Bool
+  D = bit (d0 ∷ d1 ∷ [])
+
+  -- a digit that is shared
+  shared : (n : ℕ) → bit (bitAnd a0 d0 ∷ bitAnd a1 d1 ∷ []) n ≡ A n && D n
+  unfolding masked
+  shared n = bit-masked (a0 ∷ a1 ∷ []) (d0 ∷ d1 ∷ []) n
+
+  shared-many : (n : ℕ) → bit (bitAnd (bitAnd a0 d0) 0x150 ∷ []) n ≡ (A n && D n) && isMany n
+  unfolding masked
+  shared-many n =
+      bit-masked (bitAnd a0 d0 ∷ bitAnd a1 d1 ∷ []) (0x150 ∷ []) n ∙ ap₂ (λ (x y : Bool). x && y) (shared n) (many-mask n)
+
+  same-in : (n : ℕ) → T (A n) → T (D n) → T (member (sameMask a0 a1 d0 d1) 2)
+  unfolding sameMask member
+  same-in n h k = go (anyDigit (bitAnd a0 d0) (bitAnd a1 d1)) (any-in (bitAnd a0 d0) (bitAnd a1 d1) n (subst T (sym (shared n)) (T-and (A n) (D n) h k)))
+    where
+      go : (b : Bool) → T b → T (member (elim b [ true ↦ 4 | false ↦ 0 ]) 2)
+      go true t = tt
+      go false t = absurd t
+
+  same-only : (z : ℕ) → T (member (sameMask a0 a1 d0 d1) z) → (z ≡ 2) × T (anyDigit (bitAnd a0 d0) (bitAnd a1 d1))
+  unfolding sameMask
+  same-only z h = go (anyDigit (bitAnd a0 d0) (bitAnd a1 d1)) h
+    where
+      go : (b : Bool) → T (member (elim b [ true ↦ 4 | false ↦ 0 ]) z) → (z ≡ 2) × T b
+      go true t = (sym (member-single-only 2 z t), tt)
+      go false t = absurd (subst T (member-empty z) t)
+
+  apart-in : T (apart a0 a1 d0 d1) → T (member (apartMask a0 a1 d0 d1) 3)
+  unfolding apartMask member
+  apart-in h = go (apart a0 a1 d0 d1) h
+    where
+      go : (b : Bool) → T b → T (member (elim b [ true ↦ 8 | false ↦ 0 ]) 3)
+      go true t = tt
+      go false t = absurd t
+
+  apart-only : (z : ℕ) → T (member (apartMask a0 a1 d0 d1) z) → (z ≡ 3) × T (apart a0 a1 d0 d1)
+  unfolding apartMask
+  apart-only z h = go (apart a0 a1 d0 d1) h
+    where
+      go : (b : Bool) → T (member (elim b [ true ↦ 8 | false ↦ 0 ]) z) → (z ≡ 3) × T b
+      go true t = (sym (member-single-only 3 z t), tt)
+      go false t = absurd (subst T (member-empty z) t)
+
+  -- the three reasons why two values may be different
+  abbrev manyTest : Bool
+  manyTest = not (eqb (bitAnd (bitAnd a0 d0) 0x150) 0)
+
+  abbrev differTest : Bool
+  differTest = not (eqb a0 d0 && eqb a1 d1)
+
+  abbrev severalTest : Bool
+  severalTest = ltb 1 (ones a0 + ones a1)
+
+  by-many : (n : ℕ) → T (A n) → T (D n) → T (isMany n) → T (apart a0 a1 d0 d1)
+  unfolding apart
+  by-many n h k m =
+      T-or-left manyTest (differTest || severalTest)
+      (subst T (nonzero-one (bitAnd (bitAnd a0 d0) 0x150))
+      (digit-nonzero (bitAnd (bitAnd a0 d0) 0x150 ∷ []) n
+      (subst T (sym (shared-many n)) (T-and (A n && D n) (isMany n) (T-and (A n) (D n) h k) m))))
+
+  several : (x y : ℕ) → (x ≡ y → ⊥) → T (A x) → T (A y) → T severalTest
+  several x y n h k = lt→ltb 1 (ones a0 + ones a1) (omega (arith, count-two a0 a1 ha0 ha1, go (decLt x y)))
+    where
+      go : Dec (x < y) → 1 < count 64 A
+      go (yes l) = two-some 64 A x y l (omega (arith, bit-short (a0 ∷ a1 ∷ []) y k)) h k
+      go (no l) = two-some 64 A y x (omega arith) (omega (arith, bit-short (a0 ∷ a1 ∷ []) x h)) k h
+
+  by-unlike : (x y : ℕ) → (x ≡ y → ⊥) → T (A x) → T (D y) → T (apart a0 a1 d0 d1)
+  unfolding apart
+  by-unlike x y n h k = T-or-right manyTest (differTest || severalTest) (go (eqb a0 d0 && eqb a1 d1) refl)
+    where
+      go : (b : Bool) → (eqb a0 d0 && eqb a1 d1) ≡ b → T (not b || severalTest)
+      go true e =
+          let t : T (eqb a0 d0 && eqb a1 d1) = subst T (sym e) tt in
+          let p : a0 ≡ d0 = eqb→eq a0 d0 (T-fst (eqb a0 d0) (eqb a1 d1) t) in
+          let q : a1 ≡ d1 = eqb→eq a1 d1 (T-snd (eqb a0 d0) (eqb a1 d1) t) in
+          several x y n h (subst T (ap₂ (λ (u v : ℕ). bit (u ∷ v ∷ []) y) (sym p) (sym q)) k)
+      go false e = tt
+
+  compared-in : (z : ℕ) → Compared A D z → T (member (equalMask a0 a1 d0 d1) z)
+  unfolding equalMask
+  compared-in z r =
+      let x : ℕ = r .left in
+      let y : ℕ = r .right in
+      open-mask (anyDigit a0 a1 && anyDigit d0 d1)
+      (T-and (anyDigit a0 a1) (anyDigit d0 d1) (any-in a0 a1 x (r .in-left)) (any-in d0 d1 y (r .in-right)))
+      (subst T (sym (member-or (sameMask a0 a1 d0 d1) (apartMask a0 a1 d0 d1) z)) (go (reason x y z (r .verdict))))
+    where
+      open-mask : (b : Bool) → T b → T (member (bitOr (sameMask a0 a1 d0 d1) (apartMask a0 a1 d0 d1)) z)
+          → T (member (elim b [ true ↦ bitOr (sameMask a0 a1 d0 d1) (apartMask a0 a1 d0 d1) | false ↦ 0 ]) z)
+      open-mask true t h = h
+      open-mask false t h = absurd t
+
+      go : Reason (r .left) (r .right) z → T (member (sameMask a0 a1 d0 d1) z || member (apartMask a0 a1 d0 d1) z)
+      go (alike e q) =
+          T-or-left (member (sameMask a0 a1 d0 d1) z) (member (apartMask a0 a1 d0 d1) z)
+          (subst (λ (u : ℕ). T (member (sameMask a0 a1 d0 d1) u)) (sym e) (same-in (r .left) (r .in-left) (subst (λ (u : ℕ). T (D u)) (sym q) (r .in-right))))
+      go (many e q m) =
+          T-or-right (member (sameMask a0 a1 d0 d1) z) (member (apartMask a0 a1 d0 d1) z)
+          (subst (λ (u : ℕ). T (member (apartMask a0 a1 d0 d1) u)) (sym e)
+          (apart-in (by-many (r .left) (r .in-left) (subst (λ (u : ℕ). T (D u)) (sym q) (r .in-right)) m)))
+      go (unlike e n) =
+          T-or-right (member (sameMask a0 a1 d0 d1) z) (member (apartMask a0 a1 d0 d1) z)
+          (subst (λ (u : ℕ). T (member (apartMask a0 a1 d0 d1) u)) (sym e) (apart-in (by-unlike (r .left) (r .right) n (r .in-left) (r .in-right))))
+
+  -- ---- the other way round
+
+  from-same : T (anyDigit (bitAnd a0 d0) (bitAnd a1 d1)) → Compared A D 2
+  from-same t =
+      let n : (n : ℕ) × T (bit (bitAnd a0 d0 ∷ bitAnd a1 d1 ∷ []) n) =
+      any-of (bitAnd a0 d0) (bitAnd a1 d1) (lt-of-le-of-lt (and-le-l a0 d0) ha0) (lt-of-le-of-lt (and-le-l a1 d1) ha1) t
+      in
+      let b : T (A (n .0) && D (n .0)) = subst T (shared (n .0)) (n .1) in
+      record {
+        left = n .0;
+        right = n .0;
+        in-left = T-fst (A (n .0)) (D (n .0)) b;
+        in-right = T-snd (A (n .0)) (D (n .0)) b;
+        verdict = verdict-same (n .0);
+      }
+
+  from-many : T manyTest → Compared A D 3
+  from-many t =
+      let n : (n : ℕ) × T (bit (bitAnd (bitAnd a0 d0) 0x150 ∷ []) n) =
+      nonzero-digit (bitAnd (bitAnd a0 d0) 0x150 ∷ []) words (subst T (sym (nonzero-one (bitAnd (bitAnd a0 d0) 0x150))) t)
+      in
+      let b : T ((A (n .0) && D (n .0)) && isMany (n .0)) = subst T (shared-many (n .0)) (n .1) in
+      let s : T (A (n .0) && D (n .0)) = T-fst (A (n .0) && D (n .0)) (isMany (n .0)) b in
+      record {
+        left = n .0;
+        right = n .0;
+        in-left = T-fst (A (n .0)) (D (n .0)) s;
+        in-right = T-snd (A (n .0)) (D (n .0)) s;
+        verdict = verdict-many (n .0) (T-snd (A (n .0) && D (n .0)) (isMany (n .0)) b);
+      }
+    where
+      words : Words (bitAnd (bitAnd a0 d0) 0x150 ∷ [])
+      words zero = lt-of-le-of-lt (and-le-l (bitAnd a0 d0) 0x150) (lt-of-le-of-lt (and-le-l a0 d0) ha0)
+      words (suc k) = lit< tt
+
+  from-pair : (x y : ℕ) → T (A x) → T (D y) → (x ≡ y → ⊥) → Compared A D 3
+  from-pair x y h k n = record { left = x; right = y; in-left = h; in-right = k; verdict = verdict-apart x y n }
+
+  -- a digit of one side alone is apart from every digit of the other
+  from-differ : Differ A D → (x y : ℕ) → T (A x) → T (D y) → Compared A D 3
+  from-differ e x y h k =
+      ⊎-elim (λ (s : T (A (e .digit)) × (T (D (e .digit)) → ⊥)). from-pair (e .digit) y (s .0) k (λ q. s .1 (subst (λ (u : ℕ). T (D u)) (sym q) k)))
+      (λ (s : T (D (e .digit)) × (T (A (e .digit)) → ⊥)). from-pair x (e .digit) h (s .0) (λ q. s .1 (subst (λ (u : ℕ). T (A u)) q h))) (e .one-sided)
+
+  from-two : Two A → (y : ℕ) → T (D y) → Compared A D 3
+  from-two t y k = go (ℕ-discrete y (t .lower))
+    where
+      go : Dec (y ≡ t .lower) → Compared A D 3
+      go (yes e) = let l : t .lower < t .upper = t .ordered in from-pair (t .upper) y (t .at-upper) k (λ q. absurd (omega arith))
+      go (no e) = from-pair (t .lower) y (t .at-lower) k (λ q. e (sym q))
+
+  differ : T differTest → Differ A D
+  differ t = go (ℕ-discrete a0 d0) (ℕ-discrete a1 d1)
+    where
+      at : (k i : ℕ) → i < 32 → (T (member (getD (a0 ∷ a1 ∷ []) k 0) i) × (T (member (getD (d0 ∷ d1 ∷ []) k 0) i) → ⊥)) ⊎ (T (member (getD (d0 ∷ d1 ∷ []) k 0) i) × (T (member (getD (a0 ∷ a1 ∷ []) k 0) i) → ⊥)) → Differ A D
+      at k i l s =
+          record {
+            digit = 32 * k + i;
+            one-sided = rw (bit-at (a0 ∷ a1 ∷ []) k i l, bit-at (d0 ∷ d1 ∷ []) k i l) s;
+          }
+
+      go : Dec (a0 ≡ d0) → Dec (a1 ≡ d1) → Differ A D
+      go (no n) e = let x = differ-number a0 d0 ha0 hd0 n in at 0 (x .0) (x .1) (x .2)
+      go (yes p) (no n) = let x = differ-number a1 d1 ha1 hd1 n in at 1 (x .0) (x .1) (x .2)
+      go (yes p) (yes q) =
+          absurd
+          (T-not (eqb a0 d0 && eqb a1 d1) t
+          (T-and (eqb a0 d0) (eqb a1 d1) (subst (λ (u : ℕ). T (eqb a0 u)) p (eqb-refl a0)) (subst (λ (u : ℕ). T (eqb a1 u)) q (eqb-refl a1))))
+
+  from-apart : T (anyDigit a0 a1) → T (anyDigit d0 d1) → T (apart a0 a1 d0 d1) → Compared A D 3
+  unfolding apart
+  from-apart ta td h =
+      let x : (n : ℕ) × T (A n) = any-of a0 a1 ha0 ha1 ta in
+      let y : (n : ℕ) × T (D n) = any-of d0 d1 hd0 hd1 td in
+      ⊎-elim (λ t. from-many t)
+      (λ r. ⊎-elim (λ t. from-differ (differ t) (x .0) (y .0) (x .1) (y .1))
+      (λ t. from-two (some-two 64 A (omega (arith, ltb→lt 1 (ones a0 + ones a1) t, count-two a0 a1 ha0 ha1))) (y .0) (y .1))
+      (T-or differTest severalTest r))
+      (T-or manyTest (differTest || severalTest) h)
+
+  compared-only : (z : ℕ) → T (member (equalMask a0 a1 d0 d1) z) → Compared A D z
+  unfolding equalMask
+  compared-only z h = go (anyDigit a0 a1 && anyDigit d0 d1) refl h
+    where
+      go : (b : Bool) → (anyDigit a0 a1 && anyDigit d0 d1) ≡ b
+          → T (member (elim b [ true ↦ bitOr (sameMask a0 a1 d0 d1) (apartMask a0 a1 d0 d1) | false ↦ 0 ]) z) → Compared A D z
+      go true e t =
+          let both : T (anyDigit a0 a1 && anyDigit d0 d1) = subst T (sym e) tt in
+          ⊎-elim
+          (λ s. let o : (z ≡ 2) × T (anyDigit (bitAnd a0 d0) (bitAnd a1 d1)) = same-only z s in
+          subst (λ (u : ℕ). Compared A D u) (sym (o .0)) (from-same (o .1)))
+          (λ s. let o : (z ≡ 3) × T (apart a0 a1 d0 d1) = apart-only z s in
+          subst (λ (u : ℕ). Compared A D u) (sym (o .0))
+          (from-apart (T-fst (anyDigit a0 a1) (anyDigit d0 d1) both) (T-snd (anyDigit a0 a1) (anyDigit d0 d1) both) (o .1)))
+          (T-or (member (sameMask a0 a1 d0 d1) z) (member (apartMask a0 a1 d0 d1) z) (subst T (member-or (sameMask a0 a1 d0 d1) (apartMask a0 a1 d0 d1) z) t))
+      go false e t = absurd (subst T (member-empty z) t)
+
+-- ---- without the opponent's record
+
+seven-mask : (v : ℕ) → v < 32 → member 0xffffff7f v ≡ not (eqb v 7)
+unfolding agree member
+seven-mask v h = agree-below 32 (member 0xffffff7f) (λ v. not (eqb v 7)) tt v h
+
+member-comparables : (x v : ℕ) → member (comparables x) v ≡ member x v && member 0xffffff7f v
+unfolding comparables
+member-comparables x v = member-and x 0xffffff7f v
+
+comparables-lt : (x : ℕ) → x < 2 ^ 32 → comparables x < 2 ^ 32
+unfolding comparables
+comparables-lt x h = lt-of-le-of-lt (and-le-l x 0xffffff7f) h
+
+-- digits from 32 on do not depend on the first word
+later-digit : (x y : ℕ) (ws : List ℕ) (v : ℕ) → 32 ≤ v → bit (x ∷ ws) v ≡ bit (y ∷ ws) v
+unfolding bit
+later-digit x y ws v h =
+    let e : v / 32 ≡ suc (v / 32 - 1) = omega arith in
+    ap (λ (k : ℕ). member (getD (x ∷ ws) k 0) (v % 32)) e ∙ sym (ap (λ (k : ℕ). member (getD (y ∷ ws) k 0) (v % 32)) e)
+
+and-not : (b t : Bool) → t ≡ false → b ≡ b && not t
+and-not true t e = sym (ap not e)
+and-not false t e = refl
+
+without-seven : (x0 x1 v : ℕ) → bit (comparables x0 ∷ x1 ∷ []) v ≡ bit (x0 ∷ x1 ∷ []) v && not (eqb v 7)
+without-seven x0 x1 v = go (decLt v 32)
+  where
+    first : (x : ℕ) → v < 32 → bit (x ∷ x1 ∷ []) v ≡ member x v
+    first x h = let e : v ≡ 32 * 0 + v = omega arith in ap (bit (x ∷ x1 ∷ [])) e ∙ bit-at (x ∷ x1 ∷ []) 0 v h
+
+    go : Dec (v < 32) → bit (comparables x0 ∷ x1 ∷ []) v ≡ bit (x0 ∷ x1 ∷ []) v && not (eqb v 7)
+    go (yes h) =
+        first (comparables x0) h ∙ member-comparables x0 v ∙ ap₂ (λ (a b : Bool). a && b) (sym (first x0 h)) (seven-mask v h)
+    go (no h) =
+        later-digit (comparables x0) x0 (x1 ∷ []) v (omega arith)
+        ∙ and-not (bit (x0 ∷ x1 ∷ []) v) (eqb v 7) (T-false (eqb v 7) (λ t. let e : v ≡ 7 = eqb→eq v 7 t in omega arith))
+
+module _ (c : Code) (x y z : ℕ) where
+  equal-in : T (comparable c x) → T (comparable c y) → List·Memᴰ z (verdicts x y) → List·Memᴰ z (results c operations.Equal x y)
+  unfolding results equalResults verdicts
+  equal-in h k m = go (comparable c x && comparable c y) (T-and (comparable c x) (comparable c y) h k)
+    where
+      go : (b : Bool) → T b → List·Memᴰ z (elim b [ true ↦ verdicts x y | false ↦ [] ])
+      go true t = m
+      go false t = absurd t
+
+  equal-only : List·Memᴰ z (results c operations.Equal x y) → T (comparable c x && comparable c y) × List·Memᴰ z (verdicts x y)
+  unfolding results equalResults verdicts
+  equal-only m = go (comparable c x && comparable c y) m
+    where
+      go : (b : Bool) → List·Memᴰ z (elim b [ true ↦ verdicts x y | false ↦ [] ]) → T b × List·Memᴰ z (verdicts x y)
+      go true n = (tt, n)
+      go false n = absurd (List·Memᴰ·not-nil n)
+
+-- elements that are compared are those of the words without the opponent's record
+module _ (c : Code) (n : c .names ≡ 32) (x0 x1 v : ℕ) where
+  compared-to : T (bit (comparables x0 ∷ x1 ∷ []) v) → (v < plain c) × T (bit (x0 ∷ x1 ∷ []) v) × T (comparable c v)
+  unfolding comparable
+  compared-to h =
+      let b : T (bit (x0 ∷ x1 ∷ []) v && not (eqb v 7)) = subst T (without-seven x0 x1 v) h in
+      let l : v < plain c = omega (arith, bit-short (comparables x0 ∷ x1 ∷ []) v h) in (
+        l,
+        T-fst (bit (x0 ∷ x1 ∷ []) v) (not (eqb v 7)) b,
+        T-and (ltb v (plain c)) (not (eqb v 7)) (lt→ltb v (plain c) l) (T-snd (bit (x0 ∷ x1 ∷ []) v) (not (eqb v 7)) b),
+      )
+
+  compared-from : T (bit (x0 ∷ x1 ∷ []) v) → T (comparable c v) → T (bit (comparables x0 ∷ x1 ∷ []) v)
+  unfolding comparable
+  compared-from h k =
+      subst T (sym (without-seven x0 x1 v)) (T-and (bit (x0 ∷ x1 ∷ []) v) (not (eqb v 7)) h (T-snd (ltb v (plain c)) (not (eqb v 7)) k))
+
+pub equal-results : (c : Code) → c .names ≡ 32 → (a0 a1 d0 d1 : ℕ) → a0 < 2 ^ 32 → a1 < 2 ^ 32 → d0 < 2 ^ 32 → d1 < 2 ^ 32
+    → resultMask c operations.Equal a0 a1 d0 d1 ≡ equalMask (comparables a0) a1 (comparables d0) d1
+equal-results c n a0 a1 d0 d1 ha0 ha1 hd0 hd1 =
+    results-are c operations.Equal a0 a1 d0 d1 (equalMask (comparables a0) a1 (comparables d0) d1)
+    (λ z h. to z (compared-only (comparables a0) a1 (comparables d0) d1 (comparables-lt a0 ha0) ha1 (comparables-lt d0 hd0) hd1 z h))
+    (λ z g. compared-in (comparables a0) a1 (comparables d0) d1 (comparables-lt a0 ha0) ha1 (comparables-lt d0 hd0) hd1 z (from z g))
+  where
+    to : (z : ℕ) → Compared (bit (comparables a0 ∷ a1 ∷ [])) (bit (comparables d0 ∷ d1 ∷ [])) z
+        → Gives c operations.Equal (bit (a0 ∷ a1 ∷ [])) (bit (d0 ∷ d1 ∷ [])) z
+    to z r =
+        let x : (r .left < plain c) × T (bit (a0 ∷ a1 ∷ []) (r .left)) × T (comparable c (r .left)) = compared-to c n a0 a1 (r .left) (r .in-left) in
+        let y : (r .right < plain c) × T (bit (d0 ∷ d1 ∷ []) (r .right)) × T (comparable c (r .right)) = compared-to c n d0 d1 (r .right) (r .in-right) in
+        record {
+          first = r .left;
+          second = r .right;
+          first-plain = x .0;
+          second-plain = y .0;
+          in-first = x .1;
+          in-second = y .1;
+          result = equal-in c (r .left) (r .right) z (x .2) (y .2) (r .verdict);
+        }
+
+    from : (z : ℕ) → Gives c operations.Equal (bit (a0 ∷ a1 ∷ [])) (bit (d0 ∷ d1 ∷ [])) z
+        → Compared (bit (comparables a0 ∷ a1 ∷ [])) (bit (comparables d0 ∷ d1 ∷ [])) z
+    from z g =
+        let m : T (comparable c (g .first) && comparable c (g .second)) × List·Memᴰ z (verdicts (g .first) (g .second)) =
+        equal-only c (g .first) (g .second) z (g .result)
+        in
+        record {
+          left = g .first;
+          right = g .second;
+          in-left = compared-from c n a0 a1 (g .first) (g .in-first) (T-fst (comparable c (g .first)) (comparable c (g .second)) (m .0));
+          in-right = compared-from c n d0 d1 (g .second) (g .in-second) (T-snd (comparable c (g .first)) (comparable c (g .second)) (m .0));
+          verdict = m .1;
+        }
