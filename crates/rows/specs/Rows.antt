@@ -8,12 +8,6 @@ use lib.Dec.{eqb}
 use Rattle.calculus.specs.Layout.{pour}
 use Rattle.calculus.specs.Estimate.{facts}
 
--- xs where the mask ms allows it, word by word
-unfoldable pub masked : List ℕ → List ℕ → List ℕ
-masked [] xs = []
-masked (m ∷ ms) [] = []
-masked (m ∷ ms) (x ∷ xs) = bitAnd m x ∷ masked ms xs
-
 -- some digit is in both
 unfoldable pub meets : List ℕ → List ℕ → Bool
 meets [] xs = false

@@ -5,14 +5,15 @@ ghost use mathlib.Core.Path.{_≡_};
 ghost use mathlib.Core.List.{[], _∷_};
 ghost use Prim.Native.Nat.{_+_, _*_, _%_, _^_, _<_, _≤_};
 ghost use lib.ListN.{length, getD, drop, take};
-ghost use Rattle.rows.specs.Rows.{Poured, masked};
+ghost use Rattle.calculus.proofs.Masks.{masked};
+ghost use Rattle.rows.specs.Rows.{Poured};
 
 // Notes a number: word 0 of the log counts the notes, and a full log takes no more.
 fn note(log: &mut [u32], n: usize) {
     if 0 < log.len() {
         let count = log[0] as usize + 1;
         if count < log.len() {
-            log[0] = count as u32;
+            log[0] = (count % 4294967296) as u32;
             log[count] = (n % 65536) as u32;
         }
     }

@@ -3,7 +3,8 @@ ghost use mathlib.Core.Path.{_≡_};
 ghost use mathlib.Core.List.{[], _∷_, _++_};
 ghost use Prim.Native.Nat.{_+_, _*_, _<_, _≤_};
 ghost use lib.ListN.{length, drop, take};
-ghost use Rattle.rows.specs.Rows.{Poured, masked, meets, lacking};
+ghost use Rattle.calculus.proofs.Masks.{masked};
+ghost use Rattle.rows.specs.Rows.{Poured, meets, lacking};
 
 // Sets bits of the word k, and answers how many that added.
 pub fn set(row: &mut [u32], k: usize, bits: u32) -> usize
