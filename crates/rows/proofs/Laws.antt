@@ -153,11 +153,36 @@ put-back ws at n new k xs added p h =
     record {
       words = ap (λ (ys : List ℕ). take at ws ++ (ys ++ drop n (drop at ws))) (p .words) ∙ pour-inside ws at n k xs h;
       count =
-      let old : facts ws ≡ facts (take at ws) + (facts (take n (drop at ws)) + facts (drop n (drop at ws))) =
-      ap facts (sym (whole ws at n)) ∙ facts-whole (take at ws) (take n (drop at ws)) (drop n (drop at ws))
-      in
-      omega (arith, p .count, facts-whole (take at ws) new (drop n (drop at ws)));
+          let old : facts ws ≡ facts (take at ws) + (facts (take n (drop at ws)) + facts (drop n (drop at ws))) =
+          ap facts (sym (whole ws at n)) ∙ facts-whole (take at ws) (take n (drop at ws)) (drop n (drop at ws))
+          in
+          omega (arith, p .count, facts-whole (take at ws) new (drop n (drop at ws)));
     }
+
+pub put-back-whole : (ws : List ℕ) (at n : ℕ) (new xs : List ℕ) (added : ℕ) → Poured (take n (drop at ws)) new 0 xs added → length xs ≤ n
+    → Poured ws (take at ws ++ (new ++ drop n (drop at ws))) at xs added
+put-back-whole ws at n new xs added p h =
+    subst (λ (k : ℕ). Poured ws (take at ws ++ (new ++ drop n (drop at ws))) k xs added) (add-zero at)
+    (put-back ws at n new 0 xs added p (omega arith))
+
+-- a row of an estimate as a part that is lent
+module _ (ws : List ℕ) (at row : ℕ) where
+  pub same-part : take (at + row - at) (drop at ws) ≡ take row (drop at ws)
+  same-part = let e : at + row - at ≡ row = omega arith in ap (λ (n : ℕ). take n (drop at ws)) e
+
+  pub length-row : at + row ≤ length ws → length (take row (drop at ws)) ≡ row
+  length-row h = length-take-le row (drop at ws) (simp length-drop (omega arith))
+
+  pub length-part : at + row ≤ length ws → length (take (at + row - at) (drop at ws)) ≡ row
+  length-part h = ap length same-part ∙ length-row h
+
+  -- a row copied to the front of another list, and or-ed in from there
+  pub row-joined : (copy new xs : List ℕ) (added : ℕ) → take row copy ≡ xs → length xs ≡ row
+      → Poured (take (at + row - at) (drop at ws)) new 0 (take row copy) added
+      → Poured ws (take at ws ++ (new ++ drop (at + row - at) (drop at ws))) at xs added
+  row-joined copy new xs added e l p =
+      put-back-whole ws at (at + row - at) new xs added
+      (subst (λ (zs : List ℕ). Poured (take (at + row - at) (drop at ws)) new 0 zs added) e p) (omega arith)
 
 -- ---- a row that lacks nothing of another
 
@@ -197,12 +222,11 @@ lacking-nothing (x ∷ xs) (y ∷ ys) h e =
 pub nothing-added : (ws : List ℕ) (at : ℕ) (xs : List ℕ) (n : ℕ) → length xs ≡ n → at + n ≤ length ws → lacking xs (take n (drop at ws)) ≡ false
     → Poured ws ws at xs 0
 nothing-added ws at xs n e h f =
-    let l : length xs ≡ length (take n (drop at ws)) = e ∙ sym (length-take-le n (drop at ws) (simp length-drop (omega arith))) in
+    let l : length xs ≡ length (take n (drop at ws)) = e ∙ sym (length-row ws at n h) in
     let p : Poured (take n (drop at ws)) (take n (drop at ws)) 0 xs 0 =
     record { words = sym (lacking-nothing xs (take n (drop at ws)) f l); count = omega arith }
     in
-    subst (λ (k : ℕ). Poured ws ws k xs 0) (add-zero at)
-    (subst (λ (new : List ℕ). Poured ws new (at + 0) xs 0) (whole ws at n) (put-back ws at n (take n (drop at ws)) 0 xs 0 p (omega arith)))
+    subst (λ (new : List ℕ). Poured ws new at xs 0) (whole ws at n) (put-back-whole ws at n (take n (drop at ws)) xs 0 p (omega arith))
 
 -- ---- masks
 

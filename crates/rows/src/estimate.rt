@@ -27,7 +27,14 @@ fn note_if(log: &mut [u32], n: usize, added: usize) {
 }
 
 // Row a in row b.
-pub fn sub_row(est: &mut [u32], scratch: &mut [u32], log: &mut [u32], row: usize, a: usize, b: usize) -> usize
+pub fn sub_row(
+    est: &mut [u32],
+    scratch: &mut [u32],
+    log: &mut [u32],
+    row: usize,
+    a: usize,
+    b: usize,
+) -> usize
     requires { ⌜ (row < 64) × (a < 2048) × (b < 2048) × (a * row + row ≤ length (now est)) × (b * row + row ≤ length (now est)) × (row ≤ length (now scratch)) ⌝ }
     ensures { λ r. ⌜ Poured (now (est .entry)) (now (est .exit)) (b * row) (take row (drop (a * row) (now (est .entry)))) r ⌝ }
 {
@@ -43,7 +50,15 @@ pub fn sub_row(est: &mut [u32], scratch: &mut [u32], log: &mut [u32], row: usize
 }
 
 // What row a has in common with a mask in row b.
-pub fn pass_row(est: &mut [u32], scratch: &mut [u32], mask: &[u32], log: &mut [u32], row: usize, a: usize, b: usize) -> usize
+pub fn pass_row(
+    est: &mut [u32],
+    scratch: &mut [u32],
+    mask: &[u32],
+    log: &mut [u32],
+    row: usize,
+    a: usize,
+    b: usize,
+) -> usize
     requires { ⌜ (row < 64) × (a < 2048) × (b < 2048) × (a * row + row ≤ length (now est)) × (b * row + row ≤ length (now est)) × (row ≤ length (now scratch)) × (length (now mask) ≡ row) ⌝ }
     ensures { λ r. ⌜ Poured (now (est .entry)) (now (est .exit)) (b * row) (masked (now (mask .entry)) (take row (drop (a * row) (now (est .entry))))) r ⌝ }
 {
@@ -56,7 +71,14 @@ pub fn pass_row(est: &mut [u32], scratch: &mut [u32], mask: &[u32], log: &mut [u
 }
 
 // Bits of word k of row a.
-pub fn put_bits(est: &mut [u32], log: &mut [u32], row: usize, a: usize, k: usize, bits: u32) -> usize
+pub fn put_bits(
+    est: &mut [u32],
+    log: &mut [u32],
+    row: usize,
+    a: usize,
+    k: usize,
+    bits: u32,
+) -> usize
     requires { ⌜ (row < 64) × (a < 2048) × (k < row) × (a * row + row ≤ length (now est)) ⌝ }
     ensures { λ r. ⌜ Poured (now (est .entry)) (now (est .exit)) (a * row + k) (bits ∷ []) r ⌝ }
 {

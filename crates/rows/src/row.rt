@@ -65,7 +65,7 @@ pub fn any(row: &[u32], mask: &[u32]) -> bool
     ensures { λ r. ⌜ r ≡ meets (now (mask .entry)) (now (row .entry)) ⌝ }
 {
     let mut i = 0;
-    while i < row.len() {
+    while i < mask.len() {
         if mask[i] & row[i] != 0 {
             return true;
         }

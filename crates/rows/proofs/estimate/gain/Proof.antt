@@ -1,13 +1,10 @@
 -- `rows::estimate::gain` meets its contract: what `set` did to the part is said of the whole.
 -- Assumes nothing.
-use mathlib.Core.Path.{subst}
-use mathlib.Core.List.{List, [], _∷_}
-use Prim.Native.Nat.{ℕ, _+_, _-_, _*_}
-use native.Mathlib.Nat.{add-zero}
+use mathlib.Core.List.{[], _∷_}
+use Prim.Native.Nat.{_+_, _-_}
 use native.Mathlib.Omega.{arith}
 use borrow.Author.Needs.{needs}
-use Rattle.rows.specs.Rows.{Poured}
-use Rattle.rows.proofs.Laws.{put-back}
+use Rattle.rows.proofs.Laws.{put-back-whole}
 use Rattle.rows.proofs.estimate.gain.Statement.{statement}
 use Rattle.rows.proofs.estimate.gain.Tie as tie
 
@@ -39,10 +36,9 @@ same-length-2 : tie.Need-same-length-2
 same-length-2 c = search needs
 
 returns : tie.Need-returns
-returns c = 
+returns c =
     let a = c .before .before .before .before .before .before .before .before .before .before .args in
-    subst (λ (k : ℕ). Poured (a .est .now) _ k (a .bits ∷ []) _) (add-zero (a .at))
-    (put-back (a .est .now) (a .at) (a .at + 1 - a .at) _ 0 (a .bits ∷ []) _ (c .before .before .before .before .before .before .set .ensures) (omega arith))
+    put-back-whole (a .est .now) (a .at) (a .at + 1 - a .at) _ (a .bits ∷ []) _ (c .before .before .before .before .before .before .set .ensures) (omega arith)
 
 pub gain-spec : {M : Type 1} → statement M
 gain-spec =

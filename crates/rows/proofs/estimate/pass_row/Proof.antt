@@ -1,11 +1,15 @@
+-- `rows::estimate::pass_row` meets its contract: the row is copied through the mask and or-ed in.
+-- Assumes nothing.
+use mathlib.Core.Path.{sym, ap, _∙_}
+use Prim.Native.Nat.{_+_, _-_, _*_}
+use native.Mathlib.Omega.{arith}
+use lib.ListN.{take, drop}
+use lib.Seq.{length-take-le, take-at}
 use borrow.Author.Needs.{needs}
+use Rattle.calculus.proofs.Masks.{masked}
+use Rattle.rows.proofs.Laws.{length-row, length-part, same-part, row-joined, length-masked}
 use Rattle.rows.proofs.estimate.pass_row.Statement.{statement}
 use Rattle.rows.proofs.estimate.pass_row.Tie as tie
-use Rattle.rows.proofs.estimate.pass_row.Reads as reads
-use Rattle.rows.proofs.estimate.pass_row.Lts as lts
-use Rattle.rows.proofs.estimate.note_if.Reads as note-if-reads
-use Rattle.rows.proofs.row.copy_masked.Reads as copy-masked-reads
-use Rattle.rows.proofs.row.join.Reads as join-reads
 
 mul-from : tie.Need-mul-from
 mul-from c = search needs
@@ -50,10 +54,15 @@ slice-reshare-prefix-join : tie.Need-slice-reshare-prefix-join
 slice-reshare-prefix-join c = search needs
 
 slice-aggregate-join : tie.Need-slice-aggregate-join
-slice-aggregate-join c = ?
+slice-aggregate-join c =
+    let a = c .before .before .before .before .before .before .before .before .before .before .before .before .args in
+    sym (length-take-le (a .row) _ (omega (arith, c .before .before .before .before .before .before .before .before .before .before .before .before .pre, c .before .before .before .before .copy-masked .kept .1 .1 .0)))
 
 join-requires : tie.Need-join-requires
-join-requires c κs = ?
+join-requires c κs =
+    let a = c .before .before .before .before .before .before .before .before .before .before .before .before .args in
+    let part = length-part (a .est .now) (a .b * a .row) (a .row) (omega (arith, c .before .before .before .before .before .before .before .before .before .before .before .before .pre)) in
+    (length-take-le (a .row) _ (omega (arith, c .before .before .before .before .before .before .before .before .before .before .before .before .pre, c .before .before .before .before .copy-masked .kept .1 .1 .0)) ∙ sym part, omega (arith, part, c .before .before .before .before .before .before .before .before .before .before .before .before .pre))
 
 note-if-requires : tie.Need-note-if-requires
 note-if-requires c κs = search needs
@@ -68,7 +77,18 @@ same-length-3 : tie.Need-same-length-3
 same-length-3 c = search needs
 
 returns : tie.Need-returns
-returns c = ?
+returns c =
+    let a = c .before .before .before .before .before .before .before .before .before .before .before .before .before .before .before .before .before .before .before .args in
+    let from = a .a * a .row in
+    let part = length-part (a .est .now) from (a .row) (omega (arith, c .before .before .before .before .before .before .before .before .before .before .before .before .before .before .before .before .before .before .before .pre)) in
+    let row = length-row (a .est .now) from (a .row) (omega (arith, c .before .before .before .before .before .before .before .before .before .before .before .before .before .before .before .before .before .before .before .pre)) in
+    row-joined (a .est .now) (a .b * a .row) (a .row) _ _ (masked (a .mask .now) (take (a .row) (drop from (a .est .now)))) _
+    (ap (take (a .row)) (c .before .before .before .before .before .before .before .before .before .before .before .copy-masked .ensures)
+    ∙ take-at (masked (a .mask .now) (take (from + a .row - from) (drop from (a .est .now)))) _ (a .row)
+    (length-masked (a .mask .now) (take (from + a .row - from) (drop from (a .est .now))) (omega (arith, part, c .before .before .before .before .before .before .before .before .before .before .before .before .before .before .before .before .before .before .before .pre)) ∙ part)
+    ∙ ap (masked (a .mask .now)) (same-part (a .est .now) from (a .row)))
+    (length-masked (a .mask .now) (take (a .row) (drop from (a .est .now))) (omega (arith, row, c .before .before .before .before .before .before .before .before .before .before .before .before .before .before .before .before .before .before .before .pre)) ∙ row)
+    (c .before .before .before .before .before .before .join .ensures)
 
 pub pass-row-spec : {M : Type 1} → statement M
 pass-row-spec =

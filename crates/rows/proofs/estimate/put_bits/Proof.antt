@@ -1,12 +1,9 @@
 -- `rows::estimate::put_bits` meets its contract: what `set` did to the part is said of the whole.
 -- Assumes nothing.
-use mathlib.Core.Path.{subst}
-use mathlib.Core.List.{List, [], _∷_}
-use Prim.Native.Nat.{ℕ, _+_, _-_, _*_}
-use native.Mathlib.Nat.{add-zero}
+use mathlib.Core.List.{[], _∷_}
+use Prim.Native.Nat.{_+_, _-_, _*_}
 use native.Mathlib.Omega.{arith}
 use borrow.Author.Needs.{needs}
-use Rattle.rows.specs.Rows.{Poured}
 use Rattle.rows.proofs.Laws.{put-back}
 use Rattle.rows.proofs.estimate.put_bits.Statement.{statement}
 use Rattle.rows.proofs.estimate.put_bits.Tie as tie
@@ -42,7 +39,7 @@ same-length-2 : tie.Need-same-length-2
 same-length-2 c = search needs
 
 returns : tie.Need-returns
-returns c = 
+returns c =
     let a = c .before .before .before .before .before .before .before .before .before .before .args in
     put-back (a .est .now) (a .a * a .row) (a .a * a .row + a .row - a .a * a .row) _ (a .k) (a .bits ∷ []) _ (c .before .before .before .before .before .before .set .ensures) (omega arith)
 

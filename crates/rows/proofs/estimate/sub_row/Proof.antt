@@ -1,12 +1,15 @@
+-- `rows::estimate::sub_row` meets its contract: where nothing is lacking nothing changes; else the row is copied and or-ed in.
+-- Assumes nothing.
+use mathlib.Core.Path.{sym, ap, _∙_}
+use Prim.Native.Nat.{_+_, _-_, _*_}
+use native.Mathlib.Omega.{arith}
+use lib.ListN.{take, drop}
+use lib.Seq.{length-take-le, take-at}
 use borrow.Author.Needs.{needs}
+use borrow.Author.Tests.{not-true}
+use Rattle.rows.proofs.Laws.{length-row, length-part, same-part, row-joined, nothing-added}
 use Rattle.rows.proofs.estimate.sub_row.Statement.{statement}
 use Rattle.rows.proofs.estimate.sub_row.Tie as tie
-use Rattle.rows.proofs.estimate.sub_row.Reads as reads
-use Rattle.rows.proofs.estimate.sub_row.Lts as lts
-use Rattle.rows.proofs.estimate.note.Reads as note-reads
-use Rattle.rows.proofs.row.copy.Reads as copy-reads
-use Rattle.rows.proofs.row.join.Reads as join-reads
-use Rattle.rows.proofs.row.lacks.Reads as lacks-reads
 
 mul-from : tie.Need-mul-from
 mul-from c = search needs
@@ -21,7 +24,11 @@ same-length : tie.Need-same-length
 same-length c = search needs
 
 returns : tie.Need-returns
-returns c = ?
+returns c =
+    let a = c .before .before .before .before .before .before .args in
+    nothing-added (a .est .now) (a .b * a .row) (take (a .row) (drop (a .a * a .row) (a .est .now))) (a .row)
+    (length-row (a .est .now) (a .a * a .row) (a .row) (omega arith)) (omega arith)
+    (sym (c .before .lacks .ensures) ∙ not-true _ (c .if1 .taken))
 
 add-copy : tie.Need-add-copy
 add-copy c = search needs
@@ -60,10 +67,15 @@ slice-reshare-prefix-join : tie.Need-slice-reshare-prefix-join
 slice-reshare-prefix-join c = search needs
 
 slice-aggregate-join : tie.Need-slice-aggregate-join
-slice-aggregate-join c = ?
+slice-aggregate-join c =
+    let a = c .before .before .before .before .before .before .before .before .before .before .before .before .before .before .args in
+    sym (length-take-le (a .row) _ (omega (arith, c .before .before .before .before .before .before .before .before .before .before .before .before .before .before .pre, c .before .before .before .before .copy .kept .1 .0)))
 
 join-requires : tie.Need-join-requires
-join-requires c κs = ?
+join-requires c κs =
+    let a = c .before .before .before .before .before .before .before .before .before .before .before .before .before .before .args in
+    let part = length-part (a .est .now) (a .b * a .row) (a .row) (omega (arith, c .before .before .before .before .before .before .before .before .before .before .before .before .before .before .pre)) in
+    (length-take-le (a .row) _ (omega (arith, c .before .before .before .before .before .before .before .before .before .before .before .before .before .before .pre, c .before .before .before .before .copy .kept .1 .0)) ∙ sym part, omega (arith, part, c .before .before .before .before .before .before .before .before .before .before .before .before .before .before .pre))
 
 note-requires : tie.Need-note-requires
 note-requires c κs = search needs
@@ -78,7 +90,15 @@ same-length-4 : tie.Need-same-length-4
 same-length-4 c = search needs
 
 returns-2 : tie.Need-returns-2
-returns-2 c = ?
+returns-2 c =
+    let a = c .before .before .before .before .before .before .before .before .before .before .before .before .before .before .before .before .before .before .before .before .before .args in
+    let from = a .a * a .row in
+    row-joined (a .est .now) (a .b * a .row) (a .row) _ _ (take (a .row) (drop from (a .est .now))) _
+    (ap (take (a .row)) (c .before .before .before .before .before .before .before .before .before .before .before .copy .ensures)
+    ∙ take-at (take (from + a .row - from) (drop from (a .est .now))) _ (a .row) (length-part (a .est .now) from (a .row) (omega (arith, c .before .before .before .before .before .before .before .before .before .before .before .before .before .before .before .before .before .before .before .before .before .pre)))
+    ∙ same-part (a .est .now) from (a .row))
+    (length-row (a .est .now) from (a .row) (omega (arith, c .before .before .before .before .before .before .before .before .before .before .before .before .before .before .before .before .before .before .before .before .before .pre)))
+    (c .before .before .before .before .before .before .join .ensures)
 
 pub sub-row-spec : {M : Type 1} → statement M
 sub-row-spec =

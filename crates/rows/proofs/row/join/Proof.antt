@@ -1,10 +1,9 @@
 -- `rows::row::join` meets its contract. The loop's invariant: the words before `i` are or-ed in, and so many facts were added.
 -- Assumes nothing.
 use mathlib.Core.Path.{_≡_, refl, sym, ap, _∙_}
-use mathlib.Core.List.{List, [], _∷_}
-use Prim.Native.Nat.{ℕ, _+_, _-_, _≤_, _<_}
+use Prim.Native.Nat.{_+_, _-_, _≤_}
 use native.Mathlib.Omega.{arith}
-use lib.ListN.{length, getD, take}
+use lib.ListN.{length, take}
 use lib.Seq.{take-all}
 use borrow.Author.Needs.{needs}
 use Rattle.calculus.specs.Layout.{pour}
@@ -54,7 +53,7 @@ same-length : tie.Need-same-length Inv-loop μ-loop
 same-length c = search needs
 
 returns : tie.Need-returns Inv-loop μ-loop
-returns c = 
+returns c =
     let l = c .before .loop in
     record {
       words = l .inv .2 .words ∙ ap (pour (c .before .before .before .before .args .row .now) 0) (take-all (l .i) (c .before .before .before .before .args .from .now) (omega arith));

@@ -85,13 +85,13 @@ loop-less : tie.Need-loop-less Inv-loop μ-loop
 loop-less c = search needs
 
 loop-again : tie.Need-loop-again Inv-loop μ-loop
-loop-again c = 
+loop-again c =
     let l = c .before .before .before .loop in
     let a = c .before .before .before .before .args in
     (omega arith, l .inv .1 ∙ one-more (a .est .now) (a .row) (a .from) (a .to) (l .i) (l .missing) (omega arith) (omega arith) (omega arith))
 
 returns : tie.Need-returns Inv-loop μ-loop
-returns c = 
+returns c =
     let l = c .before .loop in
     let a = c .before .before .args in
     sym (l .inv .1 ∙ none-left (a .est .now) (a .row) (a .from) (a .to) (l .i) (l .missing) (omega arith))

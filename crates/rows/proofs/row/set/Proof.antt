@@ -5,7 +5,7 @@ use mathlib.Core.List.{List, [], _∷_}
 use Prim.Native.Nat.{ℕ, _+_, _-_, _^_, _≤_, _<_}
 use native.Mathlib.Omega.{arith}
 use lib.Bits.{bitOr, or-lt}
-use lib.Count.{onesIn, ones, ones-le}
+use lib.Count.{ones, ones-le}
 use lib.ListN.{length, getD, set}
 use lib.Seq.{set-getD}
 use borrow.Author.Needs.{needs}
@@ -58,12 +58,12 @@ slice-write-row : tie.Need-slice-write-row
 slice-write-row c = search needs
 
 sub-result : tie.Need-sub-result
-sub-result c = 
+sub-result c =
     let a = c .before .before .args in
     ones-grow (a .row .now) (a .k) (a .bits) (c .before .before .pre) (c .before .slice-known .given (a .k) .fits) (c .before .before .fits .bits .fits)
 
 cast-result : tie.Need-cast-result
-cast-result c = 
+cast-result c =
     let a = c .before .before .args in
     omega (arith, ones-le 32 _ (or-lt 32 (getD (a .row .now) (a .k) 0) (a .bits) (c .before .slice-known .given (a .k) .fits) (c .before .before .fits .bits .fits)))
 
@@ -71,7 +71,7 @@ same-length : tie.Need-same-length
 same-length c = search needs
 
 returns-2 : tie.Need-returns-2
-returns-2 c = 
+returns-2 c =
     let a = c .before .before .args in
     new-bits (a .row .now) (a .k) (a .bits) (c .before .before .pre) (c .before .slice-known .given (a .k) .fits) (c .before .before .fits .bits .fits)
 
