@@ -1,0 +1,275 @@
+-- Laws of rows: words or-ed in one after another, how many facts that adds, a row that lacks nothing of another, and what a mask keeps.
+use Prim.Native.Nat.{ℕ, zero, suc, _+_, _-_, _*_, _/_, _%_, _^_, _≤_, _<_}
+use mathlib.Core.Path.{_≡_, refl, sym, ap, ap₂, _∙_, subst}
+use mathlib.Core.Bool.{Bool, true, false, not, _&&_, _||_, true≢false}
+use mathlib.Core.List.{List, [], _∷_, _++_}
+use native.Mathlib.Nat.{zero-add, suc-add, add-zero, pow-suc}
+use native.Mathlib.Decide.{ℕ-discrete}
+use native.Mathlib.Numerals.{add-one}
+use native.Mathlib.Omega.{arith}
+use borrow.Author.Tests.{eq-eqb, ne-eqb, eqb-true, not-false}
+use lib.Arith.{lt-one}
+use lib.Dec.{T, eqb}
+use lib.Count.{onesIn, ones, ones-step}
+use lib.Bits.{bitAnd, bitOr, bitXor, and-le-l, and-le-r, or-add-and, xor-add-and, xor-self, and-comm}
+use lib.ListN.{length, getD, set, take, drop, take-append-drop, length-drop, drop-of-length-le}
+use lib.Seq.{take-suc, drop-cons, length-take-le, take-nil, drop-nil, take-length}
+use Rattle.calculus.specs.Layout.{bit, pour, Words}
+use Rattle.calculus.specs.Estimate.{facts}
+use Rattle.calculus.proofs.Digits.{T-true, T-and, T-fst, T-snd}
+use Rattle.calculus.proofs.Slices.{length-pour, pour-adds}
+use Rattle.calculus.proofs.Facts.{facts-le, facts-set, facts-append, pour-one}
+use Rattle.calculus.proofs.Masks.{masked, bit-masked, masked-words, nonzero, digit-nonzero, nonzero-digit}
+use Rattle.rows.specs.Rows.{meets, lacking, Poured}
+
+-- ---- the digits of one word
+
+pub ones-in : (k n : ℕ) → n < 2 ^ k → onesIn k n ≡ ones n
+unfolding onesIn ones
+ones-in zero n h = ap ones (sym (lt-one h))
+ones-in (suc k) n h = ap (λ (x : ℕ). n % 2 + x) (ones-in k (n / 2) (omega (arith, pow-suc 2 k))) ∙ sym (ones-step n)
+
+onesIn-le : (k n : ℕ) → onesIn k n ≤ k
+unfolding onesIn
+onesIn-le zero n = omega arith
+onesIn-le (suc k) n = omega (arith, onesIn-le k (n / 2))
+
+-- two tests for equal numbers that hold together
+eqb-same : (a b c d : ℕ) → (a ≡ b → c ≡ d) → (c ≡ d → a ≡ b) → eqb a b ≡ eqb c d
+eqb-same a b c d f g = go (ℕ-discrete a b)
+  where
+    go : Dec (a ≡ b) → eqb a b ≡ eqb c d
+    go (yes e) = eq-eqb a b e ∙ sym (eq-eqb c d (f e))
+    go (no e) = ne-eqb a b e ∙ sym (ne-eqb c d (λ x. e (g x)))
+
+or-left-false : (a b : Bool) → (a || b) ≡ false → a ≡ false
+or-left-false true b h = h
+or-left-false false b h = refl
+
+or-right-false : (a b : Bool) → (a || b) ≡ false → b ≡ false
+or-right-false true b h = absurd (true≢false h)
+or-right-false false b h = h
+
+or-none : (a b : ℕ) → eqb (bitOr a b) 0 ≡ (eqb a 0 && eqb b 0)
+or-none a b = go (ℕ-discrete a 0)
+  where
+    go : Dec (a ≡ 0) → eqb (bitOr a b) 0 ≡ (eqb a 0 && eqb b 0)
+    go (yes e) =
+        rw (eq-eqb a 0 e)
+        (eqb-same (bitOr a b) 0 b 0 (λ z. omega (arith, or-add-and a b, and-le-l a b)) (λ z. omega (arith, or-add-and a b, and-le-l a b)))
+    go (no e) =
+        rw (ne-eqb a 0 e)
+        (ne-eqb (bitOr a b) 0 (λ z. e (omega (arith, or-add-and a b, and-le-r a b))))
+
+xor-none : (a b : ℕ) → eqb (bitXor a b) 0 ≡ eqb b a
+xor-none a b =
+    eqb-same (bitXor a b) 0 b a (λ z. omega (arith, xor-add-and a b, and-le-l a b, and-le-r a b))
+    (λ e. ap (λ (x : ℕ). bitXor a x) e ∙ xor-self a)
+
+not-and : (a b : Bool) → not (a && b) ≡ (not a || not b)
+not-and true b = refl
+not-and false b = refl
+
+-- what is missing so far, and in one word more
+pub missing-more : (m x y : ℕ) → not (eqb (bitOr m (bitXor x (bitAnd x y))) 0) ≡ (not (eqb m 0) || not (eqb (bitAnd x y) x))
+missing-more m x y =
+    ap not (or-none m (bitXor x (bitAnd x y)) ∙ ap (λ (b : Bool). eqb m 0 && b) (xor-none x (bitAnd x y)))
+    ∙ not-and (eqb m 0) (eqb (bitAnd x y) x)
+
+-- ---- words or-ed in
+
+-- one after another
+pub pour-then : (ws : List ℕ) (at : ℕ) (xs ys : List ℕ) → pour (pour ws at xs) (at + length xs) ys ≡ pour ws at (xs ++ ys)
+unfolding pour
+pour-then [] at xs ys = refl
+pour-then (w ∷ ws) zero [] ys = refl
+pour-then (w ∷ ws) zero (x ∷ xs) ys =
+    let e : zero + suc (length xs) ≡ suc (zero + length xs) = omega arith in
+    rw e (ap (λ (zs : List ℕ). bitOr w x ∷ zs) (pour-then ws zero xs ys))
+pour-then (w ∷ ws) (suc at) xs ys = rw (suc-add at (length xs)) (ap (λ (zs : List ℕ). w ∷ zs) (pour-then ws at xs ys))
+
+-- the first i words, and the next
+pour-more : (ws xs : List ℕ) (i : ℕ) → i < length xs → pour (pour ws 0 (take i xs)) i (getD xs i 0 ∷ []) ≡ pour ws 0 (take (i + 1) xs)
+pour-more ws xs i h =
+    let l : zero + length (take i xs) ≡ i = zero-add (length (take i xs)) ∙ length-take-le i xs (omega arith) in
+    ap (λ (n : ℕ). pour (pour ws 0 (take i xs)) n (getD xs i 0 ∷ [])) (sym l)
+    ∙ pour-then ws 0 (take i xs) (getD xs i 0 ∷ [])
+    ∙ ap (pour ws 0) (sym (take-suc xs i 0 h) ∙ ap (λ (n : ℕ). take n xs) (sym (add-one i)))
+
+pub poured-more : (ws old new xs : List ℕ) (i added more : ℕ) → i < length xs → Poured ws old 0 (take i xs) added
+    → Poured old new i (getD xs i 0 ∷ []) more → Poured ws new 0 (take (i + 1) xs) (added + more)
+poured-more ws old new xs i added more h p q =
+    record {
+      words = q .words ∙ ap (λ (ys : List ℕ). pour ys i (getD xs i 0 ∷ [])) (p .words) ∙ pour-more ws xs i h;
+      count = omega (arith, p .count, q .count);
+    }
+
+-- facts are not lost
+pub pour-grows : (ws : List ℕ) (at : ℕ) (xs : List ℕ) → facts ws ≤ facts (pour ws at xs)
+pour-grows ws at xs = facts-le ws (pour ws at xs) (sym (length-pour ws at xs)) (pour-adds ws at xs)
+
+-- as many facts at most as there are digits
+pub facts-most : (ws : List ℕ) → facts ws ≤ 32 * length ws
+unfolding facts
+facts-most [] = omega arith
+facts-most (w ∷ ws) = omega (arith, onesIn-le 32 w, facts-most ws)
+
+-- one word adds at most 32
+pub one-adds : (ws new : List ℕ) (at x n : ℕ) → at < length ws → Poured ws new at (x ∷ []) n → n ≤ 32
+one-adds ws new at x n h p =
+    let e : facts new ≡ facts (set ws at (bitOr (getD ws at 0) x)) = ap facts (p .words ∙ pour-one ws at x) in
+    omega (arith, p .count, facts-set ws at (bitOr (getD ws at 0) x) h, onesIn-le 32 (bitOr (getD ws at 0) x))
+
+-- ---- a part of a list lent, and put back
+
+-- what is or-ed into the first words does not reach the others
+pour-front : (ws : List ℕ) (n k : ℕ) (xs : List ℕ) → k + length xs ≤ n → pour (take n ws) k xs ++ drop n ws ≡ pour ws k xs
+unfolding pour
+pour-front [] n k xs h = simp (take-nil, drop-nil)
+pour-front (w ∷ ws) zero zero [] h = refl
+pour-front (w ∷ ws) zero zero (x ∷ xs) h = absurd (omega arith)
+pour-front (w ∷ ws) zero (suc k) xs h = absurd (omega arith)
+pour-front (w ∷ ws) (suc n) zero [] h = ap (λ (ys : List ℕ). w ∷ ys) (take-append-drop n ws)
+pour-front (w ∷ ws) (suc n) zero (x ∷ xs) h = ap (λ (ys : List ℕ). bitOr w x ∷ ys) (pour-front ws n zero xs (omega arith))
+pour-front (w ∷ ws) (suc n) (suc k) xs h = ap (λ (ys : List ℕ). w ∷ ys) (pour-front ws n k xs (omega arith))
+
+pour-inside : (ws : List ℕ) (at n k : ℕ) (xs : List ℕ) → k + length xs ≤ n
+    → take at ws ++ (pour (take n (drop at ws)) k xs ++ drop n (drop at ws)) ≡ pour ws (at + k) xs
+unfolding pour
+pour-inside ws zero n k xs h = rw (zero-add k) (pour-front ws n k xs h)
+pour-inside [] (suc at) n k xs h = simp (take-nil, drop-nil)
+pour-inside (w ∷ ws) (suc at) n k xs h = rw (suc-add at k) (ap (λ (ys : List ℕ). w ∷ ys) (pour-inside ws at n k xs h))
+
+whole : (ws : List ℕ) (at n : ℕ) → take at ws ++ (take n (drop at ws) ++ drop n (drop at ws)) ≡ ws
+whole ws at n = ap (λ (ys : List ℕ). take at ws ++ ys) (take-append-drop n (drop at ws)) ∙ take-append-drop at ws
+
+facts-whole : (xs ys zs : List ℕ) → facts (xs ++ (ys ++ zs)) ≡ facts xs + (facts ys + facts zs)
+facts-whole xs ys zs = facts-append xs (ys ++ zs) ∙ ap (λ (n : ℕ). facts xs + n) (facts-append ys zs)
+
+-- words or-ed into the n words from `at` on, said of the whole
+pub put-back : (ws : List ℕ) (at n : ℕ) (new : List ℕ) (k : ℕ) (xs : List ℕ) (added : ℕ) → Poured (take n (drop at ws)) new k xs added
+    → k + length xs ≤ n → Poured ws (take at ws ++ (new ++ drop n (drop at ws))) (at + k) xs added
+put-back ws at n new k xs added p h =
+    record {
+      words = ap (λ (ys : List ℕ). take at ws ++ (ys ++ drop n (drop at ws))) (p .words) ∙ pour-inside ws at n k xs h;
+      count =
+          let old : facts ws ≡ facts (take at ws) + (facts (take n (drop at ws)) + facts (drop n (drop at ws))) =
+          ap facts (sym (whole ws at n)) ∙ facts-whole (take at ws) (take n (drop at ws)) (drop n (drop at ws))
+          in
+          omega (arith, p .count, facts-whole (take at ws) new (drop n (drop at ws)));
+    }
+
+pub put-back-whole : (ws : List ℕ) (at n : ℕ) (new xs : List ℕ) (added : ℕ) → Poured (take n (drop at ws)) new 0 xs added → length xs ≤ n
+    → Poured ws (take at ws ++ (new ++ drop n (drop at ws))) at xs added
+put-back-whole ws at n new xs added p h =
+    subst (λ (k : ℕ). Poured ws (take at ws ++ (new ++ drop n (drop at ws))) k xs added) (add-zero at)
+    (put-back ws at n new 0 xs added p (omega arith))
+
+-- a row of an estimate as a part that is lent
+module _ (ws : List ℕ) (at row : ℕ) where
+  pub same-part : take (at + row - at) (drop at ws) ≡ take row (drop at ws)
+  same-part = let e : at + row - at ≡ row = omega arith in ap (λ (n : ℕ). take n (drop at ws)) e
+
+  pub length-row : at + row ≤ length ws → length (take row (drop at ws)) ≡ row
+  length-row h = length-take-le row (drop at ws) (simp length-drop (omega arith))
+
+  pub length-part : at + row ≤ length ws → length (take (at + row - at) (drop at ws)) ≡ row
+  length-part h = ap length same-part ∙ length-row h
+
+  -- a row copied to the front of another list, and or-ed in from there
+  pub row-joined : (copy new xs : List ℕ) (added : ℕ) → take row copy ≡ xs → length xs ≡ row
+      → Poured (take (at + row - at) (drop at ws)) new 0 (take row copy) added
+      → Poured ws (take at ws ++ (new ++ drop (at + row - at) (drop at ws))) at xs added
+  row-joined copy new xs added e l p =
+      put-back-whole ws at (at + row - at) new xs added
+      (subst (λ (zs : List ℕ). Poured (take (at + row - at) (drop at ws)) new 0 zs added) e p) (omega arith)
+
+-- ---- a row that lacks nothing of another
+
+module _ (xs ys : List ℕ) (i : ℕ) where
+  pub lacking-at : i < length xs → i < length ys
+      → lacking (drop i xs) (drop i ys) ≡ (not (eqb (bitAnd (getD xs i 0) (getD ys i 0)) (getD xs i 0)) || lacking (drop (i + 1) xs) (drop (i + 1) ys))
+  unfolding lacking
+  lacking-at h l = rw (add-one, drop-cons xs i 0, drop-cons ys i 0)
+
+  pub lacking-done : length xs ≤ i → lacking (drop i xs) (drop i ys) ≡ false
+  unfolding lacking
+  lacking-done h = rw (drop-of-length-le xs h)
+
+  pub meets-at : i < length xs → i < length ys
+      → meets (drop i xs) (drop i ys) ≡ (not (eqb (bitAnd (getD xs i 0) (getD ys i 0)) 0) || meets (drop (i + 1) xs) (drop (i + 1) ys))
+  unfolding meets
+  meets-at h l = rw (add-one, drop-cons xs i 0, drop-cons ys i 0)
+
+  pub meets-done : length xs ≤ i → meets (drop i xs) (drop i ys) ≡ false
+  unfolding meets
+  meets-done h = rw (drop-of-length-le xs h)
+
+or-absorbed : (x y : ℕ) → bitAnd x y ≡ x → bitOr y x ≡ y
+or-absorbed x y e = let f : bitAnd y x ≡ x = and-comm y x ∙ e in omega (arith, or-add-and y x)
+
+pub lacking-nothing : (xs ys : List ℕ) → lacking xs ys ≡ false → length xs ≡ length ys → pour ys 0 xs ≡ ys
+unfolding lacking pour
+lacking-nothing [] [] h e = refl
+lacking-nothing [] (y ∷ ys) h e = refl
+lacking-nothing (x ∷ xs) [] h e = refl
+lacking-nothing (x ∷ xs) (y ∷ ys) h e =
+    ap₂ (λ (z : ℕ) (zs : List ℕ). z ∷ zs)
+    (or-absorbed x y (eqb-true (bitAnd x y) x (not-false (eqb (bitAnd x y) x) (or-left-false (not (eqb (bitAnd x y) x)) (lacking xs ys) h))))
+    (lacking-nothing xs ys (or-right-false (not (eqb (bitAnd x y) x)) (lacking xs ys) h) (omega arith))
+
+-- then nothing is added to the n words from `at` on
+pub nothing-added : (ws : List ℕ) (at : ℕ) (xs : List ℕ) (n : ℕ) → length xs ≡ n → at + n ≤ length ws → lacking xs (take n (drop at ws)) ≡ false
+    → Poured ws ws at xs 0
+nothing-added ws at xs n e h f =
+    let l : length xs ≡ length (take n (drop at ws)) = e ∙ sym (length-row ws at n h) in
+    let p : Poured (take n (drop at ws)) (take n (drop at ws)) 0 xs 0 =
+    record { words = sym (lacking-nothing xs (take n (drop at ws)) f l); count = omega arith }
+    in
+    subst (λ (new : List ℕ). Poured ws new at xs 0) (whole ws at n) (put-back-whole ws at n (take n (drop at ws)) xs 0 p (omega arith))
+
+-- ---- masks
+
+pub length-masked : (ms xs : List ℕ) → length ms ≡ length xs → length (masked ms xs) ≡ length xs
+unfolding masked
+length-masked [] [] e = refl
+length-masked [] (x ∷ xs) e = e
+length-masked (m ∷ ms) [] e = refl
+length-masked (m ∷ ms) (x ∷ xs) e = ap suc (length-masked ms xs (omega arith))
+
+meets-nonzero : (ms xs : List ℕ) → meets ms xs ≡ nonzero (masked ms xs)
+unfolding meets nonzero masked
+meets-nonzero [] xs = refl
+meets-nonzero (m ∷ ms) [] = refl
+meets-nonzero (m ∷ ms) (x ∷ xs) = go (eqb (bitAnd m x) 0) (meets-nonzero ms xs)
+  where
+    go : (b : Bool) → meets ms xs ≡ nonzero (masked ms xs) → (not b || meets ms xs) ≡ elim b [ true ↦ nonzero (masked ms xs) | false ↦ true ]
+    go true e = e
+    go false e = refl
+
+-- a digit in common
+pub meets-digit : (ms xs : List ℕ) → Words xs → meets ms xs ≡ true → (n : ℕ) × T (bit ms n) × T (bit xs n)
+meets-digit ms xs w h =
+    let d : (n : ℕ) × T (bit (masked ms xs) n) = nonzero-digit (masked ms xs) (masked-words ms xs w) (subst T (sym h ∙ meets-nonzero ms xs) tt) in
+    let t : T (bit ms (d .0) && bit xs (d .0)) = subst T (bit-masked ms xs (d .0)) (d .1) in
+    (d .0, T-fst (bit ms (d .0)) (bit xs (d .0)) t, T-snd (bit ms (d .0)) (bit xs (d .0)) t)
+
+pub digit-meets : (ms xs : List ℕ) (n : ℕ) → T (bit ms n) → T (bit xs n) → meets ms xs ≡ true
+digit-meets ms xs n h k =
+    T-true (meets ms xs)
+    (subst T (sym (meets-nonzero ms xs)) (digit-nonzero (masked ms xs) n (subst T (sym (bit-masked ms xs n)) (T-and (bit ms n) (bit xs n) h k))))
+
+-- ---- words copied
+
+pub copy-next : (xs to : List ℕ) (i : ℕ) → i < length xs → i < length to
+    → set (take i xs ++ drop i to) i (getD xs i 0) ≡ take (i + 1) xs ++ drop (i + 1) to
+copy-next xs to i h l = rw (add-one) (go xs to i h l)
+  where
+    go : (xs to : List ℕ) (i : ℕ) → i < length xs → i < length to → set (take i xs ++ drop i to) i (getD xs i 0) ≡ take (suc i) xs ++ drop (suc i) to
+    go [] to i h l = absurd (omega arith)
+    go (x ∷ xs) [] i h l = absurd (omega arith)
+    go (x ∷ xs) (y ∷ to) zero h l = refl
+    go (x ∷ xs) (y ∷ to) (suc i) h l = ap (λ (ys : List ℕ). x ∷ ys) (go xs to i (omega arith) (omega arith))
+
+pub copy-done : (xs to : List ℕ) (i : ℕ) → i ≡ length xs → take i xs ++ drop i to ≡ xs ++ drop (length xs) to
+copy-done xs to i e = rw e (rw take-length)

@@ -1,0 +1,26 @@
+-- Rows of words: what they have in common, what one lacks of another, and what it is to or words into a list and count what that added.
+use Prim.Native.Nat.{ℕ, _+_}
+use mathlib.Core.Path.{_≡_}
+use mathlib.Core.Bool.{Bool, true, false, not, _||_}
+use mathlib.Core.List.{List, [], _∷_}
+use lib.Bits.{bitAnd}
+use lib.Dec.{eqb}
+use Rattle.calculus.specs.Layout.{pour}
+use Rattle.calculus.specs.Estimate.{facts}
+
+-- some digit is in both
+unfoldable pub meets : List ℕ → List ℕ → Bool
+meets [] xs = false
+meets (m ∷ ms) [] = false
+meets (m ∷ ms) (x ∷ xs) = not (eqb (bitAnd m x) 0) || meets ms xs
+
+-- xs has a digit that ys has not
+unfoldable pub lacking : List ℕ → List ℕ → Bool
+lacking [] ys = false
+lacking (x ∷ xs) [] = false
+lacking (x ∷ xs) (y ∷ ys) = not (eqb (bitAnd x y) x) || lacking xs ys
+
+-- new is old with the words xs or-ed in from the place `at` on, and that added so many digits
+pub record Poured (old new : List ℕ) (at : ℕ) (xs : List ℕ) (added : ℕ) : Type 0 where
+  pub words : new ≡ pour old at xs
+  pub count : facts new ≡ facts old + added
