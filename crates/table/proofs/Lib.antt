@@ -1,5 +1,6 @@
 pub mod TermWords
 pub mod Faults
+pub mod Items
 pub mod Stack
 pub mod Parts
 pub mod Blocks

@@ -22,6 +22,7 @@ use Rattle.table.specs.Code.{assign, operation, send}
 use Rattle.table.specs.Code.{part, endOf, taskAt, termNode, nodeFor, scopeFor, homeFor, code}
 use Rattle.table.specs.Item.{handlerAt, itemAt}
 use Rattle.table.specs.Links.{linkAt, linked}
+use Rattle.table.proofs.Items.{item-block, item-gap, item-term}
 use Rattle.table.proofs.TermWords.{Rows, done, _▸_, by-kind}
 use Rattle.table.proofs.Faults.{Stands}
 use Rattle.table.proofs.Stack.{reach}
@@ -35,22 +36,6 @@ unfolding termNode
 itemNode items.Gap a b d = gap
 itemNode (items.Block h) a b d = block (h .name) (h .perms .bits) (h .guard .bits)
 itemNode (items.Term t) a b d = termNode t a b d
-
--- ---- the item of a word, by its kind
-
-module _ (ws : List ℕ) (p : ℕ) where
-  item-block : kind (getD ws p 0) ≡ 2 → itemAt ws p ≡ items.Block (handlerAt ws p)
-  unfolding itemAt
-  item-block k = rw (eq-eqb (kind (getD ws p 0)) 2 k, itemAt)
-
-  item-gap : kind (getD ws p 0) ≢ 2 → kind (getD ws p 0) < 16 → itemAt ws p ≡ items.Gap
-  unfolding itemAt
-  item-gap k h = rw (ne-eqb (kind (getD ws p 0)) 2 k, lt-ltb (kind (getD ws p 0)) 16 h, itemAt)
-
-  item-term : 16 ≤ kind (getD ws p 0) → itemAt ws p ≡ items.Term (termOf (getD ws p 0))
-  unfolding itemAt
-  item-term h =
-      rw (ne-eqb (kind (getD ws p 0)) 2 (λ z. let c : ⊥ = omega arith in c), le-ltb (kind (getD ws p 0)) 16 h, itemAt)
 
 -- ---- a term's node looks only at the parts that it has
 

@@ -4,15 +4,15 @@ use mathlib.Core.Path.{_≡_, refl, sym, ap, _∙_}
 use mathlib.Core.Bool.{Bool, true, false}
 use mathlib.Core.List.{List, [], _∷_, _++_}
 use Prim.Native.Nat.{ℕ, zero, suc, _+_, _<_, _≤_}
-use native.Mathlib.Nat.{suc-ne-zero}
 use native.Mathlib.Numerals.{add-one}
 use native.Mathlib.Omega.{arith}
 use lib.ListN.{length, getD, drop, drop-of-length-le}
 use lib.Seq.{drop-cons}
-use borrow.Author.Tests.{ltb-false}
 use Rattle.table.specs.Words.{depths}
 use Rattle.table.specs.Scan.{Task, term, Outcome, accepted, refused, firstOf, tests, fault, missing, keep, next, scan}
 use Rattle.table.specs.Rest.{judged}
+use Rattle.table.proofs.Faults.{stands}
+use Rattle.table.proofs.Stack.{scan-go, scan-stop}
 
 -- the first test of a list holds, or does not
 pub hit : (b : Bool) (n : ℕ) (ts : List (Bool × ℕ)) → b ≡ true → firstOf ((b, n) ∷ ts) ≡ n
@@ -26,23 +26,6 @@ miss b n ts e = rw e
 pub none : firstOf [] ≡ 0
 unfolding firstOf
 none = refl
-
--- where no test of a list holds, the first one does not, and none of the rest
-pub clear : (b : Bool) (n : ℕ) (ts : List (Bool × ℕ)) → firstOf ((b, suc n) ∷ ts) ≡ 0 → (b ≡ false) × (firstOf ts ≡ 0)
-unfolding firstOf
-clear true n ts e = absurd (suc-ne-zero n e)
-clear false n ts e = (refl, e)
-
--- a word stands for a task, or is refused
-pub step : (w : ℕ) (ws keys : List ℕ) (at : ℕ) (t : Task) (ts : List Task) → fault keys w t ≡ 0
-    → scan (w ∷ ws) keys at (t ∷ ts) ≡ scan ws (keep keys w t) (suc at) (next at w t ++ ts)
-unfolding scan
-step w ws keys at t ts e = rw (e, scan)
-
-pub stop : (w : ℕ) (ws keys : List ℕ) (at n : ℕ) (t : Task) (ts : List Task) → fault keys w t ≡ suc n
-    → scan (w ∷ ws) keys at (t ∷ ts) ≡ refused (suc n) at
-unfolding scan
-stop w ws keys at n t ts e = rw (e, scan)
 
 -- what a fault says
 pub judged-zero : (n at : ℕ) → judged n at ≡ accepted → n ≡ 0
@@ -66,16 +49,13 @@ module _ (ws : List ℕ) (keys : List ℕ) (at : ℕ) (t : Task) (ts : List Task
   module _ (inside : at < length ws) where
     pub goes-on : fault keys (getD ws at 0) t ≡ 0
         → scan (drop at ws) keys at (t ∷ ts) ≡ scan (drop (at + 1) ws) (keep keys (getD ws at 0) t) (at + 1) (next at (getD ws at 0) t ++ ts)
-    goes-on e = rw (add-one, drop-cons ws at 0) (step (getD ws at 0) (drop (suc at) ws) keys at t ts e)
+    goes-on e = rw (add-one, drop-cons ws at 0) (scan-go (drop (suc at) ws) keys (getD ws at 0) at t ts e)
 
     pub stops : (n p : ℕ) → refused n p ≡ judged (fault keys (getD ws at 0) t) at → scan (drop at ws) keys at (t ∷ ts) ≡ refused n p
     stops n p e =
         let j = judged-stop (fault keys (getD ws at 0) t) at n p e in
-        rw (drop-cons ws at 0) (stop (getD ws at 0) (drop (suc at) ws) keys at (j .0) t ts (j .1) ∙ sym (j .2))
+        rw (drop-cons ws at 0) (scan-stop (drop (suc at) ws) keys (getD ws at 0) at t ts (j .0) (j .1) ∙ sym (j .2))
 
 -- a term's word that may stand is not too deep
 pub shallow : (keys : List ℕ) (w d h : ℕ) (s : List ℕ) → fault keys w (term d h s) ≡ 0 → d ≤ depths
-unfolding fault tests
-shallow keys w d h s e =
-    ltb-false depths d
-    (clear _ 10 _ (clear _ 9 _ (clear _ 8 _ (clear _ 6 _ (clear _ 6 _ e .1) .1) .1) .1) .0)
+shallow keys w d h s e = stands keys w (term d h s) e .4

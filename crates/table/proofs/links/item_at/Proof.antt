@@ -10,29 +10,12 @@ use borrow.Author.Tests.{eq-eqb, ne-eqb, lt-ltb, le-ltb}
 use Rattle.table.specs.declared.Item.the-variants as items
 use Rattle.table.specs.Words.{kind, termOf}
 use Rattle.table.specs.Item.{handlerAt, itemAt}
+use Rattle.table.proofs.Items.{item-block, item-gap, item-term, item-past}
 use Rattle.table.proofs.links.item_at.Statement.{statement}
 use Rattle.table.proofs.links.item_at.Tie as tie
 
-module _ (ws : List ℕ) (p : ℕ) where
-  is-block : kind (getD ws p 0) ≡ 2 → itemAt ws p ≡ items.Block (handlerAt ws p)
-  unfolding itemAt
-  is-block e = rw (eq-eqb (kind (getD ws p 0)) 2 e, itemAt)
-
-  is-gap : (kind (getD ws p 0) ≡ 2 → ⊥) → kind (getD ws p 0) < 16 → itemAt ws p ≡ items.Gap
-  unfolding itemAt
-  is-gap n l = rw (ne-eqb (kind (getD ws p 0)) 2 n, lt-ltb (kind (getD ws p 0)) 16 l, itemAt)
-
-  is-term : (kind (getD ws p 0) ≡ 2 → ⊥) → 16 ≤ kind (getD ws p 0) → itemAt ws p ≡ items.Term (termOf (getD ws p 0))
-  unfolding itemAt
-  is-term n l = rw (ne-eqb (kind (getD ws p 0)) 2 n, le-ltb (kind (getD ws p 0)) 16 l, itemAt)
-
-  past : length ws ≤ p → itemAt ws p ≡ items.Gap
-  past l =
-      let e : getD ws p 0 ≡ 0 = List·getD-eq-default ws 0 l in
-      is-gap (λ k. omega arith) (omega arith)
-
 returns : tie.Need-returns
-returns c = sym (past (c .before .before .args .words .now) _ (c .if1 .taken))
+returns c = sym (item-past (c .before .before .args .words .now) _ (c .if1 .taken))
 
 mul-w : tie.Need-mul-w
 mul-w c = search needs
@@ -47,16 +30,16 @@ handler-at-requires : tie.Need-handler-at-requires
 handler-at-requires c κs = search needs
 
 returns-2 : tie.Need-returns-2
-returns-2 c = ap items.Block (c .handler-at .ensures) ∙ sym (is-block (c .before .before .before .before .before .before .args .words .now) _ (omega arith))
+returns-2 c = ap items.Block (c .handler-at .ensures) ∙ sym (item-block (c .before .before .before .before .before .before .args .words .now) _ (omega arith))
 
 returns-3 : tie.Need-returns-3
-returns-3 c = sym (is-gap (c .before .before .before .before .before .before .args .words .now) _ (λ e. omega arith) (omega arith))
+returns-3 c = sym (item-gap (c .before .before .before .before .before .before .args .words .now) _ (λ e. omega arith) (omega arith))
 
 term-of-requires : tie.Need-term-of-requires
 term-of-requires c κs = search needs
 
 returns-4 : tie.Need-returns-4
-returns-4 c = ap items.Term (c .term-of .ensures) ∙ sym (is-term (c .before .before .before .before .before .before .before .args .words .now) _ (λ e. omega arith) (omega arith))
+returns-4 c = ap items.Term (c .term-of .ensures) ∙ sym (item-term (c .before .before .before .before .before .before .before .args .words .now) _ (omega arith))
 
 pub item-at-spec : {M : Type 1} → statement M
 item-at-spec =
