@@ -7,7 +7,6 @@ use Prim.Native.Nat.{ℕ, suc, _≤_, _<_}
 use native.Mathlib.Nat.{suc-inj}
 use native.Mathlib.Decide.{decLt}
 use native.Mathlib.Omega.{arith}
-use borrow.Author.Tests.{eq-eqb, ne-eqb, lt-ltb, le-ltb}
 use lib.ListN.{length, getD, List·getD-eq-default}
 use lib.Dec.{T, ltb, ltb→lt}
 use Rattle.table.specs.declared.Handler.{Handler}

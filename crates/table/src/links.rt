@@ -10,7 +10,7 @@ use crate::words::term_of;
 use permset::PermSet;
 ghost use mathlib.Core.Path.{_≡_};
 ghost use mathlib.Core.Bool.{false};
-ghost use Prim.Native.Nat.{ℕ, suc, _<_, _≤_};
+ghost use Prim.Native.Nat.{suc, _<_, _≤_};
 ghost use lib.ListN.{length, getD};
 ghost use Rattle.table.specs.Words.{parts};
 ghost use Rattle.table.specs.Item.{setOf, handlerAt, itemAt};

@@ -1,6 +1,6 @@
 -- The scan, a word at a time, from a place of the whole table.
 -- Assumes nothing.
-use mathlib.Core.Path.{_≡_, refl, sym, ap, _∙_}
+use mathlib.Core.Path.{_≡_, refl, sym, _∙_}
 use mathlib.Core.Bool.{Bool, true, false}
 use mathlib.Core.List.{List, [], _∷_, _++_}
 use Prim.Native.Nat.{ℕ, zero, suc, _+_, _<_, _≤_}
@@ -9,7 +9,7 @@ use native.Mathlib.Omega.{arith}
 use lib.ListN.{length, getD, drop, drop-of-length-le}
 use lib.Seq.{drop-cons}
 use Rattle.table.specs.Words.{depths}
-use Rattle.table.specs.Scan.{Task, term, Outcome, accepted, refused, firstOf, tests, fault, missing, keep, next, scan}
+use Rattle.table.specs.Scan.{Task, term, accepted, refused, firstOf, fault, missing, keep, next, scan}
 use Rattle.table.specs.Rest.{judged}
 use Rattle.table.proofs.Faults.{stands}
 use Rattle.table.proofs.Stack.{scan-go, scan-stop}

@@ -1,16 +1,14 @@
 -- `table::links::bind_parts` meets its contract. The loop's invariant: the parts that are left, bound from here, give all of them.
 -- Assumes nothing.
 use mathlib.Core.Path.{_≡_, refl, sym, ap, ap₂, subst, _∙_}
-use mathlib.Core.Bool.{false}
 use mathlib.Core.List.{List}
 use Prim.Native.Nat.{ℕ, suc, _+_, _-_, _<_, _≤_}
 use native.Mathlib.Numerals.{add-one}
-use native.Mathlib.Omega.{arith}
-use lib.ListN.{length, getD, drop}
+use lib.ListN.{length, drop}
 use borrow.Author.Needs.{needs}
 use Rattle.table.specs.declared.Link.{Link}
 use Rattle.table.specs.Words.{parts, arity}
-use Rattle.table.specs.Links.{linkAt, innermost, withBinder, bindParts}
+use Rattle.table.specs.Links.{withBinder, bindParts}
 use Rattle.table.proofs.links.Passes.{length-withBinder, parts-more, parts-done}
 use Rattle.table.proofs.links.bind_parts.Statement.{statement}
 use Rattle.table.proofs.links.bind_parts.Tie as tie

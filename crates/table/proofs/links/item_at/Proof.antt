@@ -1,15 +1,9 @@
 -- `table::links::item_at` meets its contract: its tests are those of `itemAt`.
 -- Assumes nothing.
-use mathlib.Core.Path.{_≡_, sym, ap, _∙_}
-use mathlib.Core.List.{List}
-use Prim.Native.Nat.{ℕ, _<_, _≤_}
+use mathlib.Core.Path.{sym, ap, _∙_}
 use native.Mathlib.Omega.{arith}
-use lib.ListN.{length, getD, List·getD-eq-default}
 use borrow.Author.Needs.{needs}
-use borrow.Author.Tests.{eq-eqb, ne-eqb, lt-ltb, le-ltb}
 use Rattle.table.specs.declared.Item.the-variants as items
-use Rattle.table.specs.Words.{kind, termOf}
-use Rattle.table.specs.Item.{handlerAt, itemAt}
 use Rattle.table.proofs.Items.{item-block, item-gap, item-term, item-past}
 use Rattle.table.proofs.links.item_at.Statement.{statement}
 use Rattle.table.proofs.links.item_at.Tie as tie

@@ -2,12 +2,11 @@
 -- Assumes nothing.
 use mathlib.Core.Path.{_≡_, refl, sym, ap, ap₂, _∙_}
 use mathlib.Core.List.{List}
-use Prim.Native.Nat.{ℕ, suc, _+_, _-_, _≤_}
+use Prim.Native.Nat.{ℕ, _+_, _-_, _≤_}
 use native.Mathlib.Nat.{sub-zero}
-use native.Mathlib.Omega.{arith}
 use lib.ListN.{length, getD}
 use borrow.Author.Needs.{needs}
-use Rattle.table.specs.Links.{withHome, blockAt, bindWord, binders}
+use Rattle.table.specs.Links.{withHome, blockAt, binders}
 use Rattle.table.proofs.links.Passes.{binders-more, binders-done}
 use Rattle.table.proofs.links.link_binders.Statement.{statement}
 use Rattle.table.proofs.links.link_binders.Tie as tie

@@ -1,12 +1,9 @@
 -- `table::links::link_ends` meets its contract. The loop's invariant: the ends that are left, made from here, give all of them.
 -- Assumes nothing.
 use mathlib.Core.Path.{_≡_, refl, sym, ap, _∙_}
-use mathlib.Core.List.{List}
 use Prim.Native.Nat.{ℕ, _-_, _≤_}
-use native.Mathlib.Omega.{arith}
-use lib.ListN.{length, getD, set, length-set}
+use lib.ListN.{length, set, length-set}
 use borrow.Author.Needs.{needs}
-use Rattle.table.specs.Words.{arity}
 use Rattle.table.specs.Links.{pack, hops, ends}
 use Rattle.table.proofs.links.Passes.{ends-more, ends-done}
 use Rattle.table.proofs.links.link_ends.Statement.{statement}

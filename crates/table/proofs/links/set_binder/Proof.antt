@@ -1,12 +1,12 @@
 -- `table::links::set_binder` meets its contract; past the end nothing is written.
 -- Assumes nothing.
-use mathlib.Core.Path.{_≡_, sym, ap, _∙_}
+use mathlib.Core.Path.{sym, ap, _∙_}
 use Prim.Native.Nat.{ℕ}
 use lib.ListN.{set}
 use lib.Seq.{set-out}
 use borrow.Author.Needs.{needs}
 use Rattle.table.specs.declared.Link.{Link}
-use Rattle.table.specs.Links.{pack, linkAt, withBinder}
+use Rattle.table.specs.Links.{pack, withBinder}
 use Rattle.table.proofs.links.set_binder.Statement.{statement}
 use Rattle.table.proofs.links.set_binder.Tie as tie
 

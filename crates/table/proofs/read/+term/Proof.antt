@@ -11,12 +11,12 @@ use borrow.Author.Needs.{needs, zero≤}
 use borrow.Fn.Kinds.{In}
 use borrow.Fn.PlainCycle.{Measures, is, falls, and}
 use Rattle.table.specs.declared.read.Step.{Step}
-use Rattle.table.specs.Words.{arity, parts, mark}
+use Rattle.table.specs.Words.{parts}
 use Rattle.table.specs.Scan.{Task, term as termTask, scan, fault, missing}
 use Rattle.table.specs.Answer.{number, place, outcome}
-use Rattle.table.specs.Rest.{judged, afterStep}
+use Rattle.table.specs.Rest.{afterStep}
 use Rattle.table.proofs.read.Steps.{judged-zero, none-left, stops, shallow}
-use Rattle.table.proofs.read.Parts.{partTasks, Left, mark-small, under-length, left-none, left-part, left-all}
+use Rattle.table.proofs.read.Parts.{partTasks, Left, mark-small, left-none, left-part, left-all}
 use Rattle.table.proofs.read.term.Reads as term
 use Rattle.table.proofs.read.term.Kinds as term-kinds
 use Rattle.table.proofs.read.+term.Lts-term as term-lts

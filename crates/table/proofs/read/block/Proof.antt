@@ -6,15 +6,15 @@ use mathlib.Core.List.{List, [], _∷_}
 use Prim.Native.Nat.{ℕ, _+_, _<_}
 use native.Mathlib.Nat.{add-assoc}
 use native.Mathlib.Omega.{arith}
-use lib.ListN.{length, getD, drop}
+use lib.ListN.{getD, drop}
 use borrow.Author.Needs.{needs}
 use Rattle.table.specs.declared.read.Found.the-variants as found
 use Rattle.table.specs.declared.read.Step.{Step}
-use Rattle.table.specs.Words.{argument, kind}
+use Rattle.table.specs.Words.{argument}
 use Rattle.table.specs.Scan.{Task, Outcome, name, perms, guard, term, has, key, scan}
 use Rattle.table.specs.Answer.{number, place}
 use Rattle.table.specs.Rest.{FoundAt, afterStep, afterBlock}
-use Rattle.table.proofs.read.BlockWords.{Has, no-name, no-perms, no-guard, name-range, key-used, after-name, after-perms, after-guard}
+use Rattle.table.proofs.read.BlockWords.{no-name, no-perms, no-guard, name-range, key-used, after-name, after-perms, after-guard}
 use Rattle.table.proofs.read.block.Statement.{statement}
 use Rattle.table.proofs.read.block.Tie as tie
 

@@ -1,8 +1,5 @@
 -- `table::read::unbound` meets its contract.
 -- Assumes nothing.
-use mathlib.Core.Path.{sym, ap}
-use mathlib.Core.Bool.{Bool, _&&_}
-use lib.Dec.{leb}
 use borrow.Author.Tests.{eq-eqb, ne-eqb}
 use Rattle.table.proofs.read.unbound.Statement.{statement}
 use Rattle.table.proofs.read.unbound.Tie as tie
