@@ -104,6 +104,9 @@ poured-more ws old new xs i added more h p q =
       count = omega (arith, p .count, q .count);
     }
 
+pub length-poured : (ws new : List ℕ) (at : ℕ) (xs : List ℕ) (added : ℕ) → Poured ws new at xs added → length new ≡ length ws
+length-poured ws new at xs added p = ap length (p .words) ∙ length-pour ws at xs
+
 -- facts are not lost
 pub pour-grows : (ws : List ℕ) (at : ℕ) (xs : List ℕ) → facts ws ≤ facts (pour ws at xs)
 pour-grows ws at xs = facts-le ws (pour ws at xs) (sym (length-pour ws at xs)) (pour-adds ws at xs)
@@ -237,7 +240,7 @@ length-masked [] (x ∷ xs) e = e
 length-masked (m ∷ ms) [] e = refl
 length-masked (m ∷ ms) (x ∷ xs) e = ap suc (length-masked ms xs (omega arith))
 
-meets-nonzero : (ms xs : List ℕ) → meets ms xs ≡ nonzero (masked ms xs)
+pub meets-nonzero : (ms xs : List ℕ) → meets ms xs ≡ nonzero (masked ms xs)
 unfolding meets nonzero masked
 meets-nonzero [] xs = refl
 meets-nonzero (m ∷ ms) [] = refl

@@ -3,8 +3,8 @@
 use crate::row;
 ghost use mathlib.Core.Path.{_≡_};
 ghost use mathlib.Core.List.{[], _∷_};
-ghost use Prim.Native.Nat.{_+_, _*_, _%_, _^_, _<_, _≤_};
-ghost use lib.ListN.{length, getD, drop, take};
+ghost use Prim.Native.Nat.{_+_, _*_, _<_, _≤_};
+ghost use lib.ListN.{length, drop, take};
 ghost use Rattle.calculus.proofs.Masks.{masked};
 ghost use Rattle.rows.specs.Rows.{Poured};
 

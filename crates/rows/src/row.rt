@@ -1,7 +1,7 @@
 // A row by itself, lent from its own start.
 ghost use mathlib.Core.Path.{_≡_};
 ghost use mathlib.Core.List.{[], _∷_, _++_};
-ghost use Prim.Native.Nat.{_+_, _*_, _<_, _≤_};
+ghost use Prim.Native.Nat.{_+_, _<_, _≤_};
 ghost use lib.ListN.{length, drop, take};
 ghost use Rattle.calculus.proofs.Masks.{masked};
 ghost use Rattle.rows.specs.Rows.{Poured, meets, lacking};
