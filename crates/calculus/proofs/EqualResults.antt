@@ -24,7 +24,8 @@ use Rattle.calculus.proofs.Slices.{bit-at, bit-short}
 use Rattle.calculus.proofs.Counting.{count, facts-count}
 use Rattle.calculus.proofs.Several.{Two, some-two, two-some}
 use Rattle.calculus.proofs.Facts.{ones-word}
-use Rattle.calculus.proofs.Masks.{T-false, agree, agree-below, masked, bit-masked, nonzero, digit-nonzero, nonzero-digit, words-two}
+use Rattle.calculus.specs.Layout.{masked}
+use Rattle.calculus.proofs.Masks.{T-false, agree, agree-below, bit-masked, nonzero, digit-nonzero, nonzero-digit, words-two}
 use Rattle.calculus.proofs.OperationMasks.{Gives, resultMask, results-are}
 
 -- one of two words has a digit

@@ -12,7 +12,7 @@ use lib.ListN.{getD}
 use Rattle.permset.specs.Sets.{member, lowest}
 use Rattle.permset.proofs.Laws.{member-empty, member-and, lowest-lt, lowest-member}
 use Rattle.calculus.specs.Elements.{isString}
-use Rattle.calculus.specs.Layout.{bit, Words}
+use Rattle.calculus.specs.Layout.{masked, bit, Words}
 use Rattle.calculus.proofs.Digits.{T-fst, T-snd}
 use Rattle.calculus.proofs.Slices.{bit-at, bit-short}
 
@@ -56,11 +56,6 @@ agree-below (suc n) f g h v l =
     go r (no e) = r (omega arith)
 
 -- ---- two lists of words and-ed
-
-unfoldable pub masked : List ℕ → List ℕ → List ℕ
-masked [] ys = []
-masked (x ∷ xs) [] = []
-masked (x ∷ xs) (y ∷ ys) = bitAnd x y ∷ masked xs ys
 
 pub getD-masked : (xs ys : List ℕ) (k : ℕ) → getD (masked xs ys) k 0 ≡ bitAnd (getD xs k 0) (getD ys k 0)
 unfolding masked

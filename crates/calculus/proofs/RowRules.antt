@@ -24,7 +24,8 @@ use Rattle.calculus.proofs.Places.{span-lt, is-allowed, place-used, pla
 use Rattle.calculus.proofs.Rows.{sets-allowed, sets-bit, in-sets, content-words, content-sound, content-complete}
 use Rattle.calculus.proofs.Firing.{Fits, any-found}
 use Rattle.calculus.proofs.Ranges.{below-in, in-below}
-use Rattle.calculus.proofs.Masks.{T-false, bool-ext, masked, getD-masked, bit-masked, masked-words, nonzero, digit-word, word-digit, digit-nonzero, nonzero-digit, string-mask, words-two, full-words}
+use Rattle.calculus.specs.Layout.{masked}
+use Rattle.calculus.proofs.Masks.{T-false, bool-ext, getD-masked, bit-masked, masked-words, nonzero, digit-word, word-digit, digit-nonzero, nonzero-digit, string-mask, words-two, full-words}
 use Rattle.calculus.proofs.Folds.{found, fire-absent, loop-skip}
 use Rattle.calculus.proofs.RowOperations.{empty-C}
 use Rattle.calculus.proofs.Demands.{Demands, found-has, fire-makes}

@@ -5,7 +5,7 @@ use mathlib.Core.List.{List, [], _∷_}
 use mathlib.Core.Bool.{Bool, _&&_, _||_}
 use lib.ListN.{getD, take, drop, length}
 use lib.Dec.{T, leb, ltb}
-use lib.Bits.{bitOr}
+use lib.Bits.{bitAnd, bitOr}
 use Rattle.permset.specs.Sets.{width, member}
 use Rattle.table.specs.Code.{Code}
 use Rattle.calculus.specs.Elements.{elements}
@@ -26,6 +26,12 @@ pour (w ∷ ws) (suc at) xs = w ∷ pour ws at xs
 unfoldable pub mark : List ℕ → ℕ → List ℕ
 unfolding pour
 mark ws n = pour ws (n / 32) (2 ^ (n % 32) ∷ [])
+
+-- what two lists of words have in common, word by word
+unfoldable pub masked : List ℕ → List ℕ → List ℕ
+masked [] ys = []
+masked (x ∷ xs) [] = []
+masked (x ∷ xs) (y ∷ ys) = bitAnd x y ∷ masked xs ys
 
 -- the word that a row belongs to
 unfoldable pub owner : Row → ℕ

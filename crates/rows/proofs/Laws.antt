@@ -19,7 +19,8 @@ use Rattle.calculus.specs.Estimate.{facts}
 use Rattle.calculus.proofs.Digits.{T-true, T-and, T-fst, T-snd}
 use Rattle.calculus.proofs.Slices.{length-pour, pour-adds}
 use Rattle.calculus.proofs.Facts.{facts-le, facts-set, facts-append, pour-one}
-use Rattle.calculus.proofs.Masks.{masked, bit-masked, masked-words, nonzero, digit-nonzero, nonzero-digit}
+use Rattle.calculus.specs.Layout.{masked}
+use Rattle.calculus.proofs.Masks.{bit-masked, masked-words, nonzero, digit-nonzero, nonzero-digit}
 use Rattle.rows.specs.Rows.{meets, lacking, Poured}
 
 -- ---- the digits of one word

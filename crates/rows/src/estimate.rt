@@ -5,7 +5,7 @@ ghost use mathlib.Core.Path.{_≡_};
 ghost use mathlib.Core.List.{[], _∷_};
 ghost use Prim.Native.Nat.{_+_, _*_, _<_, _≤_};
 ghost use lib.ListN.{length, drop, take};
-ghost use Rattle.calculus.proofs.Masks.{masked};
+ghost use Rattle.calculus.specs.Layout.{masked};
 ghost use Rattle.rows.specs.Rows.{Poured};
 
 // Notes a number: word 0 of the log counts the notes, and a full log takes no more.

@@ -3,7 +3,7 @@ ghost use mathlib.Core.Path.{_≡_};
 ghost use mathlib.Core.List.{[], _∷_, _++_};
 ghost use Prim.Native.Nat.{_+_, _<_, _≤_};
 ghost use lib.ListN.{length, drop, take};
-ghost use Rattle.calculus.proofs.Masks.{masked};
+ghost use Rattle.calculus.specs.Layout.{masked};
 ghost use Rattle.rows.specs.Rows.{Poured, meets, lacking};
 
 // Sets bits of the word k, and answers how many that added.

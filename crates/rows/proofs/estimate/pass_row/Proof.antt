@@ -6,7 +6,7 @@ use native.Mathlib.Omega.{arith}
 use lib.ListN.{take, drop}
 use lib.Seq.{length-take-le, take-at}
 use borrow.Author.Needs.{needs}
-use Rattle.calculus.proofs.Masks.{masked}
+use Rattle.calculus.specs.Layout.{masked}
 use Rattle.rows.proofs.Laws.{length-row, length-part, same-part, row-joined, length-masked}
 use Rattle.rows.proofs.estimate.pass_row.Statement.{statement}
 use Rattle.rows.proofs.estimate.pass_row.Tie as tie

@@ -6,7 +6,8 @@ use Prim.Native.Nat.{ℕ, _-_, _≤_}
 use native.Mathlib.Omega.{arith}
 use lib.ListN.{length, take, drop, set, length-set}
 use borrow.Author.Needs.{needs}
-use Rattle.calculus.proofs.Masks.{masked, getD-masked}
+use Rattle.calculus.specs.Layout.{masked}
+use Rattle.calculus.proofs.Masks.{getD-masked}
 use Rattle.rows.proofs.Laws.{length-masked, copy-next, copy-done}
 use Rattle.rows.proofs.row.copy_masked.Statement.{statement}
 use Rattle.rows.proofs.row.copy_masked.Tie as tie
