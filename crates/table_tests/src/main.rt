@@ -1,4 +1,5 @@
 // Reads tables, accepted and refused ones, and links accepted ones; prints one line for each.
+mod cases;
 mod keys;
 mod kinds;
 mod links;

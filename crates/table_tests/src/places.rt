@@ -1,226 +1,57 @@
 // Each number at several places, and numbers that meet at one word. Numbers 2 and 11 are in `sizes` and `nesting`, 6 is in `keys`.
+use crate::cases::bodies;
+use crate::cases::second_blocks;
+use crate::cases::tables;
 use crate::show::answer;
-use crate::tables::body;
 
-fn word_0() {
-    answer(b"word 0 of kind 0", &[0]);
-    answer(b"word 0 of kind 2", &[0x02000000, 0x02000000]);
-    answer(b"word 0 of kind 2 and argument 33", &[0x02000021]);
-    answer(b"word 0 with argument ffffff", &[0x01ffffff]);
-    answer(
-        b"33 handlers and a word of no kind",
-        &[0x01000021, 0xff000000],
-    );
-}
-
+// 1 and 3, then 4 for a word that is absent or of another kind, and 5.
 fn block_words() {
-    answer(b"no word for a name", &[0x01000001]);
-    answer(b"no word for permissions", &[0x01000001, 0x02000000]);
+    tables(b"00000000.02000000 02000000.02000021.01ffffff.01000021 ff000000.");
+    tables(b"01000001.01000001 02000000.01000001 02000000 03000000.");
+    tables(
+        b"01000001 03000000.01000001 10000000.01000001 02000000 04000000.01000001 02000000 03000000 03000000.",
+    );
+    tables(
+        b"01000001 0200001f.01000001 02000020.01000001 02ffffff.01000001 03000020.01000001 02000020 ff000000.",
+    );
+    second_blocks(b"02000001 03000003 04000000 1c000000.05000001.02000020.02000001 02000003.");
+    second_blocks(b"02000001 03000003 1c000000.02000001 03000003 04000000 04000000.");
+    second_blocks(b"02000001 03000003 04000000 18000000.02000001 03000003 04000000 1c000001.");
+}
+
+// 7, then 8 for a body and for each part, then 9 and which of two wrong words counts.
+fn terms() {
     answer(
-        b"no word for a guard",
-        &[0x01000001, 0x02000000, 0x03000000],
+        b"no body",
+        &[0x01000001, 0x02000000, 0x03000003, 0x04000000],
     );
-    answer(b"kind 3 for a name", &[0x01000001, 0x03000000]);
-    answer(b"kind 16 for a name", &[0x01000001, 0x10000000]);
-    answer(
-        b"kind 4 for permissions",
-        &[0x01000001, 0x02000000, 0x04000000],
-    );
-    answer(
-        b"kind 3 for a guard",
-        &[0x01000001, 0x02000000, 0x03000000, 0x03000000],
-    );
-    answer(b"name 31", &[0x01000001, 0x0200001f]);
-    answer(b"name 32", &[0x01000001, 0x02000020]);
-    answer(b"name ffffff", &[0x01000001, 0x02ffffff]);
-    answer(b"kind 3 and 32 for a name", &[0x01000001, 0x03000020]);
-    answer(
-        b"name 32 before a word of no kind",
-        &[0x01000001, 0x02000020, 0xff000000],
+    bodies(b"00000000.01000000.02000000.0f000000.25000000.ffffffff.");
+    bodies(b"18000000 1c000000 0f000000.19000000 1c000000 1c000000 25000000.");
+    bodies(b"15000000.18000000 1c000000.19000000 1c000000 1c000000.18000000 1c000000 20000000.");
+    bodies(
+        b"18000000 1c000000 10000004.18000001.18000000 12000017 25000000.18000000 25000000 12000017.",
     );
 }
 
-// A second block after one of four words.
-fn second_block(label: &[u8], name: u32, perms: u32, guard: u32, term: u32) {
-    answer(
-        label,
-        &[
-            0x01000002,
-            0x02000000,
-            0x03000003,
-            0x04000000,
-            0x1c000000,
-            name,
-            perms,
-            guard,
-            term,
-        ],
-    );
-}
-
-fn second_blocks() {
-    second_block(
-        b"second block",
-        0x02000001,
-        0x03000003,
-        0x04000000,
-        0x1c000000,
-    );
-    second_block(
-        b"second block, kind 5 for its name",
-        0x05000001,
-        0x03000003,
-        0x04000000,
-        0x1c000000,
-    );
-    second_block(
-        b"second block, name 32",
-        0x02000020,
-        0x03000003,
-        0x04000000,
-        0x1c000000,
-    );
-    second_block(
-        b"second block, kind 2 for its permissions",
-        0x02000001,
-        0x02000003,
-        0x04000000,
-        0x1c000000,
-    );
-    second_block(
-        b"second block, kind 28 for its guard",
-        0x02000001,
-        0x03000003,
-        0x1c000000,
-        0x1c000000,
-    );
-    second_block(
-        b"second block, kind 4 for its body",
-        0x02000001,
-        0x03000003,
-        0x04000000,
-        0x04000000,
-    );
-    second_block(
-        b"second block, sequence alone",
-        0x02000001,
-        0x03000003,
-        0x04000000,
-        0x18000000,
-    );
-    second_block(
-        b"second block, record with argument 1",
-        0x02000001,
-        0x03000003,
-        0x04000000,
-        0x1c000001,
-    );
-    second_block(
-        b"second block, variable 1",
-        0x02000001,
-        0x03000003,
-        0x04000000,
-        0x14000001,
-    );
-}
-
-fn kinds() {
-    body(b"body of kind 0", &[0]);
-    body(b"body of kind 1", &[0x01000000]);
-    body(b"body of kind 2", &[0x02000000]);
-    body(b"body of kind 15", &[0x0f000000]);
-    body(b"body of kind 37", &[0x25000000]);
-    body(b"body of kind 255 and argument ffffff", &[0xffffffff]);
-    body(
-        b"kind 15 for a second part",
-        &[0x18000000, 0x1c000000, 0x0f000000],
-    );
-    body(
-        b"kind 37 for a third part",
-        &[0x19000000, 0x1c000000, 0x1c000000, 0x25000000],
-    );
-}
-
-fn missing() {
-    body(b"no word for a body", &[]);
-    body(b"no word for a function's body", &[0x15000000]);
-    body(b"no word for a second part", &[0x18000000, 0x1c000000]);
-    body(
-        b"no word for a third part",
-        &[0x19000000, 0x1c000000, 0x1c000000],
-    );
-    body(
-        b"no word for a part of a part",
-        &[0x18000000, 0x1c000000, 0x20000000],
-    );
-}
-
-fn arguments() {
-    body(
-        b"constant 4 for a second part",
-        &[0x18000000, 0x1c000000, 0x10000004],
-    );
-    body(b"sequence with argument 1 and no parts", &[0x18000001]);
-    body(
-        b"literal 23 before kind 37",
-        &[0x18000000, 0x12000017, 0x25000000],
-    );
-    body(
-        b"kind 37 before literal 23",
-        &[0x18000000, 0x25000000, 0x12000017],
-    );
-}
-
+// 10: the argument is bound in a function's body, let's first part in its second, and neither after the term.
 fn variables() {
-    body(b"variable 0", &[0x14000000]);
-    body(b"variable ffffff", &[0x14ffffff]);
-    body(b"variable 1 in a function", &[0x15000000, 0x14000001]);
-    body(b"variable 2 in a function", &[0x15000000, 0x14000002]);
-    body(
-        b"variable 1 after a function",
-        &[0x18000000, 0x15000000, 0x1c000000, 0x14000001],
+    second_blocks(b"02000001 03000003 04000000 14000000.02000001 03000003 04000000 14000001.");
+    bodies(
+        b"14000000.14ffffff.15000000 14000001.15000000 14000002.18000000 15000000 1c000000 14000001.",
     );
-    body(
-        b"variable 1 in let's first part",
-        &[0x17000000, 0x14000001, 0x1c000000],
-    );
-    body(
-        b"variable 1 in let's second part",
-        &[0x17000000, 0x1c000000, 0x14000001],
-    );
-    body(
-        b"variable 2 in let's second part",
-        &[0x17000000, 0x1c000000, 0x14000002],
-    );
-    body(
-        b"variable 1 after let",
-        &[0x18000000, 0x17000000, 0x1c000000, 0x1c000000, 0x14000001],
-    );
+    bodies(b"17000000 14000001 1c000000.17000000 1c000000 14000001.17000000 1c000000 14000002.");
+    bodies(b"18000000 17000000 1c000000 1c000000 14000001.");
 }
 
+// 12, and a wrong word before it.
 fn trailing() {
-    answer(
-        b"a word of no kind after no handlers",
-        &[0x01000000, 0xffffffff],
-    );
-    body(b"a word after the body", &[0x1c000000, 0x1c000000]);
-    body(
-        b"two words after the body",
-        &[0x18000000, 0x1c000000, 0x1c000000, 0x02000000, 0xff000000],
-    );
-    body(
-        b"kind 37 in the body and a word after it",
-        &[0x25000000, 0x1c000000],
-    );
+    tables(b"01000000 ffffffff.");
+    bodies(b"1c000000 1c000000.18000000 1c000000 1c000000 02000000 ff000000.25000000 1c000000.");
 }
 
 pub fn run() {
-    word_0();
     block_words();
-    second_blocks();
-    kinds();
-    missing();
-    arguments();
+    terms();
     variables();
     trailing();
 }

@@ -1,6 +1,7 @@
 // The tables of document 01's samples.
+use crate::cases::bodies;
+use crate::cases::tables;
 use crate::show::answer;
-use crate::tables::body;
 
 pub const RELAY: [u32; 11] = [
     0x01000002,
@@ -36,26 +37,11 @@ const TWINS: [u32; 15] = [
 
 pub fn run() {
     answer(b"no words", &[]);
-    answer(b"32 handlers and no more words", &[0x01000020]);
-    answer(b"33 handlers", &[0x01000021]);
-    answer(b"no handlers", &[0x01000000]);
-    answer(b"no handlers twice", &[0x01000000, 0x01000000]);
-    body(b"body exercise 2", &[0x24000002]);
-    body(b"body exercise 4", &[0x24000004]);
-    body(
-        b"body if true",
-        &[0x19000000, 0x10000002, 0x24000001, 0x24000002],
+    tables(b"01000020.01000021.01000000.01000000 01000000.");
+    bodies(
+        b"24000002.24000004.19000000 10000002 24000001 24000002.19000000 14000000 24000001 24000002.",
     );
-    body(
-        b"body if variable 0",
-        &[0x19000000, 0x14000000, 0x24000001, 0x24000002],
-    );
-    body(
-        b"body apply",
-        &[0x16000000, 0x15000000, 0x24000001, 0x10000000],
-    );
-    body(b"body function", &[0x15000000, 0x24000001]);
-    body(b"body variable 1", &[0x14000001]);
+    bodies(b"16000000 15000000 24000001 10000000.15000000 24000001.14000001.");
     answer(b"relay", &RELAY);
     answer(b"twins", &TWINS);
 }

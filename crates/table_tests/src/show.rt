@@ -73,47 +73,68 @@ pub fn answer(label: &[u8], words: &[u32]) {
     end();
 }
 
-fn constant(c: Constant) {
+fn constant(c: Constant) -> u32 {
     match c {
-        Constant::Undefined => text(b"undefined"),
-        Constant::Unit => text(b"unit"),
-        Constant::True => text(b"true"),
-        Constant::False => text(b"false"),
+        Constant::Undefined => 0,
+        Constant::Unit => 1,
+        Constant::True => 2,
+        Constant::False => 3,
     }
 }
 
-fn operation(o: Operation) {
+fn operation(o: Operation) -> u32 {
     match o {
-        Operation::Add => text(b"add"),
-        Operation::Less => text(b"less"),
-        Operation::Equal => text(b"equal"),
+        Operation::Add => 0,
+        Operation::Less => 1,
+        Operation::Equal => 2,
+    }
+}
+
+// Document 01's kind of a term.
+fn kind(t: Term) -> usize {
+    match t {
+        Term::Constant(_) => 16,
+        Term::Number(_) => 17,
+        Term::Literal(_) => 18,
+        Term::Name(_) => 19,
+        Term::Variable(_) => 20,
+        Term::Function => 21,
+        Term::Apply => 22,
+        Term::Let => 23,
+        Term::Sequence => 24,
+        Term::If => 25,
+        Term::While => 26,
+        Term::Operation(_) => 27,
+        Term::Record => 28,
+        Term::Get => 29,
+        Term::Set => 30,
+        Term::Delete => 31,
+        Term::Cell => 32,
+        Term::Read => 33,
+        Term::Assign => 34,
+        Term::Send(_) => 35,
+        Term::Exercise(_) => 36,
+    }
+}
+
+// Its argument, 0 where the term has none.
+fn argument(t: Term) -> u32 {
+    match t {
+        Term::Constant(c) => constant(c),
+        Term::Number(n) => n,
+        Term::Literal(n) => n,
+        Term::Name(n) => n,
+        Term::Variable(n) => n,
+        Term::Operation(o) => operation(o),
+        Term::Send(s) => s.bits,
+        Term::Exercise(s) => s.bits,
+        _ => 0,
     }
 }
 
 fn term(t: Term) {
-    match t {
-        Term::Constant(c) => constant(c),
-        Term::Number(n) => number(b"number ", n as usize),
-        Term::Literal(n) => number(b"literal ", n as usize),
-        Term::Name(n) => number(b"name ", n as usize),
-        Term::Variable(n) => number(b"variable ", n as usize),
-        Term::Function => text(b"function"),
-        Term::Apply => text(b"apply"),
-        Term::Let => text(b"let"),
-        Term::Sequence => text(b"sequence"),
-        Term::If => text(b"if"),
-        Term::While => text(b"while"),
-        Term::Operation(o) => operation(o),
-        Term::Record => text(b"record"),
-        Term::Get => text(b"get"),
-        Term::Set => text(b"set"),
-        Term::Delete => text(b"delete"),
-        Term::Cell => text(b"cell"),
-        Term::Read => text(b"read"),
-        Term::Assign => text(b"assign"),
-        Term::Send(s) => set(b"send ", s),
-        Term::Exercise(s) => set(b"exercise ", s),
-    }
+    number(b"term ", kind(t));
+    set(b" ", PermSet::of(argument(t)));
 }
 
 fn handler(h: Handler) {

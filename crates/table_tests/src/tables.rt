@@ -24,7 +24,7 @@ fn put_from(words: &mut [u32], at: usize, from: &[u32], k: usize) {
 }
 
 // Copies words to a place, as far as there is room.
-fn copy(words: &mut [u32], at: usize, from: &[u32]) {
+pub fn copy(words: &mut [u32], at: usize, from: &[u32]) {
     let mut i = at;
     while i < words.len() {
         put_from(words, i, from, i - at);
@@ -92,15 +92,4 @@ pub fn first_words(label: &[u8], words: &[u32], n: usize) {
 pub fn changed(label: &[u8], words: &mut [u32], n: usize, at: usize, w: u32) {
     put(words, at, w);
     first_words(label, words, n);
-}
-
-// The table of one handler with a body of at most 28 words.
-pub fn body(label: &[u8], terms: &[u32]) {
-    let mut words = [0u32; 32];
-    head(&mut words);
-    copy(&mut words, 4, terms);
-    let n = terms.len();
-    if n <= 28 {
-        first_words(label, &words, 4 + n);
-    }
 }

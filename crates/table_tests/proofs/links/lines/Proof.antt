@@ -1,6 +1,5 @@
--- `table_tests::links::lines` meets its contract.
+-- `table_tests::links::lines` meets its contract: the loop goes over the words of the table.
 -- Assumes nothing.
-use mathlib.Core.Path.{_≡_, refl}
 use Prim.Native.Nat.{_≤_, _-_}
 use lib.ListN.{length}
 use borrow.Author.Needs.{needs}

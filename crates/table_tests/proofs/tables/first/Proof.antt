@@ -1,8 +1,7 @@
--- `table_tests::tables::first` meets its contract.
+-- `table_tests::tables::first` meets its contract: the part that it reads has `n` words.
 -- Assumes nothing.
 use mathlib.Core.Path.{sym}
 use lib.Seq.{length-take-le}
-use borrow.Author.Needs.{needs}
 use borrow.Author.Needs.{needs}
 use Rattle.table_tests.proofs.tables.first.Statement.{statement}
 use Rattle.table_tests.proofs.tables.first.Tie as tie
