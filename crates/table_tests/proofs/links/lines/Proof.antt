@@ -1,0 +1,36 @@
+-- `table_tests::links::lines` meets its contract: the loop goes over the words of the table.
+-- Assumes nothing.
+use Prim.Native.Nat.{_≤_, _-_}
+use lib.ListN.{length}
+use borrow.Author.Needs.{needs}
+use Rattle.table_tests.proofs.links.lines.Statement.{statement}
+use Rattle.table_tests.proofs.links.lines.Tie as tie
+
+abbrev Inv-loop : tie.InvT-loop
+Inv-loop words links p₀ p = p ≤ length words
+
+abbrev μ-loop : tie.MeasureT-loop
+μ-loop words links p₀ p = length words - p
+
+loop-holds : tie.Need-loop-holds Inv-loop μ-loop
+loop-holds c = search needs
+
+line-requires : tie.Need-line-requires Inv-loop μ-loop
+line-requires c κs = search needs
+
+add-p : tie.Need-add-p Inv-loop μ-loop
+add-p c = search needs
+
+loop-less : tie.Need-loop-less Inv-loop μ-loop
+loop-less c = search needs
+
+loop-again : tie.Need-loop-again Inv-loop μ-loop
+loop-again c = search needs
+
+returns : tie.Need-returns Inv-loop μ-loop
+returns c = search needs
+
+pub lines-spec : {M : Type 1} → statement M
+lines-spec =
+    tie.close
+    (tie.spec Inv-loop μ-loop loop-holds line-requires add-p loop-less loop-again returns)

@@ -1,0 +1,22 @@
+-- `table_tests::tables::first` meets its contract: the part that it reads has `n` words.
+-- Assumes nothing.
+use mathlib.Core.Path.{sym}
+use lib.Seq.{length-take-le}
+use borrow.Author.Needs.{needs}
+use Rattle.table_tests.proofs.tables.first.Statement.{statement}
+use Rattle.table_tests.proofs.tables.first.Tie as tie
+
+slice-aggregate-reading : tie.Need-slice-aggregate-reading
+slice-aggregate-reading c = sym (length-take-le _ _ (search needs))
+
+reading-requires : tie.Need-reading-requires
+reading-requires c κs = search needs
+
+returns : tie.Need-returns
+returns c = search needs
+
+returns-2 : tie.Need-returns-2
+returns-2 c = search needs
+
+pub first-spec : {M : Type 1} → statement M
+first-spec = tie.close (tie.spec slice-aggregate-reading reading-requires returns returns-2)
