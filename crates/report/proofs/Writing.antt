@@ -1,6 +1,6 @@
 -- Laws of writing: nothing, one byte, and two texts one after the other.
 use Prim.Native.Nat.{ℕ, suc, _+_, _<_, _≤_}
-use mathlib.Core.Path.{_≡_, refl, sym, ap, _∙_}
+use mathlib.Core.Path.{_≡_, refl, sym, ap, _∙_, subst}
 use mathlib.Core.List.{List, [], _∷_, _++_, append-nil, append-assoc}
 use native.Mathlib.Nat.{add-zero, add-sub-of-le}
 use native.Mathlib.Numerals.{add-one}
@@ -40,6 +40,10 @@ module _ {before text after : List ℕ} {at next : ℕ} (w : Wrote before at tex
       ∙ ap (λ (k : ℕ). k + length (drop next before)) before-next
       ∙ ap (λ (k : ℕ). next + k) (length-drop next before)
       ∙ add-sub-of-le (w .fits)
+
+-- the same text in other terms
+pub reworded : {before text other after : List ℕ} {at next : ℕ} → text ≡ other → Wrote before at text after next → Wrote before at other after next
+reworded {before} {text} {other} {after} {at} {next} e w = subst (λ (l : List ℕ). Wrote before at l after next) e w
 
 pub then : {before first middle second after : List ℕ} {at mid next : ℕ} → Wrote before at first middle mid → Wrote middle mid second after next
     → Wrote before at (first ++ second) after next

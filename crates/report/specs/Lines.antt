@@ -6,7 +6,7 @@ use Rattle.calculus.specs.Answer.{Verdict}
 use Rattle.report.specs.Text.{bytes, decimal, set}
 
 -- one of two words
-unfoldable pub choice : Bool → List ℕ → List ℕ → List ℕ
+abbrev pub choice : Bool → List ℕ → List ℕ → List ℕ
 choice true a b = a
 choice false a b = b
 
@@ -20,7 +20,7 @@ firstOutside false first = bytes "-"
 
 -- leak, bound used, over or within, lowest permission outside, facts
 unfoldable pub verdictLine : Verdict → List ℕ
-unfolding choice firstOutside
+unfolding firstOutside
 verdictLine v =
     (bytes "leak " ++ set (v .leak))
     ++ (bytes " bound " ++ set (v .bound))
@@ -31,7 +31,6 @@ verdictLine v =
 
 -- position, name, whether the guard is within ρ, the live flag, P(b)
 unfoldable pub handlerLine : (position name : ℕ) (entry live : Bool) (permissions : ℕ) → List ℕ
-unfolding choice
 handlerLine position name entry live permissions =
     (bytes "handler " ++ decimal position)
     ++ (bytes " name " ++ decimal name)

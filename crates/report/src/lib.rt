@@ -86,3 +86,24 @@ fn set_field(out: &mut [u8], at: usize, label: &[u8], s: u32) -> usize
     let next = text(out, at, label);
     numeral(out, next, 16, 0, 6, s as u64)
 }
+
+fn first_field(out: &mut [u8], at: usize, over: bool, first: u32) -> usize
+    requires { ⌜ at + 27 ≤ length (now out) ⌝ }
+    ensures { λ r. ⌜ Wrote (now (out .entry)) at (bytes " first " ++ firstOutside over first) (now (out .exit)) r ⌝ }
+    ensures { λ r. ⌜ r ≤ at + 27 ⌝ }
+{
+    if over {
+        number_field(out, at, b" first ", first as u64)
+    } else {
+        text(out, at, b" first -")
+    }
+}
+
+// The line of a refusal, at the start of out, and its length.
+pub fn refusal_line(out: &mut [u8; 96], number: u32, place: usize) -> usize
+    ensures { λ r. ⌜ Line (now (out .entry)) (refusalLine number place) (now (out .exit)) r ⌝ }
+{
+    let a = number_field(out, 0, b"refused ", number as u64);
+    let b = number_field(out, a, b" at ", place as u64);
+    text(out, b, b"\n")
+}
