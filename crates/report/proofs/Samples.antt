@@ -11,8 +11,8 @@ unfolding refusalLine decimal set
 refused = refl
 
 judged :
-  verdictLine (record { leak = 2; bound = 0; over = true; first = 1; facts = 205 })
-  ≡ bytes "leak 000002 bound 000000 verdict over first 1 facts 205\n"
+    verdictLine (record { leak = 2; bound = 0; over = true; first = 1; facts = 205 })
+    ≡ bytes "leak 000002 bound 000000 verdict over first 1 facts 205\n"
 unfolding verdictLine decimal set
 judged = refl
 

@@ -7,7 +7,7 @@ use native.Mathlib.Numerals.{add-one}
 use native.Mathlib.Omega.{arith}
 use lib.ListN.{length, take, drop, set, length-append, length-drop, take-append-drop}
 use lib.Seq.{set-split, append-snoc, take-at, drop-append-add, drop-drop, length-take-le}
-use Rattle.report.specs.Writing.{Wrote}
+use Rattle.report.specs.Writing.{Wrote, Line}
 
 pub wrote-nothing : (l : List ℕ) (at : ℕ) → at ≤ length l → Wrote l at [] l at
 wrote-nothing l at h =
@@ -52,17 +52,27 @@ then {before} {first} {middle} {second} {after} {at} {mid} {next} w x =
     let taken : take mid middle ≡ p = ap (take mid) (w .bytes) ∙ take-at p (drop mid before) mid (before-next w) in
     let past : next ≡ length p + length second = x .ends ∙ ap (λ (k : ℕ). k + length second) (sym (before-next w)) in
     let dropped : drop next middle ≡ drop next before =
-        ap (drop next) (w .bytes)
-        ∙ ap (λ (k : ℕ). drop k (p ++ drop mid before)) past
-        ∙ drop-append-add p (drop mid before) (length second)
-        ∙ drop-drop (length second) mid before
-        ∙ ap (λ (k : ℕ). drop k before) (sym (x .ends)) in
+    ap (drop next) (w .bytes)
+    ∙ ap (λ (k : ℕ). drop k (p ++ drop mid before)) past
+    ∙ drop-append-add p (drop mid before) (length second)
+    ∙ drop-drop (length second) mid before
+    ∙ ap (λ (k : ℕ). drop k before) (sym (x .ends)) in
     record {
       bytes =
-        x .bytes
-        ∙ ap (λ (l : List ℕ). l ++ second ++ drop next middle) taken
-        ∙ ap (λ (l : List ℕ). p ++ second ++ l) dropped
-        ∙ ap (λ (l : List ℕ). l ++ drop next before) (append-assoc (take at before) first second);
+          x .bytes
+          ∙ ap (λ (l : List ℕ). l ++ second ++ drop next middle) taken
+          ∙ ap (λ (l : List ℕ). p ++ second ++ l) dropped
+          ∙ ap (λ (l : List ℕ). l ++ drop next before) (append-assoc (take at before) first second);
       ends = omega (arith, w .ends, x .ends, length-append first second);
       fits = omega (arith, x .fits, wrote-length w);
+    }
+
+pub line : {before text after : List ℕ} {next : ℕ} → Wrote before 0 text after next → Line before text after next
+line {before} {text} {after} {next} w =
+    let f : next ≤ length after = omega (arith, w .fits, wrote-length w) in
+    record {
+      bytes = w .bytes;
+      ends = omega (arith, w .ends);
+      fits = f;
+      counts = sym (length-take-le next after f);
     }

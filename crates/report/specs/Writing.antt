@@ -13,4 +13,6 @@ pub record Wrote (before : List ℕ) (at : ℕ) (text after : List ℕ) (next : 
 -- a line stands at the start, `size` is its length, and every other byte is as it was
 pub record Line (before text after : List ℕ) (size : ℕ) : Type 0 where
   pub bytes : after ≡ text ++ drop size before
-  pub counts : size ≡ length text
+  pub ends : size ≡ length text
+  pub fits : size ≤ length after
+  pub counts : size ≡ length (take size after)

@@ -1,7 +1,7 @@
 // The lines of the program, written as bytes into a lent slice. A writer takes the place to write at and answers the place after its text.
 ghost use mathlib.Core.Path.{_≡_};
 ghost use mathlib.Core.List.{_++_};
-ghost use Prim.Native.Nat.{_+_, _<_, _≤_};
+ghost use Prim.Native.Nat.{_+_, _<_, _≤_, max};
 ghost use lib.ListN.{length, drop};
 ghost use Rattle.report.specs.Text.{bytes, leftOut, decimal, set};
 ghost use Rattle.report.specs.Text.{glyph as Text·glyph};
@@ -60,6 +60,7 @@ fn word_field(out: &mut [u8], at: usize, label: &[u8], flag: bool, a: &[u8], b: 
     requires { ⌜ at + length (now label) + length (now a) ≤ length (now out) ⌝ }
     requires { ⌜ at + length (now label) + length (now b) ≤ length (now out) ⌝ }
     ensures { λ r. ⌜ Wrote (now (out .entry)) at (now (label .entry) ++ choice flag (now (a .entry)) (now (b .entry))) (now (out .exit)) r ⌝ }
+    ensures { λ r. ⌜ r ≤ at + length (now (label .entry)) + max (length (now (a .entry))) (length (now (b .entry))) ⌝ }
 {
     let next = text(out, at, label);
     if flag {
@@ -106,4 +107,42 @@ pub fn refusal_line(out: &mut [u8; 96], number: u32, place: usize) -> usize
     let a = number_field(out, 0, b"refused ", number as u64);
     let b = number_field(out, a, b" at ", place as u64);
     text(out, b, b"\n")
+}
+
+// The first line of a verdict, at the start of out, and its length.
+pub fn verdict_line(
+    out: &mut [u8; 96],
+    leak: u32,
+    bound: u32,
+    over: bool,
+    first: u32,
+    facts: usize,
+) -> usize
+    ensures { λ r. ⌜ Line (now (out .entry)) (verdictLine (record { leak = leak; bound = bound; over = over; first = first; facts = facts })) (now (out .exit)) r ⌝ }
+{
+    let a = set_field(out, 0, b"leak ", leak);
+    let b = set_field(out, a, b" bound ", bound);
+    let c = word_field(out, b, b" verdict ", over, b"over", b"within");
+    let d = first_field(out, c, over, first);
+    let e = number_field(out, d, b" facts ", facts as u64);
+    text(out, e, b"\n")
+}
+
+// The line of one handler, at the start of out, and its length.
+pub fn handler_line(
+    out: &mut [u8; 96],
+    position: usize,
+    name: u32,
+    entry: bool,
+    live: bool,
+    permissions: u32,
+) -> usize
+    ensures { λ r. ⌜ Line (now (out .entry)) (handlerLine position name entry live permissions) (now (out .exit)) r ⌝ }
+{
+    let a = number_field(out, 0, b"handler ", position as u64);
+    let b = number_field(out, a, b" name ", name as u64);
+    let c = word_field(out, b, b" entry ", entry, b"yes", b"no");
+    let d = word_field(out, c, b" live ", live, b"yes", b"no");
+    let e = set_field(out, d, b" set ", permissions);
+    text(out, e, b"\n")
 }

@@ -1,42 +1,50 @@
+-- `report::first_field` meets its contract. Assumes nothing.
+use mathlib.Core.Path.{sym, ap}
+use mathlib.Core.Bool.{Bool}
+use mathlib.Core.List.{_++_}
+use native.Mathlib.Omega.{arith}
 use borrow.Author.Needs.{needs}
+use Rattle.report.specs.Text.{bytes}
+use Rattle.report.specs.Lines.{firstOutside}
+use Rattle.report.proofs.Writing.{reworded}
 use Rattle.report.proofs.first_field.Statement.{statement}
 use Rattle.report.proofs.first_field.Tie as tie
-use Rattle.report.proofs.first_field.Reads as reads
-use Rattle.report.proofs.first_field.Lts as lts
-use Rattle.report.proofs.number_field.Reads as number-field-reads
-use Rattle.report.proofs.text.Reads as text-reads
 
--- src/lib.rt:96:31
 slice-aggregate-number-field : tie.Need-slice-aggregate-number-field
 slice-aggregate-number-field c = search needs
 
--- src/lib.rt:96:9
 number-field-requires : tie.Need-number-field-requires
 number-field-requires c κs = search needs
 
--- src/lib.rt:98:23
 slice-aggregate-text : tie.Need-slice-aggregate-text
 slice-aggregate-text c = search needs
 
--- src/lib.rt:98:9
 text-requires : tie.Need-text-requires
 text-requires c κs = search needs
 
--- src/lib.rt:90:1
 same-length : tie.Need-same-length
 same-length c = search needs
 
--- src/lib.rt:90:1
 returns : tie.Need-returns
-returns c = ?
+unfolding firstOutside
+returns c =
+    let test = c .before .before .before .before .before in (
+      reworded (ap (λ (o : Bool). bytes " first " ++ firstOutside o (test .before .before .args .first)) (sym (test .if1 .taken)))
+          (c .before .before .number-field .ensures .0),
+      omega arith,
+    )
 
--- src/lib.rt:90:1
 same-length-2 : tie.Need-same-length-2
 same-length-2 c = search needs
 
--- src/lib.rt:90:1
 returns-2 : tie.Need-returns-2
-returns-2 c = ?
+unfolding firstOutside
+returns-2 c =
+    let test = c .before .before .before .before .before in (
+      reworded (ap (λ (o : Bool). bytes " first " ++ firstOutside o (test .before .before .args .first)) (sym (test .if1 .left)))
+          (c .before .before .text .ensures),
+      omega (arith, c .before .before .text .ensures .ends),
+    )
 
 pub first-field-spec : {M : Type 1} → statement M
 first-field-spec =

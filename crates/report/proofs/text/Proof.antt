@@ -46,7 +46,7 @@ loop-again c =
       search needs,
       search needs,
       rw (← add-assoc, add-one (l .i), take-suc (a .s .now) (l .i) 0 (c .before .loop-test .taken))
-      (then (l .inv .2) (wrote-byte (l .out) (a .at + l .i) (getD (a .s .now) (l .i) 0) (omega arith))),
+          (then (l .inv .2) (wrote-byte (l .out) (a .at + l .i) (getD (a .s .now) (l .i) 0) (omega arith))),
     )
 
 add-result : tie.Need-add-result Inv-loop μ-loop
