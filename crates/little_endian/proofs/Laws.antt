@@ -5,8 +5,8 @@ use mathlib.Core.List.{List, [], _∷_, _++_}
 use native.Mathlib.Nat.{zero-add, pow-zero, pow-succ'}
 use native.Mathlib.Numerals.{add-one}
 use native.Mathlib.Omega.{arith}
-use lib.ListN.{length, getD, set, take, drop}
-use lib.Seq.{take-suc, take-at, drop-append-add, drop-drop, length-take-le, paste-suc}
+use lib.ListN.{length, getD, set, take, drop, take-append-drop}
+use lib.Seq.{take-nil, drop-nil, take-take, drop-append-le, take-suc, take-at, drop-append-add, drop-drop, length-take-le, paste-suc}
 use lib.Dec.{lit<}
 use Rattle.little_endian.specs.LittleEndian.{number, lowBytes, wordsOf, bytesOf}
 
@@ -131,3 +131,29 @@ bytes-more ws bs i h =
     ∙ ap (λ (k : ℕ). p ++ lowBytes 4 w ++ drop k bs) next
     ∙ ap (λ (l : List ℕ). l ++ drop (4 * (i + 1)) bs)
     (sym (ap (λ (k : ℕ). bytesOf (take k ws)) (add-one i) ∙ ap bytesOf (take-suc ws i 0 h) ∙ bytesOf-snoc (take i ws) w))
+
+-- ---- what a slice of bytes keeps when some of its words are written back
+
+pub bytesOf-take : (k : ℕ) (ws : List ℕ) → bytesOf (take k ws) ≡ take (4 * k) (bytesOf ws)
+unfolding bytesOf
+bytesOf-take zero ws = refl
+bytesOf-take (suc k) [] = sym (take-nil (4 * suc k))
+bytesOf-take (suc k) (w ∷ ws) = rw (four-more k) (ap (λ (l : List ℕ). lowBytes 4 w ++ l) (bytesOf-take k ws))
+
+pub bytesOf-drop : (k : ℕ) (ws : List ℕ) → bytesOf (drop k ws) ≡ drop (4 * k) (bytesOf ws)
+unfolding bytesOf
+bytesOf-drop zero ws = refl
+bytesOf-drop (suc k) [] = sym (drop-nil (4 * suc k))
+bytesOf-drop (suc k) (w ∷ ws) = rw (four-more k) (bytesOf-drop k ws)
+
+-- the words from e on, of r words that were read from bs, written back before the bytes after them
+pub written-back : (bs : List ℕ) (e r : ℕ) → Below 256 bs → e ≤ r → r ≤ length bs / 4
+    → bytesOf (drop e (take r (wordsOf bs))) ++ drop (4 * r) bs ≡ drop (4 * e) bs
+written-back bs e r h he hr =
+    let read : bytesOf (take r (wordsOf bs)) ≡ take (4 * r) bs =
+    bytesOf-take r (wordsOf bs)
+    ∙ ap (take (4 * r)) (bytesOf-wordsOf bs h)
+    ∙ take-take (4 * r) (4 * (length bs / 4)) bs (omega arith) in
+    ap (λ (l : List ℕ). l ++ drop (4 * r) bs) (bytesOf-drop e (take r (wordsOf bs)) ∙ ap (drop (4 * e)) read)
+    ∙ sym (drop-append-le (4 * e) (take (4 * r) bs) (drop (4 * r) bs) (omega (arith, length-take-le (4 * r) bs (omega arith))))
+    ∙ ap (drop (4 * e)) (take-append-drop (4 * r) bs)
