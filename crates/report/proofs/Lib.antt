@@ -1,3 +1,3 @@
 pub mod Digits
-pub mod Samples
+pub mod Lines
 pub mod Writing

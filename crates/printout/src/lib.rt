@@ -1,0 +1,1 @@
+// What the program prints, as a definition with examples. It has no functions.
