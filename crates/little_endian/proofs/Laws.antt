@@ -1,7 +1,7 @@
 -- Laws of little-endian bytes: numbers at any width first, then lists of words.
 use Prim.Native.Nat.{ℕ, zero, suc, _+_, _*_, _/_, _%_, _^_, _<_, _≤_}
 use mathlib.Core.Path.{_≡_, refl, sym, ap, _∙_}
-use mathlib.Core.List.{List, [], _∷_, _++_}
+use mathlib.Core.List.{List, [], _∷_, _++_, append-assoc}
 use native.Mathlib.Nat.{zero-add, pow-zero, pow-succ'}
 use native.Mathlib.Numerals.{add-one}
 use native.Mathlib.Omega.{arith}
@@ -102,10 +102,10 @@ wordsOf-at (a ∷ b ∷ c ∷ d ∷ bs) (suc i) h =
     let past : (k : ℕ) → 4 * suc i + k ≡ suc (suc (suc (suc (4 * i + k)))) = λ k. omega arith in
     rw (past 1, past 2, past 3, four-more i) (wordsOf-at bs i (omega arith))
 
-pub bytesOf-snoc : (ws : List ℕ) (w : ℕ) → bytesOf (ws ++ w ∷ []) ≡ bytesOf ws ++ lowBytes 4 w
+pub bytesOf-append : (ws xs : List ℕ) → bytesOf (ws ++ xs) ≡ bytesOf ws ++ bytesOf xs
 unfolding bytesOf
-bytesOf-snoc [] w = refl
-bytesOf-snoc (x ∷ ws) w = ap (λ (l : List ℕ). lowBytes 4 x ++ l) (bytesOf-snoc ws w)
+bytesOf-append [] xs = refl
+bytesOf-append (w ∷ ws) xs = ap (λ (l : List ℕ). lowBytes 4 w ++ l) (bytesOf-append ws xs)
 
 -- ---- one turn of a loop that copies
 
@@ -120,6 +120,7 @@ pub bytes-more : (ws bs : List ℕ) (i : ℕ) → i < length ws
     ++ lowBytes 4 (getD ws i 0)
     ++ drop (4 * i + 4) (bytesOf (take i ws) ++ drop (4 * i) bs)
     ≡ bytesOf (take (i + 1) ws) ++ drop (4 * (i + 1)) bs
+unfolding bytesOf
 bytes-more ws bs i h =
     let p : List ℕ = bytesOf (take i ws) in
     let w : ℕ = getD ws i 0 in
@@ -130,7 +131,7 @@ bytes-more ws bs i h =
     ∙ ap (λ (l : List ℕ). p ++ lowBytes 4 w ++ l) (drop-append-add p (drop (4 * i) bs) 4 ∙ drop-drop 4 (4 * i) bs)
     ∙ ap (λ (k : ℕ). p ++ lowBytes 4 w ++ drop k bs) next
     ∙ ap (λ (l : List ℕ). l ++ drop (4 * (i + 1)) bs)
-    (sym (ap (λ (k : ℕ). bytesOf (take k ws)) (add-one i) ∙ ap bytesOf (take-suc ws i 0 h) ∙ bytesOf-snoc (take i ws) w))
+    (sym (ap (λ (k : ℕ). bytesOf (take k ws)) (add-one i) ∙ ap bytesOf (take-suc ws i 0 h) ∙ bytesOf-append (take i ws) (w ∷ [])))
 
 -- ---- what a slice of bytes keeps when some of its words are written back
 
@@ -157,3 +158,11 @@ written-back bs e r h he hr =
     ap (λ (l : List ℕ). l ++ drop (4 * r) bs) (bytesOf-drop e (take r (wordsOf bs)) ∙ ap (drop (4 * e)) read)
     ∙ sym (drop-append-le (4 * e) (take (4 * r) bs) (drop (4 * r) bs) (omega (arith, length-take-le (4 * r) bs (omega arith))))
     ∙ ap (drop (4 * e)) (take-append-drop (4 * r) bs)
+
+-- r words were read from bs, the first of them replaced by the words es, and all written back: only those bytes change
+pub replaced-words : (es bs : List ℕ) (r : ℕ) → Below 256 bs → length es ≤ r → r ≤ length bs / 4
+    → bytesOf (es ++ drop (length es) (take r (wordsOf bs))) ++ drop (4 * r) bs ≡ bytesOf es ++ drop (4 * length es) bs
+replaced-words es bs r h he hr =
+    ap (λ (l : List ℕ). l ++ drop (4 * r) bs) (bytesOf-append es (drop (length es) (take r (wordsOf bs))))
+    ∙ append-assoc (bytesOf es) (bytesOf (drop (length es) (take r (wordsOf bs)))) (drop (4 * r) bs)
+    ∙ ap (λ (l : List ℕ). bytesOf es ++ l) (written-back bs (length es) r h he hr)
