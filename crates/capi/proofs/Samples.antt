@@ -2,7 +2,7 @@
 -- byte, too many bytes.
 use Prim.Native.Nat.{ℕ, _+_, _*_, _^_}
 use mathlib.Core.Path.{_≡_, refl}
-use mathlib.Core.List.{List, [], _∷_, _++_, map}
+use mathlib.Core.List.{List, [], _∷_, map}
 use lib.ListN.{replicate}
 use lib.Count.{onesIn}
 use Rattle.permset.specs.Sets.{within, member, union, difference, lowest}

@@ -2,7 +2,7 @@
 ghost use mathlib.Core.Path.{_≡_};
 ghost use mathlib.Core.List.{_++_};
 ghost use Prim.Native.Nat.{_+_, _<_, _≤_, max};
-ghost use lib.ListN.{length, drop};
+ghost use lib.ListN.{length};
 ghost use Rattle.report.specs.Text.{bytes, leftOut, decimal, set};
 ghost use Rattle.report.specs.Text.{glyph as Text·glyph};
 ghost use Rattle.report.specs.Text.{numeral as Text·numeral};

@@ -1,9 +1,9 @@
 -- `little_endian::bytes_of` meets its contract. The loop's invariant: the first i words are written. Assumes nothing.
 use Prim.Native.Nat.{ℕ, _+_, _-_, _*_, _≤_}
-use mathlib.Core.Path.{_≡_, refl, sym, ap, _∙_}
+use mathlib.Core.Path.{_≡_, refl, ap, _∙_}
 use mathlib.Core.List.{List, _++_}
 use native.Mathlib.Omega.{arith}
-use lib.ListN.{length, getD, set, take, drop}
+use lib.ListN.{length, getD, take, drop}
 use borrow.Author.Needs.{needs}
 use Rattle.little_endian.specs.LittleEndian.{lowBytes, bytesOf}
 use Rattle.little_endian.proofs.Laws.{bytes-more}

@@ -3,7 +3,7 @@ use Prim.Native.Nat.{ℕ, _-_, _/_, _<_, _≤_}
 use mathlib.Core.Path.{_≡_, refl, sym, ap, _∙_}
 use mathlib.Core.List.{List, _++_}
 use native.Mathlib.Omega.{arith}
-use lib.ListN.{length, getD, set, take, drop}
+use lib.ListN.{length, set, take, drop}
 use borrow.Author.Needs.{needs}
 use Rattle.little_endian.specs.LittleEndian.{wordsOf}
 use Rattle.little_endian.proofs.Laws.{length-wordsOf, wordsOf-at, copy-more}

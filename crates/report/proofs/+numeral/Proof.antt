@@ -1,15 +1,13 @@
 -- `report::numeral` meets its contract: the measure is the number of places. Assumes nothing.
-use mathlib.Core.Path.{_≡_, refl, sym, ap, subst, _∙_}
-use mathlib.Core.List.{List, [], _∷_, _++_}
-use Prim.Native.Nat.{ℕ, _+_, _-_, _/_, _%_, _<_, _≤_}
+use mathlib.Core.Path.{sym, ap, _∙_}
+use mathlib.Core.List.{[], _∷_, _++_}
+use Prim.Native.Nat.{ℕ, _-_, _/_, _<_}
 use native.Mathlib.Nat.{mod-lt}
 use native.Mathlib.Omega.{arith}
-use lib.ListN.{length, set, length-set}
 use borrow.Author.Needs.{needs}
 use borrow.Fn.Kinds.{In}
 use borrow.Fn.PlainCycle.{Measures, is, falls, and}
-use Rattle.report.specs.Writing.{Wrote}
-use Rattle.report.specs.Text.{numeral as Text·numeral, glyph as Text·glyph}
+use Rattle.report.specs.Text.{numeral as Text·numeral}
 use Rattle.report.proofs.Digits.{numeral-none, numeral-stop, numeral-more}
 use Rattle.report.proofs.Writing.{wrote-nothing, wrote-byte, reworded, then}
 use Rattle.report.proofs.numeral.Reads as numeral

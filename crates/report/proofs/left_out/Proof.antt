@@ -1,7 +1,5 @@
 -- `report::left_out` meets its contract. Assumes nothing.
-use mathlib.Core.Bool.{_&&_}
 use borrow.Author.Tests.{eq-eqb, ne-eqb}
-use lib.Dec.{leb}
 use Rattle.report.proofs.left_out.Statement.{statement}
 use Rattle.report.proofs.left_out.Tie as tie
 
