@@ -61,7 +61,11 @@ returns c =
     let at-word-field = at-word-field2 .before .before .before .before .before in
     let at-number-field2 = at-word-field .before .before .before .before .before in
     let at-number-field = at-number-field2 .before .before .before in
-    line (then (then (then (then (then (at-number-field .number-field .ensures .0) (at-number-field2 .number-field2 .ensures .0)) (at-word-field .word-field .ensures .0)) (at-word-field2 .word-field2 .ensures .0)) (at-set-field .set-field .ensures .0)) (c .text .ensures))
+    let two = then (at-number-field .number-field .ensures .0) (at-number-field2 .number-field2 .ensures .0) in
+    let three = then two (at-word-field .word-field .ensures .0) in
+    let four = then three (at-word-field2 .word-field2 .ensures .0) in
+    let five = then four (at-set-field .set-field .ensures .0) in
+    line (then five (c .text .ensures))
 
 pub handler-line-spec : {M : Type 1} → statement M
 handler-line-spec =

@@ -52,7 +52,11 @@ returns c =
     let at-word-field = at-first-field .before .before in
     let at-set-field2 = at-word-field .before .before .before .before .before in
     let at-set-field = at-set-field2 .before .before .before in
-    line (then (then (then (then (then (at-set-field .set-field .ensures .0) (at-set-field2 .set-field2 .ensures .0)) (at-word-field .word-field .ensures .0)) (at-first-field .first-field .ensures .0)) (at-number-field .number-field .ensures .0)) (c .text .ensures))
+    let two = then (at-set-field .set-field .ensures .0) (at-set-field2 .set-field2 .ensures .0) in
+    let three = then two (at-word-field .word-field .ensures .0) in
+    let four = then three (at-first-field .first-field .ensures .0) in
+    let five = then four (at-number-field .number-field .ensures .0) in
+    line (then five (c .text .ensures))
 
 pub verdict-line-spec : {M : Type 1} → statement M
 verdict-line-spec =
