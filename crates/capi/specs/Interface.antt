@@ -1,0 +1,46 @@
+-- The C interface (document 01, "Parts and program"): its answer as one number, and what it leaves in the two slices of bytes.
+use Prim.Native.Nat.{ℕ, zero, suc, _+_, _*_, _/_, _%_, _^_}
+use mathlib.Core.Bool.{Bool, true, false, not}
+use mathlib.Core.List.{List, [], _∷_, _++_}
+use lib.Dec.{eqb, ltb}
+use lib.ListN.{length, drop, replicate}
+use Rattle.little_endian.specs.LittleEndian.{wordsOf, bytesOf}
+use Rattle.table.specs.Scan.{firstOf}
+use Rattle.table.specs.Code.{code}
+use Rattle.calculus.specs.Layout.{length as estimateWords}
+use Rattle.calculus.specs.Estimate.{estimate}
+use Rattle.calculus.specs.Answer.{Answer, refused, verdict, answer, workWords}
+
+abbrev pub overPart : Bool → ℕ
+overPart true = 2 ^ 24
+overPart false = 0
+
+-- the leak, plus 2^24 if over; refused, 2^32 + number × 65,536 + place
+unfoldable pub answerNumber : Answer → ℕ
+answerNumber (refused number place) = 2 ^ 32 + number * 65536 + place
+answerNumber (verdict v) = v .leak + overPart (v .over)
+
+-- what comes before the reading of a system of this many bytes: too many, no whole words
+unfoldable pub systemTests : ℕ → List (Bool × ℕ)
+systemTests size = (ltb 1024 size, 31) ∷ (not (eqb (size % 4) 0), 30) ∷ []
+
+-- the answer to the bytes of a system, ρ, a bound, and slices of `est` and `work` bytes
+unfoldable pub bytesAnswer : List ℕ → ℕ → ℕ → ℕ → ℕ → Answer
+unfolding systemTests
+bytesAnswer system ρ bound est work =
+    elim (firstOf (systemTests (length system))) [
+      | zero ↦ answer (wordsOf system) ρ bound (est / 4) (work / 4)
+      | suc n ↦ refused (suc n) 0
+    ]
+
+-- the bytes of the estimate slice after the call, from those before it
+unfoldable pub estimateBytes : List ℕ → ℕ → Answer → List ℕ → List ℕ
+estimateBytes system ρ (refused number place) bs = bs
+estimateBytes system ρ (verdict v) bs =
+    bytesOf (estimate (code (wordsOf system)) ρ) ++ drop (4 * estimateWords (code (wordsOf system))) bs
+
+-- the same for the work slice
+unfoldable pub workBytes : List ℕ → Answer → List ℕ → List ℕ
+workBytes system (refused number place) bs = bs
+workBytes system (verdict v) bs =
+    bytesOf (replicate (workWords (length (wordsOf system))) 0) ++ drop (4 * workWords (length (wordsOf system))) bs

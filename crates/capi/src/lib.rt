@@ -1,0 +1,1 @@
+// The C interface as definitions over bytes. It has no functions.

@@ -1,0 +1,46 @@
+-- What the program prints for the bytes of its standard input (document 01, "Refused" and "Parts and program").
+use Prim.Native.Nat.{ℕ, zero, suc, _%_}
+use mathlib.Core.Bool.{Bool, not}
+use mathlib.Core.List.{List, [], _∷_, _++_}
+use lib.Dec.{eqb, ltb}
+use lib.ListN.{length, getD, drop}
+use Rattle.little_endian.specs.LittleEndian.{wordsOf}
+use Rattle.table.specs.Scan.{firstOf}
+use Rattle.table.specs.Code.{Code, code}
+use Rattle.calculus.specs.Constraint.{L}
+use Rattle.calculus.specs.Rules.{nameOf, guarded}
+use Rattle.calculus.specs.Layout.{sets, length as estimateWords}
+use Rattle.calculus.specs.Estimate.{whole, estimate, permissionsAt}
+use Rattle.calculus.specs.Answer.{Answer, refused, verdict, answer, workWords}
+use Rattle.report.specs.Lines.{refusalLine, verdictLine, handlerLine}
+
+-- what the feeder may get wrong, in order: more than 1,032 bytes, under 8, no whole words
+unfoldable pub feederTests : ℕ → List (Bool × ℕ)
+feederTests size = (ltb 1032 size, 31) ∷ (ltb size 8, 30) ∷ (not (eqb (size % 4) 0), 30) ∷ []
+
+-- a line for each of the blocks bs, the first at this position
+unfoldable pub handlerLines : Code → (ρ : ℕ) (estimate : List ℕ) (position : ℕ) → List ℕ → List ℕ
+unfolding sets permissionsAt
+handlerLines c ρ ws position [] = []
+handlerLines c ρ ws position (b ∷ bs) =
+    handlerLine position (nameOf (c .node b)) (guarded (c .node b) ρ) (sets c ws (L b) 0) (permissionsAt c ρ ws b)
+    ++ handlerLines c ρ ws (suc position) bs
+
+unfoldable pub answerText : (ρ : ℕ) → List ℕ → Answer → List ℕ
+unfolding estimate whole handlerLines
+answerText ρ ws (refused number place) = refusalLine number place
+answerText ρ ws (verdict v) = verdictLine v ++ whole (estimate (code ws) ρ) (λ est. handlerLines (code ws) ρ est 0 (code ws .blocks))
+
+-- a system's text: its slices are never short
+unfoldable pub systemText : (ρ bound : ℕ) → List ℕ → List ℕ
+unfolding answer answerText
+systemText ρ bound ws = answerText ρ ws (answer ws ρ bound (estimateWords (code ws)) (workWords (length ws)))
+
+-- the words are ρ, the bound and the system
+unfoldable pub printed : List ℕ → List ℕ
+unfolding feederTests systemText
+printed input =
+    elim (firstOf (feederTests (length input))) [
+      | zero ↦ systemText (getD (wordsOf input) 0 0) (getD (wordsOf input) 1 0) (drop 2 (wordsOf input))
+      | suc n ↦ refusalLine (suc n) 0
+    ]

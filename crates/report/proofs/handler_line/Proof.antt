@@ -1,0 +1,90 @@
+-- `report::handler_line` meets its contract. Assumes nothing.
+use borrow.Author.Needs.{needs}
+use Rattle.report.specs.Lines.{handlerLine}
+use Rattle.report.proofs.Writing.{then, line}
+use Rattle.report.proofs.handler_line.Statement.{statement}
+use Rattle.report.proofs.handler_line.Tie as tie
+
+slice-aggregate-number-field : tie.Need-slice-aggregate-number-field
+slice-aggregate-number-field c = search needs
+
+number-field-requires : tie.Need-number-field-requires
+number-field-requires c κs = search needs
+
+slice-aggregate-number-field-2 : tie.Need-slice-aggregate-number-field-2
+slice-aggregate-number-field-2 c = search needs
+
+number-field-requires-2 : tie.Need-number-field-requires-2
+number-field-requires-2 c κs = search needs
+
+slice-aggregate-word-field : tie.Need-slice-aggregate-word-field
+slice-aggregate-word-field c = search needs
+
+slice-aggregate-word-field-2 : tie.Need-slice-aggregate-word-field-2
+slice-aggregate-word-field-2 c = search needs
+
+slice-aggregate-word-field-3 : tie.Need-slice-aggregate-word-field-3
+slice-aggregate-word-field-3 c = search needs
+
+word-field-requires : tie.Need-word-field-requires
+word-field-requires c κs = search needs
+
+slice-aggregate-word-field-4 : tie.Need-slice-aggregate-word-field-4
+slice-aggregate-word-field-4 c = search needs
+
+slice-aggregate-word-field-5 : tie.Need-slice-aggregate-word-field-5
+slice-aggregate-word-field-5 c = search needs
+
+slice-aggregate-word-field-6 : tie.Need-slice-aggregate-word-field-6
+slice-aggregate-word-field-6 c = search needs
+
+word-field-requires-2 : tie.Need-word-field-requires-2
+word-field-requires-2 c κs = search needs
+
+slice-aggregate-set-field : tie.Need-slice-aggregate-set-field
+slice-aggregate-set-field c = search needs
+
+set-field-requires : tie.Need-set-field-requires
+set-field-requires c κs = search needs
+
+slice-aggregate-text : tie.Need-slice-aggregate-text
+slice-aggregate-text c = search needs
+
+text-requires : tie.Need-text-requires
+text-requires c κs = search needs
+
+returns : tie.Need-returns
+unfolding handlerLine
+returns c =
+    let at-set-field = c .before .before .before in
+    let at-word-field2 = at-set-field .before .before .before in
+    let at-word-field = at-word-field2 .before .before .before .before .before in
+    let at-number-field2 = at-word-field .before .before .before .before .before in
+    let at-number-field = at-number-field2 .before .before .before in
+    let two = then (at-number-field .number-field .ensures .0) (at-number-field2 .number-field2 .ensures .0) in
+    let three = then two (at-word-field .word-field .ensures .0) in
+    let four = then three (at-word-field2 .word-field2 .ensures .0) in
+    let five = then four (at-set-field .set-field .ensures .0) in
+    line (then five (c .text .ensures))
+
+pub handler-line-spec : {M : Type 1} → statement M
+handler-line-spec =
+    tie.close
+    (tie.spec
+    slice-aggregate-number-field
+    number-field-requires
+    slice-aggregate-number-field-2
+    number-field-requires-2
+    slice-aggregate-word-field
+    slice-aggregate-word-field-2
+    slice-aggregate-word-field-3
+    word-field-requires
+    slice-aggregate-word-field-4
+    slice-aggregate-word-field-5
+    slice-aggregate-word-field-6
+    word-field-requires-2
+    slice-aggregate-set-field
+    set-field-requires
+    slice-aggregate-text
+    text-requires
+    returns)

@@ -1,0 +1,43 @@
+-- `report::refusal_line` meets its contract. Assumes nothing.
+use borrow.Author.Needs.{needs}
+use Rattle.report.specs.Lines.{refusalLine}
+use Rattle.report.proofs.Writing.{then, line}
+use Rattle.report.proofs.refusal_line.Statement.{statement}
+use Rattle.report.proofs.refusal_line.Tie as tie
+
+slice-aggregate-number-field : tie.Need-slice-aggregate-number-field
+slice-aggregate-number-field c = search needs
+
+number-field-requires : tie.Need-number-field-requires
+number-field-requires c κs = search needs
+
+slice-aggregate-number-field-2 : tie.Need-slice-aggregate-number-field-2
+slice-aggregate-number-field-2 c = search needs
+
+number-field-requires-2 : tie.Need-number-field-requires-2
+number-field-requires-2 c κs = search needs
+
+slice-aggregate-text : tie.Need-slice-aggregate-text
+slice-aggregate-text c = search needs
+
+text-requires : tie.Need-text-requires
+text-requires c κs = search needs
+
+returns : tie.Need-returns
+unfolding refusalLine
+returns c =
+    let at-number-field2 = c .before .before .before in
+    let at-number-field = at-number-field2 .before .before .before in
+    line (then (then (at-number-field .number-field .ensures .0) (at-number-field2 .number-field2 .ensures .0)) (c .text .ensures))
+
+pub refusal-line-spec : {M : Type 1} → statement M
+refusal-line-spec =
+    tie.close
+    (tie.spec
+    slice-aggregate-number-field
+    number-field-requires
+    slice-aggregate-number-field-2
+    number-field-requires-2
+    slice-aggregate-text
+    text-requires
+    returns)

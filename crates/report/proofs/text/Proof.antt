@@ -1,0 +1,75 @@
+-- `report::text` meets its contract. The loop's invariant: the first i bytes of the text are written. Assumes nothing.
+use Prim.Native.Nat.{_+_, _-_, _≤_}
+use mathlib.Core.Path.{_≡_, refl}
+use native.Mathlib.Numerals.{add-one}
+use native.Mathlib.Nat.{add-assoc, add-zero}
+use native.Mathlib.Omega.{arith}
+use lib.ListN.{length, getD, take}
+use lib.Seq.{take-suc, take-all}
+use denote.Ref.{now}
+use borrow.Author.Needs.{needs}
+use Rattle.report.specs.Writing.{Wrote}
+use Rattle.report.proofs.Writing.{wrote-nothing, wrote-byte, then}
+use Rattle.report.proofs.text.Statement.{statement}
+use Rattle.report.proofs.text.Tie as tie
+
+abbrev Inv-loop : tie.InvT-loop
+Inv-loop out₀ at s i₀ out i =
+    (i ≤ length s) × (length out ≡ length out₀) × Wrote out₀ at (take i s) out (at + i)
+
+abbrev μ-loop : tie.MeasureT-loop
+μ-loop out₀ at s i₀ out i = length s - i
+
+loop-holds : tie.Need-loop-holds Inv-loop μ-loop
+loop-holds c = (search needs, refl, rw add-zero (wrote-nothing _ _ (omega arith)))
+
+shared-slice-read-out : tie.Need-shared-slice-read-out Inv-loop μ-loop
+shared-slice-read-out c = search needs
+
+add-out : tie.Need-add-out Inv-loop μ-loop
+add-out c = search needs
+
+slice-write-out : tie.Need-slice-write-out Inv-loop μ-loop
+slice-write-out c = search needs
+
+add-i : tie.Need-add-i Inv-loop μ-loop
+add-i c = search needs
+
+loop-less : tie.Need-loop-less Inv-loop μ-loop
+loop-less c = search needs
+
+loop-again : tie.Need-loop-again Inv-loop μ-loop
+loop-again c =
+    let l = c .before .before .loop in
+    let a = c .before .before .before .args in (
+      search needs,
+      search needs,
+      rw (← add-assoc, add-one (l .i), take-suc (a .s .now) (l .i) 0 (c .before .loop-test .taken))
+          (then (l .inv .2) (wrote-byte (l .out) (a .at + l .i) (getD (a .s .now) (l .i) 0) (omega arith))),
+    )
+
+add-result : tie.Need-add-result Inv-loop μ-loop
+add-result c = search needs
+
+same-length : tie.Need-same-length Inv-loop μ-loop
+same-length c = search needs
+
+returns : tie.Need-returns Inv-loop μ-loop
+returns c = rw (take-all (c .before .loop .i) (now (c .before .before .args .s)) (c .loop-test .left)) at (c .before .loop .inv .2)
+
+pub text-spec : {M : Type 1} → statement M
+text-spec =
+    tie.close
+    (tie.spec
+    Inv-loop
+    μ-loop
+    loop-holds
+    shared-slice-read-out
+    add-out
+    slice-write-out
+    add-i
+    loop-less
+    loop-again
+    add-result
+    same-length
+    returns)

@@ -1,0 +1,56 @@
+-- `report::word_field` meets its contract. Assumes nothing.
+use mathlib.Core.Path.{sym, ap}
+use mathlib.Core.Bool.{Bool}
+use mathlib.Core.List.{_++_}
+use denote.Ref.{now}
+use native.Mathlib.Omega.{arith}
+use borrow.Author.Needs.{needs}
+use Rattle.report.specs.Lines.{choice}
+use Rattle.report.proofs.Writing.{reworded, then}
+use Rattle.report.proofs.word_field.Statement.{statement}
+use Rattle.report.proofs.word_field.Tie as tie
+
+text-requires : tie.Need-text-requires
+text-requires c κs = search needs
+
+text-requires-2 : tie.Need-text-requires-2
+text-requires-2 c κs = search needs
+
+text-requires-3 : tie.Need-text-requires-3
+text-requires-3 c κs = search needs
+
+same-length : tie.Need-same-length
+same-length c = search needs
+
+returns : tie.Need-returns
+returns c =
+    let test = c .before .before .before .before in
+    let a = test .before .before .before .before .before .before .before .before .before .args in (
+      reworded (ap (λ (f : Bool). now (a .label) ++ choice f (now (a .a)) (now (a .b))) (sym (test .if1 .taken)))
+          (then (test .before .before .before .text .ensures) (c .before .before .text2 .ensures)),
+      omega arith,
+    )
+
+same-length-2 : tie.Need-same-length-2
+same-length-2 c = search needs
+
+returns-2 : tie.Need-returns-2
+returns-2 c =
+    let test = c .before .before .before .before in
+    let a = test .before .before .before .before .before .before .before .before .before .args in (
+      reworded (ap (λ (f : Bool). now (a .label) ++ choice f (now (a .a)) (now (a .b))) (sym (test .if1 .left)))
+          (then (test .before .before .before .text .ensures) (c .before .before .text3 .ensures)),
+      omega arith,
+    )
+
+pub word-field-spec : {M : Type 1} → statement M
+word-field-spec =
+    tie.close
+    (tie.spec
+    text-requires
+    text-requires-2
+    text-requires-3
+    same-length
+    returns
+    same-length-2
+    returns-2)
