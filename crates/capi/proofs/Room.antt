@@ -11,7 +11,7 @@ use borrow.Author.Tests.{lt-ltb, le-ltb, ltb-true, ltb-false}
 use Rattle.permset.specs.Sets.{width}
 use Rattle.table.specs.Scan.{firstOf, accepted, refused as unreadable, reading}
 use Rattle.table.specs.Code.{Code, code}
-use Rattle.calculus.specs.Layout.{rowWords, length as estimateWords}
+use Rattle.calculus.specs.Layout.{rowWords, estimateWords}
 use Rattle.calculus.specs.Estimate.{whole, estimate}
 use Rattle.calculus.specs.Answer.{Answer, refused, verdict, ownBound, workWords, callerTests, judge, analysis, answer}
 

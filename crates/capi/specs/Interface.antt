@@ -7,7 +7,7 @@ use lib.ListN.{length, drop, replicate}
 use Rattle.little_endian.specs.LittleEndian.{wordsOf, bytesOf}
 use Rattle.table.specs.Scan.{firstOf}
 use Rattle.table.specs.Code.{code}
-use Rattle.calculus.specs.Layout.{length as estimateWords}
+use Rattle.calculus.specs.Layout.{estimateWords}
 use Rattle.calculus.specs.Estimate.{estimate}
 use Rattle.calculus.specs.Answer.{Answer, refused, verdict, answer, workWords}
 

@@ -9,7 +9,7 @@ use Rattle.table.specs.Scan.{firstOf}
 use Rattle.table.specs.Code.{Code, code}
 use Rattle.calculus.specs.Constraint.{L}
 use Rattle.calculus.specs.Rules.{nameOf, guarded}
-use Rattle.calculus.specs.Layout.{sets, length as estimateWords}
+use Rattle.calculus.specs.Layout.{sets, estimateWords}
 use Rattle.calculus.specs.Estimate.{whole, estimate, permissionsAt}
 use Rattle.calculus.specs.Answer.{Answer, refused, verdict, answer, workWords}
 use Rattle.report.specs.Lines.{refusalLine, verdictLine, handlerLine}
