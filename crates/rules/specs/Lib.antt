@@ -1,0 +1,3 @@
+pub mod Fired
+pub mod Ready
+pub mod Signs
