@@ -1,3 +1,4 @@
 pub mod Fired
+pub mod Masks
 pub mod Ready
 pub mod Signs

@@ -47,6 +47,14 @@ pub fn has_digit(x: u32, i: u32) -> bool
     (x >> i) % 2 == 1
 }
 
+// The word whose one digit is i.
+pub fn digit(i: u32) -> u32
+    requires { ⌜ i < 32 ⌝ }
+    ensures { λ r. ⌜ r ≡ 2 ^ i ⌝ }
+{
+    1u32 << i
+}
+
 // The entry of a pair of signs.
 fn sign_result(sum: bool, i: usize) -> u32
     requires { ⌜ i < 9 ⌝ }
