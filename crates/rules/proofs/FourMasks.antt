@@ -18,14 +18,17 @@ use Rattle.rules.specs.Ready.{Mask}
 use Rattle.rules.specs.Masks.{Masked, property, markBelow}
 use Rattle.rules.proofs.Sorts.{below-length, below-words, below-outside, below-inside, mask-part}
 
+pub row-fits : (ws : List ℕ) (row : ℕ) → row ≡ rowWords (code ws) → 64 + length ws ≤ 32 * row
+unfolding rowWords code
+row-fits ws row r = omega arith
+
 module _ (ws zeros : List ℕ) (row : ℕ) (r : row ≡ rowWords (code ws)) (z : (k : ℕ) → getD zeros k 0 ≡ 0) (room : 4 * row ≤ length zeros) where
   -- the number of elements, and the words after so many of the four rows are filled
   abbrev count : ℕ
   count = 64 + length ws
 
   fits : count ≤ 32 * row
-  unfolding rowWords code
-  fits = omega arith
+  fits = row-fits ws row r
 
   zero-digit : (d : ℕ) → bit zeros d ≡ false
   unfolding bit

@@ -1,7 +1,8 @@
 // Which elements are functions, records (or 7), cells, and which may be sent: four rows, one after the other.
-use table::{Item, Term};
 use crate::layout::Layout;
 use crate::results::digit;
+use table::Item;
+use table::Term;
 ghost use mathlib.Core.Path.{_≡_};
 ghost use Prim.Native.Nat.{ℕ, _+_, _*_, _<_, _≤_};
 ghost use lib.ListN.{length, getD};

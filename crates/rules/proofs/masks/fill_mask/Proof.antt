@@ -49,9 +49,9 @@ loop-again c =
       search needs,
       search needs,
       c .before .before .set-if .ensures
-      ∙ ap (λ (b : Bool). markIf b (l .masks) (a .at + l .v)) (c .before .before .before .has-sort .ensures)
-      ∙ ap (λ (ws : List ℕ). markIf (q (l .v)) ws (a .at + l .v)) (l .inv .2)
-      ∙ mark-more q (a .masks .now) (a .at) (l .v),
+          ∙ ap (λ (b : Bool). markIf b (l .masks) (a .at + l .v)) (c .before .before .before .has-sort .ensures)
+          ∙ ap (λ (ws : List ℕ). markIf (q (l .v)) ws (a .at + l .v)) (l .inv .2)
+          ∙ mark-more q (a .masks .now) (a .at) (l .v),
     )
 
 same-length : tie.Need-same-length Inv-loop μ-loop
