@@ -1,0 +1,108 @@
+-- What the functions on rows do to an estimate, as the firing of a rule.
+use Prim.Native.Nat.{ℕ, suc, _+_, _*_, _%_, _^_, _≤_, _<_}
+use mathlib.Core.Path.{_≡_, refl, sym, ap, ap₂, _∙_}
+use mathlib.Core.List.{List, [], _∷_}
+use native.Mathlib.Nat.{mul-le-mul-right}
+use native.Mathlib.Omega.{arith}
+use lib.ListN.{length, getD, take, drop}
+use Rattle.table.specs.Code.{Code}
+use Rattle.calculus.specs.Constraint.{Row, C, B, P, L, Rule, put, sub, _and_}
+use Rattle.calculus.specs.Layout.{pour, rowWords, base, content}
+use Rattle.calculus.specs.Estimate.{fire, facts}
+use Rattle.calculus.proofs.Folds.{fire-and}
+use Rattle.calculus.proofs.RowOperations.{fire-live, fire-put-C, fire-sub, fire-sub-P}
+use Rattle.rows.specs.Rows.{Poured}
+use Rattle.rows.proofs.Laws.{facts-most}
+use Rattle.rules.specs.declared.layout.Layout.{Layout}
+use Rattle.rules.specs.Sized.{LaidOut, Sized, FiredIn}
+
+-- ---- where the rows are
+
+-- row i of n words lies in the words of the estimate
+pub row-inside : (n r i : ℕ) → i < 2 * n → i * r + r ≤ 2 * n * r + n
+row-inside n r i h = omega (arith, mul-le-mul-right r h)
+
+-- the row of values with this number
+pub data Numbered : Row → ℕ → Type 0 where
+  in-C : {i n : ℕ} → n ≡ 2 * i → Numbered (C i) n
+  in-B : {i n : ℕ} → n ≡ 2 * i + 1 → Numbered (B i) n
+
+base-numbered : (c : Code) {r : Row} {n : ℕ} → Numbered r n → base c r ≡ n * rowWords c
+unfolding base
+base-numbered c (in-C e) = ap (λ (x : ℕ). x * rowWords c) (sym e)
+base-numbered c (in-B e) = omega (arith, ap (λ (x : ℕ). x * rowWords c) e)
+
+content-numbered : (c : Code) (ws : List ℕ) {r : Row} {n : ℕ} → Numbered r n → content c ws r ≡ take (rowWords c) (drop (n * rowWords c) ws)
+unfolding content
+content-numbered c ws (in-C e) = ap (λ (x : ℕ). take (rowWords c) (drop x ws)) (base-numbered c (in-C e))
+content-numbered c ws (in-B e) = ap (λ (x : ℕ). take (rowWords c) (drop x ws)) (base-numbered c (in-B e))
+
+module _ (l : Layout) (old new : List ℕ) (added : ℕ) where
+  -- what is added is at most all there is
+  at-most : facts new ≡ facts old + added → added ≤ 32 * length new
+  at-most e = omega (arith, facts-most new)
+
+  -- ---- one row
+
+  pub sub-fired : {a b : Row} {x y : ℕ} → Numbered a x → Numbered b y
+      → Poured old new (y * l .row) (take (l .row) (drop (x * l .row) old)) added → FiredIn l (sub a b) old new added
+  sub-fired {a} {b} {x} {y} i j p =
+      record {
+        words =
+            λ c o.
+            let e : rowWords c ≡ l .row = o .row in
+            p .words
+            ∙ ap₂ (λ (k : ℕ) (xs : List ℕ). pour old k xs)
+            (ap (λ (r : ℕ). y * r) (sym e) ∙ sym (base-numbered c j))
+            (ap (λ (r : ℕ). take r (drop (x * r) old)) (sym e) ∙ sym (content-numbered c old i))
+            ∙ sym (fire-sub c a b old);
+        count = p .count;
+        most = at-most (p .count);
+      }
+
+  -- the word of P(p) and of p's flag
+  flag-base : (p : ℕ) (c : Code) → LaidOut c l → base c (P p) ≡ 2 * l .size * l .row + p
+  unfolding base
+  flag-base p c o = ap₂ (λ (n r : ℕ). 2 * n * r + p) (o .size) (o .row)
+
+  pub live-fired : (p at : ℕ) → at ≡ 2 * l .size * l .row + p → Poured old new at (16777216 ∷ []) added → FiredIn l (put (L p) 0) old new added
+  unfolding base
+  live-fired p at e q =
+      record {
+        words = λ c o. q .words ∙ ap (λ (k : ℕ). pour old k (16777216 ∷ [])) (e ∙ sym (flag-base p c o)) ∙ sym (fire-live c p old);
+        count = q .count;
+        most = at-most (q .count);
+      }
+
+  pub perms-fired : (q p from at : ℕ) → from ≡ 2 * l .size * l .row + q → at ≡ 2 * l .size * l .row + p
+      → Poured old new at (getD old from 0 % 16777216 ∷ []) added → FiredIn l (sub (P q) (P p)) old new added
+  perms-fired q p from at e f g =
+      record {
+        words =
+            λ c o. g .words
+            ∙ ap₂ (λ (j k : ℕ). pour old k (getD old j 0 % 16777216 ∷ [])) (e ∙ sym (flag-base q c o)) (f ∙ sym (flag-base p c o))
+            ∙ sym (fire-sub-P c q (P p) old);
+        count = g .count;
+        most = at-most (g .count);
+      }
+
+  -- undefined in a value set
+  pub undefined-fired : (p at : ℕ) → at ≡ 2 * p * l .row → Poured old new at (1 ∷ []) added → FiredIn l (put (C p) 0) old new added
+  unfolding base
+  undefined-fired p at e q =
+      record {
+        words =
+            λ c o. q .words ∙ ap (λ (k : ℕ). pour old k (1 ∷ [])) (e ∙ ap (λ (r : ℕ). 2 * p * r) (sym (o .row)) ∙ omega arith) ∙ sym (fire-put-C c p 0 old);
+        count = q .count;
+        most = at-most (q .count);
+      }
+
+-- ---- one rule after another
+
+pub and-fired : (l : Layout) (k j : Rule) (old mid new : List ℕ) (m n : ℕ) → FiredIn l k old mid m → FiredIn l j mid new n → FiredIn l (k and j) old new (m + n)
+and-fired l k j old mid new m n p q =
+    record {
+      words = λ c o. q .words c o ∙ ap (fire c j) (p .words c o) ∙ sym (fire-and c k j old);
+      count = omega (arith, p .count, q .count);
+      most = omega (arith, p .count, q .count, facts-most new);
+    }

@@ -1,0 +1,4 @@
+pub mod Fired
+pub mod Ready
+pub mod Sized
+pub mod Made

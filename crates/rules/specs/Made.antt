@@ -1,0 +1,28 @@
+-- The rules that hold for each thing in a value set: what is done for one thing, and the search for the next.
+use Prim.Native.Nat.{ℕ, suc, _+_, _/_, _%_, _<_, _≤_}
+use mathlib.Core.Path.{_≡_}
+use mathlib.Core.Bool.{Bool, true, false}
+use mathlib.Core.List.{List}
+use lib.Bits.{bitAnd}
+use lib.ListN.{length, getD}
+use Rattle.permset.specs.Sets.{member}
+use Rattle.calculus.specs.Constraint.{C, B, P, L, Rule, put, sub, _and_}
+use Rattle.rules.specs.declared.made.Action.{Action}
+use Rattle.rules.specs.declared.made.Action.the-variants as actions
+use Rattle.rules.specs.declared.made.Site.{Site}
+use Rattle.rules.specs.Sized.{Sized}
+
+-- what is done at the word p, whose second part is d, for the thing f
+unfoldable pub actionRule : Action → ℕ → ℕ → ℕ → Rule
+actionRule actions.Read p d f = sub (B f) (C p)
+actionRule actions.Apply p d f = put (L (suc f)) 0 and sub (C d) (B f) and sub (C (suc f)) (C p) and sub (P (suc f)) (P p)
+actionRule actions.Get p d f = sub (B f) (C p) and put (C p) 0
+actionRule actions.Assign p d f = sub (C d) (C p) and sub (C d) (B f)
+actionRule actions.Set p d f = sub (B f) (B p)
+
+-- what an action is handed
+pub record Placed (s : Site) (est scratch : List ℕ) : Type 0 where
+  pub sized : Sized (s .layout) est
+  pub room : s .layout .row ≤ length scratch
+  pub word : s .p < s .layout .size
+  pub second : s .d < s .layout .size

@@ -1,0 +1,3 @@
+// The flow rules in code: for each word, what its rule adds to an estimate.
+pub mod layout;
+pub mod made;
