@@ -3,6 +3,7 @@ use Prim.Native.Nat.{ℕ, suc, _+_, _*_, _%_, _^_, _≤_, _<_}
 use mathlib.Core.Path.{_≡_, refl, sym, ap, ap₂, _∙_}
 use mathlib.Core.List.{List, [], _∷_}
 use native.Mathlib.Nat.{mul-le-mul-right}
+use native.Mathlib.Numerals.{add-one}
 use native.Mathlib.Omega.{arith}
 use lib.ListN.{length, getD, take, drop}
 use Rattle.table.specs.Code.{Code}
@@ -14,6 +15,8 @@ use Rattle.calculus.proofs.RowOperations.{fire-live, fire-put-C, fire-sub, fire
 use Rattle.rows.specs.Rows.{Poured}
 use Rattle.rows.proofs.Laws.{facts-most}
 use Rattle.rules.specs.declared.layout.Layout.{Layout}
+use Rattle.rules.specs.declared.made.Action.the-variants as actions
+use Rattle.rules.specs.Made.{actionRule}
 use Rattle.rules.specs.Sized.{LaidOut, Sized, FiredIn}
 
 -- ---- where the rows are
@@ -21,6 +24,24 @@ use Rattle.rules.specs.Sized.{LaidOut, Sized, FiredIn}
 -- row i of n words lies in the words of the estimate
 pub row-inside : (n r i : ℕ) → i < 2 * n → i * r + r ≤ 2 * n * r + n
 row-inside n r i h = omega (arith, mul-le-mul-right r h)
+
+-- an estimate that keeps its length
+pub same-sized : (l : Layout) (old new : List ℕ) → Sized l old → length new ≡ length old → Sized l new
+same-sized l old new s e =
+    record { size = s .size; least = s .least; most = s .most; long = e ∙ s .long; short = omega (arith, s .short) }
+
+-- what the functions on rows ask
+pub may-sub : (l : Layout) (old new scratch : List ℕ) (a b : ℕ) → Sized l old → length new ≡ length old → l .row ≤ length scratch
+    → a < 2 * l .size → b < 2 * l .size
+    → (l .row < 64) × (a < 2048) × (b < 2048) × (a * l .row + l .row ≤ length new) × (b * l .row + l .row ≤ length new) × (l .row ≤ length scratch)
+may-sub l old new scratch a b s e r h g = (
+  s .most,
+  omega (arith, s .size),
+  omega (arith, s .size),
+  omega (arith, s .long, row-inside (l .size) (l .row) a h),
+  omega (arith, s .long, row-inside (l .size) (l .row) b g),
+  r,
+)
 
 -- the row of values with this number
 pub data Numbered : Row → ℕ → Type 0 where
@@ -106,3 +127,19 @@ and-fired l k j old mid new m n p q =
       count = omega (arith, p .count, q .count);
       most = omega (arith, p .count, q .count, facts-most new);
     }
+
+-- ---- the actions
+
+module _ (l : Layout) (p d f : ℕ) (e0 e1 e2 e3 e4 : List ℕ) (m n o q : ℕ) where
+  pub apply-fired : FiredIn l (put (L (f + 1)) 0) e0 e1 m
+      → Poured e1 e2 ((2 * f + 1) * l .row) (take (l .row) (drop (2 * d * l .row) e1)) n
+      → Poured e2 e3 (2 * p * l .row) (take (l .row) (drop ((2 * f + 2) * l .row) e2)) o
+      → FiredIn l (sub (P (f + 1)) (P p)) e3 e4 q
+      → FiredIn l (actionRule actions.Apply p d f) e0 e4 (m + (n + (o + q)))
+  unfolding actionRule
+  apply-fired a b g h =
+      and-fired l (put (L (suc f)) 0) (sub (C d) (B f) and sub (C (suc f)) (C p) and sub (P (suc f)) (P p)) e0 e1 e4 m (n + (o + q)) (rw add-one at a)
+      (and-fired l (sub (C d) (B f)) (sub (C (suc f)) (C p) and sub (P (suc f)) (P p)) e1 e2 e4 n (o + q)
+      (sub-fired l e1 e2 n (in-C refl) (in-B refl) b)
+      (and-fired l (sub (C (suc f)) (C p)) (sub (P (suc f)) (P p)) e2 e3 e4 o q
+      (sub-fired l e2 e3 o (in-C (omega arith)) (in-C refl) g) (rw add-one at h)))

@@ -7,6 +7,7 @@ use lib.Bits.{bitAnd}
 use lib.ListN.{length, getD}
 use Rattle.permset.specs.Sets.{member}
 use Rattle.calculus.specs.Constraint.{C, B, P, L, Rule, put, sub, _and_}
+use Rattle.rules.specs.declared.layout.Layout.{Layout}
 use Rattle.rules.specs.declared.made.Action.{Action}
 use Rattle.rules.specs.declared.made.Action.the-variants as actions
 use Rattle.rules.specs.declared.made.Site.{Site}
@@ -21,8 +22,8 @@ actionRule actions.Assign p d f = sub (C d) (C p) and sub (C d) (B f)
 actionRule actions.Set p d f = sub (B f) (B p)
 
 -- what an action is handed
-pub record Placed (s : Site) (est scratch : List ℕ) : Type 0 where
-  pub sized : Sized (s .layout) est
-  pub room : s .layout .row ≤ length scratch
-  pub word : s .p < s .layout .size
-  pub second : s .d < s .layout .size
+pub record Placed (l : Layout) (s : Site) (est scratch : List ℕ) : Type 0 where
+  pub sized : Sized l est
+  pub room : l .row ≤ length scratch
+  pub word : s .p < l .size
+  pub second : s .d < l .size

@@ -26,7 +26,6 @@ pub enum Action {
 
 // A word p, and the second of its parts.
 pub struct Site {
-    pub layout: Layout,
     pub p: usize,
     pub d: usize,
 }
@@ -49,11 +48,17 @@ pub fn live(est: &mut [u32], log: &mut [u32], l: Layout, p: usize) -> usize
     gain(est, log, l.flags(p), 16777216, 8192 + p)
 }
 
-fn apply(est: &mut [u32], scratch: &mut [u32], log: &mut [u32], s: Site, f: usize) -> usize
-    requires { ⌜ Placed s (now est) (now scratch) × (f + 1 < s .layout .size) ⌝ }
-    ensures { λ r. ⌜ FiredIn (s .layout) (actionRule actions.Apply (s .p) (s .d) f) (now (est .entry)) (now (est .exit)) r ⌝ }
+fn apply(
+    est: &mut [u32],
+    scratch: &mut [u32],
+    log: &mut [u32],
+    l: Layout,
+    s: Site,
+    f: usize,
+) -> usize
+    requires { ⌜ Placed l s (now est) (now scratch) × (f + 1 < l .size) ⌝ }
+    ensures { λ r. ⌜ FiredIn l (actionRule actions.Apply (s .p) (s .d) f) (now (est .entry)) (now (est .exit)) r ⌝ }
 {
-    let l = s.layout;
     let row = l.row;
     let a = live(est, log, l, f + 1);
     let b = sub_row(est, scratch, log, row, 2 * s.d, 2 * f + 1);
