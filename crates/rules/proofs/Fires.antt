@@ -1,6 +1,6 @@
 -- What the functions on rows do to an estimate, as the firing of a rule.
 use Prim.Native.Nat.{ℕ, suc, _+_, _*_, _%_, _^_, _≤_, _<_}
-use mathlib.Core.Path.{_≡_, refl, sym, ap, ap₂, _∙_}
+use mathlib.Core.Path.{_≡_, refl, sym, ap, ap₂, _∙_, subst}
 use mathlib.Core.List.{List, [], _∷_}
 use native.Mathlib.Nat.{mul-le-mul-right}
 use native.Mathlib.Numerals.{add-one}
@@ -15,6 +15,7 @@ use Rattle.calculus.proofs.RowOperations.{fire-live, fire-put-C, fire-sub, fire
 use Rattle.rows.specs.Rows.{Poured}
 use Rattle.rows.proofs.Laws.{facts-most}
 use Rattle.rules.specs.declared.layout.Layout.{Layout}
+use Rattle.rules.specs.declared.made.Action.{Action}
 use Rattle.rules.specs.declared.made.Action.the-variants as actions
 use Rattle.rules.specs.Made.{actionRule}
 use Rattle.rules.specs.Sized.{LaidOut, Sized, FiredIn}
@@ -143,3 +144,34 @@ module _ (l : Layout) (p d f : ℕ) (e0 e1 e2 e3 e4 : List ℕ) (m n o q : ℕ) 
       (sub-fired l e1 e2 n (in-C refl) (in-B refl) b)
       (and-fired l (sub (C (suc f)) (C p)) (sub (P (suc f)) (P p)) e2 e3 e4 o q
       (sub-fired l e2 e3 o (in-C (omega arith)) (in-C refl) g) (rw add-one at h)))
+
+module _ (l : Layout) (p d f : ℕ) (e0 e1 : List ℕ) (m : ℕ) where
+  -- the rule of an action that is known
+  pub by-action : (x y : Action) → x ≡ y → FiredIn l (actionRule y p d f) e0 e1 m → FiredIn l (actionRule x p d f) e0 e1 m
+  by-action x y e h = subst (λ (z : Action). FiredIn l (actionRule z p d f) e0 e1 m) (sym e) h
+
+  pub read-fired : Poured e0 e1 (2 * p * l .row) (take (l .row) (drop ((2 * f + 1) * l .row) e0)) m → FiredIn l (actionRule actions.Read p d f) e0 e1 m
+  unfolding actionRule
+  read-fired a = sub-fired l e0 e1 m (in-B refl) (in-C refl) a
+
+  pub set-fired : Poured e0 e1 ((2 * p + 1) * l .row) (take (l .row) (drop ((2 * f + 1) * l .row) e0)) m
+      → FiredIn l (actionRule actions.Set p d f) e0 e1 m
+  unfolding actionRule
+  set-fired a = sub-fired l e0 e1 m (in-B refl) (in-B refl) a
+
+  module _ (e2 : List ℕ) (n : ℕ) where
+    pub get-fired : Poured e0 e1 (2 * p * l .row) (take (l .row) (drop ((2 * f + 1) * l .row) e0)) m
+        → Poured e1 e2 (2 * p * l .row + 0) (1 ∷ []) n
+        → FiredIn l (actionRule actions.Get p d f) e0 e2 (m + n)
+    unfolding actionRule
+    get-fired a b =
+        and-fired l (sub (B f) (C p)) (put (C p) 0) e0 e1 e2 m n (sub-fired l e0 e1 m (in-B refl) (in-C refl) a)
+        (undefined-fired l e1 e2 n p (2 * p * l .row + 0) (omega arith) b)
+
+    pub assign-fired : Poured e0 e1 (2 * p * l .row) (take (l .row) (drop (2 * d * l .row) e0)) m
+        → Poured e1 e2 ((2 * f + 1) * l .row) (take (l .row) (drop (2 * d * l .row) e1)) n
+        → FiredIn l (actionRule actions.Assign p d f) e0 e2 (m + n)
+    unfolding actionRule
+    assign-fired a b =
+        and-fired l (sub (C d) (C p)) (sub (C d) (B f)) e0 e1 e2 m n (sub-fired l e0 e1 m (in-C refl) (in-C refl) a)
+        (sub-fired l e1 e2 n (in-C refl) (in-B refl) b)

@@ -27,3 +27,17 @@ pub record Placed (l : Layout) (s : Site) (est scratch : List ℕ) : Type 0 wher
   pub room : l .row ≤ length scratch
   pub word : s .p < l .size
   pub second : s .d < l .size
+
+-- the word k of a row, and of a mask, in common
+abbrev pub common : List ℕ → List ℕ → ℕ → ℕ → ℕ
+common est mask at k = bitAnd (getD est (at + k) 0) (getD mask k 0)
+
+-- the thing f, which is element 64 + f, is in the row and in the mask
+abbrev pub both : List ℕ → List ℕ → ℕ → ℕ → Bool
+both est mask at f = member (common est mask at (2 + f / 32)) (f % 32)
+
+-- r is the next such thing, from `from` on
+pub record Next (est mask : List ℕ) (at size from r : ℕ) : Type 0 where
+  pub later : from ≤ r
+  pub none : (f : ℕ) → from ≤ f → f < r → both est mask at f ≡ false
+  pub found : r < size → both est mask at r ≡ true
