@@ -1,4 +1,6 @@
 pub mod Fired
+pub mod Made
 pub mod Masks
 pub mod Ready
 pub mod Signs
+pub mod Sized
