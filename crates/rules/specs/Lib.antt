@@ -4,3 +4,4 @@ pub mod Masks
 pub mod Ready
 pub mod Signs
 pub mod Sized
+pub mod Well

@@ -3,3 +3,4 @@ pub mod layout;
 pub mod made;
 pub mod masks;
 pub mod results;
+pub mod small;
