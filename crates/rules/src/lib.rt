@@ -1,0 +1,6 @@
+// The flow rules in code: for each word, what its rule adds to an estimate.
+pub mod layout;
+pub mod made;
+pub mod masks;
+pub mod results;
+pub mod small;
