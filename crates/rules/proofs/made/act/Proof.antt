@@ -79,9 +79,12 @@ mul-put-bits c = search needs
 put-bits-requires : tie.Need-put-bits-requires
 put-bits-requires c κs =
     let a = c .before .before .before .before .before .before .before .before .before .before .before .before .before .before .before .before .before .before .before .args in
-    let h = c .before .before .before .before .before .before .before .before .before .before .before .before .before .before .before .before .before .before .before .pre in
-    (h .0 .sized .most, omega (arith, h .0 .sized .size, h .0 .word), omega (arith, h .0 .sized .least),
-    omega (arith, h .0 .sized .long, c .before .before .before .before .before .before .before .before .before .sub-row2 .kept .0, row-inside (a .l .size) (a .l .row) (2 * a .s .p) (omega (arith, h .0 .word))))
+    let h = c .before .before .before .before .before .before .before .before .before .before .before .before .before .before .before .before .before .before .before .pre in (
+      h .0 .sized .most,
+      omega (arith, h .0 .sized .size, h .0 .word),
+      omega (arith, h .0 .sized .least),
+      omega (arith, h .0 .sized .long, c .before .before .before .before .before .before .before .before .before .sub-row2 .kept .0, row-inside (a .l .size) (a .l .row) (2 * a .s .p) (omega (arith, h .0 .word))),
+    )
 
 add-result : tie.Need-add-result
 add-result c =
