@@ -1,24 +1,16 @@
 // A handler's key is its name together with its permissions.
-use crate::show::answer;
+use crate::cases::second_blocks;
+use crate::cases::tables;
 use crate::tables::blocks;
 use crate::tables::changed;
 
-// Two blocks, each of four words.
-fn two(label: &[u8], first: [u32; 2], second: [u32; 2]) {
-    answer(
-        label,
-        &[
-            0x01000002,
-            first[0],
-            first[1],
-            0x04000000,
-            0x1c000000,
-            second[0],
-            second[1],
-            0x04000001,
-            0x1c000000,
-        ],
-    );
+// After a block of name 0 and permissions 3, and whole tables of two blocks.
+fn pairs() {
+    second_blocks(b"02000001 03000003 04000000 1c000000.02000000 03000002 04000000 1c000000.");
+    second_blocks(b"02000000 03000003 04000000 1c000000.02000000 03000003 04000001 1c000000.");
+    tables(b"01000002 0200001f 03ffffff 04000000 1c000000 0200001f 03fffffe 04000000 1c000000.");
+    tables(b"01000002 0200001f 03ffffff 04000000 1c000000 0200001f 03ffffff 04000000 1c000000.");
+    tables(b"01000002 02000020 03000003 04000000 1c000000 02000020 03000003 04000000 1c000000.");
 }
 
 fn change(label: &[u8], words: &mut [u32], at: usize, w: u32) {
@@ -61,31 +53,7 @@ fn last(words: &mut [u32]) {
 }
 
 pub fn run() {
-    two(
-        b"two names, the same permissions",
-        [0x02000000, 0x03000003],
-        [0x02000001, 0x03000003],
-    );
-    two(
-        b"one name, other permissions",
-        [0x0200001f, 0x03000003],
-        [0x0200001f, 0x03000002],
-    );
-    two(
-        b"one name, the same permissions, another guard",
-        [0x0200001f, 0x03000003],
-        [0x0200001f, 0x03000003],
-    );
-    two(
-        b"one name, all permissions twice",
-        [0x02000000, 0x03ffffff],
-        [0x02000000, 0x03ffffff],
-    );
-    two(
-        b"name 32 twice with the same permissions",
-        [0x02000020, 0x03000003],
-        [0x02000020, 0x03000003],
-    );
+    pairs();
     let mut words = [0u32; 129];
     second(&mut words);
     last(&mut words);
