@@ -1,17 +1,23 @@
 -- The rules that hold for each thing in a value set: what is done for one thing, and the search for the next.
-use Prim.Native.Nat.{ℕ, suc, _+_, _/_, _%_, _<_, _≤_}
+use Prim.Native.Nat.{ℕ, suc, _+_, _*_, _/_, _%_, _<_, _≤_}
 use mathlib.Core.Path.{_≡_}
 use mathlib.Core.Bool.{Bool, true, false}
 use mathlib.Core.List.{List}
 use lib.Bits.{bitAnd}
+use lib.Dec.{T}
 use lib.ListN.{length, getD}
 use Rattle.permset.specs.Sets.{member}
+use Rattle.table.specs.Code.{Code}
+use Rattle.calculus.specs.Elements.{made, Making, makes}
 use Rattle.calculus.specs.Constraint.{C, B, P, L, Rule, put, sub, _and_}
+use Rattle.calculus.specs.Rules.{eachMade}
+use Rattle.calculus.specs.Layout.{bit}
+use Rattle.calculus.specs.Estimate.{fire, facts}
 use Rattle.rules.specs.declared.layout.Layout.{Layout}
 use Rattle.rules.specs.declared.made.Action.{Action}
 use Rattle.rules.specs.declared.made.Action.the-variants as actions
 use Rattle.rules.specs.declared.made.Site.{Site}
-use Rattle.rules.specs.Sized.{Sized}
+use Rattle.rules.specs.Sized.{LaidOut, Sized}
 
 -- what is done at the word p, whose second part is d, for the thing f
 unfoldable pub actionRule : Action → ℕ → ℕ → ℕ → Rule
@@ -41,3 +47,19 @@ pub record Next (est mask : List ℕ) (at size from r : ℕ) : Type 0 where
   pub later : from ≤ r
   pub none : (f : ℕ) → from ≤ f → f < r → both est mask at f ≡ false
   pub found : r < size → both est mask at r ≡ true
+
+-- m has the digit of each thing of the sort q
+abbrev pub Picks : Code → (Making → Bool) → List ℕ → Type 0
+Picks c q m = (f : ℕ) → f < c .size → bit m (made c f) ≡ q (makes (c .node f))
+
+-- the mask of an action: a row, and an application only finds functions, whose bodies are words
+pub record Things (l : Layout) (action : Action) (mask : List ℕ) : Type 0 where
+  pub long : length mask ≡ l .row
+  pub wide : l .size + 64 ≤ 32 * l .row
+  pub bodies : action ≡ actions.Apply → (f : ℕ) → f < l .size → T (bit mask (64 + f)) → f + 1 < l .size
+
+-- the action was done for each thing of C(a) in the mask
+pub record FiredMade (l : Layout) (s : Site) (action : Action) (a : ℕ) (mask old new : List ℕ) (added : ℕ) : Type 0 where
+  pub words : (c : Code) (q : Making → Bool) → LaidOut c l → c .names ≡ 32 → Picks c q mask
+      → new ≡ fire c (eachMade c q (C a) (actionRule action (s .p) (s .d))) old
+  pub count : facts new ≡ facts old + added

@@ -8,7 +8,7 @@ ghost use Prim.Native.Nat.{_+_, _*_, _/_, _%_, _^_, _<_, _≤_};
 ghost use lib.ListN.{length};
 ghost use Rattle.calculus.specs.Constraint.{P, L, put, sub};
 ghost use Rattle.rules.specs.Sized.{Sized, FiredIn};
-ghost use Rattle.rules.specs.Made.{actionRule, Placed, common, Next};
+ghost use Rattle.rules.specs.Made.{actionRule, Placed, common, Next, Things, FiredMade};
 ghost use Rattle.rules.specs.declared.made.Action.the-variants as actions;
 
 // What is done for a thing f in C(first) at the word p, whose second part is d.
@@ -120,4 +120,29 @@ fn next_made(est: &[u32], mask: &[u32], at: usize, size: usize, from: usize) -> 
         f = (f / 32 + 1) * 32;
     }
     f
+}
+
+// The action for each thing of C(a) that the mask has.
+pub fn each_made(
+    est: &mut [u32],
+    scratch: &mut [u32],
+    mask: &[u32],
+    log: &mut [u32],
+    l: Layout,
+    s: Site,
+    a: usize,
+    action: Action,
+) -> usize
+    requires { ⌜ Placed l s (now est) (now scratch) × (a < l .size) × Things l action (now mask) ⌝ }
+    ensures { λ r. ⌜ FiredMade l s action a (now (mask .entry)) (now (est .entry)) (now (est .exit)) r ⌝ }
+{
+    let at = 2 * a * l.row;
+    let size = l.size;
+    let mut added = 0;
+    let mut f = next_made(est, mask, at, size, 0);
+    while f < size {
+        added += act(est, scratch, log, l, s, action, f);
+        f = next_made(est, mask, at, size, f + 1);
+    }
+    added
 }
