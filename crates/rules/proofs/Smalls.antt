@@ -1,6 +1,6 @@
 -- What the small rules do to an estimate, as the firing of a rule.
 use Prim.Native.Nat.{ℕ, _+_, _*_, _/_, _%_, _^_, _≤_, _<_}
-use mathlib.Core.Path.{_≡_, refl, sym, ap, ap₂, _∙_}
+use mathlib.Core.Path.{_≡_, refl, sym, ap, ap₂, _∙_, subst}
 use mathlib.Core.Bool.{Bool, true, false}
 use mathlib.Core.List.{List, [], _∷_}
 use native.Mathlib.Nat.{add-zero}
@@ -91,6 +91,14 @@ module _ (l : Layout) (old new : List ℕ) (added : ℕ) where
         count = q .count;
         most = omega (arith, q .count, facts-most new);
       }
+
+  -- one of the first 32
+  pub low-fired : (p v x : ℕ) → v < 32 → x ≡ 2 ^ v → Poured old new (2 * p * l .row + 0) (x ∷ []) added → FiredIn l (put (C p) v) old new added
+  low-fired p v x h e q =
+      let d : 0 ≡ v / 32 = omega arith in
+      let m : v ≡ v % 32 = omega arith in
+      value-fired p v x (e ∙ ap (λ (i : ℕ). 2 ^ i) m)
+      (subst (λ (k : ℕ). Poured old new (2 * p * l .row + k) (x ∷ []) added) d q)
 
   -- all 64
   module _ (p : ℕ) (h : p < l .size) where

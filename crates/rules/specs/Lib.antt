@@ -1,3 +1,4 @@
+pub mod Branches
 pub mod Fired
 pub mod Made
 pub mod Masks

@@ -2,12 +2,15 @@
 use crate::layout::Layout;
 use crate::made::live;
 use crate::made::perms;
+use crate::results::constant_bit;
 use crate::results::digit;
 use crate::results::has_digit;
 use crate::results::operate;
+use crate::results::sign_bit;
 use rows::estimate::fill_row;
 use rows::estimate::gain;
 use rows::estimate::put_bits;
+use table::Constant;
 use table::Operation;
 ghost use mathlib.Core.Path.{_≡_};
 ghost use mathlib.Core.Bool.{not};
@@ -16,6 +19,7 @@ ghost use lib.Bits.{bitAnd};
 ghost use lib.Dec.{eqb};
 ghost use lib.ListN.{length, getD};
 ghost use Rattle.permset.specs.Sets.{width, member};
+ghost use Rattle.calculus.specs.Elements.{constantElement, sign};
 ghost use Rattle.calculus.specs.Constraint.{C, B, P, L, put, sub, given, only, every, _and_};
 ghost use Rattle.calculus.specs.Rules.{fill, twoRule};
 ghost use Rattle.table.specs.Code.{operation};
@@ -38,6 +42,22 @@ pub fn put_value(est: &mut [u32], log: &mut [u32], l: Layout, p: usize, v: usize
     ensures { λ r. ⌜ FiredIn l (put (C p) v) (now (est .entry)) (now (est .exit)) r ⌝ }
 {
     put_bits(est, log, l.row, 2 * p, v / 32, digit((v % 32) as u32))
+}
+
+// A constant in C(p).
+pub fn fire_constant(est: &mut [u32], log: &mut [u32], l: Layout, p: usize, k: Constant) -> usize
+    requires { ⌜ Sized l (now est) × (p < l .size) ⌝ }
+    ensures { λ r. ⌜ FiredIn l (put (C p) (constantElement k)) (now (est .entry)) (now (est .exit)) r ⌝ }
+{
+    put_bits(est, log, l.row, 2 * p, 0, constant_bit(k))
+}
+
+// The sign of a number in C(p).
+pub fn fire_number(est: &mut [u32], log: &mut [u32], l: Layout, p: usize, n: u32) -> usize
+    requires { ⌜ Sized l (now est) × (p < l .size) ⌝ }
+    ensures { λ r. ⌜ FiredIn l (put (C p) (sign n)) (now (est .entry)) (now (est .exit)) r ⌝ }
+{
+    put_bits(est, log, l.row, 2 * p, 0, sign_bit(n))
 }
 
 // Whether C(p) has element v, one of the first 32.
