@@ -1,3 +1,4 @@
 // The flow rules in code: for each word, what its rule adds to an estimate.
 pub mod layout;
 pub mod made;
+pub mod send;
