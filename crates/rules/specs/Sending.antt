@@ -61,3 +61,9 @@ pub record Sends (ws mask est scratch : List ℕ) (l : Layout) (s : Site) (m : M
   pub first : m .a < l .size
   pub well : WellFormed (code ws) est
   pub sent : Mask (code ws) (sendable (code ws)) mask
+
+-- the links of the words
+pub record LinksOf (ws links : List ℕ) : Type 0 where
+  pub slice : List ℕ
+  pub room : length ws ≤ length slice
+  pub made : links ≡ linked ws slice

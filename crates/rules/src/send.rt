@@ -11,9 +11,13 @@ ghost use mathlib.Core.Path.{_≡_};
 ghost use Prim.Native.Nat.{_<_};
 ghost use lib.ListN.{length};
 ghost use Rattle.table.specs.Item.{itemAt};
+ghost use Rattle.table.specs.Scan.{name};
+ghost use Rattle.table.specs.Code.{code, taskAt};
 ghost use Rattle.table.specs.Links.{linkAt};
+ghost use Rattle.calculus.specs.Constraint.{each};
+ghost use Rattle.rules.specs.Fired.{Fired};
 ghost use Rattle.rules.specs.Made.{Placed};
-ghost use Rattle.rules.specs.Sending.{itemPerms, startsHandler, startsItem, Delivered};
+ghost use Rattle.rules.specs.Sending.{itemPerms, startsHandler, startsItem, sendRule, Delivered, Sends, LinksOf};
 
 // What is sent where: the word of the target, the permissions that the receiver must have, and those of the sender.
 pub struct Message {
@@ -78,4 +82,50 @@ fn deliver(
     let y = pass_row(est, scratch, mask, log, row, 2 * s.d, 2 * b + 1);
     let z = perms(est, log, l, b, s.p);
     x + (y + z)
+}
+
+// The rule for one block.
+fn send_to(
+    words: &[u32],
+    est: &mut [u32],
+    scratch: &mut [u32],
+    mask: &[u32],
+    log: &mut [u32],
+    l: Layout,
+    s: Site,
+    m: Message,
+    b: usize,
+) -> usize
+    requires { ⌜ Sends (now words) (now mask) (now est) (now scratch) l s m × (b < length (now words)) × (taskAt (now words) b ≡ name) ⌝ }
+    ensures { λ r. ⌜ Fired (code (now (words .entry))) (sendRule (code (now (words .entry))) s m b) (now (est .entry)) (now (est .exit)) r ⌝ }
+{
+    let at = 2 * m.a * l.row + 1;
+    if !starts(words, m, est[at], b) {
+        return 0;
+    }
+    deliver(est, scratch, mask, log, l, s, b)
+}
+
+// The rule for every block in turn.
+pub fn send_all(
+    words: &[u32],
+    links: &[u32],
+    est: &mut [u32],
+    scratch: &mut [u32],
+    mask: &[u32],
+    log: &mut [u32],
+    l: Layout,
+    s: Site,
+    m: Message,
+) -> usize
+    requires { ⌜ Sends (now words) (now mask) (now est) (now scratch) l s m × LinksOf (now words) (now links) ⌝ }
+    ensures { λ r. ⌜ Fired (code (now (words .entry))) (each (code (now (words .entry)) .blocks) (sendRule (code (now (words .entry))) s m)) (now (est .entry)) (now (est .exit)) r ⌝ }
+{
+    let mut added = 0;
+    let mut b = 1;
+    while b < words.len() {
+        added += send_to(words, est, scratch, mask, log, l, s, m, b);
+        b = table::links::link_at(links, b + 3).end;
+    }
+    added
 }
