@@ -8,11 +8,6 @@ use Rattle.rules.proofs.Sends.{first-fails, second-fails, third-tells}
 use borrow.Author.Needs.{needs}
 use Rattle.rules.proofs.send.admits.Statement.{statement}
 use Rattle.rules.proofs.send.admits.Tie as tie
-use Rattle.rules.proofs.send.admits.Reads as reads
-use Rattle.rules.proofs.send.admits.Lts as lts
-use Rattle.permset.proofs.PermSet.has.Reads as has-reads
-use Rattle.permset.proofs.PermSet.of.Reads as of-reads
-use Rattle.permset.proofs.PermSet.within.Reads as within-reads
 
 within-requires : tie.Need-within-requires
 within-requires c κs = search needs

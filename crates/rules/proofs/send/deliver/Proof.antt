@@ -10,11 +10,6 @@ use Rattle.rules.proofs.Sends.{delivered}
 use borrow.Author.Needs.{needs}
 use Rattle.rules.proofs.send.deliver.Statement.{statement}
 use Rattle.rules.proofs.send.deliver.Tie as tie
-use Rattle.rules.proofs.send.deliver.Reads as reads
-use Rattle.rules.proofs.send.deliver.Lts as lts
-use Rattle.rows.proofs.estimate.pass_row.Reads as pass-row-reads
-use Rattle.rules.proofs.made.live.Reads as live-reads
-use Rattle.rules.proofs.made.perms.Reads as perms-reads
 
 kept : (c : tie.After-slice-known10) → length (c .before .before .before .before .perms .last .0) ≡ length (c .before .before .before .before .before .before .before .before .before .before .before .before .before .before .before .before .before .before .before .before .before .before .before .before .before .before .before .before .before .args .est .now)
 kept c = c .before .before .before .before .perms .kept .0 ∙ c .before .before .before .before .before .before .before .before .before .before .before .before .before .pass-row .kept .0 ∙ c .before .before .before .before .before .before .before .before .before .before .before .before .before .before .before .before .before .before .before .before .before .before .live .kept .0

@@ -5,10 +5,6 @@ use Rattle.rules.proofs.Sends.{perms-of}
 use borrow.Author.Needs.{needs}
 use Rattle.rules.proofs.send.permissions_at.Statement.{statement}
 use Rattle.rules.proofs.send.permissions_at.Tie as tie
-use Rattle.rules.proofs.send.permissions_at.Reads as reads
-use Rattle.rules.proofs.send.permissions_at.Lts as lts
-use Rattle.table.proofs.links.item_at.Reads as item-at-reads
-use Rattle.table.proofs.links.link_at.Reads as link-at-reads
 
 link-at-requires : tie.Need-link-at-requires
 link-at-requires c κs = search needs

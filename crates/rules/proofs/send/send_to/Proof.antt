@@ -10,10 +10,6 @@ use Rattle.rules.proofs.Handlers.{names-inside, block-inside, send-pres
 use borrow.Author.Needs.{needs}
 use Rattle.rules.proofs.send.send_to.Statement.{statement}
 use Rattle.rules.proofs.send.send_to.Tie as tie
-use Rattle.rules.proofs.send.send_to.Reads as reads
-use Rattle.rules.proofs.send.send_to.Lts as lts
-use Rattle.rules.proofs.send.deliver.Reads as deliver-reads
-use Rattle.rules.proofs.send.starts.Reads as starts-reads
 
 mul-at : tie.Need-mul-at
 mul-at c = search needs

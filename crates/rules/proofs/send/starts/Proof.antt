@@ -6,10 +6,6 @@ use Rattle.rules.proofs.Sends.{starts-of}
 use borrow.Author.Needs.{needs}
 use Rattle.rules.proofs.send.starts.Statement.{statement}
 use Rattle.rules.proofs.send.starts.Tie as tie
-use Rattle.rules.proofs.send.starts.Reads as reads
-use Rattle.rules.proofs.send.starts.Lts as lts
-use Rattle.rules.proofs.send.admits.Reads as admits-reads
-use Rattle.table.proofs.links.item_at.Reads as item-at-reads
 
 item-at-requires : tie.Need-item-at-requires
 item-at-requires c κs = search needs
