@@ -18,7 +18,7 @@ use Rattle.calculus.specs.Rules.{pass}
 use Rattle.calculus.specs.Layout.{pour, owner, span, rowWords, WellFormed}
 use Rattle.calculus.specs.Estimate.{fire}
 use Rattle.calculus.proofs.Places.{is-allowed}
-use Rattle.calculus.proofs.Masks.{masked}
+use Rattle.calculus.specs.Layout.{masked}
 use Rattle.calculus.proofs.Firing.{fire-well}
 use Rattle.calculus.proofs.Folds.{fire-and}
 use Rattle.calculus.proofs.RowRules.{C-row, B-row, fire-pass}
