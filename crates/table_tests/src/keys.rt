@@ -1,8 +1,8 @@
 // A handler's key is its name together with its permissions.
 use crate::cases::second_blocks;
 use crate::cases::tables;
-use crate::tables::blocks;
-use crate::tables::changed;
+use test_tables::tables::blocks;
+use test_tables::tables::changed;
 
 // After a block of name 0 and permissions 3, and whole tables of two blocks.
 fn pairs() {

@@ -1,14 +1,11 @@
-// Reads tables, accepted and refused ones, and links accepted ones; prints one line for each.
+// Reads tables, accepted and refused ones, and prints one line for each.
 mod cases;
 mod keys;
 mod kinds;
-mod links;
 mod nesting;
 mod places;
 mod samples;
-mod show;
 mod sizes;
-mod tables;
 
 fn main() {
     samples::run();
@@ -17,5 +14,4 @@ fn main() {
     keys::run();
     nesting::run();
     sizes::run();
-    links::run();
 }

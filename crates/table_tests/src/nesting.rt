@@ -1,8 +1,8 @@
 // Bodies of depth 64 and 65. A body's own word has depth 1.
-use crate::tables::fill;
-use crate::tables::first_words;
-use crate::tables::head;
-use crate::tables::put;
+use test_tables::tables::fill;
+use test_tables::tables::first_words;
+use test_tables::tables::head;
+use test_tables::tables::put;
 
 // A body of `count` words, two in turn, around a last one.
 fn nest(label: &[u8], even: u32, odd: u32, count: usize, last: u32) {

@@ -1,21 +1,8 @@
 // The tables of document 01's samples.
 use crate::cases::bodies;
 use crate::cases::tables;
-use crate::show::answer;
-
-pub const RELAY: [u32; 11] = [
-    0x01000002,
-    0x02000000,
-    0x03000008,
-    0x04000000,
-    0x23000000,
-    0x13000001,
-    0x14000000,
-    0x02000001,
-    0x03000002,
-    0x04000008,
-    0x24000002,
-];
+use test_tables::show::answer;
+use test_tables::tables::RELAY;
 
 const TWINS: [u32; 15] = [
     0x01000003,

@@ -1,10 +1,10 @@
--- `table_tests::links::lines` meets its contract: the loop goes over the words of the table.
+-- `link_tests::lines` meets its contract: the loop goes over the words of the table.
 -- Assumes nothing.
 use Prim.Native.Nat.{_≤_, _-_}
 use lib.ListN.{length}
 use borrow.Author.Needs.{needs}
-use Rattle.table_tests.proofs.links.lines.Statement.{statement}
-use Rattle.table_tests.proofs.links.lines.Tie as tie
+use Rattle.link_tests.proofs.lines.Statement.{statement}
+use Rattle.link_tests.proofs.lines.Tie as tie
 
 abbrev Inv-loop : tie.InvT-loop
 Inv-loop words links p₀ p = p ≤ length words

@@ -1,11 +1,11 @@
--- `table_tests::tables::blocks` meets its contract. The loop's invariant: `at` is at most a block past the last place, and the slice keeps its length.
+-- `test_tables::tables::blocks` meets its contract. The loop's invariant: `at` is at most a block past the last place, and the slice keeps its length.
 -- Assumes nothing.
 use mathlib.Core.Path.{_≡_}
 use Prim.Native.Nat.{_≤_, _<_, _-_}
 use lib.ListN.{length}
 use borrow.Author.Needs.{needs}
-use Rattle.table_tests.proofs.tables.blocks.Statement.{statement}
-use Rattle.table_tests.proofs.tables.blocks.Tie as tie
+use Rattle.test_tables.proofs.tables.blocks.Statement.{statement}
+use Rattle.test_tables.proofs.tables.blocks.Tie as tie
 
 abbrev Inv-loop : tie.InvT-loop
 Inv-loop words₀ span name at₀ perms₀ words at perms = (at < 1088) × (perms ≤ at) × (length words ≡ length words₀)

@@ -1,11 +1,11 @@
--- `table_tests::tables::copy` meets its contract. The loop's invariant: `i` is not before `at`, and the slice keeps its length.
+-- `test_tables::tables::copy` meets its contract. The loop's invariant: `i` is not before `at`, and the slice keeps its length.
 -- Assumes nothing.
 use mathlib.Core.Path.{_≡_}
 use Prim.Native.Nat.{_≤_, _-_}
 use lib.ListN.{length}
 use borrow.Author.Needs.{needs}
-use Rattle.table_tests.proofs.tables.copy.Statement.{statement}
-use Rattle.table_tests.proofs.tables.copy.Tie as tie
+use Rattle.test_tables.proofs.tables.copy.Statement.{statement}
+use Rattle.test_tables.proofs.tables.copy.Tie as tie
 
 abbrev Inv-loop : tie.InvT-loop
 Inv-loop words₀ at from i₀ words i = (at ≤ i) × (length words ≡ length words₀)

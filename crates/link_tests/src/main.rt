@@ -1,15 +1,15 @@
 // What stands at each word of accepted tables, and the links that `link` writes.
-use crate::samples::RELAY;
-use crate::show::end;
-use crate::show::hex;
-use crate::show::item;
-use crate::show::link;
-use crate::show::number;
-use crate::show::text;
-use crate::tables::blocks;
 use table::Item;
 use table::links::item_at;
 use table::links::link_at;
+use test_tables::show::end;
+use test_tables::show::hex;
+use test_tables::show::item;
+use test_tables::show::link;
+use test_tables::show::number;
+use test_tables::show::text;
+use test_tables::tables::RELAY;
+use test_tables::tables::blocks;
 
 // A let around a function and an application, with a let in a function inside.
 const NESTED: [u32; 17] = [
@@ -109,7 +109,7 @@ fn last() {
     line(&words, &links, 1024);
 }
 
-pub fn run() {
+fn main() {
     of(b"links of relay", &RELAY);
     of(b"links of a nested table", &NESTED);
     of(b"links of an if", &CONSTANTS);

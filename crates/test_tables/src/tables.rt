@@ -4,6 +4,21 @@ use crate::show::reading;
 use crate::show::text;
 ghost use Prim.Native.Nat.{_≤_, _<_};
 
+// Document 01's sample relay.
+pub const RELAY: [u32; 11] = [
+    0x01000002,
+    0x02000000,
+    0x03000008,
+    0x04000000,
+    0x23000000,
+    0x13000001,
+    0x14000000,
+    0x02000001,
+    0x03000002,
+    0x04000008,
+    0x24000002,
+];
+
 // The word of a kind and an argument.
 pub fn word(kind: usize, argument: usize) -> u32 {
     (kind % 256 * 16777216 + argument % 16777216) as u32

@@ -1,10 +1,10 @@
--- `table_tests::tables::first` meets its contract: the part that it reads has `n` words.
+-- `test_tables::tables::first` meets its contract: the part that it reads has `n` words.
 -- Assumes nothing.
 use mathlib.Core.Path.{sym}
 use lib.Seq.{length-take-le}
 use borrow.Author.Needs.{needs}
-use Rattle.table_tests.proofs.tables.first.Statement.{statement}
-use Rattle.table_tests.proofs.tables.first.Tie as tie
+use Rattle.test_tables.proofs.tables.first.Statement.{statement}
+use Rattle.test_tables.proofs.tables.first.Tie as tie
 
 slice-aggregate-reading : tie.Need-slice-aggregate-reading
 slice-aggregate-reading c = sym (length-take-le _ _ (search needs))

@@ -1,0 +1,3 @@
+// What the programs that test the reading of tables share: tables, and printing.
+pub mod show;
+pub mod tables;
