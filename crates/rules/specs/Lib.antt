@@ -1,5 +1,9 @@
+pub mod Branches
 pub mod Fired
-pub mod Ready
-pub mod Sized
 pub mod Made
+pub mod Masks
+pub mod Ready
 pub mod Sending
+pub mod Signs
+pub mod Sized
+pub mod Well

@@ -1,0 +1,43 @@
+-- `rules::small::fire_constant` meets its contract: one word is or-ed in.
+-- Assumes nothing.
+use native.Mathlib.Omega.{arith}
+use Rattle.calculus.specs.Elements.{constantElement}
+use Rattle.calculus.proofs.Fitting.{constant-lt}
+use Rattle.rules.proofs.Smalls.{value-inside, low-fired}
+use borrow.Author.Needs.{needs}
+use Rattle.rules.proofs.small.fire_constant.Statement.{statement}
+use Rattle.rules.proofs.small.fire_constant.Tie as tie
+
+mul-put-bits : tie.Need-mul-put-bits
+mul-put-bits c = search needs
+
+constant-bit-requires : tie.Need-constant-bit-requires
+constant-bit-requires c κs = search needs
+
+put-bits-requires : tie.Need-put-bits-requires
+put-bits-requires c κs =
+    let s = c .before .before .before .before .before in
+    let w = value-inside (s .args .l) (s .args .est .now) (s .pre .0) (s .args .p) (s .pre .1) in
+    (s .pre .0 .most, omega (arith, s .pre .0 .size, s .pre .1), omega (arith, s .pre .0 .least), w)
+
+same-length : tie.Need-same-length
+same-length c = search needs
+
+same-length-2 : tie.Need-same-length-2
+same-length-2 c = search needs
+
+returns : tie.Need-returns
+returns c =
+    let a = c .before .before .before .before .before .before .before .before .before .before .args in
+    low-fired (a .l) (a .est .now) _ _ (a .p) (constantElement (a .k)) _ (omega (arith, constant-lt (a .k))) (c .before .before .before .before .before .constant-bit .ensures) (c .before .before .before .before .put-bits .ensures)
+
+pub fire-constant-spec : {M : Type 1} → statement M
+fire-constant-spec =
+    tie.close
+    (tie.spec
+    mul-put-bits
+    constant-bit-requires
+    put-bits-requires
+    same-length
+    same-length-2
+    returns)
