@@ -1,4 +1,5 @@
 // The flow rules in code: for each word, what its rule adds to an estimate.
+pub mod flow;
 pub mod layout;
 pub mod made;
 pub mod masks;
