@@ -138,7 +138,7 @@ module _ (c : Code) (k : Linked c) where
   PP h l = record { from = h; to = l; spans = refl; unshifted-from = refl; unshifted-to = refl }
 
   -- a function's body is a word of the code
-  body-lt : (f : ℕ) → f < c .size → T (isFunction (makes (c .node f))) → suc f < c .size
+  pub body-lt : (f : ℕ) → f < c .size → T (isFunction (makes (c .node f))) → suc f < c .size
   unfolding makes leafMakes oneMakes isFunction
   body-lt f h t = go (c .node f) (k .nodes f h) t
     where

@@ -49,12 +49,12 @@ pub data Numbered : Row → ℕ → Type 0 where
   in-C : {i n : ℕ} → n ≡ 2 * i → Numbered (C i) n
   in-B : {i n : ℕ} → n ≡ 2 * i + 1 → Numbered (B i) n
 
-base-numbered : (c : Code) {r : Row} {n : ℕ} → Numbered r n → base c r ≡ n * rowWords c
+pub base-numbered : (c : Code) {r : Row} {n : ℕ} → Numbered r n → base c r ≡ n * rowWords c
 unfolding base
 base-numbered c (in-C e) = ap (λ (x : ℕ). x * rowWords c) (sym e)
 base-numbered c (in-B e) = omega (arith, ap (λ (x : ℕ). x * rowWords c) e)
 
-content-numbered : (c : Code) (ws : List ℕ) {r : Row} {n : ℕ} → Numbered r n → content c ws r ≡ take (rowWords c) (drop (n * rowWords c) ws)
+pub content-numbered : (c : Code) (ws : List ℕ) {r : Row} {n : ℕ} → Numbered r n → content c ws r ≡ take (rowWords c) (drop (n * rowWords c) ws)
 unfolding content
 content-numbered c ws (in-C e) = ap (λ (x : ℕ). take (rowWords c) (drop x ws)) (base-numbered c (in-C e))
 content-numbered c ws (in-B e) = ap (λ (x : ℕ). take (rowWords c) (drop x ws)) (base-numbered c (in-B e))

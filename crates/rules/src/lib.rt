@@ -4,4 +4,5 @@ pub mod layout;
 pub mod made;
 pub mod masks;
 pub mod results;
+pub mod send;
 pub mod small;

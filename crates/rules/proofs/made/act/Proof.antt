@@ -10,11 +10,6 @@ use Rattle.rules.proofs.Fires.{row-inside, may-sub, by-action, read-fir
 use borrow.Author.Needs.{needs}
 use Rattle.rules.proofs.made.act.Statement.{statement}
 use Rattle.rules.proofs.made.act.Tie as tie
-use Rattle.rules.proofs.made.act.Reads as reads
-use Rattle.rules.proofs.made.act.Lts as lts
-use Rattle.rows.proofs.estimate.put_bits.Reads as put-bits-reads
-use Rattle.rows.proofs.estimate.sub_row.Reads as sub-row-reads
-use Rattle.rules.proofs.made.apply.Reads as apply-reads
 
 got : (c : tie.After-slice-known14)
     → FiredIn (c .before .before .before .before .before .before .before .before .before .before .before .before .before .before .before .before .before .before .before .before .before .before .before .before .args .l) (actionRule actions.Get (c .before .before .before .before .before .before .before .before .before .before .before .before .before .before .before .before .before .before .before .before .before .before .before .before .args .s .p) (c .before .before .before .before .before .before .before .before .before .before .before .before .before .before .before .before .before .before .before .before .before .before .before .before .args .s .d) (c .before .before .before .before .before .before .before .before .before .before .before .before .before .before .before .before .before .before .before .before .before .before .before .before .args .f)) (c .before .before .before .before .before .before .before .before .before .before .before .before .before .before .before .before .before .before .before .before .before .before .before .before .args .est .now) (c .before .before .before .before .put-bits .last .0)

@@ -11,11 +11,6 @@ use Rattle.rules.specs.Sized.{FiredIn}
 use Rattle.rules.proofs.Fires.{same-sized, may-sub, apply-fired}
 use Rattle.rules.proofs.made.apply.Statement.{statement}
 use Rattle.rules.proofs.made.apply.Tie as tie
-use Rattle.rules.proofs.made.apply.Reads as reads
-use Rattle.rules.proofs.made.apply.Lts as lts
-use Rattle.rows.proofs.estimate.sub_row.Reads as sub-row-reads
-use Rattle.rules.proofs.made.live.Reads as live-reads
-use Rattle.rules.proofs.made.perms.Reads as perms-reads
 
 kept : (c : tie.After-slice-known13) → length (c .before .before .before .before .perms .last .0) ≡ length (c .before .before .before .before .before .before .before .before .before .before .before .before .before .before .before .before .before .before .before .before .before .before .before .before .before .before .before .before .before .before .before .before .before .before .before .before .before .before .before .args .est .now)
 kept c = c .before .before .before .before .perms .kept .0 ∙ c .before .before .before .before .before .before .before .before .before .before .before .before .before .sub-row2 .kept .0 ∙ c .before .before .before .before .before .before .before .before .before .before .before .before .before .before .before .before .before .before .before .before .before .before .before .before .sub-row .kept .0 ∙ c .before .before .before .before .before .before .before .before .before .before .before .before .before .before .before .before .before .before .before .before .before .before .before .before .before .before .before .before .before .before .before .before .before .live .kept .0

@@ -12,10 +12,6 @@ use Rattle.rules.proofs.Fires.{row-inside, same-sized}
 use Rattle.rules.proofs.Things.{Left, both-masked, may-look, made-start, made-step, made-end}
 use Rattle.rules.proofs.made.each_made.Statement.{statement}
 use Rattle.rules.proofs.made.each_made.Tie as tie
-use Rattle.rules.proofs.made.each_made.Reads as reads
-use Rattle.rules.proofs.made.each_made.Lts as lts
-use Rattle.rules.proofs.made.act.Reads as act-reads
-use Rattle.rules.proofs.made.next_made.Reads as next-made-reads
 
 abbrev Inv-loop : tie.InvT-loop
 Inv-loop est₀ scratch₀ mask log₀ l s a action at size added₀ f₀ est scratch log added f =

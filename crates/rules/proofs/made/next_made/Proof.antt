@@ -11,9 +11,6 @@ use Rattle.rules.specs.Made.{both, Next}
 use Rattle.rules.proofs.Nexts.{next-word, next-found}
 use Rattle.rules.proofs.made.next_made.Statement.{statement}
 use Rattle.rules.proofs.made.next_made.Tie as tie
-use Rattle.rules.proofs.made.next_made.Reads as reads
-use Rattle.rules.proofs.made.next_made.Lts as lts
-use Rattle.rules.proofs.made.common_from.Reads as common-from-reads
 
 abbrev Inv-loop : tie.InvT-loop
 Inv-loop est mask at size from f₀ f = (from ≤ f) × (f ≤ size + 32) × ((g : ℕ) → from ≤ g → g < f → both est mask at g ≡ false)
