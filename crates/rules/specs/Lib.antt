@@ -1,4 +1,5 @@
 pub mod Fired
+pub mod For
 pub mod Made
 pub mod Masks
 pub mod Ready

@@ -150,11 +150,58 @@ fn branch_tests(est: &mut [u32], log: &mut [u32], l: Layout, s: Site, b: usize) 
     n + live_if(est, log, l, s.p + 1, 3, s.d)
 }
 
-// What the branches of an if do.
+// The permissions of the branches of an if.
 fn branch_perms(est: &mut [u32], log: &mut [u32], l: Layout, s: Site, b: usize) -> usize
     requires { ⌜ Sized l (now est) × (s .p < l .size) × (s .d < l .size) × (b < l .size) ⌝ }
     ensures { λ r. ⌜ FiredIn l (waiting (s .p) b and waiting (s .p) (s .d)) (now (est .entry)) (now (est .exit)) r ⌝ }
 {
     let n = perms(est, log, l, b, s.p);
     n + perms(est, log, l, s.d, s.p)
+}
+
+// What an if does by its test, and its values.
+fn branch_rest(
+    est: &mut [u32],
+    scratch: &mut [u32],
+    log: &mut [u32],
+    l: Layout,
+    s: Site,
+    b: usize,
+) -> usize
+    requires { ⌜ Placed l s (now est) (now scratch) × (s .p + 1 < l .size) × (b < l .size) ⌝ }
+    ensures { λ r. ⌜ FiredIn l (given (C (s .p + 1)) 2 (put (L b) 0) and given (C (s .p + 1)) 3 (put (L (s .d)) 0) and sub (C b) (C (s .p)) and sub (C (s .d)) (C (s .p))) (now (est .entry)) (now (est .exit)) r ⌝ }
+{
+    let n = branch_tests(est, log, l, s, b);
+    n + branch_values(est, scratch, log, l, s, b)
+}
+
+fn branch_waiting(
+    est: &mut [u32],
+    scratch: &mut [u32],
+    log: &mut [u32],
+    l: Layout,
+    s: Site,
+    b: usize,
+) -> usize
+    requires { ⌜ Placed l s (now est) (now scratch) × (s .p + 1 < l .size) × (b < l .size) ⌝ }
+    ensures { λ r. ⌜ FiredIn l (waiting (s .p) b and waiting (s .p) (s .d) and given (C (s .p + 1)) 2 (put (L b) 0) and given (C (s .p + 1)) 3 (put (L (s .d)) 0) and sub (C b) (C (s .p)) and sub (C (s .d)) (C (s .p))) (now (est .entry)) (now (est .exit)) r ⌝ }
+{
+    let n = branch_perms(est, log, l, s, b);
+    n + branch_rest(est, scratch, log, l, s, b)
+}
+
+// The rule of an if with the parts p + 1, b and d.
+pub fn fire_if(
+    est: &mut [u32],
+    scratch: &mut [u32],
+    log: &mut [u32],
+    l: Layout,
+    s: Site,
+    b: usize,
+) -> usize
+    requires { ⌜ Placed l s (now est) (now scratch) × (s .p + 1 < l .size) × (b < l .size) ⌝ }
+    ensures { λ r. ⌜ FiredIn l (part (s .p) (s .p + 1) and waiting (s .p) b and waiting (s .p) (s .d) and given (C (s .p + 1)) 2 (put (L b) 0) and given (C (s .p + 1)) 3 (put (L (s .d)) 0) and sub (C b) (C (s .p)) and sub (C (s .d)) (C (s .p))) (now (est .entry)) (now (est .exit)) r ⌝ }
+{
+    let n = fire_part(est, log, l, s.p, s.p + 1);
+    n + branch_waiting(est, scratch, log, l, s, b)
 }

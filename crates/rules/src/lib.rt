@@ -6,3 +6,4 @@ pub mod masks;
 pub mod results;
 pub mod send;
 pub mod small;
+pub mod terms;
