@@ -5,12 +5,12 @@ use mathlib.Core.Bool.{Bool, true, false, not}
 use mathlib.Core.List.{List}
 use native.Mathlib.Omega.{arith}
 use lib.Bits.{bitAnd}
-use lib.Dec.{eqb}
+use lib.Dec.{eqb, lit<}
 use lib.ListN.{length, getD, take, drop}
 use Rattle.table.specs.Code.{Code, read, apply, assign}
 use Rattle.calculus.specs.Elements.{made, Making, isFunction, isRecord, isCell, isString, anyRecord}
-use Rattle.calculus.specs.Constraint.{C, B, Rule, put, sub, some, _and_}
-use Rattle.calculus.specs.Rules.{pass, eachMade, oneRule, twoRule}
+use Rattle.calculus.specs.Constraint.{C, B, P, L, Rule, put, sub, some, _and_}
+use Rattle.calculus.specs.Rules.{part, pass, eachMade, oneRule, twoRule}
 use Rattle.calculus.specs.Layout.{pour, masked, base, content, owner, span, shift, WellFormed}
 use Rattle.calculus.specs.Estimate.{fire, facts}
 use Rattle.calculus.proofs.Places.{is-allowed}
@@ -198,3 +198,43 @@ module _ (l : Layout) (est : List ℕ) (p : ℕ) (i : p < l .size) where
 -- a row by the places of its first word and of the one after its last
 pub part-meets : (r : Bool) (mask est : List ℕ) (at n k : ℕ) → r ≡ meets mask (take n (drop at est)) → n ≡ k → r ≡ meets mask (take k (drop at est))
 part-meets r mask est at n k h e = h ∙ ap (λ (i : ℕ). meets mask (take i (drop at est))) e
+
+-- ---- the parts first
+
+pub for-well : (l : Layout) (k : Code → Rule) (old new : List ℕ) (n : ℕ) → FiredFor l (λ c. Unit {0}) k old new n → FiredWell l k old new n
+for-well l k old new n f = record { words = λ c o e w. f .words c o e tt w; count = f .count; most = f .most }
+
+module _ (l : Layout) (h : Code → Type 0) (old new : List ℕ) (n : ℕ) where
+  in-for : (k : Rule) → FiredIn l k old new n → FiredFor l h (λ c. k) old new n
+  in-for k f = record { words = λ c o e x w. f .words c o; count = f .count; most = f .most }
+
+part-fits : (l : Layout) (p q : ℕ) → p < l .size → q < l .size → (c : Code) → LaidOut c l → Fits c (part p q)
+unfolding owner span shift
+part-fits l p q i j c o =
+    let e : c .size ≡ l .size = o .size in (
+      is-allowed c (L q) 0 (omega arith) (lit< tt),
+      record { from = omega arith; to = omega arith; spans = refl; unshifted-from = refl; unshifted-to = refl },
+    )
+
+module _ (l : Layout) (p : ℕ) (i : p < l .size) (h : Code → Type 0) (k : Code → Rule) (old mid new : List ℕ) (m n : ℕ) where
+  pub part-first : (q : ℕ) → q < l .size → FiredIn l (part p q) old mid m → FiredFor l h k mid new n
+      → FiredFor l h (λ c. part p q and k c) old new (m + n)
+  part-first q j f g = for-and l h (λ c. part p q) k old mid new m n (part-fits l p q i j) (in-for l h old mid m (part p q) f) g
+
+  pub parts-first : (q d : ℕ) → q < l .size → d < l .size → FiredIn l (part p q and part p d) old mid m → FiredFor l h k mid new n
+      → FiredFor l h (λ c. part p q and part p d and k c) old new (m + n)
+  parts-first q d j r f g =
+      let x : FiredFor l h (λ c. (part p q and part p d) and k c) old new (m + n) =
+      for-and l h (λ c. part p q and part p d) k old mid new m n (λ c o. (part-fits l p q i j c o, part-fits l p d i r c o))
+      (in-for l h old mid m (part p q and part p d) f) g
+      in
+      record {
+        words =
+            λ c o e y w. x .words c o e y w
+            ∙ fire-and c (part p q and part p d) (k c) old
+            ∙ ap (fire c (k c)) (fire-and c (part p q) (part p d) old)
+            ∙ sym (fire-and c (part p d) (k c) (fire c (part p q) old))
+            ∙ sym (fire-and c (part p q) (part p d and k c) old);
+        count = x .count;
+        most = x .most;
+      }

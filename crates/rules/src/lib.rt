@@ -3,6 +3,7 @@ pub mod flow;
 pub mod layout;
 pub mod made;
 pub mod masks;
+pub mod nodes;
 pub mod results;
 pub mod send;
 pub mod small;
