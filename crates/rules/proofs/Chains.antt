@@ -238,3 +238,12 @@ module _ (l : Layout) (p : ℕ) (i : p < l .size) (h : Code → Type 0) (k : Cod
         count = x .count;
         most = x .most;
       }
+
+-- what a word makes, by its number
+pub made-well : (l : Layout) (old new : List ℕ) (n p : ℕ) → FiredIn l (put (C p) (64 + p)) old new n → FiredWell l (λ c. put (C p) (made c p)) old new n
+made-well l old new n p f =
+    record {
+      words = λ c o e w. let z : 64 + p ≡ made c p = omega arith in f .words c o ∙ ap (λ (v : ℕ). fire c (put (C p) v) old) z;
+      count = f .count;
+      most = f .most;
+    }

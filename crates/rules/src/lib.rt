@@ -1,6 +1,7 @@
 // The flow rules in code: for each word, what its rule adds to an estimate.
 pub mod flow;
 pub mod layout;
+pub mod leaves;
 pub mod made;
 pub mod masks;
 pub mod nodes;
