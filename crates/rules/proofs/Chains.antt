@@ -247,3 +247,13 @@ made-well l old new n p f =
       count = f .count;
       most = f .most;
     }
+
+-- a block that is started
+pub start-well : (l : Layout) (b : ℕ) → b < l .size → (k : Code → Rule) (old mid new : List ℕ) (m n : ℕ) → FiredIn l (put (L b) 0) old mid m
+    → FiredWell l k mid new n → FiredWell l (λ c. put (L b) 0 and k c) old new (m + n)
+unfolding owner span
+start-well l b i k old mid new m n f g =
+    for-well l (λ c. put (L b) 0 and k c) old new (m + n)
+    (for-and l (λ c. Unit {0}) (λ c. put (L b) 0) k old mid new m n
+    (λ c o. let e : c .size ≡ l .size = o .size in is-allowed c (L b) 0 (omega arith) (lit< tt))
+    (in-for l (λ c. Unit {0}) old mid m (put (L b) 0) f) (well-for l (λ c. Unit {0}) mid new n k g))
