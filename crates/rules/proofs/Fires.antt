@@ -129,6 +129,20 @@ and-fired l k j old mid new m n p q =
       most = omega (arith, p .count, q .count, facts-most new);
     }
 
+-- where the first is two
+pub group-fired : (l : Layout) (k j i : Rule) (old mid new : List ℕ) (m n : ℕ) → FiredIn l (k and j) old mid m → FiredIn l i mid new n
+    → FiredIn l (k and j and i) old new (m + n)
+group-fired l k j i old mid new m n p q =
+    record {
+      words =
+          λ c o. q .words c o
+          ∙ ap (fire c i) (p .words c o ∙ fire-and c k j old)
+          ∙ sym (fire-and c j i (fire c k old))
+          ∙ sym (fire-and c k (j and i) old);
+      count = omega (arith, p .count, q .count);
+      most = omega (arith, p .count, q .count, facts-most new);
+    }
+
 -- ---- the actions
 
 module _ (l : Layout) (p d f : ℕ) (e0 e1 e2 e3 e4 : List ℕ) (m n o q : ℕ) where
