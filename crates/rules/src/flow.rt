@@ -1,11 +1,8 @@
 // Rules of terms for which the layout suffices: values that pass from row to row, parts, let and new cells.
 use crate::layout::Layout;
 use crate::made::Site;
-use crate::made::perms;
 use crate::small::fire_part;
-use crate::small::live_if;
 use crate::small::put_value;
-use crate::small::undefined_if;
 use rows::estimate::sub_row;
 ghost use Prim.Native.Nat.{_+_, _*_, _<_, _≤_};
 ghost use lib.ListN.{length};
