@@ -1,6 +1,5 @@
 pub mod Branches
 pub mod Fired
-pub mod For
 pub mod Made
 pub mod Masks
 pub mod Ready

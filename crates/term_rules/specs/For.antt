@@ -1,0 +1,16 @@
+-- What it is that code did what a rule does to a well-formed estimate, for every code with a property: what its masks are.
+use Prim.Native.Nat.{ℕ, _+_, _*_, _≤_}
+use mathlib.Core.Path.{_≡_}
+use mathlib.Core.List.{List}
+use lib.ListN.{length}
+use Rattle.table.specs.Code.{Code}
+use Rattle.calculus.specs.Constraint.{Rule}
+use Rattle.calculus.specs.Layout.{WellFormed}
+use Rattle.calculus.specs.Estimate.{fire, facts}
+use Rattle.rules.specs.declared.layout.Layout.{Layout}
+use Rattle.rules.specs.Sized.{LaidOut}
+
+pub record FiredFor (l : Layout) (h : Code → Type 0) (k : Code → Rule) (old new : List ℕ) (added : ℕ) : Type 0 where
+  pub words : (c : Code) → LaidOut c l → c .names ≡ 32 → h c → WellFormed c old → new ≡ fire c (k c) old
+  pub count : facts new ≡ facts old + added
+  pub most : added ≤ 32 * length new
