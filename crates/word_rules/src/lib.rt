@@ -1,0 +1,1 @@
+// The rule of each word of a table.
