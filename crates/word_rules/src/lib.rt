@@ -1,1 +1,2 @@
-// The rule of each word of a table.
+// What the rule of each word adds.
+pub mod leaves;
