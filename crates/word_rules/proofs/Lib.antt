@@ -1,1 +1,2 @@
 pub mod LeafRules
+pub mod SendRules

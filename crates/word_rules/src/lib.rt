@@ -1,2 +1,3 @@
 // What the rule of each word adds.
 pub mod leaves;
+pub mod send;
