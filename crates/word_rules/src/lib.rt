@@ -1,1 +1,2 @@
 // The rule of each word of a table.
+pub mod parts;
