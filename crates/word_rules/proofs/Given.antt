@@ -1,10 +1,9 @@
 -- What the word p is handed, as its rule asks for it: the layout, where its parts stand, its masks, and what its rule then did.
-use Prim.Native.Nat.{ℕ, suc, _+_, _*_, _/_, _≤_, _<_}
+use Prim.Native.Nat.{ℕ, suc, _+_, _*_, _≤_, _<_}
 use mathlib.Core.Path.{_≡_, refl, sym, ap, _∙_, subst}
-use mathlib.Core.Bool.{Bool}
 use mathlib.Core.List.{List}
 use native.Mathlib.Omega.{arith}
-use lib.ListN.{length, take, drop, length-take, length-drop}
+use lib.ListN.{length}
 use Rattle.table.specs.declared.Item.{Item}
 use Rattle.table.specs.declared.Item.the-variants as items
 use Rattle.table.specs.declared.Link.{Link}
@@ -15,21 +14,16 @@ use Rattle.table.specs.Links.{linkAt}
 use Rattle.table.proofs.Linked.{linked as code-linked}
 use Rattle.table.proofs.LinkMeaning.{link-end}
 use Rattle.table.proofs.Nodes.{itemNode, nodeAt, node-item}
-use Rattle.calculus.specs.Elements.{isFunction, isCell, anyRecord}
 use Rattle.calculus.specs.Constraint.{Rule}
 use Rattle.calculus.specs.Rules.{flow}
 use Rattle.calculus.specs.Layout.{rowWords}
 use Rattle.calculus.specs.Estimate.{fire}
 use Rattle.rules.specs.declared.layout.Layout.{Layout}
-use Rattle.rules.specs.declared.made.Action.{Action}
-use Rattle.rules.specs.declared.made.Action.the-variants as actions
-use Rattle.rules.specs.declared.made.Site.{Site}
 use Rattle.rules.specs.Fired.{Fired}
-use Rattle.rules.specs.Ready.{Mask, madeAs}
 use Rattle.rules.specs.Sized.{LaidOut, Sized, FiredIn}
 use Rattle.rules.specs.Well.{FiredWell}
-use Rattle.rules.specs.Made.{Placed, Things}
-use Rattle.rules.proofs.Handed.{sized, things, functions}
+use Rattle.rules.specs.Made.{Placed}
+use Rattle.rules.proofs.Handed.{sized}
 use Rattle.term_rules.specs.For.{FiredFor}
 use Rattle.word_rules.specs.At.{At}
 

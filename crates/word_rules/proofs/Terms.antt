@@ -1,7 +1,6 @@
 -- Each kind of term with parts at its word: where its parts stand, which rule its node has, and what its mask is.
-use Prim.Native.Nat.{ℕ, _+_, _-_, _*_, _≤_, _<_}
-use mathlib.Core.Path.{_≡_, refl, sym, ap, _∙_, subst}
-use mathlib.Core.Bool.{Bool}
+use Prim.Native.Nat.{ℕ, _+_, _-_, _*_, _≤_}
+use mathlib.Core.Path.{_≡_, refl, ap, subst}
 use mathlib.Core.List.{List}
 use native.Mathlib.Omega.{arith}
 use lib.ListN.{length, take, drop, length-take, length-drop}
@@ -10,20 +9,20 @@ use Rattle.table.specs.declared.Link.{Link}
 use Rattle.table.specs.declared.Operation.{Operation}
 use Rattle.table.specs.declared.Term.the-variants as terms
 use Rattle.table.specs.Item.{itemAt}
-use Rattle.table.specs.Code.{Code, Node, one, two, bind, while, branch, update, code, termNode}
+use Rattle.table.specs.Code.{Code, one, two, bind, while, branch, update, code, termNode}
 use Rattle.table.specs.Code.{cell, read, apply, sequence, get, delete, assign, operation}
 use Rattle.table.specs.Links.{linkAt}
-use Rattle.calculus.specs.Elements.{isFunction, isCell, anyRecord, made}
-use Rattle.calculus.specs.Constraint.{C, B, Rule, put, sub, _and_}
+use Rattle.calculus.specs.Elements.{isCell, anyRecord, made}
+use Rattle.calculus.specs.Constraint.{C, B, put, sub, _and_}
 use Rattle.calculus.specs.Rules.{part, flow, oneRule, twoRule}
 use Rattle.rules.specs.declared.layout.Layout.{Layout}
 use Rattle.rules.specs.declared.made.Action.{Action}
 use Rattle.rules.specs.declared.made.Action.the-variants as actions
 use Rattle.rules.specs.Ready.{Mask, madeAs}
-use Rattle.rules.specs.Made.{Placed, Things}
+use Rattle.rules.specs.Made.{Things}
 use Rattle.rules.proofs.Handed.{things, functions}
 use Rattle.word_rules.specs.At.{At}
-use Rattle.word_rules.proofs.Given.{OnePart, TwoParts, ThreeParts, laid, placed, one-at, two-at, bind-at, while-at, branch-at, update-at}
+use Rattle.word_rules.proofs.Given.{OnePart, TwoParts, ThreeParts, laid, has-size, one-at, two-at, bind-at, while-at, branch-at, update-at}
 
 -- ---- actions apart from an application
 
@@ -131,5 +130,13 @@ module _ (ws links masks est scratch : List ℕ) (l : Layout) (p : ℕ) (a : At 
   functions-things = functions ws (a .ready .readable) l (laid ws links masks est scratch l p a) _ (a .ready .functions)
 
   -- there are three masks at least
-  pub masks-long : (2 ≤ l .row) → 3 * l .row ≤ length masks
-  masks-long h = omega (arith, a .ready .cells .long, a .ready .row, length-take (l .row) (drop (2 * l .row) masks), length-drop (2 * l .row) masks)
+  pub masks-long : 3 * l .row ≤ length masks
+  masks-long =
+      omega (
+        arith,
+        has-size ws links masks est scratch l p a .least,
+        a .ready .cells .long,
+        a .ready .row,
+        length-take (l .row) (drop (2 * l .row) masks),
+        length-drop (2 * l .row) masks,
+      )
