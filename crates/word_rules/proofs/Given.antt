@@ -60,7 +60,7 @@ module _ (ws links masks est scratch : List ℕ) (l : Layout) (p : ℕ) (a : At 
   pub placed : (d : ℕ) → d < l .size → Placed l (record { p = p; d = d }) est scratch
   placed d h = record { sized = has-size; room = a .room; word = a .word; second = h }
 
-  node-is : (t : Term) → itemAt ws p ≡ items.Term t
+  pub node-is : (t : Term) → itemAt ws p ≡ items.Term t
       → code ws .node p ≡ termNode t (p + 1) (linkAt links (p + 1) .end) (linkAt links (linkAt links (p + 1) .end) .end)
   unfolding itemNode
   node-is t h =
@@ -74,7 +74,7 @@ module _ (ws links masks est scratch : List ℕ) (l : Layout) (p : ℕ) (a : At 
       ∙ ap (λ (q : ℕ). termNode t q (linkAt links q .end) (linkAt links (linkAt links q .end) .end)) z
 
   -- what the code says of the node
-  node-linked : (n : Node) → code ws .node p ≡ n → NodeLinked (code ws) p n
+  pub node-linked : (n : Node) → code ws .node p ≡ n → NodeLinked (code ws) p n
   unfolding code
   node-linked n e =
       subst (NodeLinked (code ws) p) e (code-linked ws (a .ready .readable) .nodes p (omega (arith, a .word, a .ready .size)))

@@ -129,14 +129,14 @@ module _ (ws links masks est scratch : List ℕ) (l : Layout) (p : ℕ) (a : At 
   pub functions-things : Things l actions.Apply (take (l .row) masks)
   functions-things = functions ws (a .ready .readable) l (laid ws links masks est scratch l p a) _ (a .ready .functions)
 
-  -- there are three masks at least
-  pub masks-long : 3 * l .row ≤ length masks
+  -- there are four masks
+  pub masks-long : 4 * l .row ≤ length masks
   masks-long =
       omega (
         arith,
         has-size ws links masks est scratch l p a .least,
-        a .ready .cells .long,
+        a .ready .messages .long,
         a .ready .row,
-        length-take (l .row) (drop (2 * l .row) masks),
-        length-drop (2 * l .row) masks,
+        length-take (l .row) (drop (3 * l .row) masks),
+        length-drop (3 * l .row) masks,
       )
