@@ -1,2 +1,4 @@
+pub mod Given
 pub mod LeafRules
 pub mod SendRules
+pub mod Terms

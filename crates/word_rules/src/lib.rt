@@ -1,3 +1,4 @@
-// What the rule of each word adds.
+// The rule of each word of a table.
 pub mod leaves;
+pub mod parts;
 pub mod send;
