@@ -1,4 +1,5 @@
 pub mod Given
 pub mod LeafRules
 pub mod SendRules
+pub mod Tags
 pub mod Terms

@@ -2,3 +2,4 @@
 pub mod leaves;
 pub mod parts;
 pub mod send;
+pub mod word;
