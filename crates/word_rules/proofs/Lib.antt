@@ -3,3 +3,4 @@ pub mod LeafRules
 pub mod SendRules
 pub mod Tags
 pub mod Terms
+pub mod WordRules
