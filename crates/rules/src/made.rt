@@ -69,7 +69,7 @@ fn apply(
 }
 
 // The action for one thing.
-fn act(
+pub fn act(
     est: &mut [u32],
     scratch: &mut [u32],
     log: &mut [u32],
@@ -107,7 +107,7 @@ fn common_from(est: &[u32], mask: &[u32], at: usize, f: usize) -> u32
 }
 
 // The first thing from `from` on, element 64 + f, that the row at `at` and the mask have; `size` or more where there is none below.
-fn next_made(est: &[u32], mask: &[u32], at: usize, size: usize, from: usize) -> usize
+pub fn next_made(est: &[u32], mask: &[u32], at: usize, size: usize, from: usize) -> usize
     requires { ⌜ (size ≤ 1024) × (from ≤ size) × (at + length (now mask) ≤ length (now est)) × (size + 64 ≤ 32 * length (now mask)) ⌝ }
     ensures { λ r. ⌜ Next (now (est .entry)) (now (mask .entry)) at size from r ⌝ }
 {

@@ -85,7 +85,7 @@ fn deliver(
 }
 
 // The rule for one block.
-fn send_to(
+pub fn send_to(
     words: &[u32],
     est: &mut [u32],
     scratch: &mut [u32],
