@@ -1,12 +1,11 @@
 -- The rule of a send: the test for a message, one rule after the other, and the mask of messages.
-use Prim.Native.Nat.{ℕ, _+_, _-_, _*_, _≤_, _<_}
-use mathlib.Core.Path.{_≡_, refl, sym, ap, ap₂, _∙_, subst}
-use mathlib.Core.Bool.{Bool, true, false}
+use Prim.Native.Nat.{ℕ, _+_, _*_, _≤_, _<_}
+use mathlib.Core.Path.{_≡_, refl, sym, ap, _∙_, subst}
+use mathlib.Core.Bool.{true, false}
 use mathlib.Core.List.{List}
-use native.Mathlib.Numerals.{add-one}
 use native.Mathlib.Omega.{arith}
 use lib.Dec.{lit<}
-use lib.ListN.{length, take, drop, length-take, length-drop}
+use lib.ListN.{length, take, drop}
 use Rattle.permset.specs.declared.PermSet.{PermSet}
 use Rattle.table.specs.declared.Item.the-variants as items
 use Rattle.table.specs.declared.Link.{Link}
@@ -15,7 +14,7 @@ use Rattle.table.specs.Item.{itemAt}
 use Rattle.table.specs.Links.{linkAt}
 use Rattle.table.specs.Code.{Code, Node, code, two, send, termNode}
 use Rattle.calculus.specs.Elements.{sendable}
-use Rattle.calculus.specs.Constraint.{C, B, P, L, Rule, put, sub, some, each, _and_}
+use Rattle.calculus.specs.Constraint.{C, L, Rule, put, some, each, _and_}
 use Rattle.calculus.specs.Rules.{part, flow}
 use Rattle.calculus.specs.Layout.{owner, span, shift, content, WellFormed}
 use Rattle.calculus.specs.Estimate.{fire, facts}
@@ -36,7 +35,8 @@ use Rattle.rules.proofs.Fires.{in-C, content-numbered}
 use Rattle.rules.proofs.Handlers.{sends-again}
 use Rattle.rules.proofs.Spelled.{send-is}
 use Rattle.word_rules.specs.At.{At}
-use Rattle.word_rules.proofs.LeafRules.{laid, sized-at, node-of, linked-as, permissions-at-is, by-node}
+use Rattle.word_rules.proofs.Given.{TwoParts, laid, has-size, two-at}
+use Rattle.word_rules.proofs.LeafRules.{permissions-at-is}
 
 -- ---- one rule after the other
 
@@ -46,6 +46,9 @@ then-fired c k j old mid new m n p q =
       words = q .words ∙ ap (fire c j) (p .words) ∙ sym (fire-and c k j old);
       count = omega (arith, p .count, q .count);
     }
+
+pub in-fired : (ws : List ℕ) (l : Layout) → LaidOut (code ws) l → (k : Rule) (old new : List ℕ) (n : ℕ) → FiredIn l k old new n → Fired (code ws) k old new n
+in-fired ws l o k old new n f = record { words = f .words (code ws) o; count = f .count }
 
 -- where the first is two
 pub pair-fired : (c : Code) (k j i : Rule) (old mid new : List ℕ) (m n : ℕ) → Fired c (k and j) old mid m → Fired c i mid new n
@@ -130,19 +133,9 @@ module _ (ws links masks est scratch : List ℕ) (l : Layout) (p : ℕ) (a : At 
   message : Message
   message = record { a = p + 1; required = set; sender = perms }
 
-  node-is : code ws .node p ≡ two (send (set .bits)) (p + 1) (x .end)
+  pub parts : TwoParts ws l p (x .end) (two (send (set .bits)) (p + 1) (x .end))
   unfolding termNode
-  node-is =
-      node-of ws links masks est scratch l p a (terms.Send set) h
-      ∙ ap₂ (λ (i j : ℕ). two (send (set .bits)) i j) (sym (add-one p)) (ap (λ (q : ℕ). linkAt links q .end) (sym (add-one p)) ∙ ap (λ (y : Link). y .end) (sym e))
-
-  pub first-inside : p + 1 < l .size
-  first-inside =
-      let k = linked-as ws links masks est scratch l p a _ node-is in omega (arith, k .1 .inside, laid ws links masks est scratch l p a .size)
-
-  pub second-inside : x .end < l .size
-  second-inside =
-      let k = linked-as ws links masks est scratch l p a _ node-is in omega (arith, k .2 .inside, laid ws links masks est scratch l p a .size)
+  parts = two-at ws links masks est scratch l p a (terms.Send set) h x e (send (set .bits)) (λ i j k. refl)
 
   pub send-given : (n : ℕ) → n ≡ l .row
       → Sends ws (take n (drop (3 * l .row) masks)) est scratch l (record { p = p; d = x .end }) (record { a = p + 1; required = set; sender = perms })
@@ -151,8 +144,8 @@ module _ (ws links masks est scratch : List ℕ) (l : Layout) (p : ℕ) (a : At 
         readable = a .ready .readable;
         laid = laid ws links masks est scratch l p a;
         placed =
-            record { sized = sized-at ws links masks est scratch l p a; room = a .room; word = a .word; second = second-inside };
-        first = first-inside;
+            record { sized = has-size ws links masks est scratch l p a; room = a .room; word = a .word; second = parts .second };
+        first = parts .first;
         well = a .well;
         sent = subst (λ (i : ℕ). Mask (code ws) (sendable (code ws)) (take i (drop (3 * l .row) masks))) (sym z) (a .ready .messages);
       }
@@ -165,15 +158,9 @@ module _ (ws links masks est scratch : List ℕ) (l : Layout) (p : ℕ) (a : At 
       → Fired (code ws) (flow (code ws) p (code ws .node p)) est new n
   unfolding flow site message
   send-fired new n g =
-      by-node ws links masks est scratch l p a new n (two (send (set .bits)) (p + 1) (x .end)) node-is
-      (subst (λ (k : Rule). Fired (code ws) (part p (p + 1) and part p (x .end) and k) est new n)
-      (sym (send-is (code ws) site message (f ∙ permissions-at-is ws links masks est scratch l p a (terms.Send set) h))) g)
-
--- the masks hold four rows
-pub masks-long : (ws links masks : List ℕ) (l : Layout) → Ready ws links masks l → 2 ≤ l .row → 4 * l .row ≤ length masks
-masks-long ws links masks l r i =
-    let n : length (take (l .row) (drop (3 * l .row) masks)) ≡ l .row = r .messages .long ∙ sym (r .row) in
-    omega (arith, n, length-take (l .row) (drop (3 * l .row) masks), length-drop (3 * l .row) masks)
+      let is = send-is (code ws) site message (f ∙ permissions-at-is ws links masks est scratch l p a (terms.Send set) h) in
+      subst (λ (m : Node). Fired (code ws) (flow (code ws) p m) est new n) (sym (parts .node))
+      (subst (λ (k : Rule). Fired (code ws) (part p (p + 1) and part p (x .end) and k) est new n) (sym is) g)
 
 pub links-of : (ws links masks : List ℕ) (l : Layout) → Ready ws links masks l → LinksOf ws links
 links-of ws links masks l r = record { slice = r .slice; room = r .room; made = r .from }

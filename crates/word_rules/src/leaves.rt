@@ -5,7 +5,7 @@ use rules::send::permissions_at;
 use rules::small::fire_exercise;
 use rules::small::put_value;
 use term_rules::flow::held_to_value;
-ghost use Prim.Native.Nat.{_+_, _*_, _^_, _<_, _≤_};
+ghost use Prim.Native.Nat.{_+_, _^_, _<_, _≤_};
 ghost use lib.ListN.{length};
 ghost use Rattle.permset.specs.Sets.{width, member, within};
 ghost use Rattle.table.specs.Item.{itemAt};

@@ -33,7 +33,7 @@ ghost use lib.ListN.{getD};
 ghost use Rattle.permset.specs.Sets.{member, within};
 ghost use Rattle.table.specs.Item.{itemAt};
 ghost use Rattle.table.specs.Code.{code};
-ghost use Rattle.calculus.specs.Constraint.{B, P, L, put, sub, given, only, _and_};
+ghost use Rattle.calculus.specs.Constraint.{B, L, put, given, only, _and_};
 ghost use Rattle.calculus.specs.Rules.{fill, part, flow, rule};
 ghost use Rattle.rules.specs.Fired.{Fired};
 ghost use Rattle.rules.specs.Sized.{Sized, FiredIn};

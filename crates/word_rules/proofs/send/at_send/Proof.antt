@@ -2,8 +2,9 @@
 -- Assumes nothing.
 use Prim.Native.Nat.{_-_, _*_}
 use native.Mathlib.Omega.{arith}
-use Rattle.word_rules.proofs.LeafRules.{sized-at}
-use Rattle.word_rules.proofs.SendRules.{first-inside, send-given, send-fired, masks-long, links-of}
+use Rattle.word_rules.proofs.Given.{has-size}
+use Rattle.word_rules.proofs.SendRules.{parts, send-given, send-fired, links-of}
+use Rattle.word_rules.proofs.Terms.{masks-long}
 use borrow.Author.Needs.{needs}
 use Rattle.word_rules.proofs.send.at_send.Statement.{statement}
 use Rattle.word_rules.proofs.send.at_send.Tie as tie
@@ -29,7 +30,7 @@ mul-send-node-2 c = search needs
 mul-send-node-3 : tie.Need-mul-send-node-3
 mul-send-node-3 c =
     let a = c .before .before .before .before .before .before .before .before .before .before .args in
-    omega (arith, sized-at (a .words .now) (a .links .now) (a .masks .now) (a .est .now) (a .scratch .now) (a .l) (a .p) (c .before .before .before .before .before .before .before .before .before .before .pre .0) .most)
+    omega (arith, has-size (a .words .now) (a .links .now) (a .masks .now) (a .est .now) (a .scratch .now) (a .l) (a .p) (c .before .before .before .before .before .before .before .before .before .before .pre .0) .most)
 
 sub-send-node : tie.Need-sub-send-node
 sub-send-node c = search needs
@@ -40,14 +41,14 @@ part-send-node-start c = search needs
 part-send-node-end : tie.Need-part-send-node-end
 part-send-node-end c =
     let a = c .before .before .before .before .before .before .before .before .before .before .args in
-    omega (arith, masks-long (a .words .now) (a .links .now) (a .masks .now) (a .l) (c .before .before .before .before .before .before .before .before .before .before .pre .0 .ready) (sized-at (a .words .now) (a .links .now) (a .masks .now) (a .est .now) (a .scratch .now) (a .l) (a .p) (c .before .before .before .before .before .before .before .before .before .before .pre .0) .least))
+    omega (arith, masks-long (a .words .now) (a .links .now) (a .masks .now) (a .est .now) (a .scratch .now) (a .l) (a .p) (c .before .before .before .before .before .before .before .before .before .before .pre .0))
 
 send-node-requires : tie.Need-send-node-requires
 send-node-requires c κs =
     let a = c .before .before .before .before .before .before .before .before .before .before .before .before .args in (
       send-given (a .words .now) (a .links .now) (a .masks .now) (a .est .now) (a .scratch .now) (a .l) (a .p) (c .before .before .before .before .before .before .before .before .before .before .before .before .pre .0) (a .set) (c .before .before .before .before .before .before .before .before .before .before .before .before .pre .1) _ (c .before .before .before .before .before .link-at .ensures) _ (c .before .before .before .before .permissions-at .ensures) (4 * a .l .row - 3 * a .l .row) (omega arith),
       links-of (a .words .now) (a .links .now) (a .masks .now) (a .l) (c .before .before .before .before .before .before .before .before .before .before .before .before .pre .0 .ready),
-      first-inside (a .words .now) (a .links .now) (a .masks .now) (a .est .now) (a .scratch .now) (a .l) (a .p) (c .before .before .before .before .before .before .before .before .before .before .before .before .pre .0) (a .set) (c .before .before .before .before .before .before .before .before .before .before .before .before .pre .1) _ (c .before .before .before .before .before .link-at .ensures) _ (c .before .before .before .before .permissions-at .ensures),
+      parts (a .words .now) (a .links .now) (a .masks .now) (a .est .now) (a .scratch .now) (a .l) (a .p) (c .before .before .before .before .before .before .before .before .before .before .before .before .pre .0) (a .set) (c .before .before .before .before .before .before .before .before .before .before .before .before .pre .1) _ (c .before .before .before .before .before .link-at .ensures) _ (c .before .before .before .before .permissions-at .ensures) .first,
     )
 
 same-length : tie.Need-same-length
