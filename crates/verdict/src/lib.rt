@@ -1,6 +1,7 @@
 // The verdict on a system: its leak, compared with a bound.
 mod checks;
 pub mod judge;
+pub mod numbers;
 pub mod stub;
 
 use crate::stub::Fault;
