@@ -1,3 +1,4 @@
 pub mod Numbers
 pub mod Room
 pub mod Samples
+pub mod Written

@@ -1,1 +1,3 @@
-// The C interface as definitions over bytes. It has no functions.
+// The verdict for programs in C, over bytes.
+mod answers;
+mod slices;

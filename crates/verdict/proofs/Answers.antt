@@ -114,6 +114,18 @@ module _ (ws : List ℕ) (ρ bound est work : ℕ) where
   answer-verdict r e =
       rw (r, answer, e, analysis) (whole-is (estimate (code ws) ρ) (λ us. verdict (judge (code ws) ρ bound us)))
 
+-- a verdict is answered only where nothing is wrong
+pub verdict-passed : (ws : List ℕ) (ρ bound est work : ℕ) (v : Verdict) → answer ws ρ bound est work ≡ verdict v
+    → (reading ws ≡ accepted) × (firstOf (callerTests (code ws) ρ bound est work) ≡ 0)
+verdict-passed ws ρ bound est work v e = go (wrong ws ρ bound est work) refl
+  where
+    go : (o : Outcome) → wrong ws ρ bound est work ≡ o → (reading ws ≡ accepted) × (firstOf (callerTests (code ws) ρ bound est work) ≡ 0)
+    go accepted w = passed ws ρ bound est work w
+    go (unreadable n at) w =
+        let r : refused n at ≡ verdict v = sym (answer-refused ws ρ bound est work n at w) ∙ e in
+        let z : _≡_ {A = ℕ} 0 1 = cc in
+        absurd (omega arith)
+
 -- ---- a leak compared with a bound
 
 pub own-bound : (ρ bound : ℕ) → bound ≡ ownBound → ρ ≡ boundUsed ρ bound
