@@ -1,5 +1,6 @@
 -- The C interface (document 01, "Parts and program"): its answer as one number, and what it leaves in the two slices of bytes.
 use Prim.Native.Nat.{ℕ, zero, suc, _+_, _*_, _/_, _%_, _^_}
+use mathlib.Core.Path.{_≡_}
 use mathlib.Core.Bool.{Bool, true, false, not}
 use mathlib.Core.List.{List, [], _∷_, _++_}
 use lib.Dec.{eqb, ltb}
@@ -52,3 +53,9 @@ workLeft ws (verdict v) us = replicate (workWords (length ws)) 0 ++ drop (workWo
 unfoldable pub workBytes : List ℕ → Answer → List ℕ → List ℕ
 workBytes ws (refused number place) bs = bs
 workBytes ws (verdict v) bs = bytesOf (replicate (workWords (length ws)) 0) ++ drop (4 * workWords (length ws)) bs
+
+-- a call answered a, where the system has the words ws: the number, and the bytes of both slices
+pub record Answered (ws : List ℕ) (ρ : ℕ) (a : Answer) (est work : List ℕ) (r : ℕ) (est′ work′ : List ℕ) : Type 0 where
+  pub number : r ≡ answerNumber a
+  pub estimates : est′ ≡ estimateBytes ws ρ a est
+  pub works : work′ ≡ workBytes ws a work
