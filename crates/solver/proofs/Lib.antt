@@ -1,0 +1,4 @@
+pub mod Sounds
+pub mod Zeros
+pub mod Bounds
+pub mod Findings
