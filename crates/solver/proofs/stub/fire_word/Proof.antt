@@ -1,13 +1,9 @@
--- `` meets its contract.
+-- A hole: the rule of a word is proved elsewhere.
 -- Assumes nothing.
-use native.Mathlib.Omega.{arith}
 use borrow.Author.Needs.{needs}
 use Rattle.solver.proofs.stub.fire_word.Statement.{statement}
 use Rattle.solver.proofs.stub.fire_word.Tie as tie
-use Rattle.solver.proofs.stub.fire_word.Reads as reads
-use Rattle.solver.proofs.stub.fire_word.Lts as lts
 
--- src/stub.rt:9:1
 returns : tie.Need-returns
 returns c = ?
 
