@@ -27,3 +27,24 @@ pub fn sweep(
     }
     added
 }
+
+// Sweeps until one adds nothing: then every rule is obeyed.
+pub fn close(
+    words: &[u32],
+    links: &[u32],
+    masks: &[u32],
+    est: &mut [u32],
+    scratch: &mut [u32],
+    log: &mut [u32],
+    l: Layout,
+    rho: PermSet,
+)
+    requires { ⌜ Running (now words) (now links) (now masks) (now est) (now scratch) l ⌝ }
+    ensures { λ _. ⌜ Closed (code (now (words .entry))) (rho .bits) (now (est .entry)) (now (est .exit)) ⌝ }
+{
+    loop {
+        if sweep(words, links, masks, est, scratch, log, l, rho) == 0 {
+            return;
+        }
+    }
+}
