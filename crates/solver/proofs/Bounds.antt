@@ -20,13 +20,13 @@ module _ (ws : List ℕ) where
   laid-out l s r = record { size = sym s; row = omega arith }
 
   module _ (e : reading ws ≡ accepted) where
-    pub row-bound : rowWords (code ws) < 64
+    pub row-bound : rowWords (code ws) ≤ 36
     unfolding code rowWords
     row-bound = omega (arith, size-le ws e)
 
     pub words-bound : estimateWords (code ws) ≤ 132096
     unfolding code estimateWords
-    words-bound = omega (arith, size-le ws e, rows-fit (length ws) (rowWords (code ws)) (size-le ws e) row-bound)
+    words-bound = omega (arith, size-le ws e, rows-fit (length ws) (rowWords (code ws)) (size-le ws e) (omega (arith, row-bound)))
 
     module _ (l : Layout) (o : LaidOut (code ws) l) where
       pub size-small : l .size ≤ 1024

@@ -1,5 +1,5 @@
 pub mod Sounds
 pub mod Zeros
 pub mod Bounds
-pub mod Findings
+pub mod Found
 pub mod Runs

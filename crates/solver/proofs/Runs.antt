@@ -1,22 +1,29 @@
 -- What a running solver hands on to the rule of a word, and to its next step.
 use Prim.Native.Nat.{ℕ, _+_, _-_, _*_, _≤_, _<_}
 use mathlib.Core.Path.{_≡_, refl, sym, ap, _∙_, subst}
-use mathlib.Core.List.{List}
+use mathlib.Core.List.{List, _++_}
 use native.Mathlib.Omega.{arith}
-use lib.ListN.{length}
-use Rattle.table.specs.Code.{Code, Linked, code}
+use lib.ListN.{length, drop, replicate}
+use Rattle.table.specs.Scan.{accepted, reading}
+use Rattle.table.specs.Code.{Linked, code}
+use Rattle.table.specs.Links as Links
 use Rattle.table.proofs.Linked.{linked}
-use Rattle.calculus.specs.Layout.{WellFormed}
+use Rattle.calculus.specs.Layout.{estimateWords, WellFormed}
 use Rattle.calculus.specs.Rules.{rule}
-use Rattle.calculus.specs.Estimate.{facts}
+use Rattle.calculus.specs.Estimate.{facts, estimate}
 use Rattle.rows.proofs.Laws.{facts-most}
 use Rattle.rules.specs.declared.layout.Layout.{Layout}
 use Rattle.rules.specs.Fired.{Fired}
+use Rattle.rules.specs.Masks.{Masked}
+use Rattle.rules.specs.Ready.{Ready}
+use Rattle.rules.specs.Sized.{LaidOut}
 use Rattle.word_rules.specs.At.{At}
+use Rattle.solver.specs.Reading.{Readable}
 use Rattle.solver.specs.Sound.{Sound}
-use Rattle.solver.specs.Swept.{Running, SweptFrom}
+use Rattle.solver.specs.Swept.{Running, SweptFrom, Closed}
 use Rattle.solver.proofs.Bounds.{words-bound}
-use Rattle.solver.proofs.Sounds.{swept-start, swept-more}
+use Rattle.solver.proofs.Sounds.{swept-start, swept-more, zeros-well, closed-least}
+use Rattle.solver.proofs.Zeros.{clear-all}
 
 module _ (ws links masks est scratch : List ℕ) (l : Layout) (h : Running ws links masks est scratch l) where
   pub links-code : Linked (code ws)
@@ -55,3 +62,45 @@ module _ (ws links masks est scratch : List ℕ) (l : Layout) (h : Running ws li
   pub swept-none : (ρ : ℕ) → SweptFrom (code ws) ρ (length ws) est est 0
   unfolding code
   swept-none ρ = swept-start (code ws) ρ est (length ws) (omega arith)
+
+-- ---- before it runs
+
+pub ready-of : (ws links masks est : List ℕ) (l : Layout) → Readable ws links est l → Masked (code ws) masks (l .row) → Ready ws links masks l
+unfolding code
+ready-of ws links masks est l h m =
+    record {
+      readable = h .readable;
+      slice = h .linked .slice;
+      room = h .linked .room;
+      from = h .linked .made;
+      size = sym (h .laid .size);
+      row = sym (h .laid .row);
+      functions = m .functions;
+      records = m .records;
+      cells = m .cells;
+      messages = m .messages;
+    }
+
+module _ (ws old est : List ℕ) (l : Layout) (e : reading ws ≡ accepted) (o : LaidOut (code ws) l)
+    (long : length old ≡ estimateWords (code ws)) (z : est ≡ replicate (length old) 0 ++ drop (length old) old) where
+  cleared : est ≡ replicate (estimateWords (code ws)) 0
+  cleared = z ∙ clear-all old ∙ ap (λ (n : ℕ). replicate n 0) long
+
+  -- a cleared estimate, and the links made
+  pub begun : (links slice : List ℕ) → links ≡ Links.linked ws slice → length ws ≤ length slice → Readable ws links est l × WellFormed (code ws) est
+  begun links slice k r = (
+    record {
+      readable = e;
+      laid = o;
+      linked = record { slice = slice; room = r; made = k };
+      long = well .long;
+    },
+    well,
+  )
+    where
+      well : WellFormed (code ws) est
+      well = subst (WellFormed (code ws)) (sym cleared) (zeros-well (code ws))
+
+  -- closed from there
+  pub ended : (ρ : ℕ) (new : List ℕ) → Closed (code ws) ρ est new → new ≡ estimate (code ws) ρ
+  ended ρ new d = closed-least (code ws) (linked ws e) ρ new (subst (λ (xs : List ℕ). Closed (code ws) ρ xs new) cleared d)

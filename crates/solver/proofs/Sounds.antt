@@ -4,18 +4,23 @@ use mathlib.Core.Path.{_≡_, refl, sym, ap, _∙_, subst}
 use mathlib.Core.List.{List}
 use native.Mathlib.Decide.{ℕ-discrete}
 use native.Mathlib.Omega.{arith}
+use lib.Dec.{lit<}
+use lib.ListN.{replicate, length-replicate}
 use Rattle.table.specs.Code.{Code, Linked}
 use Rattle.calculus.specs.Constraint.{Sets, Obeys}
 use Rattle.calculus.specs.Rules.{rule, Estimate}
-use Rattle.calculus.specs.Layout.{sets, WellFormed, LiesIn}
-use Rattle.calculus.specs.Estimate.{fire, facts}
-use Rattle.calculus.proofs.Slices.{_≼_}
+use Rattle.calculus.specs.Layout.{place, estimateWords, sets, WellFormed, LiesIn}
+use Rattle.calculus.specs.Estimate.{fire, facts, estimate}
+use Rattle.calculus.proofs.Slices.{_≼_, bit-zero}
+use Rattle.calculus.proofs.Rows.{sets-bit}
+use Rattle.calculus.proofs.Least.{estimate-unique}
 use Rattle.calculus.proofs.Firing.{fire-adds, fire-well, fire-inside, fire-obeys}
 use Rattle.calculus.proofs.Facts.{facts-same}
 use Rattle.calculus.proofs.Fitting.{rule-fits}
 use Rattle.rules.specs.Fired.{Fired}
 use Rattle.solver.specs.Sound.{Sound}
 use Rattle.solver.specs.Swept.{SweptFrom, Swept, Closed}
+use Rattle.solver.proofs.Zeros.{zeros-at}
 
 module _ (c : Code) (ρ : ℕ) where
   pub sound-none : (ws : List ℕ) → Sound c ρ ws ws
@@ -75,3 +80,24 @@ module _ (c : Code) (ρ : ℕ) where
   pub swept-end : {p : ℕ} {old new : List ℕ} {added : ℕ} → p ≡ 0 → SweptFrom c ρ p old new added → Swept c ρ old new added
   swept-end e s =
       record { sound = s .sound; count = s .count; obeyed = λ z q m. s .obeyed z q (omega arith) m }
+
+-- ---- from zeros
+
+module _ (c : Code) where
+  abbrev zeros : List ℕ
+  zeros = replicate (estimateWords c) 0
+
+  pub zeros-well : WellFormed c zeros
+  zeros-well =
+      record {
+        long = length-replicate (estimateWords c) 0;
+        words = λ k. rw (zeros-at (estimateWords c) k) (lit< tt);
+        clean = λ n h. absurd (bit-zero (estimateWords c) n h);
+      }
+
+  -- what obeys every rule after sound steps from zeros is the least estimate
+  pub closed-least : Linked c → (ρ : ℕ) (ws : List ℕ) → Closed c ρ zeros ws → ws ≡ estimate c ρ
+  closed-least k ρ ws d =
+      estimate-unique c k ρ ws (d .sound .well zeros-well) (d .obeyed)
+      (λ e o. d .sound .inside zeros-well e o
+      (λ r v h. absurd (bit-zero (estimateWords c) (place c r v) (sets-bit c zeros r v h))))

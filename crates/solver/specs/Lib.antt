@@ -1,3 +1,4 @@
+pub mod Analysis
 pub mod Reading
 pub mod Sound
 pub mod Swept

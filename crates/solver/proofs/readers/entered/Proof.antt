@@ -2,7 +2,7 @@
 -- Assumes nothing.
 use mathlib.Core.Path.{_∙_}
 use Rattle.solver.specs.Reading.{itemGuarded}
-use Rattle.solver.proofs.Findings.{guarded-of}
+use Rattle.solver.proofs.Found.{guarded-of}
 use borrow.Author.Needs.{needs}
 use Rattle.solver.proofs.readers.entered.Statement.{statement}
 use Rattle.solver.proofs.readers.entered.Tie as tie

@@ -9,7 +9,7 @@ use borrow.Author.Needs.{needs}
 use Rattle.calculus.specs.Estimate.{facts}
 use Rattle.calculus.proofs.Facts.{ones-word}
 use Rattle.rows.proofs.Laws.{facts-most}
-use Rattle.solver.proofs.Findings.{facts-at, facts-done}
+use Rattle.solver.proofs.Found.{facts-at, facts-done}
 use Rattle.solver.proofs.readers.facts.Statement.{statement}
 use Rattle.solver.proofs.readers.facts.Tie as tie
 

@@ -13,7 +13,7 @@ use Rattle.table.specs.Code.{code, endOf}
 use Rattle.table.proofs.Blocks.{Follows}
 use Rattle.calculus.specs.Estimate.{leakAmong, leak}
 use Rattle.rules.proofs.Handlers.{blocksOn, named-there, follows-first, body-inside, next-is, follows-next, next-later}
-use Rattle.solver.proofs.Findings.{leak-start, leak-step, leak-end}
+use Rattle.solver.proofs.Found.{leak-start, leak-step, leak-end}
 use borrow.Author.Needs.{needs}
 use Rattle.solver.proofs.readers.leak.Statement.{statement}
 use Rattle.solver.proofs.readers.leak.Tie as tie

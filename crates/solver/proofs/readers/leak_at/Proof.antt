@@ -7,7 +7,7 @@ use borrow.Author.Tests.{not-true, not-false}
 use Rattle.table.specs.Code.{code}
 use Rattle.table.proofs.Limits.{size-le}
 use Rattle.solver.proofs.Bounds.{size-small, row-small, words-bound, words-are, flags-base}
-use Rattle.solver.proofs.Findings.{among-closed, among-open, guarded-is}
+use Rattle.solver.proofs.Found.{among-closed, among-open, guarded-is}
 use native.Mathlib.Omega.{arith}
 use borrow.Author.Needs.{needs}
 use Rattle.solver.proofs.readers.leak_at.Statement.{statement}
