@@ -3,3 +3,4 @@ pub mod Zeros
 pub mod Bounds
 pub mod Found
 pub mod Runs
+pub mod Answers

@@ -1,5 +1,6 @@
 // The least estimate of an accepted table, and what is read from it.
 pub mod analyse;
+pub mod checks;
 pub mod memory;
 pub mod readers;
 pub mod solve;
