@@ -2,17 +2,17 @@
 use Prim.Native.Nat.{ℕ, zero, suc, _^_, _<_, _≤_}
 use mathlib.Core.Path.{_≡_, refl, sym, ap, _∙_}
 use mathlib.Core.Bool.{Bool, true, false}
-use mathlib.Core.List.{List, [], _∷_}
+use mathlib.Core.List.{List, [], _∷_, _++_}
 use native.Mathlib.Omega.{arith}
 use borrow.Author.Tests.{le-leb, lt-leb, lt-ltb, le-ltb}
 use lib.Dec.{leb, ltb}
-use lib.ListN.{length}
+use lib.ListN.{length, drop, replicate}
 use Rattle.permset.specs.Sets.{width}
 use Rattle.table.specs.Scan.{accepted, refused as unreadable, firstOf, reading}
 use Rattle.table.specs.Code.{code}
 use Rattle.calculus.specs.Layout.{estimateWords}
 use Rattle.calculus.specs.Estimate.{estimate}
-use Rattle.calculus.specs.Answer.{Answer, refused, verdict, workWords, callerTests, judge, analysis, answer}
+use Rattle.calculus.specs.Answer.{Verdict, refused, verdict, workWords, callerTests, judge, analysis, answer, estimateAfter, workAfter}
 use Rattle.calculus.proofs.Firing.{whole-is}
 use Rattle.solver.specs.Calls.{strayBound, Fit, Fits}
 
@@ -68,3 +68,17 @@ module _ (ws : List ℕ) (ρ bound est work : ℕ) where
                 small = h;
                 judged = rw (r, answer, z, analysis) (whole-is (estimate (code ws) ρ) (λ us. verdict (judge (code ws) ρ bound us)));
               }
+
+-- ---- the slices after the call
+
+module _ (ws : List ℕ) (ρ bound : ℕ) (est work : List ℕ) where
+  pub after-refused : (n at : ℕ) → answer ws ρ bound (length est) (length work) ≡ refused n at
+      → (est ≡ estimateAfter ws ρ bound est work) × (work ≡ workAfter ws ρ bound est work)
+  unfolding estimateAfter workAfter
+  after-refused n at e = (sym (rw (e, estimateAfter)), sym (rw (e, workAfter)))
+
+  pub after-solved : (v : Verdict) → answer ws ρ bound (length est) (length work) ≡ verdict v
+      → (estimate (code ws) ρ ++ drop (estimateWords (code ws)) est ≡ estimateAfter ws ρ bound est work)
+      × (replicate (workWords (length ws)) 0 ++ drop (workWords (length ws)) work ≡ workAfter ws ρ bound est work)
+  unfolding estimateAfter workAfter
+  after-solved v e = (sym (rw (e, estimateAfter)), sym (rw (e, workAfter)))

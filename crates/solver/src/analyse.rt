@@ -3,9 +3,9 @@ use crate::Analysis;
 use crate::Findings;
 use crate::checks::Checked;
 use crate::checks::check;
+use crate::checks::words_needed;
 use crate::solve::solve;
 use permset::PermSet;
-use rules::layout::Layout;
 ghost use mathlib.Core.Path.{_≡_};
 ghost use lib.ListN.{length};
 ghost use Rattle.calculus.specs.Answer.{ownBound, answer as Answer·answer, estimateAfter, workAfter};
@@ -17,7 +17,7 @@ pub fn solve_in(words: &[u32], rho: PermSet, est: &mut [u32], work: &mut [u32]) 
     requires { ⌜ Fit (now words) (length (now est)) (length (now work)) ⌝ }
     ensures { λ r. ⌜ SolvedIn (now (words .entry)) (rho .bits) (now (est .entry)) (now (work .entry)) (now (est .exit)) (now (work .exit)) r ⌝ }
 {
-    let need = Layout::of(words.len()).words();
+    let need = words_needed(words);
     let room = 4 * words.len();
     solve(words, rho, &mut est[..need], &mut work[..room])
 }

@@ -4,6 +4,8 @@ use rules::layout::Layout;
 use table::Reading;
 ghost use mathlib.Core.Path.{_≡_};
 ghost use Rattle.table.specs.Scan.{accepted, reading};
+ghost use Rattle.table.specs.Code.{code};
+ghost use Rattle.calculus.specs.Layout.{estimateWords};
 ghost use Rattle.solver.specs.Calls.{strayBound, CheckedAs};
 
 // Nothing is wrong, or the first fault.
@@ -19,6 +21,14 @@ fn stray_bound(bound: u32) -> bool
     16777216 <= bound && bound != 0x80000000
 }
 
+// The words of an estimate of an accepted table.
+pub fn words_needed(words: &[u32]) -> usize
+    requires { ⌜ reading (now words) ≡ accepted ⌝ }
+    ensures { λ r. ⌜ r ≡ estimateWords (code (now (words .entry))) ⌝ }
+{
+    Layout::of(words.len()).words()
+}
+
 // What the caller may get wrong where the table is accepted.
 fn check_call(words: &[u32], rho: u32, bound: u32, est: usize, work: usize) -> Checked
     requires { ⌜ reading (now words) ≡ accepted ⌝ }
@@ -30,8 +40,7 @@ fn check_call(words: &[u32], rho: u32, bound: u32, est: usize, work: usize) -> C
     if stray_bound(bound) {
         return Checked::Wrong(Fault::Bound);
     }
-    let need = Layout::of(words.len()).words();
-    if est < need {
+    if est < words_needed(words) {
         return Checked::Wrong(Fault::ShortEstimate);
     }
     if work < 4 * words.len() {

@@ -1,46 +1,53 @@
--- `` meets its contract.
+-- `solver::analyse::analyse` meets its contract.
 -- Assumes nothing.
+use mathlib.Core.Path.{sym, ap, ap₂, _∙_, subst}
+use Prim.Native.Nat.{ℕ}
+use lib.ListN.{length}
+use Rattle.calculus.specs.Answer.{ownBound, judge}
+use Rattle.solver.specs.Analysis.{solved, said, summary}
+use Rattle.solver.specs.Calls.{CheckedAs}
+use Rattle.solver.proofs.Answers.{after-refused, after-solved}
 use native.Mathlib.Omega.{arith}
-use borrow.Author.Needs.{needs}
 use borrow.Author.Needs.{needs}
 use Rattle.solver.proofs.analyse.analyse.Statement.{statement}
 use Rattle.solver.proofs.analyse.analyse.Tie as tie
-use Rattle.solver.proofs.analyse.analyse.Reads as reads
-use Rattle.solver.proofs.analyse.analyse.Lts as lts
-use Rattle.solver.proofs.analyse.solve_in.Reads as solve-in-reads
-use Rattle.solver.proofs.checks.check.Reads as check-reads
 
--- src/analyse.rt:32:11
 check-requires : tie.Need-check-requires
 check-requires c κs = search needs
 
--- src/analyse.rt:33:24
 enum-known-f : tie.Need-enum-known-f
 enum-known-f c = search needs
 
--- src/analyse.rt:34:59
 enum-told : tie.Need-enum-told
 enum-told c = search needs
 
--- src/analyse.rt:34:43
 solve-in-requires : tie.Need-solve-in-requires
-solve-in-requires c κs = ?
+solve-in-requires c κs =
+    let a = c .before .before .before .before .before .before .before .before .args in
+    subst (CheckedAs (a .words .now) (a .rho) ownBound (length (a .est .now)) (length (a .work .now))) (c .before .before .enum-told .given .1) (c .before .before .before .before .check .ensures) .fit
 
--- src/analyse.rt:27:1
 returns : tie.Need-returns
-returns c = ?
+unfolding said summary
+returns c =
+    let a = c .before .before .before .before .before .before .before .args in
+    let e = subst (CheckedAs (a .words .now) (a .rho) ownBound (length (a .est .now)) (length (a .work .now))) (c .before .f .given .1) (c .before .before .before .check .ensures) in
+    let k = after-refused (a .words .now) (a .rho) ownBound (a .est .now) (a .work .now) _ _ e in
+    (ap summary (sym e), k)
 
--- src/analyse.rt:27:1
 same-length : tie.Need-same-length
 same-length c = search needs
 
--- src/analyse.rt:27:1
 same-length-2 : tie.Need-same-length-2
 same-length-2 c = search needs
 
--- src/analyse.rt:27:1
 returns-2 : tie.Need-returns-2
-returns-2 c = ?
+unfolding said summary judge
+returns-2 c =
+    let a = c .before .before .before .before .before .before .before .before .before .before .before .before .before .args in
+    let h = subst (CheckedAs (a .words .now) (a .rho) ownBound (length (a .est .now)) (length (a .work .now))) (c .before .before .before .before .before .before .before .enum-told .given .1) (c .before .before .before .before .before .before .before .before .before .check .ensures) in
+    let s = c .before .before .before .before .solve-in .ensures in
+    let k = after-solved (a .words .now) (a .rho) ownBound (a .est .now) (a .work .now) _ (h .judged) in
+    (ap₂ (λ (l f : ℕ). solved l f) (s .leaks) (s .counted) ∙ ap summary (sym (h .judged)), (s .estimates ∙ k .0, s .works ∙ k .1))
 
 pub analyse-spec : {M : Type 1} → statement M
 analyse-spec =

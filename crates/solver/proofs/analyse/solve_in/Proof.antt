@@ -1,66 +1,63 @@
--- `` meets its contract.
+-- `solver::analyse::solve_in` meets its contract: what is lent of the slices comes back in its place.
 -- Assumes nothing.
+use mathlib.Core.Path.{sym, ap, ap₂, _∙_}
+use mathlib.Core.List.{List, _++_}
+use Prim.Native.Nat.{ℕ, _*_}
+use lib.ListN.{length, drop}
+use lib.Seq.{length-take-le}
 use native.Mathlib.Omega.{arith}
-use borrow.Author.Needs.{needs}
 use borrow.Author.Needs.{needs}
 use Rattle.solver.proofs.analyse.solve_in.Statement.{statement}
 use Rattle.solver.proofs.analyse.solve_in.Tie as tie
-use Rattle.solver.proofs.analyse.solve_in.Reads as reads
-use Rattle.solver.proofs.analyse.solve_in.Lts as lts
-use Rattle.rules.proofs.layout.Layout.of.Reads as of-reads
-use Rattle.rules.proofs.layout.Layout.words.Reads as words-reads
-use Rattle.solver.proofs.solve.solve.Reads as solve-reads
 
--- src/analyse.rt:20:16
-of-requires : tie.Need-of-requires
-of-requires c κs = ?
+words-needed-requires : tie.Need-words-needed-requires
+words-needed-requires c κs = search needs
 
--- src/analyse.rt:20:9
-words-requires : tie.Need-words-requires
-words-requires c κs = ?
-
--- src/analyse.rt:21:16
 mul-room : tie.Need-mul-room
 mul-room c = search needs
 
--- src/analyse.rt:22:23
 slice-relend-prefix-solve : tie.Need-slice-relend-prefix-solve
-slice-relend-prefix-solve c = ?
+slice-relend-prefix-solve c = search needs
 
--- src/analyse.rt:22:23
 slice-aggregate-solve : tie.Need-slice-aggregate-solve
-slice-aggregate-solve c = ?
+slice-aggregate-solve c =
+    sym (length-take-le _ _ (omega (arith, c .before .words-needed .ensures, c .before .before .before .before .before .pre .long)))
 
--- src/analyse.rt:22:41
 slice-relend-prefix-solve-2 : tie.Need-slice-relend-prefix-solve-2
 slice-relend-prefix-solve-2 c = search needs
 
--- src/analyse.rt:22:41
 slice-aggregate-solve-2 : tie.Need-slice-aggregate-solve-2
-slice-aggregate-solve-2 c = ?
+slice-aggregate-solve-2 c = sym (length-take-le _ _ (c .before .before .before .before .before .before .pre .room))
 
--- src/analyse.rt:22:5
 solve-requires : tie.Need-solve-requires
-solve-requires c κs = ?
+solve-requires c κs =
+    let h = c .before .before .before .before .before .before .pre in
+    let n = c .before .before .words-needed .ensures in
+    (h .readable, (length-take-le _ _ (omega (arith, n, h .long)) ∙ n, length-take-le _ _ (h .room)))
 
--- src/analyse.rt:16:1
 same-length : tie.Need-same-length
 same-length c = search needs
 
--- src/analyse.rt:16:1
 same-length-2 : tie.Need-same-length-2
 same-length-2 c = search needs
 
--- src/analyse.rt:16:1
 returns : tie.Need-returns
-returns c = ?
+returns c =
+    let a = c .before .before .before .before .before .before .before .before .before .before .before .args in
+    let n = c .before .before .before .before .before .before .before .words-needed .ensures in
+    let s = c .before .before .before .before .solve .ensures in
+    record {
+      estimates = ap₂ (λ (k : ℕ) (xs : List ℕ). xs ++ drop k (a .est .now)) n (s .0);
+      works = ap (λ (xs : List ℕ). xs ++ drop (4 * length (a .words .now)) (a .work .now)) (s .1 .0);
+      leaks = s .1 .1 .0;
+      counted = s .1 .1 .1;
+    }
 
 pub solve-in-spec : {M : Type 1} → statement M
 solve-in-spec =
     tie.close
     (tie.spec
-    of-requires
-    words-requires
+    words-needed-requires
     mul-room
     slice-relend-prefix-solve
     slice-aggregate-solve

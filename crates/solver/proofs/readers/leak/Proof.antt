@@ -75,8 +75,7 @@ loop-again c =
     let i = c .before .before .before .before .loop in
     let g : i .b < length (a .words .now) = c .before .before .before .loop-test .taken in
     let t = named-there (a .words .now) (h .readable) (i .b) (i .inv .0) g in
-    let on : ℕ → ℕ = λ b. leakAmong (code (a .words .now)) (a .rho .bits) (a .est .now) (blocksOn (a .words .now) b) in
-    (
+    let on : ℕ → ℕ = λ b. leakAmong (code (a .words .now)) (a .rho .bits) (a .est .now) (blocksOn (a .words .now) b) in (
       subst (Follows (a .words .now)) (sym (end-is c)) (follows-next (a .words .now) (h .readable) (i .b) g t),
       ap (λ (b : ℕ). bitOr (bitOr (i .bits) (c .before .before .leak-at .result .bits)) (on b)) (end-is c)
           ∙ ap (λ (x : ℕ). bitOr (bitOr (i .bits) x) (on (endOf (a .words .now) (i .b + 3)))) (c .before .before .leak-at .ensures)

@@ -58,10 +58,13 @@ returns c =
     let s = c .before .before .before .before .before .before .before .before .before .before .before .before .before .least in
     let e = s .ensures .0 in (
       e,
-      (c .before .before .clear .ensures ∙ clear-all (s .last .1 .0) ∙ ap (λ (n : ℕ). replicate n 0) (s .kept .1 .0 ∙ h .1 .1), (
-        c .before .before .before .before .before .before .leak .ensures ∙ ap (leak (code (a .words .now)) (a .rho .bits)) e,
-        c .before .before .before .before .facts .ensures ∙ ap facts e
-      ))
+      (
+        c .before .before .clear .ensures ∙ clear-all (s .last .1 .0) ∙ ap (λ (n : ℕ). replicate n 0) (s .kept .1 .0 ∙ h .1 .1),
+        (
+          c .before .before .before .before .before .before .leak .ensures ∙ ap (leak (code (a .words .now)) (a .rho .bits)) e,
+          c .before .before .before .before .facts .ensures ∙ ap facts e,
+        ),
+      ),
     )
 
 pub solve-spec : {M : Type 1} → statement M

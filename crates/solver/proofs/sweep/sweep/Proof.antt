@@ -49,8 +49,7 @@ loop-again : tie.Need-loop-again Inv-loop μ-loop
 loop-again c =
     let a = c .before .before .before .before .before .before .before .before .before .before .before .before .before .before .before .before .before .before .args in
     let i = c .before .before .before .before .before .before .before .before .before .before .before .loop in
-    let f = c .before .before .before .before .before .before .fire-word in
-    (
+    let f = c .before .before .before .before .before .before .fire-word in (
       f .kept .1 .1 .1 .0 ∙ i .inv .0,
       f .kept .1 .1 .1 .1 .0 ∙ i .inv .1,
       f .kept .1 .1 .1 .1 .1 .0 ∙ i .inv .2,
