@@ -1,9 +1,8 @@
 -- What the answer to a call is, by what is wrong with it.
-use Prim.Native.Nat.{ℕ, zero, suc, _^_, _<_, _≤_}
-use mathlib.Core.Path.{_≡_, refl, sym, ap, _∙_}
+use Prim.Native.Nat.{ℕ, suc, _^_, _<_, _≤_}
+use mathlib.Core.Path.{_≡_, refl, sym}
 use mathlib.Core.Bool.{Bool, true, false}
 use mathlib.Core.List.{List, [], _∷_, _++_}
-use native.Mathlib.Omega.{arith}
 use borrow.Author.Tests.{le-leb, lt-leb, lt-ltb, le-ltb}
 use lib.Dec.{leb, ltb}
 use lib.ListN.{length, drop, replicate}
@@ -14,7 +13,7 @@ use Rattle.calculus.specs.Layout.{estimateWords}
 use Rattle.calculus.specs.Estimate.{estimate}
 use Rattle.calculus.specs.Answer.{Verdict, refused, verdict, workWords, callerTests, judge, analysis, answer, estimateAfter, workAfter}
 use Rattle.calculus.proofs.Firing.{whole-is}
-use Rattle.solver.specs.Calls.{strayBound, Fit, Fits}
+use Rattle.solver.specs.Calls.{strayBound, Fits}
 
 -- four tests with their numbers
 abbrev tests : Bool → Bool → Bool → Bool → List (Bool × ℕ)

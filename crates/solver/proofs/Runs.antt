@@ -1,6 +1,6 @@
 -- What a running solver hands on to the rule of a word, and to its next step.
-use Prim.Native.Nat.{ℕ, _+_, _-_, _*_, _≤_, _<_}
-use mathlib.Core.Path.{_≡_, refl, sym, ap, _∙_, subst}
+use Prim.Native.Nat.{ℕ, _+_, _-_, _≤_, _<_}
+use mathlib.Core.Path.{_≡_, sym, ap, _∙_, subst}
 use mathlib.Core.List.{List, _++_}
 use native.Mathlib.Omega.{arith}
 use lib.ListN.{length, drop, replicate}
@@ -10,7 +10,7 @@ use Rattle.table.specs.Links as Links
 use Rattle.table.proofs.Linked.{linked}
 use Rattle.calculus.specs.Layout.{estimateWords, WellFormed}
 use Rattle.calculus.specs.Rules.{rule}
-use Rattle.calculus.specs.Estimate.{facts, estimate}
+use Rattle.calculus.specs.Estimate.{estimate}
 use Rattle.rows.proofs.Laws.{facts-most}
 use Rattle.rules.specs.declared.layout.Layout.{Layout}
 use Rattle.rules.specs.Fired.{Fired}
@@ -20,9 +20,9 @@ use Rattle.rules.specs.Sized.{LaidOut}
 use Rattle.word_rules.specs.At.{At}
 use Rattle.solver.specs.Reading.{Readable}
 use Rattle.solver.specs.Sound.{Sound}
-use Rattle.solver.specs.Swept.{Running, SweptFrom, Closed}
+use Rattle.solver.specs.Swept.{Running, Closed}
 use Rattle.solver.proofs.Bounds.{words-bound}
-use Rattle.solver.proofs.Sounds.{swept-start, swept-more, zeros-well, closed-least}
+use Rattle.solver.proofs.Sounds.{SweptFrom, swept-start, swept-more, zeros-well, closed-least}
 use Rattle.solver.proofs.Zeros.{clear-all}
 
 module _ (ws links masks est scratch : List ℕ) (l : Layout) (h : Running ws links masks est scratch l) where

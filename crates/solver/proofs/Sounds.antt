@@ -1,16 +1,16 @@
 -- Laws of sound steps: none at all, one after another, the firing of a word's rule; and words that a sound step from zeros has closed.
-use Prim.Native.Nat.{ℕ, suc, _+_, _*_, _≤_, _<_}
-use mathlib.Core.Path.{_≡_, refl, sym, ap, _∙_, subst}
+use Prim.Native.Nat.{ℕ, _+_, _≤_, _<_}
+use mathlib.Core.Path.{_≡_, sym, _∙_, subst}
 use mathlib.Core.List.{List}
 use native.Mathlib.Decide.{ℕ-discrete}
 use native.Mathlib.Omega.{arith}
 use lib.Dec.{lit<}
 use lib.ListN.{replicate, length-replicate}
 use Rattle.table.specs.Code.{Code, Linked}
-use Rattle.calculus.specs.Constraint.{Sets, Obeys}
-use Rattle.calculus.specs.Rules.{rule, Estimate}
+use Rattle.calculus.specs.Constraint.{Obeys}
+use Rattle.calculus.specs.Rules.{rule}
 use Rattle.calculus.specs.Layout.{place, estimateWords, sets, WellFormed, LiesIn}
-use Rattle.calculus.specs.Estimate.{fire, facts, estimate}
+use Rattle.calculus.specs.Estimate.{facts, estimate}
 use Rattle.calculus.proofs.Slices.{_≼_, bit-zero}
 use Rattle.calculus.proofs.Rows.{sets-bit}
 use Rattle.calculus.proofs.Least.{estimate-unique}
@@ -19,8 +19,14 @@ use Rattle.calculus.proofs.Facts.{facts-same}
 use Rattle.calculus.proofs.Fitting.{rule-fits}
 use Rattle.rules.specs.Fired.{Fired}
 use Rattle.solver.specs.Sound.{Sound}
-use Rattle.solver.specs.Swept.{SweptFrom, Swept, Closed}
+use Rattle.solver.specs.Swept.{Swept, Closed}
 use Rattle.solver.proofs.Zeros.{zeros-at}
+
+-- what a sweep keeps: the rules of the words from p on, each once
+pub record SweptFrom (c : Code) (ρ : ℕ) (p : ℕ) (old new : List ℕ) (added : ℕ) : Type 0 where
+  pub sound : Sound c ρ old new
+  pub count : facts new ≡ facts old + added
+  pub obeyed : added ≡ 0 → (q : ℕ) → p ≤ q → q < c .size → Obeys (sets c new) (rule c ρ q)
 
 module _ (c : Code) (ρ : ℕ) where
   pub sound-none : (ws : List ℕ) → Sound c ρ ws ws

@@ -10,7 +10,7 @@ use Rattle.table.specs.Scan.{accepted, reading}
 use Rattle.table.specs.Code.{code}
 use Rattle.calculus.specs.Layout.{estimateWords}
 use Rattle.calculus.specs.Estimate.{estimate, facts, leak}
-use Rattle.calculus.specs.Answer.{Answer, refused, verdict, ownBound, workWords, judge, answer}
+use Rattle.calculus.specs.Answer.{refused, verdict, ownBound, workWords, judge, answer}
 use Rattle.solver.specs.declared.Findings.{Findings}
 use Rattle.solver.specs.declared.checks.Checked.{Checked}
 use Rattle.solver.specs.declared.checks.Checked.the-variants.{Fine, Wrong}

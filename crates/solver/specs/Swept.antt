@@ -1,11 +1,10 @@
 -- What a sweep is handed, and what it promises: a sound step that counts what it adds, and has nothing to add only where every rule is obeyed.
-use Prim.Native.Nat.{ℕ, _+_, _<_, _≤_}
+use Prim.Native.Nat.{ℕ, _+_, _≤_}
 use mathlib.Core.Path.{_≡_}
 use mathlib.Core.List.{List}
 use lib.ListN.{length}
 use Rattle.table.specs.Code.{Code, code}
-use Rattle.calculus.specs.Rules.{rule, Estimate}
-use Rattle.calculus.specs.Constraint.{Obeys}
+use Rattle.calculus.specs.Rules.{Estimate}
 use Rattle.calculus.specs.Layout.{WellFormed, sets}
 use Rattle.calculus.specs.Estimate.{facts}
 use Rattle.rules.specs.declared.layout.Layout.{Layout}
@@ -17,12 +16,6 @@ pub record Running (ws links masks est scratch : List ℕ) (l : Layout) : Type 0
   pub ready : Ready ws links masks l
   pub well : WellFormed (code ws) est
   pub room : l .row ≤ length scratch
-
--- the rules of the words from p on, each once
-pub record SweptFrom (c : Code) (ρ : ℕ) (p : ℕ) (old new : List ℕ) (added : ℕ) : Type 0 where
-  pub sound : Sound c ρ old new
-  pub count : facts new ≡ facts old + added
-  pub obeyed : added ≡ 0 → (q : ℕ) → p ≤ q → q < c .size → Obeys (sets c new) (rule c ρ q)
 
 pub record Swept (c : Code) (ρ : ℕ) (old new : List ℕ) (added : ℕ) : Type 0 where
   pub sound : Sound c ρ old new

@@ -14,7 +14,7 @@ ghost use Rattle.solver.specs.Reading.{itemGuarded, Readable};
 
 // The facts of an estimate: its set digits.
 pub fn facts(est: &[u32]) -> usize
-    requires { ⌜ length (now est) ≤ 262144 ⌝ }
+    requires { ⌜ length (now est) ≤ 132096 ⌝ }
     ensures { λ r. ⌜ r ≡ estimateFacts (now (est .entry)) ⌝ }
 {
     let mut sum = 0;

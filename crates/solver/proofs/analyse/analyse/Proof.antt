@@ -7,7 +7,6 @@ use Rattle.calculus.specs.Answer.{ownBound, judge}
 use Rattle.solver.specs.Analysis.{solved, said, summary}
 use Rattle.solver.specs.Calls.{CheckedAs}
 use Rattle.solver.proofs.Answers.{after-refused, after-solved}
-use native.Mathlib.Omega.{arith}
 use borrow.Author.Needs.{needs}
 use Rattle.solver.proofs.analyse.analyse.Statement.{statement}
 use Rattle.solver.proofs.analyse.analyse.Tie as tie

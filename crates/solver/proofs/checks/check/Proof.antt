@@ -4,7 +4,6 @@ use mathlib.Core.Path.{sym, ap, _∙_}
 use Rattle.table.specs.Answer.{outcome}
 use Rattle.solver.specs.Analysis.{faultNumber, faultPlace}
 use Rattle.solver.proofs.Answers.{answer-table}
-use native.Mathlib.Omega.{arith}
 use borrow.Author.Needs.{needs}
 use Rattle.solver.proofs.checks.check.Statement.{statement}
 use Rattle.solver.proofs.checks.check.Tie as tie

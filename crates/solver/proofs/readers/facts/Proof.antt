@@ -1,13 +1,12 @@
 -- `solver::readers::facts` meets its contract. The loop's invariant: what is counted, and the facts from `i` on, are all facts.
 -- Assumes nothing.
-use mathlib.Core.Path.{_≡_, refl, sym, ap, _∙_}
-use Prim.Native.Nat.{ℕ, _+_, _-_, _*_, _≤_}
+use mathlib.Core.Path.{_≡_}
+use Prim.Native.Nat.{_+_, _-_}
 use native.Mathlib.Omega.{arith}
-use lib.Count.{ones, ones-le}
-use lib.ListN.{length, getD, drop}
+use lib.Count.{ones-le}
+use lib.ListN.{length, drop}
 use borrow.Author.Needs.{needs}
 use Rattle.calculus.specs.Estimate.{facts}
-use Rattle.calculus.proofs.Facts.{ones-word}
 use Rattle.rows.proofs.Laws.{facts-most}
 use Rattle.solver.proofs.Found.{facts-at, facts-done}
 use Rattle.solver.proofs.readers.facts.Statement.{statement}

@@ -2,7 +2,7 @@
 -- the blocks from there on leak is the leak.
 -- Assumes nothing.
 use Rattle.table.proofs.Limits.{size-le}
-use mathlib.Core.Path.{_≡_, refl, sym, ap, _∙_, subst}
+use mathlib.Core.Path.{_≡_, sym, ap, _∙_, subst}
 use Prim.Native.Nat.{ℕ, _+_, _-_, _<_}
 use native.Mathlib.Omega.{arith}
 use lib.Bits.{bitOr}
@@ -12,7 +12,7 @@ use Rattle.table.specs.declared.Link.{Link}
 use Rattle.table.specs.Code.{code, endOf}
 use Rattle.table.proofs.Blocks.{Follows}
 use Rattle.calculus.specs.Estimate.{leakAmong, leak}
-use Rattle.rules.proofs.Handlers.{blocksOn, named-there, follows-first, body-inside, next-is, follows-next, next-later}
+use Rattle.rules.proofs.Handlers.{blocksOn, named-there, follows-first, next-is, follows-next, next-later}
 use Rattle.solver.proofs.Found.{leak-start, leak-step, leak-end}
 use borrow.Author.Needs.{needs}
 use Rattle.solver.proofs.readers.leak.Statement.{statement}

@@ -1,6 +1,6 @@
 -- `solver::readers::leak_at` meets its contract.
 -- Assumes nothing.
-use mathlib.Core.Path.{_≡_, sym, ap, _∙_}
+use mathlib.Core.Path.{sym, ap, _∙_}
 use Prim.Native.Nat.{ℕ, _%_, _<_}
 use lib.ListN.{length, getD}
 use borrow.Author.Tests.{not-true, not-false}

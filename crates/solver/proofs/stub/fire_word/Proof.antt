@@ -1,6 +1,5 @@
 -- A hole: the rule of a word is proved elsewhere.
 -- Assumes nothing.
-use borrow.Author.Needs.{needs}
 use Rattle.solver.proofs.stub.fire_word.Statement.{statement}
 use Rattle.solver.proofs.stub.fire_word.Tie as tie
 

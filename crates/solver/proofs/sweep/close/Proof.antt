@@ -11,7 +11,6 @@ use lib.ListN.{length}
 use Rattle.table.specs.Code.{code}
 use Rattle.calculus.specs.Estimate.{facts}
 use Rattle.solver.specs.Sound.{Sound}
-use borrow.Author.Needs.{needs}
 use Rattle.solver.proofs.sweep.close.Statement.{statement}
 use Rattle.solver.proofs.sweep.close.Tie as tie
 

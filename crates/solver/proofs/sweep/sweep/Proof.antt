@@ -6,8 +6,7 @@ use Prim.Native.Nat.{_≤_}
 use native.Mathlib.Omega.{arith}
 use lib.ListN.{length}
 use Rattle.table.specs.Code.{code}
-use Rattle.solver.specs.Swept.{SweptFrom}
-use Rattle.solver.proofs.Sounds.{swept-end}
+use Rattle.solver.proofs.Sounds.{SweptFrom, swept-end}
 use borrow.Author.Needs.{needs}
 use Rattle.solver.proofs.sweep.sweep.Statement.{statement}
 use Rattle.solver.proofs.sweep.sweep.Tie as tie
