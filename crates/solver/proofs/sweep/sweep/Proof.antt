@@ -31,14 +31,14 @@ fire-word-requires : tie.Need-fire-word-requires Inv-loop μ-loop
 fire-word-requires c κs =
     let a = c .before .before .before .before .before .before .before .before .before .before .before .args in
     let i = c .before .before .before .before .loop in
-    at-word (a .words .now) (a .links .now) (a .masks .now) (a .est .now) (a .scratch .now) (a .l) (c .before .before .before .before .before .before .before .before .before .before .before .pre) (a .rho .bits) (i .est) (i .scratch) (i .inv .1) (i .p) (i .added) (i .inv .3) (i .inv .4) (c .before .before .before .loop-test .taken)
+    at-word (a .words .now) (a .links .now) (a .masks .now) (a .est .now) (a .scratch .now) (a .l) (c .before .before .before .before .before .before .before .before .before .before .before .pre) (a .rho .bits) (i .est) (i .scratch) (i .inv .1) (i .p) (i .added) (i .inv .3) (i .inv .4) (omega (arith, c .before .before .before .loop-test .taken))
 
 add-added : tie.Need-add-added Inv-loop μ-loop
 add-added c =
     let a = c .before .before .before .before .before .before .before .before .before .before .before .before .before .before .before .before .before .before .args in
     let i = c .before .before .before .before .before .before .before .before .before .before .before .loop in
     let f = c .before .before .before .before .before .before .fire-word in
-    omega (arith, sum-small (a .words .now) (a .links .now) (a .masks .now) (a .est .now) (a .scratch .now) (a .l) (c .before .before .before .before .before .before .before .before .before .before .before .before .before .before .before .before .before .before .pre) (a .rho .bits) (i .est) (i .scratch) (i .inv .1) (i .p) (i .added) (i .inv .3) (i .inv .4) (c .before .before .before .before .before .before .before .before .before .before .loop-test .taken) (f .last .1 .1 .1 .0) (f .result) (f .ensures) (f .kept .1 .1 .1 .0 ∙ i .inv .0))
+    omega (arith, sum-small (a .words .now) (a .links .now) (a .masks .now) (a .est .now) (a .scratch .now) (a .l) (c .before .before .before .before .before .before .before .before .before .before .before .before .before .before .before .before .before .before .pre) (a .rho .bits) (i .est) (i .scratch) (i .inv .1) (i .p) (i .added) (i .inv .3) (i .inv .4) (omega (arith, c .before .before .before .before .before .before .before .before .before .before .loop-test .taken)) (f .last .1 .1 .1 .0) (f .result) (f .ensures) (f .kept .1 .1 .1 .0 ∙ i .inv .0))
 
 loop-less : tie.Need-loop-less Inv-loop μ-loop
 loop-less c =
@@ -54,7 +54,7 @@ loop-again c =
       f .kept .1 .1 .1 .1 .1 .0 ∙ i .inv .2,
       omega (arith, i .inv .3),
       swept-next (a .words .now) (a .links .now) (a .masks .now) (a .est .now) (a .scratch .now) (a .l) (c .before .before .before .before .before .before .before .before .before .before .before .before .before .before .before .before .before .before .pre) (a .rho .bits) (i .est) (i .scratch) (i .inv .1) (i .p) (i .added) (i .inv .3) (i .inv .4)
-          (c .before .before .before .before .before .before .before .before .before .before .loop-test .taken) (f .last .1 .1 .1 .0) (f .result) (f .ensures),
+          (omega (arith, c .before .before .before .before .before .before .before .before .before .before .loop-test .taken)) (f .last .1 .1 .1 .0) (f .result) (f .ensures),
     )
 
 same-length : tie.Need-same-length Inv-loop μ-loop
