@@ -4,7 +4,6 @@ pub mod checks;
 pub mod memory;
 pub mod readers;
 pub mod solve;
-mod stub;
 pub mod sweep;
 
 use permset::PermSet;

@@ -1,7 +1,7 @@
 // The rules of all words, again and again until nothing is added.
-use crate::stub::fire_word;
 use permset::PermSet;
 use rules::layout::Layout;
+use word_rules::word::fire_word;
 ghost use Rattle.table.specs.Code.{code};
 ghost use Rattle.solver.specs.Swept.{Running, Swept, Closed};
 
