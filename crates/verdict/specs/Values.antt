@@ -11,7 +11,7 @@ use Rattle.calculus.specs.Guarantee.{Covers}
 use Rattle.verdict.specs.declared.Report.{Report}
 use Rattle.verdict.specs.declared.Verdict.{Verdict}
 use Rattle.verdict.specs.declared.Verdict.the-variants.{Refused, Within, Over}
-use Rattle.verdict.specs.Faults.{faultNumber, faultPlace}
+use Rattle.solver.specs.Analysis.{faultNumber, faultPlace}
 
 -- a leak within the bound has no lowest permission outside, for which 32 stands
 unfoldable pub answerOf : Verdict → Answer

@@ -1,22 +1,15 @@
 // The verdict.
 use crate::Report;
 use crate::Verdict;
-use crate::checks::Checked;
-use crate::checks::check;
-use crate::checks::words_needed;
-use crate::stub::Findings;
-use crate::stub::solve;
 use permset::PermSet;
+use solver::Findings;
+use solver::analyse::solve_in;
+use solver::checks::Checked;
+use solver::checks::check;
 ghost use mathlib.Core.Path.{_≡_};
-ghost use mathlib.Core.List.{_++_};
-ghost use Prim.Native.Nat.{_*_, _^_, _<_, _≤_};
-ghost use lib.ListN.{length, drop, replicate};
-ghost use Rattle.table.specs.Scan.{accepted, reading};
-ghost use Rattle.table.specs.Code.{code};
-ghost use Rattle.calculus.specs.Layout.{estimateWords};
-ghost use Rattle.calculus.specs.Estimate.{estimate, leak, facts};
+ghost use lib.ListN.{length};
 ghost use Rattle.calculus.specs.Answer.{answer, boundUsed, estimateAfter, workAfter};
-ghost use Rattle.verdict.specs.Calls.{wrong};
+ghost use Rattle.solver.specs.Calls.{Fits};
 ghost use Rattle.verdict.specs.Values.{answerOf, compare, Guaranteed, Judged};
 
 // The bound that a leak is compared with: 80000000 hex means the opponent's own set.
@@ -44,32 +37,12 @@ fn compared(found: Findings, bound: PermSet) -> Verdict
     Verdict::Over(report, outside.lowest())
 }
 
-// The estimate in the first words of its slice, zeros in those of the work slice, and what was found, where nothing is wrong with the call.
-fn solved(words: &[u32], rho: u32, est: &mut [u32], work: &mut [u32]) -> Findings
-    requires { ⌜ reading (now words) ≡ accepted ⌝ }
-    requires { ⌜ rho < 2 ^ 24 ⌝ }
-    requires { ⌜ estimateWords (code (now words)) ≤ length (now est) ⌝ }
-    requires { ⌜ 4 * length (now words) ≤ length (now work) ⌝ }
-    ensures { λ _. ⌜ now (est .exit) ≡ estimate (code (now (words .entry))) rho ++ drop (estimateWords (code (now (words .entry)))) (now (est .entry)) ⌝ }
-    ensures { λ _. ⌜ now (work .exit) ≡ replicate (4 * length (now (words .entry))) 0 ++ drop (4 * length (now (words .entry))) (now (work .entry)) ⌝ }
-    ensures { λ r. ⌜ (r .leak .bits ≡ leak (code (now (words .entry))) rho (estimate (code (now (words .entry))) rho)) × (r .facts ≡ facts (estimate (code (now (words .entry))) rho)) ⌝ }
-{
-    let need = words_needed(words.len());
-    let least = 4 * words.len();
-    solve(
-        words,
-        PermSet { bits: rho },
-        &mut est[..need],
-        &mut work[..least],
-    )
-}
-
 // The verdict where nothing is wrong with the call.
 fn judged(words: &[u32], rho: u32, bound: u32, est: &mut [u32], work: &mut [u32]) -> Verdict
-    requires { ⌜ wrong (now words) rho bound (length (now est)) (length (now work)) ≡ accepted ⌝ }
+    requires { ⌜ Fits (now words) rho bound (length (now est)) (length (now work)) ⌝ }
     ensures { λ r. ⌜ Judged (now (words .entry)) rho bound (now (est .entry)) (now (work .entry)) r (now (est .exit)) (now (work .exit)) ⌝ }
 {
-    let found = solved(words, rho, est, work);
+    let found = solve_in(words, PermSet { bits: rho }, est, work);
     compared(found, bound_used(rho, bound))
 }
 
@@ -82,7 +55,7 @@ pub fn verdict(words: &[u32], rho: u32, bound: u32, est: &mut [u32], work: &mut 
     ensures guarantee { λ r. ⌜ Guaranteed (now (words .entry)) rho r ⌝ }
 {
     match check(words, rho, bound, est.len(), work.len()) {
-        Checked::Faulty(f) => Verdict::Refused(f),
-        Checked::Passed => judged(words, rho, bound, est, work),
+        Checked::Wrong(f) => Verdict::Refused(f),
+        Checked::Fine => judged(words, rho, bound, est, work),
     }
 }

@@ -1,11 +1,9 @@
 // The verdict on a system: its leak, compared with a bound.
-mod checks;
 pub mod judge;
 pub mod numbers;
-pub mod stub;
 
-use crate::stub::Fault;
 use permset::PermSet;
+use solver::Fault;
 
 // What was found of an accepted system: its leak, the bound that it is compared with, and the number of facts.
 pub struct Report {

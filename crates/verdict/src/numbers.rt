@@ -1,9 +1,9 @@
 // Document 01's numbers and places in code.
-use crate::stub::Fault;
+use solver::Fault;
 use table::Refusal;
 ghost use mathlib.Core.Path.{_≡_};
 ghost use Rattle.table.specs.Answer.{number, place};
-ghost use Rattle.verdict.specs.Faults.{faultNumber, faultPlace};
+ghost use Rattle.solver.specs.Analysis.{faultNumber, faultPlace};
 
 fn refusal_number(r: Refusal) -> u32
     ensures { λ n. ⌜ n ≡ number r ⌝ }

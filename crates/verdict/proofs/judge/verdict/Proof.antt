@@ -1,7 +1,8 @@
 -- `verdict::judge::verdict` meets its contract: refused by its checks, or judged. Assumes nothing.
-use mathlib.Core.Path.{refl, sym, ap, _∙_}
+use mathlib.Core.Path.{refl, subst}
+use lib.ListN.{length}
+use Rattle.solver.specs.Calls.{CheckedAs}
 use Rattle.verdict.specs.declared.Verdict.the-variants.{Refused}
-use Rattle.verdict.specs.Calls.{said}
 use Rattle.verdict.specs.Values.{answerOf}
 use Rattle.verdict.proofs.Answers.{rejected, guaranteed}
 use borrow.Author.Needs.{needs}
@@ -18,20 +19,19 @@ enum-told : tie.Need-enum-told
 enum-told c = search needs
 
 judged-requires : tie.Need-judged-requires
-unfolding said
 judged-requires c κs =
-    sym (c .before .before .before .before .check .ensures) ∙ ap said (c .before .before .enum-told .given .1)
+    let a = c .before .before .before .before .before .before .before .before .args in
+    subst (CheckedAs (a .words .now) (a .rho) (a .bound) (length (a .est .now)) (length (a .work .now))) (c .before .before .enum-told .given .1)
+    (c .before .before .before .before .check .ensures)
 
 returns : tie.Need-returns
-unfolding said answerOf
+unfolding answerOf
 returns c =
     let a = c .before .before .before .before .before .before .before .args in
     let r = Refused (c .before .f .given .0 .0) in
-    let j =
-    rejected (a .words .now) (a .rho) (a .bound) (a .est .now) (a .work .now) r _ _
-    (sym (ap said (c .before .f .given .1)) ∙ c .before .before .before .check .ensures)
-    refl
-    in
+    let e =
+    subst (CheckedAs (a .words .now) (a .rho) (a .bound) (length (a .est .now)) (length (a .work .now))) (c .before .f .given .1) (c .before .before .before .check .ensures) in
+    let j = rejected (a .words .now) (a .rho) (a .bound) (a .est .now) (a .work .now) r _ _ e refl in
     (j .answers, (j .estimates, (j .works, guaranteed (a .words .now) (a .rho) (a .bound) _ _ r (j .answers))))
 
 same-length : tie.Need-same-length

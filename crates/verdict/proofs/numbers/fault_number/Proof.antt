@@ -1,6 +1,6 @@
 -- `verdict::numbers::fault_number` meets its contract: a case for each fault. Assumes nothing.
 use mathlib.Core.Path.{sym, ap, _∙_}
-use Rattle.verdict.specs.Faults.{faultNumber}
+use Rattle.solver.specs.Analysis.{faultNumber}
 use borrow.Author.Needs.{needs}
 use Rattle.verdict.proofs.numbers.fault_number.Statement.{statement}
 use Rattle.verdict.proofs.numbers.fault_number.Tie as tie

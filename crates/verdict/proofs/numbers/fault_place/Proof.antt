@@ -1,6 +1,6 @@
 -- `verdict::numbers::fault_place` meets its contract: a case for each fault. Assumes nothing.
 use mathlib.Core.Path.{sym, ap, _∙_}
-use Rattle.verdict.specs.Faults.{faultPlace}
+use Rattle.solver.specs.Analysis.{faultPlace}
 use borrow.Author.Needs.{needs}
 use Rattle.verdict.proofs.numbers.fault_place.Statement.{statement}
 use Rattle.verdict.proofs.numbers.fault_place.Tie as tie
