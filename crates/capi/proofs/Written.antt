@@ -14,8 +14,8 @@ use Rattle.calculus.specs.Answer.{Verdict, Answer, refused, verdict, answer, wo
 use Rattle.calculus.proofs.Least.{estimate-well}
 use Rattle.little_endian.specs.LittleEndian.{wordsOf, bytesOf}
 use Rattle.little_endian.proofs.Laws.{Below, length-wordsOf, written-back, replaced-words}
-use Rattle.verdict.proofs.Answers.{verdict-passed, passed-room}
 use Rattle.capi.specs.Interface.{estimateLeft, estimateBytes, workLeft, workBytes}
+use Rattle.capi.proofs.Refusals.{verdict-fit}
 use Rattle.capi.proofs.Room.{estimate-capped, work-capped, estimate-room, work-room}
 
 -- ---- what a call leaves, by its answer
@@ -63,18 +63,16 @@ module _ (bs : List ℕ) (low : Below 256 bs) (n : ℕ) (most : n ≤ length bs 
     unfolding estimateLeft estimateBytes
     estimate-written work (refused number place) e = back
     estimate-written work (verdict v) e =
-        let p = verdict-passed ws ρ bound n work v (sym e) in
-        let room = passed-room ws ρ bound n work (p .1) in
-        replaced (estimate (code ws) ρ) (estimateWords (code ws)) (estimate-well (code ws) (linked ws (p .0)) ρ .long) (room .1)
+        let fit = verdict-fit ws ρ bound n work v (sym e) in
+        replaced (estimate (code ws) ρ) (estimateWords (code ws)) (estimate-well (code ws) (linked ws (fit .readable)) ρ .long) (fit .long)
 
     pub work-written : (est : ℕ) (a : Answer) → a ≡ answer ws ρ bound est n
         → bytesOf (workLeft ws a (take n (wordsOf bs))) ++ drop (4 * n) bs ≡ workBytes ws a bs
     unfolding workLeft workBytes
     work-written est (refused number place) e = back
     work-written est (verdict v) e =
-        let p = verdict-passed ws ρ bound est n v (sym e) in
-        let room = passed-room ws ρ bound est n (p .1) in
-        replaced (replicate (workWords (length ws)) 0) (workWords (length ws)) (length-replicate (workWords (length ws)) 0) (room .2)
+        let fit = verdict-fit ws ρ bound est n v (sym e) in
+        replaced (replicate (workWords (length ws)) 0) (workWords (length ws)) (length-replicate (workWords (length ws)) 0) (fit .room)
 
 -- ---- a slice of bytes around a call on its words
 

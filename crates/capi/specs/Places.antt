@@ -2,7 +2,7 @@
 use Prim.Native.Nat.{ℕ, _<_}
 use Rattle.verdict.specs.declared.Verdict.{Verdict}
 use Rattle.verdict.specs.declared.Verdict.the-variants.{Refused, Within, Over}
-use Rattle.verdict.specs.Faults.{faultPlace}
+use Rattle.solver.specs.Analysis.{faultPlace}
 
 abbrev pub PlaceFits : Verdict → Type 0
 PlaceFits (Refused f) = faultPlace f < 65536

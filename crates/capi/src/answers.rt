@@ -1,11 +1,11 @@
 // An answer as one number.
+use solver::Fault;
 use verdict::Verdict;
 use verdict::numbers::fault_number;
 use verdict::numbers::fault_place;
-use verdict::stub::Fault;
 ghost use mathlib.Core.Path.{_≡_};
 ghost use Prim.Native.Nat.{_+_, _*_, _^_, _<_};
-ghost use Rattle.verdict.specs.Faults.{faultNumber, faultPlace};
+ghost use Rattle.solver.specs.Analysis.{faultNumber, faultPlace};
 ghost use Rattle.verdict.specs.Values.{answerOf};
 ghost use Rattle.capi.specs.Interface.{answerNumber};
 ghost use Rattle.capi.specs.Places.{PlaceFits};
