@@ -24,16 +24,16 @@ faultPlace faults.Bound = 0
 faultPlace faults.ShortEstimate = 0
 faultPlace faults.ShortWork = 0
 
--- an answer without what depends on a bound: a refusal's number and place, or the leak and the number of facts
+-- an answer without what depends on a bound or is read from the estimate later: a refusal's number and place, or the leak
 pub data Summary : Type 0 where
   refused : (number place : ℕ) → Summary
-  solved : (leak facts : ℕ) → Summary
+  solved : (leak : ℕ) → Summary
 
 unfoldable pub summary : Answer → Summary
 summary (answers.refused n at) = refused n at
-summary (verdict v) = solved (v .leak) (v .facts)
+summary (verdict v) = solved (v .leak)
 
 unfoldable pub said : Analysis → Summary
 unfolding faultNumber faultPlace
 said (analyses.Refused f) = refused (faultNumber f) (faultPlace f)
-said (analyses.Solved s) = solved (s .leak .bits) (s .facts)
+said (analyses.Solved s) = solved (s .bits)

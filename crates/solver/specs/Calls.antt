@@ -9,9 +9,9 @@ use Rattle.permset.specs.Sets.{width}
 use Rattle.table.specs.Scan.{accepted, reading}
 use Rattle.table.specs.Code.{code}
 use Rattle.calculus.specs.Layout.{estimateWords}
-use Rattle.calculus.specs.Estimate.{estimate, facts, leak}
+use Rattle.calculus.specs.Estimate.{estimate, leak}
 use Rattle.calculus.specs.Answer.{refused, verdict, ownBound, workWords, judge, answer}
-use Rattle.solver.specs.declared.Findings.{Findings}
+use Rattle.permset.specs.declared.PermSet.{PermSet}
 use Rattle.solver.specs.declared.checks.Checked.{Checked}
 use Rattle.solver.specs.declared.checks.Checked.the-variants.{Fine, Wrong}
 use Rattle.solver.specs.Analysis.{faultNumber, faultPlace}
@@ -36,9 +36,8 @@ abbrev pub CheckedAs : List ℕ → ℕ → ℕ → ℕ → ℕ → Checked → 
 CheckedAs ws ρ bound est work Fine = Fits ws ρ bound est work
 CheckedAs ws ρ bound est work (Wrong f) = answer ws ρ bound est work ≡ refused (faultNumber f) (faultPlace f)
 
--- the least estimate in the first words of one slice, zeros in those of the other, and what was read
-pub record SolvedIn (ws : List ℕ) (ρ : ℕ) (est work est′ work′ : List ℕ) (r : Findings) : Type 0 where
+-- the least estimate in the first words of one slice, zeros in those of the other, and the leak
+pub record SolvedIn (ws : List ℕ) (ρ : ℕ) (est work est′ work′ : List ℕ) (r : PermSet) : Type 0 where
   pub estimates : est′ ≡ estimate (code ws) ρ ++ drop (estimateWords (code ws)) est
   pub works : work′ ≡ replicate (workWords (length ws)) 0 ++ drop (workWords (length ws)) work
-  pub leaks : r .leak .bits ≡ leak (code ws) ρ (estimate (code ws) ρ)
-  pub counted : r .facts ≡ facts (estimate (code ws) ρ)
+  pub leaks : r .bits ≡ leak (code ws) ρ (estimate (code ws) ρ)

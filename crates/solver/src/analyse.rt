@@ -1,6 +1,5 @@
 // The analysis of any words, refused or not.
 use crate::Analysis;
-use crate::Findings;
 use crate::checks::Checked;
 use crate::checks::check;
 use crate::checks::words_needed;
@@ -13,7 +12,7 @@ ghost use Rattle.solver.specs.Analysis.{said, summary};
 ghost use Rattle.solver.specs.Calls.{Fit, SolvedIn};
 
 // The least estimate in the first words of its slice and zeros in those of the work slice, where both are long enough.
-pub fn solve_in(words: &[u32], rho: PermSet, est: &mut [u32], work: &mut [u32]) -> Findings
+pub fn solve_in(words: &[u32], rho: PermSet, est: &mut [u32], work: &mut [u32]) -> PermSet
     requires { ⌜ Fit (now words) (length (now est)) (length (now work)) ⌝ }
     ensures { λ r. ⌜ SolvedIn (now (words .entry)) (rho .bits) (now (est .entry)) (now (work .entry)) (now (est .exit)) (now (work .exit)) r ⌝ }
 {

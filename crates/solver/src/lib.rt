@@ -9,12 +9,6 @@ pub mod sweep;
 use permset::PermSet;
 use table::Refusal;
 
-// What is read from the least estimate.
-pub struct Findings {
-    pub leak: PermSet,
-    pub facts: usize,
-}
-
 // Why a call is refused: the table, ρ, the bound that a leak is compared with, or a lent slice that is too short.
 pub enum Fault {
     Table(Refusal),
@@ -24,7 +18,8 @@ pub enum Fault {
     ShortWork,
 }
 
+// The answer to a call: refused, or the leak of the least estimate.
 pub enum Analysis {
     Refused(Fault),
-    Solved(Findings),
+    Solved(PermSet),
 }

@@ -1,5 +1,4 @@
 // The least estimate in a lent slice.
-use crate::Findings;
 use crate::memory::clear;
 use crate::readers;
 use crate::sweep::close;
@@ -13,7 +12,7 @@ ghost use lib.ListN.{length, replicate};
 ghost use Rattle.table.specs.Scan.{accepted, reading};
 ghost use Rattle.table.specs.Code.{code};
 ghost use Rattle.calculus.specs.Layout.{estimateWords, WellFormed};
-ghost use Rattle.calculus.specs.Estimate.{estimate, facts, leak};
+ghost use Rattle.calculus.specs.Estimate.{estimate, leak};
 ghost use Rattle.rules.specs.Ready.{Ready};
 ghost use Rattle.rules.specs.Sized.{LaidOut};
 ghost use Rattle.rules.specs.Sending.{LinksOf};
@@ -52,21 +51,19 @@ fn least(words: &[u32], links: &mut [u32], est: &mut [u32], l: Layout, rho: Perm
     fill(words, links, est, l, rho);
 }
 
-// The least estimate of an accepted table in `est`, what is read from it, and zeros in `work`.
-pub fn solve(words: &[u32], rho: PermSet, est: &mut [u32], work: &mut [u32]) -> Findings
+// The least estimate of an accepted table in `est`, its leak, and zeros in `work`.
+pub fn solve(words: &[u32], rho: PermSet, est: &mut [u32], work: &mut [u32]) -> PermSet
     requires { ⌜ reading (now words) ≡ accepted ⌝ }
     requires { ⌜ length (now est) ≡ estimateWords (code (now words)) ⌝ }
     requires { ⌜ length (now work) ≡ 4 * length (now words) ⌝ }
     ensures solved { λ r. ⌜ now (est .exit) ≡ estimate (code (now (words .entry))) (rho .bits) ⌝ }
     ensures cleared { λ r. ⌜ now (work .exit) ≡ replicate (4 * length (now (words .entry))) 0 ⌝ }
-    ensures leaks { λ r. ⌜ r .leak .bits ≡ leak (code (now (words .entry))) (rho .bits) (estimate (code (now (words .entry))) (rho .bits)) ⌝ }
-    ensures counted { λ r. ⌜ r .facts ≡ facts (estimate (code (now (words .entry))) (rho .bits)) ⌝ }
+    ensures leaks { λ r. ⌜ r .bits ≡ leak (code (now (words .entry))) (rho .bits) (estimate (code (now (words .entry))) (rho .bits)) ⌝ }
 {
     let l = Layout::of(words.len());
     least(words, work, est, l, rho);
     let leak = readers::leak(words, work, est, l, rho);
-    let facts = readers::facts(est);
     let n = work.len();
     clear(work, n);
-    Findings { leak, facts }
+    leak
 }

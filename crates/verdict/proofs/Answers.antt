@@ -6,19 +6,24 @@ use mathlib.Core.List.{List, _++_}
 use native.Mathlib.Omega.{arith}
 use lib.Bits.{bitAnd}
 use lib.Count.{trailingZeros, trailing-of-zero}
-use lib.ListN.{length, drop, replicate}
+use lib.Seq.{take-append-seam}
+use lib.ListN.{length, drop, take, replicate}
 use borrow.Author.Tests.{eqb-true, eq-eqb, ne-eqb}
 use Rattle.permset.specs.Sets.{difference, within, lowest}
+use Rattle.table.specs.Scan.{accepted, reading}
 use Rattle.table.specs.Code.{code}
+use Rattle.table.proofs.Linked.{linked}
+use Rattle.calculus.specs.Layout.{estimateWords}
 use Rattle.calculus.specs.Estimate.{estimate, leak, facts}
 use Rattle.calculus.specs.Answer.{Verdict, Answer, refused, verdict, ownBound, boundUsed, judge, answer}
 use Rattle.calculus.proofs.Covers.{verdict-covers}
-use Rattle.solver.specs.declared.Findings.{Findings}
-use Rattle.solver.specs.Calls.{Fits, SolvedIn}
+use Rattle.calculus.proofs.Least.{estimate-well}
+use Rattle.verdict.specs.declared.judge.Findings.{Findings}
+use Rattle.solver.specs.Calls.{Fits}
 use Rattle.solver.proofs.Answers.{after-refused, after-solved}
 use Rattle.verdict.specs.declared.Verdict.{Verdict as Declared·Verdict}
 use Rattle.verdict.specs.declared.Verdict.the-variants as variants
-use Rattle.verdict.specs.Values.{answerOf, compare, Guaranteed, Judged}
+use Rattle.verdict.specs.Values.{answerOf, compare, Guaranteed, Judged, FoundIn}
 
 -- ---- a leak compared with a bound
 
@@ -52,21 +57,29 @@ compare-judge : (ws : List ℕ) (ρ bound : ℕ) (us : List ℕ)
 unfolding compare judge
 compare-judge ws ρ bound us = refl
 
+-- ---- the first words of a slice
+
+-- the estimate, from the slice that a call leaves
+pub first-words : (ws : List ℕ) (ρ : ℕ) → reading ws ≡ accepted → (xs ys : List ℕ) (n : ℕ) → xs ≡ estimate (code ws) ρ ++ ys
+    → n ≡ estimateWords (code ws) → take n xs ≡ estimate (code ws) ρ
+first-words ws ρ r xs ys n e m =
+    ap₂ take (m ∙ sym (estimate-well (code ws) (linked ws r) ρ .long)) e ∙ take-append-seam (estimate (code ws) ρ) ys
+
 -- ---- the whole of a call
 
 module _ (ws : List ℕ) (ρ bound : ℕ) (est work : List ℕ) (r : Declared·Verdict) where
   -- it passes its checks, s was found, and it is compared with b
   pub judged : (est′ work′ : List ℕ) (s : Findings) (b : ℕ) → Fits ws ρ bound (length est) (length work)
-      → SolvedIn ws ρ est work est′ work′ s → answerOf r ≡ compare (s .leak .bits) b (s .facts) → b ≡ boundUsed ρ bound
+      → FoundIn ws ρ est work est′ work′ s → answerOf r ≡ compare (s .leak .bits) b (s .facts) → b ≡ boundUsed ρ bound
       → Judged ws ρ bound est work r est′ work′
   judged est′ work′ s b f d a e =
       let after = after-solved ws ρ bound est work (judge (code ws) ρ bound (estimate (code ws) ρ)) (f .judged) in
       let same : compare (s .leak .bits) b (s .facts) ≡ compare (leak (code ws) ρ (estimate (code ws) ρ)) (boundUsed ρ bound) (facts (estimate (code ws) ρ)) =
-      cc (d .leaks, d .counted) in
+      cc (d .solved .leaks, d .counted) in
       record {
         answers = a ∙ same ∙ compare-judge ws ρ bound (estimate (code ws) ρ) ∙ sym (f .judged);
-        estimates = d .estimates ∙ after .0;
-        works = d .works ∙ after .1;
+        estimates = d .solved .estimates ∙ after .0;
+        works = d .solved .works ∙ after .1;
       }
 
   -- it is refused

@@ -11,7 +11,10 @@ use Rattle.calculus.specs.Guarantee.{Covers}
 use Rattle.verdict.specs.declared.Report.{Report}
 use Rattle.verdict.specs.declared.Verdict.{Verdict}
 use Rattle.verdict.specs.declared.Verdict.the-variants.{Refused, Within, Over}
+use Rattle.verdict.specs.declared.judge.Findings.{Findings}
+use Rattle.calculus.specs.Estimate.{estimate, facts}
 use Rattle.solver.specs.Analysis.{faultNumber, faultPlace}
+use Rattle.solver.specs.Calls.{SolvedIn}
 
 -- a leak within the bound has no lowest permission outside, for which 32 stands
 unfoldable pub answerOf : Verdict → Answer
@@ -39,3 +42,8 @@ pub record Judged (ws : List ℕ) (ρ bound : ℕ) (est work : List ℕ) (r : Ve
   pub answers : answerOf r ≡ answer ws ρ bound (length est) (length work)
   pub estimates : est′ ≡ estimateAfter ws ρ bound est work
   pub works : work′ ≡ workAfter ws ρ bound est work
+
+-- what a call that is not refused finds and leaves
+pub record FoundIn (ws : List ℕ) (ρ : ℕ) (est work est′ work′ : List ℕ) (r : Findings) : Type 0 where
+  pub solved : SolvedIn ws ρ est work est′ work′ (r .leak)
+  pub counted : r .facts ≡ facts (estimate (code ws) ρ)

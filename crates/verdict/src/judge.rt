@@ -2,15 +2,16 @@
 use crate::Report;
 use crate::Verdict;
 use permset::PermSet;
-use solver::Findings;
 use solver::analyse::solve_in;
 use solver::checks::Checked;
 use solver::checks::check;
+use solver::checks::words_needed;
+use solver::readers::facts;
 ghost use mathlib.Core.Path.{_≡_};
 ghost use lib.ListN.{length};
 ghost use Rattle.calculus.specs.Answer.{answer, boundUsed, estimateAfter, workAfter};
-ghost use Rattle.solver.specs.Calls.{Fits};
-ghost use Rattle.verdict.specs.Values.{answerOf, compare, Guaranteed, Judged};
+ghost use Rattle.solver.specs.Calls.{Fit, Fits};
+ghost use Rattle.verdict.specs.Values.{answerOf, compare, Guaranteed, Judged, FoundIn};
 
 // The bound that a leak is compared with: 80000000 hex means the opponent's own set.
 fn bound_used(rho: u32, bound: u32) -> PermSet
@@ -20,6 +21,25 @@ fn bound_used(rho: u32, bound: u32) -> PermSet
         PermSet { bits: rho }
     } else {
         PermSet { bits: bound }
+    }
+}
+
+// What was found of an accepted system: its leak, and the number of facts.
+struct Findings {
+    leak: PermSet,
+    facts: usize,
+}
+
+// The least estimate in the first words of its slice, its leak and its facts.
+fn find(words: &[u32], rho: PermSet, est: &mut [u32], work: &mut [u32]) -> Findings
+    requires { ⌜ Fit (now words) (length (now est)) (length (now work)) ⌝ }
+    ensures { λ r. ⌜ FoundIn (now (words .entry)) (rho .bits) (now (est .entry)) (now (work .entry)) (now (est .exit)) (now (work .exit)) r ⌝ }
+{
+    let leak = solve_in(words, rho, est, work);
+    let need = words_needed(words);
+    Findings {
+        leak,
+        facts: facts(&est[..need]),
     }
 }
 
@@ -42,7 +62,7 @@ fn judged(words: &[u32], rho: u32, bound: u32, est: &mut [u32], work: &mut [u32]
     requires { ⌜ Fits (now words) rho bound (length (now est)) (length (now work)) ⌝ }
     ensures { λ r. ⌜ Judged (now (words .entry)) rho bound (now (est .entry)) (now (work .entry)) r (now (est .exit)) (now (work .exit)) ⌝ }
 {
-    let found = solve_in(words, PermSet { bits: rho }, est, work);
+    let found = find(words, PermSet { bits: rho }, est, work);
     compared(found, bound_used(rho, bound))
 }
 

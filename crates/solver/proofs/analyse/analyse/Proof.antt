@@ -1,7 +1,6 @@
 -- `solver::analyse::analyse` meets its contract.
 -- Assumes nothing.
-use mathlib.Core.Path.{sym, ap, ap₂, _∙_, subst}
-use Prim.Native.Nat.{ℕ}
+use mathlib.Core.Path.{sym, ap, _∙_, subst}
 use lib.ListN.{length}
 use Rattle.calculus.specs.Answer.{ownBound, judge}
 use Rattle.solver.specs.Analysis.{solved, said, summary}
@@ -46,7 +45,7 @@ returns-2 c =
     let h = subst (CheckedAs (a .words .now) (a .rho) ownBound (length (a .est .now)) (length (a .work .now))) (c .before .before .before .before .before .before .before .enum-told .given .1) (c .before .before .before .before .before .before .before .before .before .check .ensures) in
     let s = c .before .before .before .before .solve-in .ensures in
     let k = after-solved (a .words .now) (a .rho) ownBound (a .est .now) (a .work .now) _ (h .judged) in
-    (ap₂ (λ (l f : ℕ). solved l f) (s .leaks) (s .counted) ∙ ap summary (sym (h .judged)), (s .estimates ∙ k .0, s .works ∙ k .1))
+    (ap solved (s .leaks) ∙ ap summary (sym (h .judged)), (s .estimates ∙ k .0, s .works ∙ k .1))
 
 pub analyse-spec : {M : Type 1} → statement M
 analyse-spec =

@@ -49,8 +49,7 @@ returns c =
     record {
       estimates = ap₂ (λ (k : ℕ) (xs : List ℕ). xs ++ drop k (a .est .now)) n (s .0);
       works = ap (λ (xs : List ℕ). xs ++ drop (4 * length (a .words .now)) (a .work .now)) (s .1 .0);
-      leaks = s .1 .1 .0;
-      counted = s .1 .1 .1;
+      leaks = s .1 .1;
     }
 
 pub solve-in-spec : {M : Type 1} → statement M

@@ -5,9 +5,9 @@ use Prim.Native.Nat.{ℕ}
 use lib.ListN.{replicate}
 use Rattle.table.specs.Code.{code}
 use Rattle.table.proofs.Limits.{size-le}
-use Rattle.calculus.specs.Estimate.{facts, leak}
+use Rattle.calculus.specs.Estimate.{leak}
 use Rattle.solver.proofs.Zeros.{clear-all}
-use Rattle.solver.proofs.Bounds.{laid-out, words-bound}
+use Rattle.solver.proofs.Bounds.{laid-out}
 use native.Mathlib.Omega.{arith}
 use borrow.Author.Needs.{needs}
 use Rattle.solver.proofs.solve.solve.Statement.{statement}
@@ -36,12 +36,6 @@ leak-requires c κs =
       long = s .kept .1 .1 .0 ∙ h .1 .0;
     }
 
-facts-requires : tie.Need-facts-requires
-facts-requires c κs =
-    let a = c .before .before .before .before .before .before .before .before .before .before .before .before .before .before .before .args in
-    let h = c .before .before .before .before .before .before .before .before .before .before .before .before .before .before .before .pre in
-    omega (arith, c .before .before .before .before .before .before .before .before .least .kept .1 .1 .0, h .1 .0, words-bound (a .words .now) (h .0))
-
 clear-requires : tie.Need-clear-requires
 clear-requires c κs = search needs
 
@@ -53,17 +47,14 @@ same-length-2 c = search needs
 
 returns : tie.Need-returns
 returns c =
-    let a = c .before .before .before .before .before .before .before .before .before .before .before .before .before .before .before .before .before .before .before .before .args in
-    let h = c .before .before .before .before .before .before .before .before .before .before .before .before .before .before .before .before .before .before .before .before .pre in
-    let s = c .before .before .before .before .before .before .before .before .before .before .before .before .before .least in
+    let a = c .before .before .before .before .before .before .before .before .before .before .before .before .before .before .before .before .before .before .args in
+    let h = c .before .before .before .before .before .before .before .before .before .before .before .before .before .before .before .before .before .before .pre in
+    let s = c .before .before .before .before .before .before .before .before .before .before .before .least in
     let e = s .ensures .0 in (
       e,
       (
         c .before .before .clear .ensures ∙ clear-all (s .last .1 .0) ∙ ap (λ (n : ℕ). replicate n 0) (s .kept .1 .0 ∙ h .1 .1),
-        (
-          c .before .before .before .before .before .before .leak .ensures ∙ ap (leak (code (a .words .now)) (a .rho .bits)) e,
-          c .before .before .before .before .facts .ensures ∙ ap facts e,
-        ),
+        c .before .before .before .before .leak .ensures ∙ ap (leak (code (a .words .now)) (a .rho .bits)) e,
       ),
     )
 
@@ -74,7 +65,6 @@ solve-spec =
     of-requires
     least-requires
     leak-requires
-    facts-requires
     clear-requires
     same-length
     same-length-2

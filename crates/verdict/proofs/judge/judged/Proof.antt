@@ -4,8 +4,8 @@ use borrow.Author.Needs.{needs}
 use Rattle.verdict.proofs.judge.judged.Statement.{statement}
 use Rattle.verdict.proofs.judge.judged.Tie as tie
 
-solve-in-requires : tie.Need-solve-in-requires
-solve-in-requires c κs = search needs
+find-requires : tie.Need-find-requires
+find-requires c κs = search needs
 
 bound-used-requires : tie.Need-bound-used-requires
 bound-used-requires c κs = search needs
@@ -22,14 +22,14 @@ same-length-2 c = search needs
 returns : tie.Need-returns
 returns c =
     let a = c .before .before .before .before .before .before .before .before .before .before .before .before .args in
-    judged (a .words .now) (a .rho) (a .bound) (a .est .now) (a .work .now) _ _ _ _ _ (c .before .before .before .before .before .before .before .before .before .before .before .before .pre) (c .before .before .before .before .before .before .solve-in .ensures) (c .compared .ensures)
+    judged (a .words .now) (a .rho) (a .bound) (a .est .now) (a .work .now) _ _ _ _ _ (c .before .before .before .before .before .before .before .before .before .before .before .before .pre) (c .before .before .before .before .before .before .find .ensures) (c .compared .ensures)
     (c .before .bound-used .ensures)
 
 pub judged-spec : {M : Type 1} → statement M
 judged-spec =
     tie.close
     (tie.spec
-    solve-in-requires
+    find-requires
     bound-used-requires
     compared-requires
     same-length
