@@ -32,9 +32,24 @@ fn answer(input: &[u8]) {
     answer_words(&words[..n]);
 }
 
-// All is read before anything is printed; one byte more than a system may have is enough to refuse it.
+// Reads what is left of standard input, up to 16 TiB, into a buffer.
+fn read_rest(buffer: &mut [u8]) {
+    let mut turns: u64 = 4294967296;
+    while 0 < turns {
+        if io::read_full(STDIN_FILENO, buffer) == 0 {
+            return;
+        }
+        turns -= 1;
+    }
+}
+
+// Nothing is printed before all is read. One byte more than a system may have is kept of a longer input: it is refused by its length.
 fn main() {
     let mut input = [0u8; 1033];
     let n = io::read_full(STDIN_FILENO, &mut input);
+    if n == 1033 {
+        let mut rest = io::buffer();
+        read_rest(&mut rest);
+    }
     answer(&input[..n]);
 }
