@@ -1,3 +1,6 @@
 pub mod Numbers
 pub mod Room
 pub mod Samples
+pub mod Written
+pub mod Refusals
+pub mod Systems

@@ -45,6 +45,19 @@ answer-capped ws ρ bound est work mostEst mostWork roomEst roomWork =
     ap (λ (a : Answer). elim (reading ws) as (λ o. Answer) [ accepted ↦ a | unreadable n at ↦ refused n at ])
     (analysis-capped (code ws) ρ bound est work mostEst mostWork roomEst roomWork)
 
+-- one slice of the two
+pub estimate-capped : (ws : List ℕ) (ρ bound est work most : ℕ) → estimateWords (code ws) ≤ most
+    → answer ws ρ bound (min est most) work ≡ answer ws ρ bound est work
+estimate-capped ws ρ bound est work most room =
+    let same : min work (work + workWords (code ws .size)) ≡ work = omega arith in
+    rw same at (answer-capped ws ρ bound est work most (work + workWords (code ws .size)) room (omega arith))
+
+pub work-capped : (ws : List ℕ) (ρ bound est work most : ℕ) → workWords (code ws .size) ≤ most
+    → answer ws ρ bound est (min work most) ≡ answer ws ρ bound est work
+work-capped ws ρ bound est work most room =
+    let same : min est (est + estimateWords (code ws)) ≡ est = omega arith in
+    rw same at (answer-capped ws ρ bound est work (est + estimateWords (code ws)) most (omega arith) room)
+
 -- 256 words, the most that 1,024 bytes hold
 pub estimate-room : (ws : List ℕ) → length ws ≤ 256 → estimateWords (code ws) ≤ 5376
 unfolding estimateWords rowWords code

@@ -1,5 +1,6 @@
 -- The C interface (document 01, "Parts and program"): its answer as one number, and what it leaves in the two slices of bytes.
 use Prim.Native.Nat.{ℕ, zero, suc, _+_, _*_, _/_, _%_, _^_}
+use mathlib.Core.Path.{_≡_}
 use mathlib.Core.Bool.{Bool, true, false, not}
 use mathlib.Core.List.{List, [], _∷_, _++_}
 use lib.Dec.{eqb, ltb}
@@ -33,14 +34,28 @@ bytesAnswer system ρ bound est work =
       | suc n ↦ refused (suc n) 0
     ]
 
--- the bytes of the estimate slice after the call, from those before it
-unfoldable pub estimateBytes : List ℕ → ℕ → Answer → List ℕ → List ℕ
-estimateBytes system ρ (refused number place) bs = bs
-estimateBytes system ρ (verdict v) bs =
-    bytesOf (estimate (code (wordsOf system)) ρ) ++ drop (4 * estimateWords (code (wordsOf system))) bs
+-- the words of the estimate slice after the call, from those before it, where the system has the words ws
+unfoldable pub estimateLeft : List ℕ → ℕ → Answer → List ℕ → List ℕ
+estimateLeft ws ρ (refused number place) es = es
+estimateLeft ws ρ (verdict v) es = estimate (code ws) ρ ++ drop (estimateWords (code ws)) es
 
--- the same for the work slice
+-- the bytes of the estimate slice after the call, from those before it, where the system has the words ws
+unfoldable pub estimateBytes : List ℕ → ℕ → Answer → List ℕ → List ℕ
+estimateBytes ws ρ (refused number place) bs = bs
+estimateBytes ws ρ (verdict v) bs = bytesOf (estimate (code ws) ρ) ++ drop (4 * estimateWords (code ws)) bs
+
+-- the words of the work slice
+unfoldable pub workLeft : List ℕ → Answer → List ℕ → List ℕ
+workLeft ws (refused number place) us = us
+workLeft ws (verdict v) us = replicate (workWords (length ws)) 0 ++ drop (workWords (length ws)) us
+
+-- its bytes
 unfoldable pub workBytes : List ℕ → Answer → List ℕ → List ℕ
-workBytes system (refused number place) bs = bs
-workBytes system (verdict v) bs =
-    bytesOf (replicate (workWords (length (wordsOf system))) 0) ++ drop (4 * workWords (length (wordsOf system))) bs
+workBytes ws (refused number place) bs = bs
+workBytes ws (verdict v) bs = bytesOf (replicate (workWords (length ws)) 0) ++ drop (4 * workWords (length ws)) bs
+
+-- a call answered a, where the system has the words ws: the number, and the bytes of both slices
+pub record Answered (ws : List ℕ) (ρ : ℕ) (a : Answer) (est work : List ℕ) (r : ℕ) (est′ work′ : List ℕ) : Type 0 where
+  pub number : r ≡ answerNumber a
+  pub estimates : est′ ≡ estimateBytes ws ρ a est
+  pub works : work′ ≡ workBytes ws a work

@@ -1,1 +1,70 @@
-// The C interface as definitions over bytes. It has no functions.
+// The verdict for programs in C, over bytes.
+mod answers;
+mod slices;
+
+use crate::answers::answer_number;
+use crate::slices::with_bytes;
+use little_endian::words_of;
+ghost use mathlib.Core.Path.{_≡_};
+ghost use Prim.Native.Nat.{_/_, _≤_};
+ghost use lib.ListN.{length};
+ghost use Rattle.little_endian.specs.LittleEndian.{wordsOf};
+ghost use Rattle.table.specs.Scan.{firstOf};
+ghost use Rattle.calculus.specs.Answer.{answer};
+ghost use Rattle.capi.specs.Interface.{systemTests, answerNumber, bytesAnswer, estimateBytes, workBytes, Answered};
+
+// The number that refuses a system of this many bytes before it is read, and 0 where none does.
+fn system_fault(size: usize) -> u32
+    ensures { λ r. ⌜ r ≡ firstOf (systemTests size) ⌝ }
+{
+    if 1024 < size {
+        return 31;
+    }
+    if size % 4 == 0 { 0 } else { 30 }
+}
+
+fn of_words(words: &[u32], rho: u32, bound: u32, estimate: &mut [u8], work: &mut [u8]) -> u64
+    requires { ⌜ length (now words) ≤ 256 ⌝ }
+    ensures { λ r. ⌜ Answered (now (words .entry)) rho (answer (now (words .entry)) rho bound (length (now (estimate .entry)) / 4) (length (now (work .entry)) / 4)) (now (estimate .entry)) (now (work .entry)) r (now (estimate .exit)) (now (work .exit)) ⌝ }
+{
+    let v = with_bytes(words, rho, bound, estimate, work);
+    answer_number(v)
+}
+
+// The whole words of a system, over words that are lent.
+fn of_system(
+    system: &[u8],
+    rho: u32,
+    bound: u32,
+    estimate: &mut [u8],
+    work: &mut [u8],
+    words: &mut [u32],
+) -> u64
+    requires { ⌜ (length (now system) ≤ 1024) × (length (now words) ≡ 256) ⌝ }
+    ensures { λ r. ⌜ Answered (wordsOf (now (system .entry))) rho (answer (wordsOf (now (system .entry))) rho bound (length (now (estimate .entry)) / 4) (length (now (work .entry)) / 4)) (now (estimate .entry)) (now (work .entry)) r (now (estimate .exit)) (now (work .exit)) ⌝ }
+{
+    let n = words_of(system, words);
+    of_words(&words[..n], rho, bound, estimate, work)
+}
+
+// The verdict on the bytes of a system: the leak, plus 2^24 if it is over the bound; refused, 2^32 + number × 65,536 + place. The other
+// two slices count whole words; a refusal leaves both as they were, and a verdict changes their first words alone.
+#[no_mangle]
+pub extern "C" fn wiphosega_verdict(
+    system: &[u8],
+    rho: u32,
+    bound: u32,
+    estimate: &mut [u8],
+    work: &mut [u8],
+) -> u64
+    ensures answer { λ r. ⌜ r ≡ answerNumber (bytesAnswer (now (system .entry)) rho bound (length (now (estimate .entry))) (length (now (work .entry)))) ⌝ }
+    ensures estimate { λ _. ⌜ now (estimate .exit) ≡ estimateBytes (wordsOf (now (system .entry))) rho (bytesAnswer (now (system .entry)) rho bound (length (now (estimate .entry))) (length (now (work .entry)))) (now (estimate .entry)) ⌝ }
+    ensures work { λ _. ⌜ now (work .exit) ≡ workBytes (wordsOf (now (system .entry))) (bytesAnswer (now (system .entry)) rho bound (length (now (estimate .entry))) (length (now (work .entry)))) (now (work .entry)) ⌝ }
+{
+    let fault = system_fault(system.len());
+    if fault != 0 {
+        return 4294967296 + fault as u64 * 65536;
+    }
+    let mut words = [0u32; 256];
+    of_system(system, rho, bound, estimate, work, &mut words)
+}

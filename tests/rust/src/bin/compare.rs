@@ -52,10 +52,23 @@ fn mean(ratios: &[f64]) -> f64 {
     (ratios.iter().map(|ratio| ratio.ln()).sum::<f64>() / ratios.len() as f64).exp()
 }
 
+/// The worst order's time by the best order's, for each family of inputs that differ in their order alone.
+fn orders(times: &[(String, f64)]) -> Vec<(String, f64)> {
+    let time = |name: &str| times.iter().find(|(other, _)| other == name).map(|(_, time)| *time);
+    let forward = times.iter().filter(|(name, _)| name.contains("-forward-"));
+    forward
+        .map(|(name, _)| {
+            let each: Vec<f64> = ["forward", "backward", "mixed"].iter().filter_map(|order| time(&name.replace("forward", order))).collect();
+            let (worst, best) = each.iter().fold((0.0, f64::MAX), |(worst, best), &t| (f64::max(worst, t), f64::min(best, t)));
+            (name.replace("-forward", ""), worst / best)
+        })
+        .collect()
+}
+
 fn main() {
     let program = std::env::args().nth(1).expect("the analyser's benchmark program");
     let programs = [Path::new(&program).to_path_buf(), std::env::current_exe().unwrap().with_file_name("peer-bench")];
-    let mut ratios = Vec::new();
+    let (mut ratios, mut times) = (Vec::new(), Vec::new());
     println!("{:28} {:>5} {:>10} {:>10} {:>6}", "input", "words", "us", "peer us", "ratio");
     for input in inputs() {
         let bytes = bytes_of(&[vec![input.rho, 0], input.words.clone()].concat());
@@ -74,6 +87,10 @@ fn main() {
         let ratio = micros(0) / micros(1);
         println!("{:28} {:5} {:10.1} {:10.1} {ratio:6.2}", input.name, input.words.len(), micros(0), micros(1));
         ratios.push(ratio);
+        times.push((input.name, micros(0)));
     }
     println!("geometric mean {:.2}, largest {:.2}", mean(&ratios), ratios.iter().copied().fold(0.0, f64::max));
+    for (family, ratio) in orders(&times) {
+        println!("{family:28} worst order by best {ratio:.2}");
+    }
 }

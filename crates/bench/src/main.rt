@@ -1,0 +1,126 @@
+// Solves the system on standard input, of up to 1,024 words, as often as the argument says, and prints its leak and facts.
+use libc::STDIN_FILENO;
+use libc::STDOUT_FILENO;
+use little_endian::words_of;
+use permset::PermSet;
+use solver::Analysis;
+use solver::Fault;
+use solver::analyse::analyse;
+use solver::readers::facts;
+use verdict::numbers::fault_number;
+use verdict::numbers::fault_place;
+ghost use Prim.Native.Nat.{_≤_};
+ghost use lib.ListN.{length};
+
+// The number that refuses an input of this many bytes, and 0 where none does.
+fn feeder_fault(size: usize) -> u32 {
+    if 4104 < size {
+        return 31;
+    }
+    if size < 8 {
+        return 30;
+    }
+    if size % 4 == 0 { 0 } else { 30 }
+}
+
+fn digit(b: u8) -> usize
+    ensures { λ r. ⌜ r ≤ 255 ⌝ }
+{
+    if b < b'0' { 0 } else { (b - b'0') as usize }
+}
+
+// A number in decimal digits; one that is too large stays below 10^9.
+fn number(digits: &[u8]) -> usize {
+    let mut n: usize = 0;
+    let mut i = 0;
+    while i < digits.len() {
+        n = (n * 10 + digit(digits[i])) % 1000000000;
+        i += 1;
+    }
+    n
+}
+
+// How often to solve: the argument, and 1 if it is absent.
+fn repetitions() -> usize {
+    if os::arg_count() < 2 {
+        return 1;
+    }
+    let mut digits = [0u8; 16];
+    let n = os::arg(1, &mut digits);
+    if n < 16 { number(&digits[..n]) } else { 1 }
+}
+
+fn refusal(f: Fault) {
+    console::refusal(fault_number(f), fault_place(f));
+}
+
+// Words of the slice past the estimate are zero, so that all facts are the estimate's.
+fn findings(leak: PermSet, est: &[u32])
+    requires { ⌜ length (now est) ≤ 132096 ⌝ }
+{
+    let count = facts(est);
+    console::text(b"leak ");
+    io::print_hex(STDOUT_FILENO, leak.bits as u64, 6);
+    console::text(b" facts ");
+    io::print_decimal(STDOUT_FILENO, count as u64);
+    console::text(b"\n");
+}
+
+fn answer(a: Analysis, est: &[u32])
+    requires { ⌜ length (now est) ≤ 132096 ⌝ }
+{
+    match a {
+        Analysis::Refused(f) => refusal(f),
+        Analysis::Solved(leak) => findings(leak, est),
+    }
+}
+
+// Solves once, and so many times more.
+fn solve(words: &[u32], rho: u32, est: &mut [u32], work: &mut [u32], more: usize) -> Analysis {
+    let mut a = analyse(words, rho, est, work);
+    let mut i = 0;
+    while i < more {
+        a = analyse(words, rho, est, work);
+        i += 1;
+    }
+    a
+}
+
+fn run(words: &[u32], rho: u32, est: &mut [u32], work: &mut [u32])
+    requires { ⌜ length (now est) ≤ 132096 ⌝ }
+{
+    let times = repetitions();
+    let more = if times == 0 { 0 } else { times - 1 };
+    let a = solve(words, rho, est, work, more);
+    answer(a, est);
+}
+
+fn with_slices(words: &[u32], rho: u32) {
+    let mut est = [0u32; 70656];
+    let mut work = [0u32; 4096];
+    run(words, rho, &mut est, &mut work);
+}
+
+// The words are ρ, a bound, which is not looked at, and the system.
+fn bench_words(words: &[u32]) {
+    if 2 <= words.len() {
+        with_slices(&words[2..], words[0]);
+    }
+}
+
+fn bench(input: &[u8]) {
+    let fault = feeder_fault(input.len());
+    if fault != 0 {
+        console::refusal(fault, 0);
+        return;
+    }
+    let mut words = [0u32; 1026];
+    let n = words_of(input, &mut words);
+    bench_words(&words[..n]);
+}
+
+fn main() {
+    let mut input = [0u8; 4105];
+    let n = io::read_full(STDIN_FILENO, &mut input);
+    bench(&input[..n]);
+}

@@ -1,0 +1,78 @@
+-- `capi::slices::with_room` meets its contract: the words of the estimate slice go to the call and back. Assumes nothing.
+use Prim.Native.Nat.{_/_}
+use mathlib.Core.Path.{sym, ap, _∙_}
+use native.Mathlib.Omega.{arith}
+use lib.ListN.{length, drop}
+use lib.Seq.{take-at}
+use Rattle.capi.proofs.Written.{read-length, estimate-answer, estimate-bytes}
+use borrow.Author.Needs.{needs}
+use Rattle.capi.proofs.slices.with_room.Statement.{statement}
+use Rattle.capi.proofs.slices.with_room.Tie as tie
+
+words-of-requires : tie.Need-words-of-requires
+words-of-requires c κs = search needs
+
+slice-relend-prefix-with-work : tie.Need-slice-relend-prefix-with-work
+slice-relend-prefix-with-work c = search needs
+
+slice-aggregate-with-work : tie.Need-slice-aggregate-with-work
+slice-aggregate-with-work c =
+    let w = c .before .before .before .words-of .ensures in
+    sym (read-length _ _ _ _ (w .0) (w .1))
+
+with-work-requires : tie.Need-with-work-requires
+with-work-requires c κs = search needs
+
+slice-reshare-prefix-bytes-of : tie.Need-slice-reshare-prefix-bytes-of
+slice-reshare-prefix-bytes-of c = search needs
+
+slice-aggregate-bytes-of : tie.Need-slice-aggregate-bytes-of
+slice-aggregate-bytes-of c =
+    let w = c .before .before .before .before .before .before .before .before .before .before .words-of .ensures in
+    let long = c .before .before .before .before .before .with-work .kept .1 .1 .1 .0 ∙ read-length _ _ _ _ (w .0) (w .1) in
+    sym (ap length (take-at (c .before .before .before .before .before .with-work .last .1 .1 .1 .0) (drop (c .before .before .before .before .before .before .before .before .before .before .words-of .result) (c .before .before .before .before .before .before .before .before .before .before .words-of .last .1 .0)) _ long) ∙ long)
+
+bytes-of-requires : tie.Need-bytes-of-requires
+bytes-of-requires c κs = search needs
+
+same-length : tie.Need-same-length
+same-length c = search needs
+
+same-length-2 : tie.Need-same-length-2
+same-length-2 c = search needs
+
+same-length-3 : tie.Need-same-length-3
+same-length-3 c = search needs
+
+returns : tie.Need-returns
+returns c =
+    let a = c .before .before .before .before .before .before .before .before .before .before .before .before .before .before .before .before .before .before .before .before .before .args in
+    let p = c .before .before .before .before .before .before .before .before .before .before .before .before .before .before .before .before .before .before .before .before .before .pre in
+    let w = c .before .before .before .before .before .before .before .before .before .before .before .before .before .before .words-of .ensures in
+    let v = c .before .before .before .before .before .before .before .before .before .with-work .ensures in
+    let b = c .before .before .bytes-of .ensures in
+    let low = c .before .before .before .before .before .before .before .before .before .before .before .before .before .before .before .before .before .before .before .slice-known .given in
+    let long = c .before .before .before .before .before .before .before .before .before .with-work .kept .1 .1 .1 .0 in (
+      estimate-answer (a .words .now) (a .rho) (a .bound) (length (a .work .now) / 4) (p .0) (a .estimate .now) (a .room .now) _ _ (p .1) (w .0) (w .1) _ (v .0),
+      (
+        estimate-bytes (a .words .now) (a .rho) (a .bound) (length (a .work .now) / 4) (p .0) (a .estimate .now) (a .room .now) _ _ (p .1) (w .0) (w .1) _ (v .0)
+            (λ k. omega (arith, low k)) _ _ _ _ long (v .1 .0) (b .0) (b .1),
+        v .1 .1,
+      ),
+    )
+
+pub with-room-spec : {M : Type 1} → statement M
+with-room-spec =
+    tie.close
+    (tie.spec
+    words-of-requires
+    slice-relend-prefix-with-work
+    slice-aggregate-with-work
+    with-work-requires
+    slice-reshare-prefix-bytes-of
+    slice-aggregate-bytes-of
+    bytes-of-requires
+    same-length
+    same-length-2
+    same-length-3
+    returns)

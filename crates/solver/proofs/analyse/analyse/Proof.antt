@@ -1,0 +1,61 @@
+-- `solver::analyse::analyse` meets its contract.
+-- Assumes nothing.
+use mathlib.Core.Path.{sym, ap, _∙_, subst}
+use lib.ListN.{length}
+use Rattle.calculus.specs.Answer.{ownBound, judge}
+use Rattle.solver.specs.Analysis.{solved, said, summary}
+use Rattle.solver.specs.Calls.{CheckedAs}
+use Rattle.solver.proofs.Answers.{after-refused, after-solved}
+use borrow.Author.Needs.{needs}
+use Rattle.solver.proofs.analyse.analyse.Statement.{statement}
+use Rattle.solver.proofs.analyse.analyse.Tie as tie
+
+check-requires : tie.Need-check-requires
+check-requires c κs = search needs
+
+enum-known-f : tie.Need-enum-known-f
+enum-known-f c = search needs
+
+enum-told : tie.Need-enum-told
+enum-told c = search needs
+
+solve-in-requires : tie.Need-solve-in-requires
+solve-in-requires c κs =
+    let a = c .before .before .before .before .before .before .before .before .args in
+    subst (CheckedAs (a .words .now) (a .rho) ownBound (length (a .est .now)) (length (a .work .now))) (c .before .before .enum-told .given .1) (c .before .before .before .before .check .ensures) .fit
+
+returns : tie.Need-returns
+unfolding said summary
+returns c =
+    let a = c .before .before .before .before .before .before .before .args in
+    let e = subst (CheckedAs (a .words .now) (a .rho) ownBound (length (a .est .now)) (length (a .work .now))) (c .before .f .given .1) (c .before .before .before .check .ensures) in
+    let k = after-refused (a .words .now) (a .rho) ownBound (a .est .now) (a .work .now) _ _ e in
+    (ap summary (sym e), k)
+
+same-length : tie.Need-same-length
+same-length c = search needs
+
+same-length-2 : tie.Need-same-length-2
+same-length-2 c = search needs
+
+returns-2 : tie.Need-returns-2
+unfolding said summary judge
+returns-2 c =
+    let a = c .before .before .before .before .before .before .before .before .before .before .before .before .before .args in
+    let h = subst (CheckedAs (a .words .now) (a .rho) ownBound (length (a .est .now)) (length (a .work .now))) (c .before .before .before .before .before .before .before .enum-told .given .1) (c .before .before .before .before .before .before .before .before .before .check .ensures) in
+    let s = c .before .before .before .before .solve-in .ensures in
+    let k = after-solved (a .words .now) (a .rho) ownBound (a .est .now) (a .work .now) _ (h .judged) in
+    (ap solved (s .leaks) ∙ ap summary (sym (h .judged)), (s .estimates ∙ k .0, s .works ∙ k .1))
+
+pub analyse-spec : {M : Type 1} → statement M
+analyse-spec =
+    tie.close
+    (tie.spec
+    check-requires
+    enum-known-f
+    enum-told
+    solve-in-requires
+    returns
+    same-length
+    same-length-2
+    returns-2)

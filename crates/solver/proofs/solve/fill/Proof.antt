@@ -1,0 +1,45 @@
+-- `solver::solve::fill` meets its contract: four rows fit into 144 words.
+-- Assumes nothing.
+use mathlib.Core.Path.{sym}
+use Rattle.solver.proofs.Zeros.{zeros-at}
+use Rattle.solver.proofs.Bounds.{row-bound}
+use Rattle.solver.proofs.Runs.{ready-of}
+use native.Mathlib.Omega.{arith}
+use borrow.Author.Needs.{needs}
+use Rattle.solver.proofs.solve.fill.Statement.{statement}
+use Rattle.solver.proofs.solve.fill.Tie as tie
+
+slice-aggregate-fill-masks : tie.Need-slice-aggregate-fill-masks
+slice-aggregate-fill-masks c = search needs
+
+fill-masks-requires : tie.Need-fill-masks-requires
+fill-masks-requires c κs =
+    let a = c .before .before .before .before .args in
+    let h = c .before .before .before .before .pre in
+    (h .0 .readable, (sym (h .0 .laid .row), (zeros-at 144, (omega (arith, h .0 .laid .row, row-bound (a .words .now) (h .0 .readable)), omega arith))))
+
+slice-aggregate-run : tie.Need-slice-aggregate-run
+slice-aggregate-run c = search needs
+
+run-requires : tie.Need-run-requires
+run-requires c κs =
+    let a = c .before .before .before .before .before .before .before .before .args in
+    let h = c .before .before .before .before .before .before .before .before .pre in
+    (ready-of (a .words .now) (a .links .now) _ (a .est .now) (a .l) (h .0) (c .before .before .before .fill-masks .ensures), h .1)
+
+same-length : tie.Need-same-length
+same-length c = search needs
+
+returns : tie.Need-returns
+returns c = search needs
+
+pub fill-spec : {M : Type 1} → statement M
+fill-spec =
+    tie.close
+    (tie.spec
+    slice-aggregate-fill-masks
+    fill-masks-requires
+    slice-aggregate-run
+    run-requires
+    same-length
+    returns)

@@ -1,0 +1,69 @@
+// The least estimate in a lent slice.
+use crate::memory::clear;
+use crate::readers;
+use crate::sweep::close;
+use permset::PermSet;
+use rules::layout::Layout;
+use rules::masks::fill_masks;
+use table::links::link;
+ghost use mathlib.Core.Path.{_≡_};
+ghost use Prim.Native.Nat.{_*_, _≤_};
+ghost use lib.ListN.{length, replicate};
+ghost use Rattle.table.specs.Scan.{accepted, reading};
+ghost use Rattle.table.specs.Code.{code};
+ghost use Rattle.calculus.specs.Layout.{estimateWords, WellFormed};
+ghost use Rattle.calculus.specs.Estimate.{estimate, leak};
+ghost use Rattle.rules.specs.Ready.{Ready};
+ghost use Rattle.rules.specs.Sized.{LaidOut};
+ghost use Rattle.rules.specs.Sending.{LinksOf};
+ghost use Rattle.solver.specs.Reading.{Readable};
+ghost use Rattle.solver.specs.Swept.{Closed};
+
+// Closes an estimate under the rules, with room for a row and a log of its own. Any sound step may stand before `close`.
+fn run(words: &[u32], links: &[u32], masks: &[u32], est: &mut [u32], l: Layout, rho: PermSet)
+    requires { ⌜ Ready (now words) (now links) (now masks) l × WellFormed (code (now words)) (now est) ⌝ }
+    ensures { λ _. ⌜ Closed (code (now (words .entry))) (rho .bits) (now (est .entry)) (now (est .exit)) ⌝ }
+{
+    let mut scratch = [0u32; 36];
+    let mut log = [0u32; 512];
+    close(words, links, masks, est, &mut scratch, &mut log, l, rho);
+}
+
+// The same with masks of its own.
+fn fill(words: &[u32], links: &[u32], est: &mut [u32], l: Layout, rho: PermSet)
+    requires { ⌜ Readable (now words) (now links) (now est) l × WellFormed (code (now words)) (now est) ⌝ }
+    ensures { λ _. ⌜ Closed (code (now (words .entry))) (rho .bits) (now (est .entry)) (now (est .exit)) ⌝ }
+{
+    let mut masks = [0u32; 144];
+    fill_masks(words, &mut masks, l);
+    run(words, links, &masks, est, l, rho);
+}
+
+// The least estimate, and the links of the words.
+fn least(words: &[u32], links: &mut [u32], est: &mut [u32], l: Layout, rho: PermSet)
+    requires { ⌜ (reading (now words) ≡ accepted) × LaidOut (code (now words)) l ⌝ }
+    requires { ⌜ (length (now est) ≡ estimateWords (code (now words))) × (length (now words) ≤ length (now links)) ⌝ }
+    ensures { λ _. ⌜ (now (est .exit) ≡ estimate (code (now (words .entry))) (rho .bits)) × LinksOf (now (words .entry)) (now (links .exit)) ⌝ }
+{
+    let n = est.len();
+    clear(est, n);
+    link(words, links);
+    fill(words, links, est, l, rho);
+}
+
+// The least estimate of an accepted table in `est`, its leak, and zeros in `work`.
+pub fn solve(words: &[u32], rho: PermSet, est: &mut [u32], work: &mut [u32]) -> PermSet
+    requires { ⌜ reading (now words) ≡ accepted ⌝ }
+    requires { ⌜ length (now est) ≡ estimateWords (code (now words)) ⌝ }
+    requires { ⌜ length (now work) ≡ 4 * length (now words) ⌝ }
+    ensures solved { λ r. ⌜ now (est .exit) ≡ estimate (code (now (words .entry))) (rho .bits) ⌝ }
+    ensures cleared { λ r. ⌜ now (work .exit) ≡ replicate (4 * length (now (words .entry))) 0 ⌝ }
+    ensures leaks { λ r. ⌜ r .bits ≡ leak (code (now (words .entry))) (rho .bits) (estimate (code (now (words .entry))) (rho .bits)) ⌝ }
+{
+    let l = Layout::of(words.len());
+    least(words, work, est, l, rho);
+    let leak = readers::leak(words, work, est, l, rho);
+    let n = work.len();
+    clear(work, n);
+    leak
+}

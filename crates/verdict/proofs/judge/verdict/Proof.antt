@@ -1,0 +1,60 @@
+-- `verdict::judge::verdict` meets its contract: refused by its checks, or judged. Assumes nothing.
+use mathlib.Core.Path.{refl, subst}
+use lib.ListN.{length}
+use Rattle.solver.specs.Calls.{CheckedAs}
+use Rattle.verdict.specs.declared.Verdict.the-variants.{Refused}
+use Rattle.verdict.specs.Values.{answerOf}
+use Rattle.verdict.proofs.Answers.{rejected, guaranteed}
+use borrow.Author.Needs.{needs}
+use Rattle.verdict.proofs.judge.verdict.Statement.{statement}
+use Rattle.verdict.proofs.judge.verdict.Tie as tie
+
+check-requires : tie.Need-check-requires
+check-requires c κs = search needs
+
+enum-known-f : tie.Need-enum-known-f
+enum-known-f c = search needs
+
+enum-told : tie.Need-enum-told
+enum-told c = search needs
+
+judged-requires : tie.Need-judged-requires
+judged-requires c κs =
+    let a = c .before .before .before .before .before .before .before .before .args in
+    subst (CheckedAs (a .words .now) (a .rho) (a .bound) (length (a .est .now)) (length (a .work .now))) (c .before .before .enum-told .given .1)
+    (c .before .before .before .before .check .ensures)
+
+returns : tie.Need-returns
+unfolding answerOf
+returns c =
+    let a = c .before .before .before .before .before .before .before .args in
+    let r = Refused (c .before .f .given .0 .0) in
+    let e =
+    subst (CheckedAs (a .words .now) (a .rho) (a .bound) (length (a .est .now)) (length (a .work .now))) (c .before .f .given .1) (c .before .before .before .check .ensures) in
+    let j = rejected (a .words .now) (a .rho) (a .bound) (a .est .now) (a .work .now) r _ _ e refl in
+    (j .answers, (j .estimates, (j .works, guaranteed (a .words .now) (a .rho) (a .bound) _ _ r (j .answers))))
+
+same-length : tie.Need-same-length
+same-length c = search needs
+
+same-length-2 : tie.Need-same-length-2
+same-length-2 c = search needs
+
+returns-2 : tie.Need-returns-2
+returns-2 c =
+    let a = c .before .before .before .before .before .before .before .before .before .before .before .before .before .args in
+    let j = c .before .before .before .before .judged .ensures in
+    (j .answers, (j .estimates, (j .works, guaranteed (a .words .now) (a .rho) (a .bound) _ _ _ (j .answers))))
+
+pub verdict-spec : {M : Type 1} → statement M
+verdict-spec =
+    tie.close
+    (tie.spec
+    check-requires
+    enum-known-f
+    enum-told
+    judged-requires
+    returns
+    same-length
+    same-length-2
+    returns-2)

@@ -1,0 +1,81 @@
+// The verdict.
+use crate::Report;
+use crate::Verdict;
+use permset::PermSet;
+use solver::analyse::solve_in;
+use solver::checks::Checked;
+use solver::checks::check;
+use solver::checks::words_needed;
+use solver::readers::facts;
+ghost use mathlib.Core.Path.{_≡_};
+ghost use lib.ListN.{length};
+ghost use Rattle.calculus.specs.Answer.{answer, boundUsed, estimateAfter, workAfter};
+ghost use Rattle.solver.specs.Calls.{Fit, Fits};
+ghost use Rattle.verdict.specs.Values.{answerOf, compare, Guaranteed, Judged, FoundIn};
+
+// The bound that a leak is compared with: 80000000 hex means the opponent's own set.
+fn bound_used(rho: u32, bound: u32) -> PermSet
+    ensures { λ r. ⌜ r .bits ≡ boundUsed rho bound ⌝ }
+{
+    if bound == 0x80000000 {
+        PermSet { bits: rho }
+    } else {
+        PermSet { bits: bound }
+    }
+}
+
+// What was found of an accepted system: its leak, and the number of facts.
+struct Findings {
+    leak: PermSet,
+    facts: usize,
+}
+
+// The least estimate in the first words of its slice, its leak and its facts.
+fn find(words: &[u32], rho: PermSet, est: &mut [u32], work: &mut [u32]) -> Findings
+    requires { ⌜ Fit (now words) (length (now est)) (length (now work)) ⌝ }
+    ensures { λ r. ⌜ FoundIn (now (words .entry)) (rho .bits) (now (est .entry)) (now (work .entry)) (now (est .exit)) (now (work .exit)) r ⌝ }
+{
+    let leak = solve_in(words, rho, est, work);
+    let need = words_needed(words);
+    Findings {
+        leak,
+        facts: facts(&est[..need]),
+    }
+}
+
+// What was found, compared with a bound.
+fn compared(found: Findings, bound: PermSet) -> Verdict
+    ensures { λ r. ⌜ answerOf r ≡ compare (found .leak .bits) (bound .bits) (found .facts) ⌝ }
+{
+    let leak = found.leak;
+    let facts = found.facts;
+    let report = Report { leak, bound, facts };
+    if leak.within(bound) {
+        return Verdict::Within(report);
+    }
+    let outside = leak.difference(bound);
+    Verdict::Over(report, outside.lowest())
+}
+
+// The verdict where nothing is wrong with the call.
+fn judged(words: &[u32], rho: u32, bound: u32, est: &mut [u32], work: &mut [u32]) -> Verdict
+    requires { ⌜ Fits (now words) rho bound (length (now est)) (length (now work)) ⌝ }
+    ensures { λ r. ⌜ Judged (now (words .entry)) rho bound (now (est .entry)) (now (work .entry)) r (now (est .exit)) (now (work .exit)) ⌝ }
+{
+    let found = find(words, PermSet { bits: rho }, est, work);
+    compared(found, bound_used(rho, bound))
+}
+
+// The verdict on a table where the opponent holds rho, compared with a bound (80000000 hex: rho itself). Of the slices, est gets the
+// least estimate in its first words, and the first words of work are zeroed; a refusal leaves both as they were.
+pub fn verdict(words: &[u32], rho: u32, bound: u32, est: &mut [u32], work: &mut [u32]) -> Verdict
+    ensures answer { λ r. ⌜ answerOf r ≡ answer (now (words .entry)) rho bound (length (now (est .entry))) (length (now (work .entry))) ⌝ }
+    ensures estimate { λ _. ⌜ now (est .exit) ≡ estimateAfter (now (words .entry)) rho bound (now (est .entry)) (now (work .entry)) ⌝ }
+    ensures work { λ _. ⌜ now (work .exit) ≡ workAfter (now (words .entry)) rho bound (now (est .entry)) (now (work .entry)) ⌝ }
+    ensures guarantee { λ r. ⌜ Guaranteed (now (words .entry)) rho r ⌝ }
+{
+    match check(words, rho, bound, est.len(), work.len()) {
+        Checked::Wrong(f) => Verdict::Refused(f),
+        Checked::Fine => judged(words, rho, bound, est, work),
+    }
+}

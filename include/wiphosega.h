@@ -1,0 +1,37 @@
+/* The verdict on a browser extension system, for programs in C. `rt staticlib capi` makes the library to link,
+   target/staticlib/libcapi.a, for x86-64 Linux. */
+#ifndef WIPHOSEGA_H
+#define WIPHOSEGA_H
+
+#include <stddef.h>
+#include <stdint.h>
+
+#ifdef __cplusplus
+extern "C" {
+#endif
+
+/* As the bound: the opponent's own set, rho. */
+#define WIPHOSEGA_OWN_SET UINT32_C(0x80000000)
+
+/* The answer: the leak in bits 0 to 23, and 2^24 added if the leak is over the bound. Refused: 2^32 + number * 65536 + place.
+
+   system    the words of the table, low byte first; at most 1,024 bytes, a multiple of four (else refused 31 or 30)
+   rho       the permissions that the opponent holds: bits 0 to 23
+   bound     the permissions that the leak is compared with: bits 0 to 23, or WIPHOSEGA_OWN_SET
+   estimate  with W words of the system and R = (64 + W + 31) / 32, at least 2WR + W words; 21,504 bytes are enough for every system
+   work      at least 4W words; 4,096 bytes are enough for every system
+
+   After an answer below 2^32 the first 2WR + W words of `estimate` are the estimate, low byte first, the first 4W words of `work` are zero,
+   and every other byte is as it was. After a refusal all bytes of both are as they were.
+
+   Each pointer must be to as many bytes as its length says. `estimate` must share no byte with `work`, nor either with `system`, and nobody
+   else may touch the three during the call. A pointer may be anything but null where its length is 0. The call keeps no pointer, takes no
+   memory but its stack, and always returns. */
+uint64_t wiphosega_verdict(const uint8_t *system, size_t system_bytes, uint32_t rho, uint32_t bound, uint8_t *estimate,
+                           size_t estimate_bytes, uint8_t *work, size_t work_bytes);
+
+#ifdef __cplusplus
+}
+#endif
+
+#endif
