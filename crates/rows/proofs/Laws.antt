@@ -11,9 +11,9 @@ use borrow.Author.Tests.{eq-eqb, ne-eqb, eqb-true, not-false}
 use lib.Arith.{lt-one}
 use lib.Dec.{T, eqb}
 use lib.Count.{onesIn, ones, ones-step}
-use lib.Bits.{bitAnd, bitOr, bitXor, and-le-l, and-le-r, or-add-and, xor-add-and, xor-self, and-comm}
+use lib.Bits.{bitAnd, bitOr, bitXor, and-le-l, and-le-r, or-lt, xor-lt, or-add-and, xor-add-and, xor-self, and-comm, or-mod, xor-mod, or-shr, xor-shr}
 use lib.ListN.{length, getD, set, take, drop, take-append-drop, length-drop, drop-of-length-le}
-use lib.Seq.{take-suc, drop-cons, length-take-le, take-nil, drop-nil, take-length}
+use lib.Seq.{take-suc, drop-cons, length-take-le, take-nil, drop-nil, take-length, set-getD}
 use Rattle.calculus.specs.Layout.{bit, pour, Words}
 use Rattle.calculus.specs.Estimate.{facts}
 use Rattle.calculus.proofs.Digits.{T-true, T-and, T-fst, T-snd}
@@ -34,6 +34,30 @@ onesIn-le : (k n : ℕ) → onesIn k n ≤ k
 unfolding onesIn
 onesIn-le zero n = omega arith
 onesIn-le (suc k) n = omega (arith, onesIn-le k (n / 2))
+
+-- what another word adds to a word is where the two differ
+one-digit : (p q : ℕ) → p < 2 → q < 2 → bitXor (bitOr p q) p + p ≡ bitOr p q
+one-digit zero zero h l = refl
+one-digit zero (suc zero) h l = refl
+one-digit (suc zero) zero h l = refl
+one-digit (suc zero) (suc zero) h l = refl
+one-digit (suc (suc p)) q h l = absurd (omega arith)
+one-digit zero (suc (suc q)) h l = absurd (omega arith)
+one-digit (suc zero) (suc (suc q)) h l = absurd (omega arith)
+
+differences : (k a x : ℕ) → onesIn k (bitXor (bitOr a x) a) + onesIn k a ≡ onesIn k (bitOr a x)
+unfolding onesIn
+differences zero a x = omega arith
+differences (suc k) a x =
+    let or-low : bitOr a x % 2 ≡ bitOr (a % 2) (x % 2) = or-mod a x 1 in
+    let low : bitXor (bitOr a x) a % 2 ≡ bitXor (bitOr (a % 2) (x % 2)) (a % 2) =
+    xor-mod (bitOr a x) a 1 ∙ ap (λ (n : ℕ). bitXor n (a % 2)) or-low
+    in
+    let or-high : onesIn k (bitOr a x / 2) ≡ onesIn k (bitOr (a / 2) (x / 2)) = ap (onesIn k) (or-shr a x 1) in
+    let high : onesIn k (bitXor (bitOr a x) a / 2) ≡ onesIn k (bitXor (bitOr (a / 2) (x / 2)) (a / 2)) =
+    ap (onesIn k) (xor-shr (bitOr a x) a 1 ∙ ap (λ (n : ℕ). bitXor n (a / 2)) (or-shr a x 1))
+    in
+    omega (arith, or-low, low, or-high, high, differences k (a / 2) (x / 2), one-digit (a % 2) (x % 2) (omega arith) (omega arith))
 
 -- two tests for equal numbers that hold together
 eqb-same : (a b c d : ℕ) → (a ≡ b → c ≡ d) → (c ≡ d → a ≡ b) → eqb a b ≡ eqb c d
@@ -111,6 +135,45 @@ length-poured ws new at xs added p = ap length (p .words) ∙ length-pour ws at 
 -- facts are not lost
 pub pour-grows : (ws : List ℕ) (at : ℕ) (xs : List ℕ) → facts ws ≤ facts (pour ws at xs)
 pour-grows ws at xs = facts-le ws (pour ws at xs) (sym (length-pour ws at xs)) (pour-adds ws at xs)
+
+-- ---- one word or-ed in
+
+module _ (ws : List ℕ) (k x : ℕ) where
+  pub nothing-new : bitOr (getD ws k 0) x ≡ getD ws k 0 → Poured ws ws k (x ∷ []) 0
+  nothing-new e =
+      record {
+        words = sym (pour-one ws k x ∙ ap (set ws k) e ∙ set-getD ws k 0);
+        count = omega arith;
+      }
+
+  module _ (inside : k < length ws) (old : getD ws k 0 < 2 ^ 32) (new : x < 2 ^ 32) where
+    counted : facts (pour ws k (x ∷ [])) + ones (getD ws k 0) ≡ facts ws + ones (bitOr (getD ws k 0) x)
+    counted =
+        let e : facts (pour ws k (x ∷ [])) ≡ facts (set ws k (bitOr (getD ws k 0) x)) = ap facts (pour-one ws k x) in
+        omega
+        (arith, facts-set ws k (bitOr (getD ws k 0) x) inside, ones-in 32 (getD ws k 0) old, ones-in 32 (bitOr (getD ws k 0) x) (or-lt 32 (getD ws k 0) x old new))
+
+    pub ones-grow : ones (getD ws k 0) ≤ ones (bitOr (getD ws k 0) x)
+    ones-grow = omega (arith, counted, pour-grows ws k (x ∷ []))
+
+    pub new-bits : Poured ws (set ws k (bitOr (getD ws k 0) x)) k (x ∷ []) (ones (bitOr (getD ws k 0) x) - ones (getD ws k 0))
+    new-bits =
+        record {
+          words = sym (pour-one ws k x);
+          count = ap facts (sym (pour-one ws k x)) ∙ omega (arith, counted, ones-grow);
+        }
+
+    -- counted by the digits in which the new word differs
+    pub different-bits : Poured ws (set ws k (bitOr (getD ws k 0) x)) k (x ∷ []) (ones (bitXor (bitOr (getD ws k 0) x) (getD ws k 0)))
+    different-bits =
+        let a = getD ws k 0 in
+        let o : bitOr a x < 2 ^ 32 = or-lt 32 a x old new in
+        record {
+          words = new-bits .words;
+          count =
+              omega
+              (arith, new-bits .count, ones-grow, differences 32 a x, ones-in 32 a old, ones-in 32 (bitOr a x) o, ones-in 32 (bitXor (bitOr a x) a) (xor-lt 32 (bitOr a x) a o old));
+        }
 
 -- as many facts at most as there are digits
 pub facts-most : (ws : List ℕ) → facts ws ≤ 32 * length ws

@@ -20,19 +20,22 @@ pub fn set(row: &mut [u32], k: usize, bits: u32) -> usize
     (u32::count_ones(new) - u32::count_ones(old)) as usize
 }
 
-// Or-s a row into this one, and answers how many bits that added.
+// Or-s a row into this one, and answers how many bits that added. No branch: the compiler takes several words at a time.
 pub fn join(row: &mut [u32], from: &[u32]) -> usize
     requires { ⌜ length (now from) ≡ length (now row) ⌝ }
     requires { ⌜ length (now row) < 4096 ⌝ }
     ensures { λ r. ⌜ Poured (now (row .entry)) (now (row .exit)) 0 (now (from .entry)) r ⌝ }
 {
-    let mut added = 0;
+    let mut added = 0u32;
     let mut i = 0;
     while i < row.len() {
-        added += set(row, i, from[i]);
+        let old = row[i];
+        let new = old | from[i];
+        row[i] = new;
+        added += u32::count_ones(new ^ old);
         i += 1;
     }
-    added
+    added as usize
 }
 
 // Copies a row to the front of a slice.

@@ -3,6 +3,7 @@ use Prim.Native.Nat.{ℕ, _+_, _*_, _≤_, _<_}
 use mathlib.Core.Path.{_≡_, refl, sym, ap, ap₂, _∙_, subst}
 use mathlib.Core.Bool.{Bool, true, false, _&&_}
 use mathlib.Core.List.{List}
+use native.Mathlib.Decide.{decLt, ℕ-discrete}
 use native.Mathlib.Omega.{arith}
 use lib.Dec.{lit<}
 use lib.ListN.{length, getD, take, drop}
@@ -10,7 +11,10 @@ use Rattle.permset.specs.Sets.{member, within}
 use Rattle.table.specs.declared.Handler.{Handler}
 use Rattle.table.specs.declared.Item.{Item}
 use Rattle.table.specs.declared.Link.{Link}
-use Rattle.table.specs.Item.{itemAt}
+use Rattle.table.specs.declared.Item.the-variants as items
+use Rattle.table.specs.Words.{kind, argument, termOf}
+use Rattle.table.specs.Item.{handlerAt, itemAt}
+use Rattle.table.proofs.Items.{item-block, item-gap, item-term}
 use Rattle.table.specs.Code.{Code}
 use Rattle.calculus.specs.Elements.{sendable}
 use Rattle.calculus.specs.Constraint.{C, B, P, L, put, sub, _and_}
@@ -39,6 +43,26 @@ perms-of ws k l x y e f g = ap itemPerms (sym g ∙ f ∙ ap (λ (n : Link). ite
 
 pub starts-of : (x y z : Item) (m : Message) (w : ℕ) → x ≡ z → x ≡ y → startsItem y m w ≡ startsItem z m w
 starts-of x y z m w f g = ap (λ (i : Item). startsItem i m w) (sym g ∙ f)
+
+-- a block with another name is not started
+none-left : (a b c : Bool) → c ≡ false → false ≡ (a && (b && c))
+none-left true true c e = sym e
+none-left true false c e = refl
+none-left false b c e = refl
+
+pub other-name : (ws : List ℕ) (b : ℕ) (m : Message) (w : ℕ) → member w (argument (getD ws b 0)) ≡ false → false ≡ startsItem (itemAt ws b) m w
+unfolding startsItem handlerAt
+other-name ws b m w e = go (ℕ-discrete (kind (getD ws b 0)) 2) (decLt (kind (getD ws b 0)) 16)
+  where
+    from : (x : Item) → itemAt ws b ≡ x → startsItem x m w ≡ startsItem (itemAt ws b) m w
+    from x f = ap (λ (i : Item). startsItem i m w) (sym f)
+
+    go : Dec (kind (getD ws b 0) ≡ 2) → Dec (kind (getD ws b 0) < 16) → false ≡ startsItem (itemAt ws b) m w
+    go (yes k) h =
+        none-left (within (m .required .bits) (handlerAt ws b .perms .bits)) (within (handlerAt ws b .guard .bits) (m .sender .bits)) (member w (argument (getD ws b 0))) e
+        ∙ from (items.Block (handlerAt ws b)) (item-block ws b k)
+    go (no k) (yes h) = from items.Gap (item-gap ws b k h)
+    go (no k) (no h) = from (items.Term (termOf (getD ws b 0))) (item-term ws b (omega arith))
 
 module _ (h : Handler) (m : Message) (w : ℕ) where
   pub first-fails : within (m .required .bits) (h .perms .bits) ≡ false → false ≡ startsHandler h m w

@@ -1,15 +1,14 @@
--- The sorts of elements: by what a word's item makes, and the digits of a sort set in a list of words.
-use Prim.Native.Nat.{ℕ, zero, suc, _+_, _-_, _*_, _/_, _%_, _^_, _≤_, _<_}
+-- The sorts of elements: by what a word's item makes, and digits set in a list of words.
+use Prim.Native.Nat.{ℕ, _+_, _-_, _*_, _/_, _%_, _^_, _≤_, _<_}
 use mathlib.Core.Path.{_≡_, refl, sym, ap, ap₂, _∙_, subst}
 use mathlib.Core.Bool.{Bool, true, false, not, _&&_, _||_}
-use mathlib.Core.List.{List}
-use mathlib.Core.Logic.{_⊎_, inl, inr, ⊎-elim}
+use mathlib.Core.List.{List, map}
+use mathlib.Core.Logic.{⊎-elim}
 use native.Mathlib.Decide.{decLt, ℕ-discrete}
-use native.Mathlib.Numerals.{add-one}
 use native.Mathlib.Omega.{arith}
 use borrow.Author.Tests.{eq-eqb, ne-eqb, lt-ltb, le-ltb, le-leb, lt-leb}
 use lib.Dec.{T, eqb, leb, ltb, lit<}
-use lib.ListN.{length, getD, take, drop, length-take, length-drop, List·getD-eq-default}
+use lib.ListN.{length, getD, take, drop, length-take, length-drop, List·getD-map, List·getD-eq-default}
 use lib.Seq.{getD-take, getD-drop, length-take-le}
 use Rattle.permset.specs.Sets.{member}
 use Rattle.table.specs.declared.Item.{Item}
@@ -18,9 +17,11 @@ use Rattle.table.specs.declared.Term.{Term}
 use Rattle.table.specs.declared.Term.the-variants as terms
 use Rattle.table.specs.Scan.{accepted, reading}
 use Rattle.table.specs.Code.{Code, code, termNode}
-use Rattle.table.specs.Item.{itemAt}
+use Rattle.table.specs.Words.{kind, argument, firstKind, termsByKind, termOf}
+use Rattle.table.specs.Item.{handlerAt, itemAt}
+use Rattle.table.proofs.Items.{item-block, item-gap, item-term}
 use Rattle.table.proofs.Nodes.{itemNode, node-item}
-use Rattle.calculus.specs.Elements.{Making, nothing, aFunction, aRecord, aCell, makes, making, elements, isFunction, isRecord, isCell}
+use Rattle.calculus.specs.Elements.{Making, nothing, aFunction, aRecord, aCell, leafMakes, oneMakes, makes, making, elements, isFunction, isRecord, isCell}
 use Rattle.calculus.specs.Elements.{sendable, anyRecord}
 use Rattle.calculus.specs.Layout.{bit, mark, rowWords, Words}
 use Rattle.calculus.proofs.Digits.{T-true}
@@ -28,7 +29,7 @@ use Rattle.calculus.proofs.Slices.{length-mark, mark-words, mark-adds, mark-new
 use Rattle.rules.specs.declared.masks.Sort.{Sort}
 use Rattle.rules.specs.declared.masks.Sort.the-variants as sorts
 use Rattle.rules.specs.Ready.{Mask, madeAs}
-use Rattle.rules.specs.Masks.{property, plainHas, makingNumber, sortHas, markIf, markBelow}
+use Rattle.rules.specs.Masks.{property, makingNumber, makesByKind, wordMakes, sortHas, markIf}
 
 -- ---- what the item of a word makes
 
@@ -63,16 +64,52 @@ item-parts items.Gap a b d = refl
 item-parts (items.Block h) a b d = refl
 item-parts (items.Term t) a b d = term-makes t a b d
 
-pub item-makes : (ws : List ℕ) → reading ws ≡ accepted → (p : ℕ) (x : Item) → itemAt ws p ≡ x → makes (itemNode x 0 0 0) ≡ makes (code ws .node p)
+item-makes : (ws : List ℕ) → reading ws ≡ accepted → (p : ℕ) (x : Item) → itemAt ws p ≡ x → makes (itemNode x 0 0 0) ≡ makes (code ws .node p)
 item-makes ws e p x h =
     sym (ap makes (node-item ws e ws (omega arith) p) ∙ item-parts (itemAt ws p) _ _ _ ∙ ap (λ (y : Item). makes (itemNode y 0 0 0)) h)
 
+-- by the kind of its word
+termMakes : Term → ℕ
+termMakes t = makingNumber (makes (termNode t 0 0 0))
+
+term-table : (a : ℕ) → map termMakes (termsByKind a) ≡ makesByKind
+unfolding termMakes termsByKind makesByKind makingNumber makes leafMakes oneMakes termNode
+term-table a = refl
+
+term-word : (w : ℕ) → wordMakes w ≡ termMakes (termOf w)
+unfolding wordMakes termOf termMakes makingNumber makes leafMakes termNode
+term-word w =
+    ap (λ (xs : List ℕ). getD xs (kind w - firstKind) 2) (sym (term-table (argument w)))
+    ∙ List·getD-map termMakes (termsByKind (argument w)) (kind w - firstKind) terms.Record
+
+pub other-word : (w : ℕ) → kind w < 16 → wordMakes w ≡ 0
+unfolding wordMakes makesByKind
+other-word w h = let e : kind w - firstKind ≡ 0 = omega arith in ap (λ (k : ℕ). getD makesByKind k 2) e
+
+pub word-making : (ws : List ℕ) → reading ws ≡ accepted → (p : ℕ) → wordMakes (getD ws p 0) ≡ makingNumber (makes (code ws .node p))
+unfolding itemNode makes makingNumber termMakes
+word-making ws e p = go (decLt (kind (getD ws p 0)) 16) (ℕ-discrete (kind (getD ws p 0)) 2)
+  where
+    go : Dec (kind (getD ws p 0) < 16) → Dec (kind (getD ws p 0) ≡ 2) → wordMakes (getD ws p 0) ≡ makingNumber (makes (code ws .node p))
+    go (yes h) (yes k) = other-word (getD ws p 0) h ∙ ap makingNumber (item-makes ws e p (items.Block (handlerAt ws p)) (item-block ws p k))
+    go (yes h) (no k) = other-word (getD ws p 0) h ∙ ap makingNumber (item-makes ws e p items.Gap (item-gap ws p k h))
+    go (no h) k =
+        term-word (getD ws p 0)
+        ∙ ap makingNumber (item-makes ws e p (items.Term (termOf (getD ws p 0))) (item-term ws p (omega arith)))
+
 -- ---- the property of a sort, by tests
 
-and-no : (a b : Bool) → a ≡ false → false ≡ (a && b)
+-- the plain elements of a sort
+unfoldable pub plainHas : Sort → ℕ → Bool
+plainHas sorts.Function v = false
+plainHas sorts.Record v = eqb v 7
+plainHas sorts.Cell v = false
+plainHas sorts.Message v = true
+
+pub and-no : (a b : Bool) → a ≡ false → false ≡ (a && b)
 and-no a b e = sym (ap (λ (x : Bool). x && b) e)
 
-and-yes : (a b : Bool) → a ≡ true → b ≡ (a && b)
+pub and-yes : (a b : Bool) → a ≡ true → b ≡ (a && b)
 and-yes a b e = sym (ap (λ (x : Bool). x && b) e)
 
 or-no : (a b : Bool) → b ≡ false → a ≡ (a || b)
@@ -125,7 +162,7 @@ module _ (ws : List ℕ) (v : ℕ) where
 
 -- ---- digits set
 
-both : (a b : Bool) → (T a → T b) → (T b → T a) → a ≡ b
+pub both : (a b : Bool) → (T a → T b) → (T b → T a) → a ≡ b
 both true true f g = refl
 both true false f g = absurd (f tt)
 both false true f g = absurd (g tt)
@@ -137,60 +174,25 @@ module _ (ws : List ℕ) (n : ℕ) where
   if-same true h e = T-true (bit (mark ws n) n) (mark-has ws n h)
   if-same false h e = e
 
-  if-other : (b : Bool) (d : ℕ) → (d ≡ n → ⊥) → bit (markIf b ws n) d ≡ bit ws d
+  pub if-other : (b : Bool) (d : ℕ) → (d ≡ n → ⊥) → bit (markIf b ws n) d ≡ bit ws d
   unfolding markIf
   if-other true d h =
       both (bit (mark ws n) d) (bit ws d) (λ t. ⊎-elim (λ x. x) (λ e. absurd (h e)) (mark-new ws n d t)) (mark-adds ws n d)
   if-other false d h = refl
 
-  if-length : (b : Bool) → length (markIf b ws n) ≡ length ws
+  pub if-length : (b : Bool) → length (markIf b ws n) ≡ length ws
   unfolding markIf
   if-length true = length-mark ws n
   if-length false = refl
 
-  if-words : (b : Bool) → Words ws → Words (markIf b ws n)
+  pub if-words : (b : Bool) → Words ws → Words (markIf b ws n)
   unfolding markIf
   if-words true h = mark-words ws n h
   if-words false h = h
 
-module _ (q : ℕ → Bool) (ws : List ℕ) (at : ℕ) where
-  pub mark-none : ws ≡ markBelow q ws at 0
-  unfolding markBelow
-  mark-none = refl
-
-  pub mark-more : (n : ℕ) → markIf (q n) (markBelow q ws at n) (at + n) ≡ markBelow q ws at (n + 1)
-  unfolding markBelow
-  mark-more n = rw add-one
-
-  pub below-length : (n : ℕ) → length (markBelow q ws at n) ≡ length ws
-  unfolding markBelow
-  below-length zero = refl
-  below-length (suc n) = if-length (markBelow q ws at n) (at + n) (q n) ∙ below-length n
-
-  pub below-words : (n : ℕ) → Words ws → Words (markBelow q ws at n)
-  unfolding markBelow
-  below-words zero h = h
-  below-words (suc n) h = if-words (markBelow q ws at n) (at + n) (q n) (below-words n h)
-
-  pub below-outside : (n d : ℕ) → (d < at) ⊎ (at + n ≤ d) → bit (markBelow q ws at n) d ≡ bit ws d
-  unfolding markBelow
-  below-outside zero d h = refl
-  below-outside (suc n) d h =
-      if-other (markBelow q ws at n) (at + n) (q n) d (λ e. ⊎-elim (λ x. omega arith) (λ x. omega arith) h)
-      ∙ below-outside n d (⊎-elim (λ x. inl x) (λ x. inr (omega arith)) h)
-
-  pub below-inside : (n i : ℕ) → at + n ≤ 32 * length ws → i < n → bit ws (at + i) ≡ false → bit (markBelow q ws at n) (at + i) ≡ q i
-  unfolding markBelow
-  below-inside zero i l h e = absurd (omega arith)
-  below-inside (suc n) i l h e = go (λ k. below-inside n i (omega arith) k e) (ℕ-discrete i n)
-    where
-      go : (i < n → bit (markBelow q ws at n) (at + i) ≡ q i) → Dec (i ≡ n) → bit (markIf (q n) (markBelow q ws at n) (at + n)) (at + i) ≡ q i
-      go r (yes k) =
-          ap (λ (j : ℕ). bit (markIf (q n) (markBelow q ws at n) (at + n)) (at + j)) k
-          ∙ if-same (markBelow q ws at n) (at + n) (q n) (omega (arith, below-length n))
-          (below-outside n (at + n) (inr (omega arith)) ∙ sym (ap (λ (j : ℕ). bit ws (at + j)) k) ∙ e)
-          ∙ sym (ap q k)
-      go r (no k) = if-other (markBelow q ws at n) (at + n) (q n) (at + i) (λ x. k (omega arith)) ∙ r (omega arith)
+  -- at a digit that is n
+  pub if-at : (b : Bool) (d : ℕ) → d ≡ n → d < 32 * length ws → bit ws d ≡ false → bit (markIf b ws n) d ≡ b
+  if-at b d e h f = ap (bit (markIf b ws n)) e ∙ if-same b (omega arith) (ap (bit ws) (sym e) ∙ f)
 
 -- a row of the list whose digits are those of a property is its mask
 module _ (c : Code) (q : ℕ → Bool) (ws : List ℕ) (at row : ℕ) where

@@ -1,12 +1,14 @@
 -- The four masks: the sorts of elements that the rules ask for, and the digits of the elements of a sort set in a list of words.
-use Prim.Native.Nat.{ℕ, zero, suc, _+_, _*_}
-use mathlib.Core.Bool.{Bool, true, false, not, _||_}
-use mathlib.Core.List.{List}
-use lib.Dec.{eqb}
-use lib.ListN.{take, drop}
+use Prim.Native.Nat.{ℕ, _+_, _-_, _*_, _<_}
+use mathlib.Core.Path.{_≡_}
+use mathlib.Core.Bool.{Bool, true, false, not, _&&_, _||_}
+use mathlib.Core.List.{List, [], _∷_}
+use lib.Dec.{eqb, ltb}
+use lib.ListN.{getD, take, drop}
+use Rattle.table.specs.Words.{kind, firstKind}
 use Rattle.table.specs.Code.{Code}
 use Rattle.calculus.specs.Elements.{Making, nothing, aFunction, aRecord, aCell, isFunction, isCell, sendable, anyRecord}
-use Rattle.calculus.specs.Layout.{mark}
+use Rattle.calculus.specs.Layout.{bit, mark, pour, Words}
 use Rattle.rules.specs.declared.masks.Sort.{Sort}
 use Rattle.rules.specs.declared.masks.Sort.the-variants as sorts
 use Rattle.rules.specs.Ready.{Mask, madeAs}
@@ -25,19 +27,29 @@ pub record Masked (c : Code) (masks : List ℕ) (row : ℕ) : Type 0 where
   pub cells : Mask c (madeAs c isCell) (take row (drop (2 * row) masks))
   pub messages : Mask c (sendable c) (take row (drop (3 * row) masks))
 
--- the plain elements of a sort
-unfoldable pub plainHas : Sort → ℕ → Bool
-plainHas sorts.Function v = false
-plainHas sorts.Record v = eqb v 7
-plainHas sorts.Cell v = false
-plainHas sorts.Message v = true
-
 -- what a word makes, as a number
 unfoldable pub makingNumber : Making → ℕ
 makingNumber nothing = 0
 makingNumber aFunction = 1
 makingNumber aRecord = 2
 makingNumber aCell = 3
+
+-- what the words of kinds 16 to 36 make
+unfoldable pub makesByKind : List ℕ
+makesByKind =
+    0 ∷ 0 ∷ 0 ∷ 0 ∷ 0
+    ∷ 1  -- 21 function
+    ∷ 0 ∷ 0 ∷ 0 ∷ 0 ∷ 0 ∷ 0
+    ∷ 2  -- 28 empty record
+    ∷ 0
+    ∷ 2  -- 30 set
+    ∷ 0
+    ∷ 3  -- 32 new cell
+    ∷ 0 ∷ 0 ∷ 0 ∷ 0 ∷ []
+
+-- what a word makes, by its kind
+unfoldable pub wordMakes : ℕ → ℕ
+wordMakes w = getD makesByKind (kind w - firstKind) 2
 
 -- whether what is made is of a sort
 unfoldable pub sortHas : Sort → ℕ → Bool
@@ -51,8 +63,25 @@ unfoldable pub markIf : Bool → List ℕ → ℕ → List ℕ
 markIf true ws n = mark ws n
 markIf false ws n = ws
 
--- the digits from `at` on of the numbers below n with the property q set
-unfoldable pub markBelow : (ℕ → Bool) → List ℕ → ℕ → ℕ → List ℕ
-unfolding markIf
-markBelow q ws at zero = ws
-markBelow q ws at (suc n) = markIf (q n) (markBelow q ws at n) (at + n)
+-- the mask of each sort with the element v set where what is made, m, is of that sort
+unfoldable pub markWord : ℕ → ℕ → ℕ → List ℕ → List ℕ
+markWord row v m ws =
+    markIf (sortHas sorts.Message m)
+    (markIf (sortHas sorts.Cell m) (markIf (sortHas sorts.Record m) (markIf (sortHas sorts.Function m) ws v) (32 * row + v)) (64 * row + v))
+    (96 * row + v)
+
+-- the masks with their plain elements: 7 among the records, and all that may be sent
+unfoldable pub plainMasks : ℕ → List ℕ → List ℕ
+plainMasks row ws = pour (mark ws (32 * row + 7)) (3 * row) (4294967295 ∷ 4294967295 ∷ [])
+
+-- the first word of the mask of a sort
+unfoldable pub firstWord : Sort → ℕ → ℕ
+firstWord sorts.Function row = 0
+firstWord sorts.Record row = row
+firstWord sorts.Cell row = 2 * row
+firstWord sorts.Message row = 3 * row
+
+-- the masks with their elements below n
+pub record Filled (c : Code) (row n : ℕ) (masks : List ℕ) : Type 0 where
+  pub words : Words masks
+  pub digits : (s : Sort) (v : ℕ) → v < 32 * row → bit masks (32 * firstWord s row + v) ≡ (ltb v n && property s c v)

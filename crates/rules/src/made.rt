@@ -49,6 +49,8 @@ pub fn live(est: &mut [u32], log: &mut [u32], l: Layout, p: usize) -> usize
     gain(est, log, l.flags(p), 16777216, 8192 + p)
 }
 
+// ---- the actions, each for one thing
+
 fn apply(
     est: &mut [u32],
     scratch: &mut [u32],
@@ -68,6 +70,52 @@ fn apply(
     a + (b + (c + d))
 }
 
+fn read(
+    est: &mut [u32],
+    scratch: &mut [u32],
+    log: &mut [u32],
+    l: Layout,
+    s: Site,
+    f: usize,
+) -> usize
+    requires { ⌜ Placed l s (now est) (now scratch) × (f < l .size) ⌝ }
+    ensures { λ r. ⌜ FiredIn l (actionRule actions.Read (s .p) (s .d) f) (now (est .entry)) (now (est .exit)) r ⌝ }
+{
+    sub_row(est, scratch, log, l.row, 2 * f + 1, 2 * s.p)
+}
+
+fn get(est: &mut [u32], scratch: &mut [u32], log: &mut [u32], l: Layout, s: Site, f: usize) -> usize
+    requires { ⌜ Placed l s (now est) (now scratch) × (f < l .size) ⌝ }
+    ensures { λ r. ⌜ FiredIn l (actionRule actions.Get (s .p) (s .d) f) (now (est .entry)) (now (est .exit)) r ⌝ }
+{
+    let row = l.row;
+    let a = sub_row(est, scratch, log, row, 2 * f + 1, 2 * s.p);
+    a + put_bits(est, log, row, 2 * s.p, 0, 1)
+}
+
+fn assign(
+    est: &mut [u32],
+    scratch: &mut [u32],
+    log: &mut [u32],
+    l: Layout,
+    s: Site,
+    f: usize,
+) -> usize
+    requires { ⌜ Placed l s (now est) (now scratch) × (f < l .size) ⌝ }
+    ensures { λ r. ⌜ FiredIn l (actionRule actions.Assign (s .p) (s .d) f) (now (est .entry)) (now (est .exit)) r ⌝ }
+{
+    let row = l.row;
+    let a = sub_row(est, scratch, log, row, 2 * s.d, 2 * s.p);
+    a + sub_row(est, scratch, log, row, 2 * s.d, 2 * f + 1)
+}
+
+fn set(est: &mut [u32], scratch: &mut [u32], log: &mut [u32], l: Layout, s: Site, f: usize) -> usize
+    requires { ⌜ Placed l s (now est) (now scratch) × (f < l .size) ⌝ }
+    ensures { λ r. ⌜ FiredIn l (actionRule actions.Set (s .p) (s .d) f) (now (est .entry)) (now (est .exit)) r ⌝ }
+{
+    sub_row(est, scratch, log, l.row, 2 * f + 1, 2 * s.p + 1)
+}
+
 // The action for one thing.
 pub fn act(
     est: &mut [u32],
@@ -81,19 +129,12 @@ pub fn act(
     requires { ⌜ Placed l s (now est) (now scratch) × (f < l .size) × (action ≡ actions.Apply → f + 1 < l .size) ⌝ }
     ensures { λ r. ⌜ FiredIn l (actionRule action (s .p) (s .d) f) (now (est .entry)) (now (est .exit)) r ⌝ }
 {
-    let row = l.row;
     match action {
-        Action::Read => sub_row(est, scratch, log, row, 2 * f + 1, 2 * s.p),
+        Action::Read => read(est, scratch, log, l, s, f),
         Action::Apply => apply(est, scratch, log, l, s, f),
-        Action::Get => {
-            let a = sub_row(est, scratch, log, row, 2 * f + 1, 2 * s.p);
-            a + put_bits(est, log, row, 2 * s.p, 0, 1)
-        }
-        Action::Assign => {
-            let a = sub_row(est, scratch, log, row, 2 * s.d, 2 * s.p);
-            a + sub_row(est, scratch, log, row, 2 * s.d, 2 * f + 1)
-        }
-        Action::Set => sub_row(est, scratch, log, row, 2 * f + 1, 2 * s.p + 1),
+        Action::Get => get(est, scratch, log, l, s, f),
+        Action::Assign => assign(est, scratch, log, l, s, f),
+        Action::Set => set(est, scratch, log, l, s, f),
     }
 }
 

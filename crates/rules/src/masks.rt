@@ -1,16 +1,15 @@
 // Which elements are functions, records (or 7), cells, and which may be sent: four rows, one after the other.
 use crate::layout::Layout;
 use crate::results::digit;
-use table::Item;
-use table::Term;
+use rows::row::set;
+use table::words::kind_of;
 ghost use mathlib.Core.Path.{_≡_};
 ghost use Prim.Native.Nat.{ℕ, _+_, _*_, _<_, _≤_};
 ghost use lib.ListN.{length, getD};
 ghost use Rattle.table.specs.Scan.{accepted, reading};
-ghost use Rattle.table.specs.Code.{code, termNode};
-ghost use Rattle.calculus.specs.Elements.{makes};
+ghost use Rattle.table.specs.Code.{code};
 ghost use Rattle.calculus.specs.Layout.{mark, rowWords};
-ghost use Rattle.rules.specs.Masks.{Masked, property, plainHas, makingNumber, sortHas, markIf, markBelow};
+ghost use Rattle.rules.specs.Masks.{Masked, wordMakes, sortHas, markIf, markWord, plainMasks, Filled};
 
 // The sorts of elements, in the order of their masks.
 pub enum Sort {
@@ -39,41 +38,42 @@ fn set_if(masks: &mut [u32], n: usize, told: bool)
     }
 }
 
-// What a term makes: 1 a function, 2 a record, 3 a cell.
-fn term_makes(t: Term) -> u32
-    ensures { λ r. ⌜ r ≡ makingNumber (makes (termNode t 0 0 0)) ⌝ }
-{
-    match t {
-        Term::Function => 1,
-        Term::Record => 2,
-        Term::Set => 2,
-        Term::Cell => 3,
-        _ => 0,
-    }
-}
+// What a word makes, by the place of its kind among those of terms: 1 a function, 2 a record, 3 a cell.
+const MAKES: [u32; 21] = [
+    0,
+    0,
+    0,
+    0,
+    0,
+    1,
+    0,
+    0,
+    0,
+    0,
+    0,
+    0,
+    2,
+    0,
+    2,
+    0,
+    3,
+    0,
+    0,
+    0,
+    0,
+];
 
-// What the word p makes.
-fn word_makes(words: &[u32], p: usize) -> u32
-    requires { ⌜ reading (now words) ≡ accepted ⌝ }
-    ensures { λ r. ⌜ r ≡ makingNumber (makes (code (now (words .entry)) .node p)) ⌝ }
+fn word_makes(w: u32) -> u32
+    ensures { λ r. ⌜ r ≡ wordMakes w ⌝ }
 {
-    match table::links::item_at(words, p) {
-        Item::Term(t) => term_makes(t),
-        Item::Gap => 0,
-        Item::Block(_) => 0,
+    let kind = kind_of(w);
+    if kind < 16 {
+        return 0;
     }
-}
-
-// Whether a plain element is of a sort.
-fn plain_has(s: Sort, v: usize) -> bool
-    ensures { λ r. ⌜ r ≡ plainHas s v ⌝ }
-{
-    match s {
-        Sort::Function => false,
-        Sort::Record => v == 7,
-        Sort::Cell => false,
-        Sort::Message => true,
+    if 36 < kind {
+        return 2;
     }
+    MAKES[(kind - 16) as usize]
 }
 
 // Whether what a word makes is of a sort.
@@ -88,29 +88,47 @@ fn made_has(s: Sort, m: u32) -> bool
     }
 }
 
-// Whether element v is of a sort.
-fn has_sort(words: &[u32], s: Sort, v: usize) -> bool
-    requires { ⌜ reading (now words) ≡ accepted ⌝ }
-    ensures { λ r. ⌜ r ≡ property s (code (now (words .entry))) v ⌝ }
+// Sets digit n if what a word makes is of a sort.
+fn set_sort(masks: &mut [u32], s: Sort, n: usize, m: u32)
+    requires { ⌜ n < 32 * length (now masks) ⌝ }
+    ensures { λ _. ⌜ now (masks .exit) ≡ markIf (sortHas s m) (now (masks .entry)) n ⌝ }
 {
-    if v < 64 {
-        plain_has(s, v)
-    } else {
-        made_has(s, word_makes(words, v - 64))
+    set_if(masks, n, made_has(s, m));
+}
+
+// Sets the element v, which is a word that makes m, in the mask of each sort that it has.
+fn set_word(masks: &mut [u32], row: usize, v: usize, m: u32)
+    requires { ⌜ (v < 32 * row) × (4 * row ≤ length (now masks)) × (length (now masks) ≤ 256) ⌝ }
+    ensures { λ _. ⌜ now (masks .exit) ≡ markWord row v m (now (masks .entry)) ⌝ }
+{
+    set_sort(masks, Sort::Function, v, m);
+    set_sort(masks, Sort::Record, 32 * row + v, m);
+    set_sort(masks, Sort::Cell, 64 * row + v, m);
+    set_sort(masks, Sort::Message, 96 * row + v, m);
+}
+
+// Sets what the words make.
+fn fill_made(words: &[u32], masks: &mut [u32], row: usize)
+    requires { ⌜ reading (now words) ≡ accepted ⌝ }
+    requires { ⌜ (64 + length (now words) ≤ 32 * row) × (4 * row ≤ length (now masks)) × (length (now masks) ≤ 256) ⌝ }
+    requires { ⌜ Filled (code (now words)) row 64 (now masks) ⌝ }
+    ensures { λ _. ⌜ Filled (code (now (words .entry))) row (64 + length (now (words .entry))) (now (masks .exit)) ⌝ }
+{
+    let mut p = 0;
+    while p < words.len() {
+        set_word(masks, row, 64 + p, word_makes(words[p]));
+        p += 1;
     }
 }
 
-// Sets the elements of a sort, the first of them at the digit `at`.
-fn fill_mask(words: &[u32], masks: &mut [u32], s: Sort, at: usize)
-    requires { ⌜ reading (now words) ≡ accepted ⌝ }
-    requires { ⌜ (at + (64 + length (now words)) ≤ 32 * length (now masks)) × (length (now masks) ≤ 256) ⌝ }
-    ensures { λ _. ⌜ now (masks .exit) ≡ markBelow (property s (code (now (words .entry)))) (now (masks .entry)) at (64 + length (now (words .entry))) ⌝ }
+// Sets the plain elements: 7, the opponent's record, and all that may be sent.
+fn fill_plain(masks: &mut [u32], row: usize)
+    requires { ⌜ (2 ≤ row) × (4 * row ≤ length (now masks)) × (length (now masks) ≤ 256) ⌝ }
+    ensures { λ _. ⌜ now (masks .exit) ≡ plainMasks row (now (masks .entry)) ⌝ }
 {
-    let mut v = 0;
-    while v < 64 + words.len() {
-        set_if(masks, at + v, has_sort(words, s, v));
-        v += 1;
-    }
+    set_digit(masks, 32 * row + 7);
+    set(masks, 3 * row, 4294967295);
+    set(masks, 3 * row + 1, 4294967295);
 }
 
 // Fills the masks of an accepted table into a slice of zeros.
@@ -122,8 +140,6 @@ pub fn fill_masks(words: &[u32], masks: &mut [u32], l: Layout)
     ensures { λ _. ⌜ Masked (code (now (words .entry))) (now (masks .exit)) (l .row) ⌝ }
 {
     let row = l.row;
-    fill_mask(words, masks, Sort::Function, 0);
-    fill_mask(words, masks, Sort::Record, 32 * row);
-    fill_mask(words, masks, Sort::Cell, 64 * row);
-    fill_mask(words, masks, Sort::Message, 96 * row);
+    fill_plain(masks, row);
+    fill_made(words, masks, row);
 }

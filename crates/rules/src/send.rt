@@ -7,9 +7,11 @@ use permset::PermSet;
 use rows::estimate::pass_row;
 use table::Handler;
 use table::Item;
+use table::words::argument_of;
 ghost use mathlib.Core.Path.{_≡_};
 ghost use Prim.Native.Nat.{_<_};
-ghost use lib.ListN.{length};
+ghost use lib.ListN.{length, getD};
+ghost use Rattle.table.specs.Words.{argument};
 ghost use Rattle.table.specs.Item.{itemAt};
 ghost use Rattle.table.specs.Scan.{name};
 ghost use Rattle.table.specs.Code.{code, taskAt};
@@ -53,8 +55,8 @@ fn admits(h: Handler, m: Message, w: u32) -> bool
     PermSet::of(w).has(h.name)
 }
 
-// Whether the message may start what stands at b.
-fn starts(words: &[u32], m: Message, w: u32, b: usize) -> bool
+// Whether the message may start the item at b.
+fn starts_item(words: &[u32], m: Message, w: u32, b: usize) -> bool
     ensures { λ r. ⌜ r ≡ startsItem (itemAt (now (words .entry)) b) m w ⌝ }
 {
     match table::links::item_at(words, b) {
@@ -62,6 +64,29 @@ fn starts(words: &[u32], m: Message, w: u32, b: usize) -> bool
         Item::Block(h) => admits(h, m, w),
         Item::Term(_) => false,
     }
+}
+
+// The name of the block at b.
+fn name_at(words: &[u32], b: usize) -> u32
+    ensures { λ r. ⌜ r ≡ argument (getD (now (words .entry)) b 0) ⌝ }
+{
+    if b < words.len() {
+        argument_of(words[b])
+    } else {
+        0
+    }
+}
+
+// Whether the message may start what stands at b. The name is looked at first, since most blocks have another.
+fn starts(words: &[u32], m: Message, w: u32, b: usize) -> bool
+    ensures { λ r. ⌜ r ≡ startsItem (itemAt (now (words .entry)) b) m w ⌝ }
+{
+    let name = name_at(words, b);
+    let names = PermSet::of(w);
+    if !names.has(name) {
+        return false;
+    }
+    starts_item(words, m, w, b)
 }
 
 // The handler is live, what may be sent of C(d) is in its held set, and its permissions are in P(p).

@@ -1,46 +1,13 @@
 -- `rows::row::set` meets its contract: the count is exact, because no digit of the word is lost.
 -- Assumes nothing.
-use mathlib.Core.Path.{_≡_, sym, ap, _∙_}
-use mathlib.Core.List.{List, [], _∷_}
-use Prim.Native.Nat.{ℕ, _+_, _-_, _^_, _≤_, _<_}
 use native.Mathlib.Omega.{arith}
-use lib.Bits.{bitOr, or-lt}
-use lib.Count.{ones, ones-le}
-use lib.ListN.{length, getD, set}
-use lib.Seq.{set-getD}
+use lib.Bits.{or-lt}
+use lib.Count.{ones-le}
+use lib.ListN.{getD}
 use borrow.Author.Needs.{needs}
-use Rattle.calculus.specs.Layout.{pour}
-use Rattle.calculus.specs.Estimate.{facts}
-use Rattle.calculus.proofs.Facts.{facts-set, pour-one}
-use Rattle.rows.specs.Rows.{Poured}
-use Rattle.rows.proofs.Laws.{ones-in, pour-grows}
+use Rattle.rows.proofs.Laws.{nothing-new, ones-grow, new-bits}
 use Rattle.rows.proofs.row.set.Statement.{statement}
 use Rattle.rows.proofs.row.set.Tie as tie
-
-module _ (ws : List ℕ) (k x : ℕ) where
-  nothing-new : bitOr (getD ws k 0) x ≡ getD ws k 0 → Poured ws ws k (x ∷ []) 0
-  nothing-new e =
-      record {
-        words = sym (pour-one ws k x ∙ ap (set ws k) e ∙ set-getD ws k 0);
-        count = omega arith;
-      }
-
-  module _ (inside : k < length ws) (old : getD ws k 0 < 2 ^ 32) (new : x < 2 ^ 32) where
-    counted : facts (pour ws k (x ∷ [])) + ones (getD ws k 0) ≡ facts ws + ones (bitOr (getD ws k 0) x)
-    counted =
-        let e : facts (pour ws k (x ∷ [])) ≡ facts (set ws k (bitOr (getD ws k 0) x)) = ap facts (pour-one ws k x) in
-        omega
-        (arith, facts-set ws k (bitOr (getD ws k 0) x) inside, ones-in 32 (getD ws k 0) old, ones-in 32 (bitOr (getD ws k 0) x) (or-lt 32 (getD ws k 0) x old new))
-
-    ones-grow : ones (getD ws k 0) ≤ ones (bitOr (getD ws k 0) x)
-    ones-grow = omega (arith, counted, pour-grows ws k (x ∷ []))
-
-    new-bits : Poured ws (set ws k (bitOr (getD ws k 0) x)) k (x ∷ []) (ones (bitOr (getD ws k 0) x) - ones (getD ws k 0))
-    new-bits =
-        record {
-          words = sym (pour-one ws k x);
-          count = ap facts (sym (pour-one ws k x)) ∙ omega (arith, counted, ones-grow);
-        }
 
 mul-old : tie.Need-mul-old
 mul-old c = search needs

@@ -1,69 +1,49 @@
--- `rules::masks::fill_masks` meets its contract: one row after the other.
+-- `rules::masks::fill_masks` meets its contract: the plain elements, and then what the words make.
 -- Assumes nothing.
+use mathlib.Core.Path.{sym, subst}
 use native.Mathlib.Omega.{arith}
-use Rattle.rules.proofs.FourMasks.{row-fits, masked}
+use Rattle.table.specs.Code.{code}
+use Rattle.rules.specs.Masks.{Filled}
+use Rattle.rules.proofs.FourMasks.{row-fits, plain-filled, masked}
 use borrow.Author.Needs.{needs}
 use Rattle.rules.proofs.masks.fill_masks.Statement.{statement}
 use Rattle.rules.proofs.masks.fill_masks.Tie as tie
 
-fill-mask-requires : tie.Need-fill-mask-requires
-fill-mask-requires c κs =
+fill-plain-requires : tie.Need-fill-plain-requires
+fill-plain-requires c κs =
     let s = c .before .before .before in
     let f = row-fits (s .args .words .now) (s .args .l .row) (s .pre .1 .0) in
-    (s .pre .0, (omega (arith, f, s .pre .1 .1 .1), omega (arith, s .pre .1 .1 .1)))
+    (omega (arith, f), s .pre .1 .1 .1 .0, s .pre .1 .1 .1 .1)
 
-mul-fill-mask : tie.Need-mul-fill-mask
-mul-fill-mask c = search needs
-
-fill-mask-requires-2 : tie.Need-fill-mask-requires-2
-fill-mask-requires-2 c κs =
+fill-made-requires : tie.Need-fill-made-requires
+fill-made-requires c κs =
     let s = c .before .before .before .before .before .before .before in
-    let f = row-fits (s .args .words .now) (s .args .l .row) (s .pre .1 .0) in
-    let k1 = c .before .before .before .fill-mask .kept .1 .0 in
-    (s .pre .0, (omega (arith, f, s .pre .1 .1 .1, k1), omega (arith, s .pre .1 .1 .1, k1)))
-
-mul-fill-mask-2 : tie.Need-mul-fill-mask-2
-mul-fill-mask-2 c = search needs
-
-fill-mask-requires-3 : tie.Need-fill-mask-requires-3
-fill-mask-requires-3 c κs =
-    let s = c .before .before .before .before .before .before .before .before .before .before .before in
-    let f = row-fits (s .args .words .now) (s .args .l .row) (s .pre .1 .0) in
-    let k1 = c .before .before .before .before .before .before .before .fill-mask .kept .1 .0 in
-    let k2 = c .before .before .before .fill-mask2 .kept .1 .0 in
-    (s .pre .0, (omega (arith, f, s .pre .1 .1 .1, k1, k2), omega (arith, s .pre .1 .1 .1, k1, k2)))
-
-mul-fill-mask-3 : tie.Need-mul-fill-mask-3
-mul-fill-mask-3 c = search needs
-
-fill-mask-requires-4 : tie.Need-fill-mask-requires-4
-fill-mask-requires-4 c κs =
-    let s = c .before .before .before .before .before .before .before .before .before .before .before .before .before .before .before in
-    let f = row-fits (s .args .words .now) (s .args .l .row) (s .pre .1 .0) in
-    let k1 = c .before .before .before .before .before .before .before .before .before .before .before .fill-mask .kept .1 .0 in
-    let k2 = c .before .before .before .before .before .before .before .fill-mask2 .kept .1 .0 in
-    let k3 = c .before .before .before .fill-mask3 .kept .1 .0 in
-    (s .pre .0, (omega (arith, f, s .pre .1 .1 .1, k1, k2, k3), omega (arith, s .pre .1 .1 .1, k1, k2, k3)))
+    let a = s .args in
+    let f = row-fits (a .words .now) (a .l .row) (s .pre .1 .0) in
+    let k = c .before .before .before .fill-plain .kept .0 in
+    let h = s .pre .1 .1 .1 in (
+      s .pre .0,
+      (
+        (f, omega (arith, h, k), omega (arith, h, k)),
+        subst (Filled (code (a .words .now)) (a .l .row) 64) (sym (c .before .before .before .fill-plain .ensures))
+            (plain-filled (a .masks .now) (a .l .row) (s .pre .1 .1 .0) (omega (arith, f)) (h .0) (a .words .now)),
+      ),
+    )
 
 same-length : tie.Need-same-length
 same-length c = search needs
 
 returns : tie.Need-returns
 returns c =
-    let s = c .before .before .before .before .before .before .before .before .before .before .before .before .before .before .before .before .before .before in
-    masked (s .args .words .now) (s .args .masks .now) (s .args .l .row) (s .pre .1 .0) (s .pre .1 .1 .0) (s .pre .1 .1 .1 .0) _ _ _ _
-    (c .before .before .before .before .before .before .before .before .before .before .before .before .before .before .fill-mask .ensures) (c .before .before .before .before .before .before .before .before .before .before .fill-mask2 .ensures) (c .before .before .before .before .before .before .fill-mask3 .ensures) (c .before .before .fill-mask4 .ensures)
+    let s = c .before .before .before .before .before .before .before .before .before .before in
+    masked (s .args .words .now) _ (s .args .l .row) (s .pre .1 .0) (omega (arith, s .pre .1 .1 .1, c .before .before .before .before .before .before .fill-plain .kept .0, c .before .before .fill-made .kept .1 .0))
+    (c .before .before .fill-made .ensures)
 
 pub fill-masks-spec : {M : Type 1} → statement M
 fill-masks-spec =
     tie.close
     (tie.spec
-    fill-mask-requires
-    mul-fill-mask
-    fill-mask-requires-2
-    mul-fill-mask-2
-    fill-mask-requires-3
-    mul-fill-mask-3
-    fill-mask-requires-4
+    fill-plain-requires
+    fill-made-requires
     same-length
     returns)
