@@ -11,6 +11,7 @@ use table::words::argument_of;
 ghost use mathlib.Core.Path.{_≡_};
 ghost use Prim.Native.Nat.{_<_};
 ghost use lib.ListN.{length, getD};
+ghost use Rattle.permset.specs.Sets.{member};
 ghost use Rattle.table.specs.Words.{argument};
 ghost use Rattle.table.specs.Item.{itemAt};
 ghost use Rattle.table.specs.Scan.{name};
@@ -56,7 +57,7 @@ fn admits(h: Handler, m: Message, w: u32) -> bool
 }
 
 // Whether the message may start the item at b.
-fn starts_item(words: &[u32], m: Message, w: u32, b: usize) -> bool
+fn starts(words: &[u32], m: Message, w: u32, b: usize) -> bool
     ensures { λ r. ⌜ r ≡ startsItem (itemAt (now (words .entry)) b) m w ⌝ }
 {
     match table::links::item_at(words, b) {
@@ -75,18 +76,6 @@ fn name_at(words: &[u32], b: usize) -> u32
     } else {
         0
     }
-}
-
-// Whether the message may start what stands at b. The name is looked at first, since most blocks have another.
-fn starts(words: &[u32], m: Message, w: u32, b: usize) -> bool
-    ensures { λ r. ⌜ r ≡ startsItem (itemAt (now (words .entry)) b) m w ⌝ }
-{
-    let name = name_at(words, b);
-    let names = PermSet::of(w);
-    if !names.has(name) {
-        return false;
-    }
-    starts_item(words, m, w, b)
 }
 
 // The handler is live, what may be sent of C(d) is in its held set, and its permissions are in P(p).
@@ -131,6 +120,36 @@ pub fn send_to(
     deliver(est, scratch, mask, log, l, s, b)
 }
 
+// Whether the name of the block at b is in the word of names w.
+fn named(words: &[u32], w: u32, b: usize) -> bool
+    ensures { λ r. ⌜ r ≡ member w (argument (getD (now (words .entry)) b 0)) ⌝ }
+{
+    let name = name_at(words, b);
+    PermSet::of(w).has(name)
+}
+
+// The rule for one block, most of which have another name.
+fn send_named(
+    words: &[u32],
+    est: &mut [u32],
+    scratch: &mut [u32],
+    mask: &[u32],
+    log: &mut [u32],
+    l: Layout,
+    s: Site,
+    m: Message,
+    b: usize,
+) -> usize
+    requires { ⌜ Sends (now words) (now mask) (now est) (now scratch) l s m × (b < length (now words)) × (taskAt (now words) b ≡ name) ⌝ }
+    ensures { λ r. ⌜ Fired (code (now (words .entry))) (sendRule (code (now (words .entry))) s m b) (now (est .entry)) (now (est .exit)) r ⌝ }
+{
+    let at = 2 * m.a * l.row + 1;
+    if !named(words, est[at], b) {
+        return 0;
+    }
+    send_to(words, est, scratch, mask, log, l, s, m, b)
+}
+
 // The rule for every block in turn.
 pub fn send_all(
     words: &[u32],
@@ -149,7 +168,7 @@ pub fn send_all(
     let mut added = 0;
     let mut b = 1;
     while b < words.len() {
-        added += send_to(words, est, scratch, mask, log, l, s, m, b);
+        added += send_named(words, est, scratch, mask, log, l, s, m, b);
         b = table::links::link_at(links, b + 3).end;
     }
     added

@@ -51,8 +51,8 @@ loop-holds c =
       omega arith,
     )
 
-send-to-requires : tie.Need-send-to-requires Inv-loop μ-loop
-send-to-requires c κs =
+send-named-requires : tie.Need-send-named-requires Inv-loop μ-loop
+send-named-requires c κs =
     let a = c .before .before .before .before .before .before .before .before .before .before .before .args in
     let i = c .before .before .before .before .loop in
     (i .inv .3, c .before .before .before .loop-test .taken, named-there (a .words .now) (c .before .before .before .before .before .before .before .before .before .before .before .pre .0 .readable) (i .b) (i .inv .4) (c .before .before .before .loop-test .taken))
@@ -60,7 +60,7 @@ send-to-requires c κs =
 add-added : tie.Need-add-added Inv-loop μ-loop
 add-added c =
     let i = c .before .before .before .before .before .before .before .before .before .before .before .loop in
-    omega (arith, c .before .before .before .before .before .before .send-to .ensures .count, i .inv .6, facts-most (c .before .before .before .before .before .before .send-to .last .1 .0), c .before .before .before .before .before .before .send-to .kept .1 .0, i .inv .3 .placed .sized .short)
+    omega (arith, c .before .before .before .before .before .before .send-named .ensures .count, i .inv .6, facts-most (c .before .before .before .before .before .before .send-named .last .1 .0), c .before .before .before .before .before .before .send-named .kept .1 .0, i .inv .3 .placed .sized .short)
 
 add-link-at : tie.Need-add-link-at Inv-loop μ-loop
 add-link-at c =
@@ -90,14 +90,14 @@ loop-again c =
     let h = c .before .before .before .before .before .before .before .before .before .before .before .before .before .before .before .before .before .before .before .pre .0 .readable in
     let g : i .b < length ws = c .before .before .before .before .before .before .before .before .before .before .before .loop-test .taken in
     let t = named-there ws h (i .b) (i .inv .4) g in
-    let f = c .before .before .before .before .before .before .before .send-to .ensures in
-    let new = c .before .before .before .before .before .before .before .send-to .last .1 .0 in
+    let f = c .before .before .before .before .before .before .before .send-named .ensures in
+    let new = c .before .before .before .before .before .before .before .send-named .last .1 .0 in
     let k = sendRule (code ws) (a .s) (a .m) in (
-      c .before .before .before .before .before .before .before .send-to .kept .1 .0 ∙ i .inv .0,
-      c .before .before .before .before .before .before .before .send-to .kept .1 .1 .0 ∙ i .inv .1,
-      c .before .before .before .before .before .before .before .send-to .kept .1 .1 .1 .1 .0 ∙ i .inv .2,
-      sends-again ws (a .mask .now) (i .est) (i .scratch) (a .l) (a .s) (a .m) (i .inv .3) new (c .before .before .before .before .before .before .before .send-to .last .1 .1 .0)
-          (c .before .before .before .before .before .before .before .send-to .kept .1 .0) (c .before .before .before .before .before .before .before .send-to .kept .1 .1 .0)
+      c .before .before .before .before .before .before .before .send-named .kept .1 .0 ∙ i .inv .0,
+      c .before .before .before .before .before .before .before .send-named .kept .1 .1 .0 ∙ i .inv .1,
+      c .before .before .before .before .before .before .before .send-named .kept .1 .1 .1 .1 .0 ∙ i .inv .2,
+      sends-again ws (a .mask .now) (i .est) (i .scratch) (a .l) (a .s) (a .m) (i .inv .3) new (c .before .before .before .before .before .before .before .send-named .last .1 .1 .0)
+          (c .before .before .before .before .before .before .before .send-named .kept .1 .0) (c .before .before .before .before .before .before .before .send-named .kept .1 .1 .0)
           (subst (WellFormed (code ws)) (sym (f .words)) (send-well ws (a .mask .now) (i .est) (i .scratch) (a .l) (a .s) (a .m) (i .inv .3) (i .b) g t)),
       subst (Follows ws) (sym (end-is c)) (follows-next ws h (i .b) g t),
       ap (λ (x : ℕ). fire (code ws) (each (blocksOn ws x) k) new) (end-is c) ∙ all-step ws h k (i .b) g t (i .est) new (f .words) ∙ i .inv .5,
@@ -134,7 +134,7 @@ send-all-spec =
     Inv-loop
     μ-loop
     loop-holds
-    send-to-requires
+    send-named-requires
     add-added
     add-link-at
     link-at-requires

@@ -1,35 +1,48 @@
--- `rules::send::starts` meets its contract: a block with another name is not started.
+-- `rules::send::starts` meets its contract: only a block has a handler.
 -- Assumes nothing.
-use mathlib.Core.Path.{_≡_, sym, ap, ap₂, _∙_}
-use borrow.Author.Tests.{not-true}
-use Prim.Native.Nat.{ℕ}
-use Rattle.permset.specs.declared.PermSet.{PermSet}
-use Rattle.permset.specs.Sets.{member}
-use Rattle.rules.proofs.Sends.{other-name}
+use mathlib.Core.Path.{_∙_}
+use Rattle.rules.specs.Sending.{startsItem}
+use Rattle.rules.proofs.Sends.{starts-of}
 use borrow.Author.Needs.{needs}
 use Rattle.rules.proofs.send.starts.Statement.{statement}
 use Rattle.rules.proofs.send.starts.Tie as tie
 
-name-at-requires : tie.Need-name-at-requires
-name-at-requires c κs = search needs
+item-at-requires : tie.Need-item-at-requires
+item-at-requires c κs = search needs
 
-of-requires : tie.Need-of-requires
-of-requires c κs = search needs
+enum-told : tie.Need-enum-told
+enum-told c = search needs
 
-has-requires : tie.Need-has-requires
-has-requires c κs = search needs
+enum-known-h : tie.Need-enum-known-h
+enum-known-h c = search needs
+
+admits-requires : tie.Need-admits-requires
+admits-requires c κs = search needs
+
+enum-told-2 : tie.Need-enum-told-2
+enum-told-2 c = search needs
 
 returns : tie.Need-returns
-returns c =
-    other-name _ _ _ _
-    (sym (ap₂ (λ (x : PermSet) (n : ℕ). member (x .bits) n) (c .before .before .of .ensures) (c .before .before .before .name-at .ensures))
-    ∙ sym (c .before .has .ensures) ∙ not-true _ (c .if1 .taken))
-
-starts-item-requires : tie.Need-starts-item-requires
-starts-item-requires c κs = search needs
+unfolding startsItem
+returns c = starts-of _ _ _ _ _ (c .before .before .item-at .ensures) (c .enum-told .given .1)
 
 returns-2 : tie.Need-returns-2
-returns-2 c = c .starts-item .ensures
+unfolding startsItem
+returns-2 c = c .admits .ensures ∙ starts-of _ _ _ _ _ (c .before .before .before .before .item-at .ensures) (c .before .before .h .given .1)
+
+returns-3 : tie.Need-returns-3
+unfolding startsItem
+returns-3 c = starts-of _ _ _ _ _ (c .before .before .item-at .ensures) (c .enum-told2 .given .1)
 
 pub starts-spec : {M : Type 1} → statement M
-starts-spec = tie.close (tie.spec name-at-requires of-requires has-requires returns starts-item-requires returns-2)
+starts-spec =
+    tie.close
+    (tie.spec
+    item-at-requires
+    enum-told
+    enum-known-h
+    admits-requires
+    enum-told-2
+    returns
+    returns-2
+    returns-3)
