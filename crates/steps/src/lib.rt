@@ -1,0 +1,1 @@
+// Sound steps: parts of the rule of a word, each under the tests that the rule makes.
