@@ -1,3 +1,4 @@
 pub mod Live
+pub mod PartRules
 pub mod Sound
 pub mod Running
