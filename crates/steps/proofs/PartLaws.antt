@@ -1,13 +1,20 @@
 -- The parts of a term: what its rule says of them may be done, and they are words of the table.
-use Prim.Native.Nat.{ℕ, _<_}
+use Prim.Native.Nat.{ℕ, _+_, _<_}
+use mathlib.Core.Path.{_≡_, sym, ap, _∙_, subst}
 use mathlib.Core.List.{List}
+use native.Mathlib.Omega.{arith}
+use Rattle.table.specs.declared.Link.{Link}
 use Rattle.table.specs.declared.Term.{Term}
 use Rattle.table.specs.declared.Term.the-variants as terms
 use Rattle.table.specs.Code.{Code, termNode}
-use Rattle.calculus.specs.Constraint.{_and_}
+use Rattle.table.specs.Links.{linkAt}
+use Rattle.calculus.specs.Constraint.{none, _and_}
 use Rattle.calculus.specs.Rules.{part, waiting, flow}
 use Rattle.calculus.specs.Layout.{owner}
 use Rattle.calculus.proofs.Firing.{Fits}
+use Rattle.calculus.proofs.Folds.{fire-none}
+use Rattle.rules.specs.declared.layout.Layout.{Layout}
+use Rattle.rules.specs.Sized.{FiredIn}
 use Rattle.steps.specs.declared.shapes.Shape.{Shape}
 use Rattle.steps.specs.declared.shapes.Shape.the-variants as shapes
 use Rattle.steps.specs.PartRules.{shapeOf, partsRule, PartsBelow}
@@ -51,3 +58,36 @@ module _ (c : Code) (p a b d : ℕ) where
     may-parts terms.Assign m = first-two c est m
     may-parts (terms.Send s) m = first-two c est m
     may-parts (terms.Exercise s) m = may-none c est
+
+-- nothing is done for no rule
+pub nothing-fired : (l : Layout) (est : List ℕ) → FiredIn l none est est 0
+nothing-fired l est = record { words = λ c o. sym (fire-none c est); count = omega arith; most = omega arith }
+
+-- ---- where the parts stand by the links
+
+module _ (links : List ℕ) (p : ℕ) (k j : Link) (m : k ≡ linkAt links (p + 1)) (i : j ≡ linkAt links (k .end)) where
+  second-end : k .end ≡ linkAt links (p + 1) .end
+  second-end = ap (λ (x : Link). x .end) m
+
+  third-end : j .end ≡ linkAt links (linkAt links (p + 1) .end) .end
+  third-end = ap (λ (x : Link). x .end) i ∙ ap (λ (q : ℕ). linkAt links q .end) second-end
+
+  -- what holds of them holds of what was read
+  read-ends : (F : ℕ → ℕ → Type 0) → F (linkAt links (p + 1) .end) (linkAt links (linkAt links (p + 1) .end) .end) → F (k .end) (j .end)
+  read-ends F h =
+      subst (λ (b : ℕ). F b (j .end)) (sym second-end) (subst (F (linkAt links (p + 1) .end)) (sym third-end) h)
+
+  link-ends : (F : ℕ → ℕ → Type 0) → F (k .end) (j .end) → F (linkAt links (p + 1) .end) (linkAt links (linkAt links (p + 1) .end) .end)
+  link-ends F h = subst (F (linkAt links (p + 1) .end)) third-end (subst (λ (b : ℕ). F b (j .end)) second-end h)
+
+  module _ (l : Layout) (s u : Shape) (e : s ≡ u) where
+    pub known-below : PartsBelow s (l .size) (p + 1) (linkAt links (p + 1) .end) (linkAt links (linkAt links (p + 1) .end) .end)
+        → PartsBelow u (l .size) (p + 1) (k .end) (j .end)
+    known-below h =
+        subst (λ (x : Shape). PartsBelow x (l .size) (p + 1) (k .end) (j .end)) e (read-ends (PartsBelow s (l .size) (p + 1)) h)
+
+    pub known-fired : (old new : List ℕ) (n : ℕ) → FiredIn l (partsRule u p (p + 1) (k .end) (j .end)) old new n
+        → FiredIn l (partsRule s p (p + 1) (linkAt links (p + 1) .end) (linkAt links (linkAt links (p + 1) .end) .end)) old new n
+    known-fired old new n f =
+        link-ends (λ b d. FiredIn l (partsRule s p (p + 1) b d) old new n)
+        (subst (λ (x : Shape). FiredIn l (partsRule x p (p + 1) (k .end) (j .end)) old new n) (sym e) f)
