@@ -1,2 +1,3 @@
 pub mod May
 pub mod PartLaws
+pub mod WordSteps

@@ -17,7 +17,7 @@ use Rattle.rules.specs.declared.layout.Layout.{Layout}
 use Rattle.rules.specs.Sized.{FiredIn}
 use Rattle.steps.specs.declared.shapes.Shape.{Shape}
 use Rattle.steps.specs.declared.shapes.Shape.the-variants as shapes
-use Rattle.steps.specs.PartRules.{shapeOf, partsRule, PartsBelow}
+use Rattle.steps.specs.PartRules.{second, third, shapeOf, partsRule, PartsBelow}
 use Rattle.steps.proofs.May.{May, may-none, may-left, first-two, first-three}
 
 module _ (c : Code) (p a b d : ℕ) where
@@ -66,28 +66,28 @@ nothing-fired l est = record { words = λ c o. sym (fire-none c est); count = om
 -- ---- where the parts stand by the links
 
 module _ (links : List ℕ) (p : ℕ) (k j : Link) (m : k ≡ linkAt links (p + 1)) (i : j ≡ linkAt links (k .end)) where
-  second-end : k .end ≡ linkAt links (p + 1) .end
+  second-end : k .end ≡ second links p
   second-end = ap (λ (x : Link). x .end) m
 
-  third-end : j .end ≡ linkAt links (linkAt links (p + 1) .end) .end
+  third-end : j .end ≡ third links p
   third-end = ap (λ (x : Link). x .end) i ∙ ap (λ (q : ℕ). linkAt links q .end) second-end
 
   -- what holds of them holds of what was read
-  read-ends : (F : ℕ → ℕ → Type 0) → F (linkAt links (p + 1) .end) (linkAt links (linkAt links (p + 1) .end) .end) → F (k .end) (j .end)
+  read-ends : (F : ℕ → ℕ → Type 0) → F (second links p) (third links p) → F (k .end) (j .end)
   read-ends F h =
-      subst (λ (b : ℕ). F b (j .end)) (sym second-end) (subst (F (linkAt links (p + 1) .end)) (sym third-end) h)
+      subst (λ (b : ℕ). F b (j .end)) (sym second-end) (subst (F (second links p)) (sym third-end) h)
 
-  link-ends : (F : ℕ → ℕ → Type 0) → F (k .end) (j .end) → F (linkAt links (p + 1) .end) (linkAt links (linkAt links (p + 1) .end) .end)
-  link-ends F h = subst (F (linkAt links (p + 1) .end)) third-end (subst (λ (b : ℕ). F b (j .end)) second-end h)
+  link-ends : (F : ℕ → ℕ → Type 0) → F (k .end) (j .end) → F (second links p) (third links p)
+  link-ends F h = subst (F (second links p)) third-end (subst (λ (b : ℕ). F b (j .end)) second-end h)
 
   module _ (l : Layout) (s u : Shape) (e : s ≡ u) where
-    pub known-below : PartsBelow s (l .size) (p + 1) (linkAt links (p + 1) .end) (linkAt links (linkAt links (p + 1) .end) .end)
+    pub known-below : PartsBelow s (l .size) (p + 1) (second links p) (third links p)
         → PartsBelow u (l .size) (p + 1) (k .end) (j .end)
     known-below h =
         subst (λ (x : Shape). PartsBelow x (l .size) (p + 1) (k .end) (j .end)) e (read-ends (PartsBelow s (l .size) (p + 1)) h)
 
     pub known-fired : (old new : List ℕ) (n : ℕ) → FiredIn l (partsRule u p (p + 1) (k .end) (j .end)) old new n
-        → FiredIn l (partsRule s p (p + 1) (linkAt links (p + 1) .end) (linkAt links (linkAt links (p + 1) .end) .end)) old new n
+        → FiredIn l (partsRule s p (p + 1) (second links p) (third links p)) old new n
     known-fired old new n f =
         link-ends (λ b d. FiredIn l (partsRule s p (p + 1) b d) old new n)
         (subst (λ (x : Shape). FiredIn l (partsRule x p (p + 1) (k .end) (j .end)) old new n) (sym e) f)

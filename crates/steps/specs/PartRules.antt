@@ -1,11 +1,20 @@
 -- What the rule of a term at p says of its parts a, b and d alone.
-use Prim.Native.Nat.{ℕ, _<_}
+use Prim.Native.Nat.{ℕ, _+_, _<_}
+use mathlib.Core.List.{List}
 use Rattle.table.specs.declared.Term.{Term}
 use Rattle.table.specs.declared.Term.the-variants as terms
+use Rattle.table.specs.Links.{linkAt}
 use Rattle.calculus.specs.Constraint.{Rule, none, _and_}
 use Rattle.calculus.specs.Rules.{part, waiting}
 use Rattle.steps.specs.declared.shapes.Shape.{Shape}
 use Rattle.steps.specs.declared.shapes.Shape.the-variants as shapes
+
+-- where the second and the third part of a term stand, by the links
+abbrev pub second : List ℕ → ℕ → ℕ
+second links p = linkAt links (p + 1) .end
+
+abbrev pub third : List ℕ → ℕ → ℕ
+third links p = linkAt links (second links p) .end
 
 unfoldable pub shapeOf : Term → Shape
 shapeOf (terms.Constant k) = shapes.Alone

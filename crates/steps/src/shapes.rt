@@ -8,11 +8,10 @@ use table::Term;
 use term_rules::flow::fire_parts;
 ghost use mathlib.Core.Path.{_≡_};
 ghost use Prim.Native.Nat.{_+_, _<_};
-ghost use Rattle.table.specs.Links.{linkAt};
 ghost use Rattle.calculus.specs.Constraint.{_and_};
 ghost use Rattle.calculus.specs.Rules.{part};
 ghost use Rattle.rules.specs.Sized.{Sized, FiredIn};
-ghost use Rattle.steps.specs.PartRules.{shapeOf, partsRule, PartsBelow};
+ghost use Rattle.steps.specs.PartRules.{second, third, shapeOf, partsRule, PartsBelow};
 ghost use Rattle.steps.specs.declared.shapes.Shape.the-variants as shapes;
 
 // No part that runs with the term; one; two; a test and a body; a test and two branches; three.
@@ -74,8 +73,8 @@ pub fn fire_shape(
     s: Shape,
 ) -> usize
     requires { ⌜ Sized l (now est) × (p < l .size) ⌝ }
-    requires { ⌜ PartsBelow s (l .size) (p + 1) (linkAt (now links) (p + 1) .end) (linkAt (now links) (linkAt (now links) (p + 1) .end) .end) ⌝ }
-    ensures { λ r. ⌜ FiredIn l (partsRule s p (p + 1) (linkAt (now (links .entry)) (p + 1) .end) (linkAt (now (links .entry)) (linkAt (now (links .entry)) (p + 1) .end) .end)) (now (est .entry)) (now (est .exit)) r ⌝ }
+    requires { ⌜ PartsBelow s (l .size) (p + 1) (second (now links) p) (third (now links) p) ⌝ }
+    ensures { λ r. ⌜ FiredIn l (partsRule s p (p + 1) (second (now (links .entry)) p) (third (now (links .entry)) p)) (now (est .entry)) (now (est .exit)) r ⌝ }
 {
     let b = table::links::link_at(links, p + 1).end;
     let d = table::links::link_at(links, b).end;
