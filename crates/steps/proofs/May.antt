@@ -93,13 +93,18 @@ sound-and c ρ a b d s t =
 pub kept-and : (c : Code) (a b d : List ℕ) → Kept c a b → Kept c b d → Kept c a d
 kept-and c a b d s t ρ = sound-and c ρ a b d (s ρ) (t ρ)
 
+-- a rule was fired that the estimates with this opponent obey
+pub sound-fire : (c : Code) (ρ : ℕ) (k : Rule) (est new : List ℕ) → Fits c k
+    → ((e : Sets) → Estimate c ρ e → LiesIn c est e → Obeys e k) → (WellFormed c est → new ≡ fire c k est) → Sound c ρ est new
+sound-fire c ρ k est new g m f =
+    record {
+      well = λ w. subst (WellFormed c) (sym (f w)) (fire-well c k g est w);
+      inside = λ w e o i. subst (λ (ws : List ℕ). LiesIn c ws e) (sym (f w)) (fire-inside c e k g (m e o i) est w i);
+    }
+
 -- a rule was fired that may be
 pub kept-fire : (c : Code) (k : Rule) (est new : List ℕ) → May c est k → (WellFormed c est → new ≡ fire c k est) → Kept c est new
-kept-fire c k est new m f ρ =
-    record {
-      well = λ w. subst (WellFormed c) (sym (f w)) (fire-well c k (m .fits) est w);
-      inside = λ w e o i. subst (λ (ws : List ℕ). LiesIn c ws e) (sym (f w)) (fire-inside c e k (m .fits) (m .allowed ρ e o i) est w i);
-    }
+kept-fire c k est new m f ρ = sound-fire c ρ k est new (m .fits) (m .allowed ρ) f
 
 -- ---- at a word
 
@@ -137,16 +142,23 @@ module _ (ws links masks est scratch : List ℕ) (l : Layout) (a : Running ws li
   pub may-later : (new : List ℕ) (j : Rule) → new ≡ fire (code ws) j est → (k : Rule) → May (code ws) est k → May (code ws) new k
   may-later new j f k m = may-more (code ws) est new (subst (λ (xs : List ℕ). est ≼ xs) (sym f) (fire-adds (code ws) j est)) k m
 
+  -- a word of the layout is one of the code
+  word-of : (p : ℕ) → p < l .size → p < code ws .size
+  word-of p h = omega (arith, laid .size)
+
+  -- the whole rule of a word was fired
+  pub word-sound : (ρ p : ℕ) → p < l .size → (new : List ℕ) (n : ℕ) → Fired (code ws) (rule (code ws) ρ p) est new n → Sound (code ws) ρ est new
+  word-sound ρ p h new n f =
+      sound-fire (code ws) ρ (rule (code ws) ρ p) est new (rule-fits (code ws) (code-linked ws (a .ready .readable)) p (word-of p h) ρ)
+      (λ e o i. o p (word-of p h)) (λ w. f .words)
+
   -- what the rule of a live word says
   module _ (p : ℕ) (h : Live l est p) where
-    word-of : p < code ws .size
-    word-of = omega (arith, laid .size, h .word)
-
     is-live : T (sets (code ws) est (L p) 0)
     unfolding base
     is-live =
         let e : sets (code ws) est (L p) 0 ≡ true =
-        sets-L (code ws) p est word-of
+        sets-L (code ws) p est (word-of p (h .word))
         ∙ ap₂ (λ (n r : ℕ). member (getD est (2 * n * r + p) 0) 24) (laid .size) (laid .row)
         ∙ h .flag
         in
@@ -157,6 +169,6 @@ module _ (ws links masks est scratch : List ℕ) (l : Layout) (a : Running ws li
     may-flow n e =
         subst (λ (m : Node). May (code ws) est (flow (code ws) p m)) e
         record {
-          fits = rule-fits (code ws) (code-linked ws (a .ready .readable)) p word-of 0 .1;
-          allowed = λ ρ d o i. o p word-of .1 (i (L p) 0 is-live);
+          fits = rule-fits (code ws) (code-linked ws (a .ready .readable)) p (word-of p (h .word)) 0 .1;
+          allowed = λ ρ d o i. o p (word-of p (h .word)) .1 (i (L p) 0 is-live);
         }

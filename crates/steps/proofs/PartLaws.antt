@@ -66,10 +66,10 @@ nothing-fired l est = record { words = λ c o. sym (fire-none c est); count = om
 -- ---- where the parts stand by the links
 
 module _ (links : List ℕ) (p : ℕ) (k j : Link) (m : k ≡ linkAt links (p + 1)) (i : j ≡ linkAt links (k .end)) where
-  second-end : k .end ≡ second links p
+  pub second-end : k .end ≡ second links p
   second-end = ap (λ (x : Link). x .end) m
 
-  third-end : j .end ≡ third links p
+  pub third-end : j .end ≡ third links p
   third-end = ap (λ (x : Link). x .end) i ∙ ap (λ (q : ℕ). linkAt links q .end) second-end
 
   -- what holds of them holds of what was read

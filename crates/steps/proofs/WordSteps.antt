@@ -2,14 +2,21 @@
 use Prim.Native.Nat.{ℕ, _+_, _<_}
 use mathlib.Core.Path.{_≡_, sym, ap, _∙_, subst}
 use mathlib.Core.List.{List}
+use native.Mathlib.Omega.{arith}
+use Rattle.permset.specs.declared.PermSet.{PermSet}
 use Rattle.table.specs.declared.Handler.{Handler}
 use Rattle.table.specs.declared.Item.{Item}
 use Rattle.table.specs.declared.Item.the-variants as items
+use Rattle.table.specs.declared.Link.{Link}
 use Rattle.table.specs.declared.Term.{Term}
+use Rattle.table.specs.declared.Term.the-variants as terms
 use Rattle.table.specs.Item.{itemAt}
 use Rattle.table.specs.Code.{block, code, termNode}
+use Rattle.table.specs.Links.{linkAt}
 use Rattle.table.proofs.Nodes.{itemNode, nodeAt, node-item}
-use Rattle.calculus.specs.Rules.{part, flow}
+use Rattle.calculus.specs.Constraint.{Row, C, B, put, sub}
+use Rattle.calculus.specs.Rules.{part, oneRule, twoRule, flow}
+use Rattle.calculus.specs.Layout.{owner}
 use Rattle.rules.specs.declared.layout.Layout.{Layout}
 use Rattle.rules.specs.Sized.{FiredIn}
 use Rattle.word_rules.proofs.Given.{node-is}
@@ -20,7 +27,7 @@ use Rattle.steps.specs.Running.{Running}
 use Rattle.steps.specs.Live.{Live}
 use Rattle.steps.specs.PartRules.{second, third, shapeOf, partsRule, PartsBelow}
 use Rattle.steps.proofs.May.{May, laid, at-word, kept-in, may-flow}
-use Rattle.steps.proofs.PartLaws.{parts-below, may-parts}
+use Rattle.steps.proofs.PartLaws.{parts-below, may-parts, third-end}
 
 module _ (ws links masks est scratch : List ℕ) (l : Layout) (a : Running ws links masks est scratch l) (p : ℕ) (h : Live l est p) where
   -- ---- a block
@@ -64,3 +71,56 @@ module _ (ws links masks est scratch : List ℕ) (l : Layout) (a : Running ws li
           → Kept (code ws) est new
       shape-kept new n f =
           kept-in ws links masks est scratch l a new n _ (subst (λ (u : Shape). FiredIn l (partsRule u p (p + 1) (second links p) (third links p)) est new n) e f) may-shape
+
+  -- ---- values that are carried on, and what they are read by
+
+  pub value-below : (q : ℕ) (r : Row) → May (code ws) est (sub (C q) r) → q < l .size
+  unfolding owner
+  value-below q r m = omega (arith, m .fits .from, laid ws links masks est scratch l a .size)
+
+  pub cell-held : itemAt ws p ≡ items.Term terms.Cell → May (code ws) est (sub (C (p + 1)) (B p))
+  unfolding flow oneRule termNode
+  cell-held i = let m = may-term terms.Cell i in record { fits = m .fits .1 .1; allowed = λ ρ e o y. m .allowed ρ e o y .1 .1 }
+
+  pub unit-value : (s : PermSet) → itemAt ws p ≡ items.Term (terms.Send s) → May (code ws) est (put (C p) 1)
+  unfolding flow twoRule termNode
+  unit-value s i =
+      let m = may-term (terms.Send s) i in record { fits = m .fits .1 .1 .0; allowed = λ ρ e o y. m .allowed ρ e o y .1 .1 .0 }
+
+  pub let-held : itemAt ws p ≡ items.Term terms.Let → (q : ℕ) → q ≡ p + 1 → May (code ws) est (sub (C q) (B p))
+  unfolding flow termNode
+  let-held i q z =
+      let m = may-term terms.Let i in
+      subst (λ (x : ℕ). May (code ws) est (sub (C x) (B p))) (sym z)
+      record { fits = m .fits .1 .1 .0; allowed = λ ρ e o y. m .allowed ρ e o y .1 .1 .0 }
+
+  module _ (k : Link) (w : k ≡ linkAt links (p + 1)) where
+    -- the value of the second part, which stands at q
+    at-second : (q : ℕ) → q ≡ k .end → May (code ws) est (sub (C (second links p)) (C p)) → May (code ws) est (sub (C q) (C p))
+    at-second q z m = subst (λ (x : ℕ). May (code ws) est (sub (C x) (C p))) (sym (z ∙ ap (λ (y : Link). y .end) w)) m
+
+    pub let-value : itemAt ws p ≡ items.Term terms.Let → (q : ℕ) → q ≡ k .end → May (code ws) est (sub (C q) (C p))
+    unfolding flow termNode
+    let-value i q z =
+        let m = may-term terms.Let i in
+        at-second q z record { fits = m .fits .1 .1 .1; allowed = λ ρ e o y. m .allowed ρ e o y .1 .1 .1 }
+
+    pub sequence-value : itemAt ws p ≡ items.Term terms.Sequence → (q : ℕ) → q ≡ k .end → May (code ws) est (sub (C q) (C p))
+    unfolding flow twoRule termNode
+    sequence-value i q z =
+        let m = may-term terms.Sequence i in
+        at-second q z record { fits = m .fits .1 .1; allowed = λ ρ e o y. m .allowed ρ e o y .1 .1 }
+
+    pub true-value : itemAt ws p ≡ items.Term terms.If → (q : ℕ) → q ≡ k .end → May (code ws) est (sub (C q) (C p))
+    unfolding flow termNode
+    true-value i q z =
+        let m = may-term terms.If i in
+        at-second q z record { fits = m .fits .1 .1 .1 .1 .1 .0; allowed = λ ρ e o y. m .allowed ρ e o y .1 .1 .1 .1 .1 .0 }
+
+    pub false-value : itemAt ws p ≡ items.Term terms.If → (j : Link) → j ≡ linkAt links (k .end) → (q : ℕ) → q ≡ j .end
+        → May (code ws) est (sub (C q) (C p))
+    unfolding flow termNode
+    false-value i j v q z =
+        let m = may-term terms.If i in
+        subst (λ (x : ℕ). May (code ws) est (sub (C x) (C p))) (sym (z ∙ third-end links p k j w v))
+        record { fits = m .fits .1 .1 .1 .1 .1 .1; allowed = λ ρ e o y. m .allowed ρ e o y .1 .1 .1 .1 .1 .1 }
