@@ -1,7 +1,7 @@
 -- What may be done at any time: a rule that every estimate which obeys the rules and contains the present one obeys, and what firing it keeps.
 use Prim.Native.Nat.{ℕ, _+_, _*_, _<_}
 use mathlib.Core.Path.{_≡_, refl, sym, ap₂, _∙_, subst}
-use mathlib.Core.Bool.{Bool, true, _&&_}
+use mathlib.Core.Bool.{Bool, true}
 use mathlib.Core.List.{List, List·Memᴰ}
 use native.Mathlib.Omega.{arith}
 use lib.Dec.{T}
@@ -10,7 +10,7 @@ use Rattle.permset.specs.Sets.{member}
 use Rattle.table.specs.Code.{Code, Node, code}
 use Rattle.table.proofs.Linked.{linked as code-linked}
 use Rattle.calculus.specs.Constraint.{Row, L, Sets, Rule, Obeys, none, given, some, only, each, _and_}
-use Rattle.calculus.specs.Rules.{flow, entry, rule, Estimate}
+use Rattle.calculus.specs.Rules.{flow, rule, Estimate}
 use Rattle.calculus.specs.Layout.{bit, base, place, allowed, sets, WellFormed, LiesIn}
 use Rattle.calculus.specs.Estimate.{fire}
 use Rattle.calculus.proofs.Digits.{T-and, T-fst, T-snd}

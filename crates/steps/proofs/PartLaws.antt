@@ -9,7 +9,7 @@ use Rattle.table.specs.declared.Term.the-variants as terms
 use Rattle.table.specs.Code.{Code, termNode}
 use Rattle.table.specs.Links.{linkAt}
 use Rattle.calculus.specs.Constraint.{none, _and_}
-use Rattle.calculus.specs.Rules.{part, waiting, flow}
+use Rattle.calculus.specs.Rules.{waiting, flow}
 use Rattle.calculus.specs.Layout.{owner}
 use Rattle.calculus.proofs.Firing.{Fits}
 use Rattle.calculus.proofs.Folds.{fire-none}

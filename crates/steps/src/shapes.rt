@@ -12,7 +12,6 @@ ghost use Rattle.calculus.specs.Constraint.{_and_};
 ghost use Rattle.calculus.specs.Rules.{part};
 ghost use Rattle.rules.specs.Sized.{Sized, FiredIn};
 ghost use Rattle.steps.specs.PartRules.{second, third, shapeOf, partsRule, PartsBelow};
-ghost use Rattle.steps.specs.declared.shapes.Shape.the-variants as shapes;
 
 // No part that runs with the term; one; two; a test and a body; a test and two branches; three.
 pub enum Shape {

@@ -2,7 +2,6 @@
 -- Assumes nothing.
 use mathlib.Core.Path.{sym, subst, _∙_}
 use lib.Dec.{T}
-use native.Mathlib.Omega.{arith}
 use borrow.Author.Needs.{needs}
 use Rattle.steps.proofs.live.runs.Statement.{statement}
 use Rattle.steps.proofs.live.runs.Tie as tie

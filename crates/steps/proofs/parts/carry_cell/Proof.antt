@@ -11,11 +11,13 @@ runs-requires : tie.Need-runs-requires
 runs-requires c κs = has-size _ _ _ _ _ _ (c .before .before .before .before .before .before .before .pre .0)
 
 add-value-to-held : tie.Need-add-value-to-held
-add-value-to-held c = let h = c .before .before .before .before .runs .ensures (c .before .before .before .if1 .taken) in
+add-value-to-held c =
+    let h = c .before .before .before .before .runs .ensures (c .before .before .before .if1 .taken) in
     omega (arith, h .word, has-size _ _ _ _ _ _ (c .before .before .before .before .before .before .before .before .before .before .before .before .pre .0) .size)
 
 value-to-held-requires : tie.Need-value-to-held-requires
-value-to-held-requires c κs = let s = c .before .before .before .before .before .before .before .before .before .before .before .before in
+value-to-held-requires c κs =
+    let s = c .before .before .before .before .before .before .before .before .before .before .before .before in
     let h = c .before .before .before .before .runs .ensures (c .before .before .before .if1 .taken) in
     let m = cell-held _ _ _ _ _ _ (s .pre .0) _ h (s .pre .1) in
     (has-size _ _ _ _ _ _ (s .pre .0), s .pre .0 .room, value-below _ _ _ _ _ _ (s .pre .0) _ h _ _ m, h .word)
@@ -30,7 +32,8 @@ same-length-3 : tie.Need-same-length-3
 same-length-3 c = search needs
 
 returns : tie.Need-returns
-returns c = let s = c .before .before .before .before .before .before .before .before .before .before .before .before .before .before .before .before .before .before .before in
+returns c =
+    let s = c .before .before .before .before .before .before .before .before .before .before .before .before .before .before .before .before .before .before .before in
     let h = c .before .before .before .before .before .before .before .before .before .before .before .runs .ensures (c .before .before .before .before .before .before .before .before .before .before .if1 .taken) in
     let m = cell-held _ _ _ _ _ _ (s .pre .0) _ h (s .pre .1) in
     kept-in _ _ _ _ _ _ (s .pre .0) _ _ _ (c .before .before .before .before .before .before .value-to-held .ensures) m

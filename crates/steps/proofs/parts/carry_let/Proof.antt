@@ -11,24 +11,28 @@ runs-requires : tie.Need-runs-requires
 runs-requires c κs = has-size _ _ _ _ _ _ (c .before .before .before .before .before .before .before .pre .0)
 
 add-link-at : tie.Need-add-link-at
-add-link-at c = let h = c .before .runs .ensures (c .if1 .taken) in
+add-link-at c =
+    let h = c .before .runs .ensures (c .if1 .taken) in
     omega (arith, h .word, has-size _ _ _ _ _ _ (c .before .before .before .before .before .before .before .before .before .pre .0) .size)
 
 link-at-requires : tie.Need-link-at-requires
 link-at-requires c κs = search needs
 
 value-to-value-requires : tie.Need-value-to-value-requires
-value-to-value-requires c κs = let s = c .before .before .before .before .before .before .before .before .before .before .before .before .before .before in
+value-to-value-requires c κs =
+    let s = c .before .before .before .before .before .before .before .before .before .before .before .before .before .before in
     let h = c .before .before .before .before .before .before .runs .ensures (c .before .before .before .before .before .if1 .taken) in
     let m = let-value _ _ _ _ _ _ (s .pre .0) _ h _ (c .before .before .before .before .link-at .ensures) (s .pre .1) _ (c .before .before .before .if2 .taken) in
     (has-size _ _ _ _ _ _ (s .pre .0), s .pre .0 .room, value-below _ _ _ _ _ _ (s .pre .0) _ h _ _ m, h .word)
 
 add-if3 : tie.Need-add-if3
-add-if3 c = let h = c .before .before .before .runs .ensures (c .before .before .if1 .taken) in
+add-if3 c =
+    let h = c .before .before .before .runs .ensures (c .before .before .if1 .taken) in
     omega (arith, h .word, has-size _ _ _ _ _ _ (c .before .before .before .before .before .before .before .before .before .before .before .pre .0) .size)
 
 value-to-held-requires : tie.Need-value-to-held-requires
-value-to-held-requires c κs = let s = c .before .before .before .before .before .before .before .before .before .before .before .before .before .before .before in
+value-to-held-requires c κs =
+    let s = c .before .before .before .before .before .before .before .before .before .before .before .before .before .before .before in
     let h = c .before .before .before .before .before .before .before .runs .ensures (c .before .before .before .before .before .before .if1 .taken) in
     let m = let-held _ _ _ _ _ _ (s .pre .0) _ h (s .pre .1) _ (c .before .before .before .if3 .taken) in
     (has-size _ _ _ _ _ _ (s .pre .0), s .pre .0 .room, value-below _ _ _ _ _ _ (s .pre .0) _ h _ _ m, h .word)
@@ -43,7 +47,8 @@ same-length-3 : tie.Need-same-length-3
 same-length-3 c = search needs
 
 returns : tie.Need-returns
-returns c = let s = c .before .before .before .before .before .before .before .before .before .before .before .before .before .before .before .before .before .before .before .before .before in
+returns c =
+    let s = c .before .before .before .before .before .before .before .before .before .before .before .before .before .before .before .before .before .before .before .before .before in
     let h = c .before .before .before .before .before .before .before .before .before .before .before .before .before .runs .ensures (c .before .before .before .before .before .before .before .before .before .before .before .before .if1 .taken) in
     let m = let-value _ _ _ _ _ _ (s .pre .0) _ h _ (c .before .before .before .before .before .before .before .before .before .before .before .link-at .ensures) (s .pre .1) _ (c .before .before .before .before .before .before .before .before .before .before .if2 .taken) in
     kept-in _ _ _ _ _ _ (s .pre .0) _ _ _ (c .before .before .before .before .before .before .value-to-value .ensures) m
@@ -58,7 +63,8 @@ same-length-6 : tie.Need-same-length-6
 same-length-6 c = search needs
 
 returns-2 : tie.Need-returns-2
-returns-2 c = let s = c .before .before .before .before .before .before .before .before .before .before .before .before .before .before .before .before .before .before .before .before .before .before in
+returns-2 c =
+    let s = c .before .before .before .before .before .before .before .before .before .before .before .before .before .before .before .before .before .before .before .before .before .before in
     let h = c .before .before .before .before .before .before .before .before .before .before .before .before .before .before .runs .ensures (c .before .before .before .before .before .before .before .before .before .before .before .before .before .if1 .taken) in
     let m = let-held _ _ _ _ _ _ (s .pre .0) _ h (s .pre .1) _ (c .before .before .before .before .before .before .before .before .before .before .if3 .taken) in
     kept-in _ _ _ _ _ _ (s .pre .0) _ _ _ (c .before .before .before .before .before .before .value-to-held .ensures) m

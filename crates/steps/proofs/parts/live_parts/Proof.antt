@@ -20,7 +20,8 @@ add-fire-part : tie.Need-add-fire-part
 add-fire-part c = search needs
 
 fire-part-requires : tie.Need-fire-part-requires
-fire-part-requires c κs = let s = c .before .before .before .before .before .before .before .before .before .before .before in
+fire-part-requires c κs =
+    let s = c .before .before .before .before .before .before .before .before .before .before .before in
     (has-size _ _ _ _ _ _ (s .pre .0), s .pre .1 .word, block-inside _ _ _ _ _ _ (s .pre .0) _ (s .pre .1) _ (c .before .before .before .before .item-at .ensures) _ (c .before .before .enum-told2 .given .1))
 
 enum-known-t : tie.Need-enum-known-t
@@ -30,7 +31,8 @@ shape-of-requires : tie.Need-shape-of-requires
 shape-of-requires c κs = search needs
 
 fire-shape-requires : tie.Need-fire-shape-requires
-fire-shape-requires c κs = let s = c .before .before .before .before .before .before .before .before .before .before .before .before .before in
+fire-shape-requires c κs =
+    let s = c .before .before .before .before .before .before .before .before .before .before .before .before .before in
     ((has-size _ _ _ _ _ _ (s .pre .0), s .pre .1 .word), shape-below _ _ _ _ _ _ (s .pre .0) _ (s .pre .1) _ (sym (c .before .before .before .before .before .before .item-at .ensures) ∙ c .before .before .before .before .t .given .1) _ (c .shape-of .ensures))
 
 returns : tie.Need-returns
@@ -43,7 +45,8 @@ same-length-2 : tie.Need-same-length-2
 same-length-2 c = search needs
 
 returns-2 : tie.Need-returns-2
-returns-2 c = let s = c .before .before .before .before .before .before .before .before .before .before .before .before .before .before .before .before in
+returns-2 c =
+    let s = c .before .before .before .before .before .before .before .before .before .before .before .before .before .before .before .before in
     block-kept _ _ _ _ _ _ (s .pre .0) _ (s .pre .1) _ (c .before .before .before .before .before .before .before .before .before .item-at .ensures) _ (c .before .before .before .before .before .before .before .enum-told2 .given .1) _ _ (c .before .before .before .before .fire-part .ensures)
 
 same-length-3 : tie.Need-same-length-3
@@ -53,7 +56,8 @@ same-length-4 : tie.Need-same-length-4
 same-length-4 c = search needs
 
 returns-3 : tie.Need-returns-3
-returns-3 c = let s = c .before .before .before .before .before .before .before .before .before .before .before .before .before .before .before .before .before .before in
+returns-3 c =
+    let s = c .before .before .before .before .before .before .before .before .before .before .before .before .before .before .before .before .before .before in
     shape-kept _ _ _ _ _ _ (s .pre .0) _ (s .pre .1) _ (sym (c .before .before .before .before .before .before .before .before .before .before .before .item-at .ensures) ∙ c .before .before .before .before .before .before .before .before .before .t .given .1) _ (c .before .before .before .before .before .shape-of .ensures) _ _ (c .before .before .before .before .fire-shape .ensures)
 
 pub live-parts-spec : {M : Type 1} → statement M

@@ -16,7 +16,8 @@ runs-requires : tie.Need-runs-requires
 runs-requires c κs = has-size _ _ _ _ _ _ (c .before .before .before .before .before .before .before .before .before .pre .0)
 
 put-value-requires : tie.Need-put-value-requires
-put-value-requires c κs = let s = c .before .before .before .before .before .before .before .before .before .before .before .before .before in
+put-value-requires c κs =
+    let s = c .before .before .before .before .before .before .before .before .before .before .before .before .before in
     let z = has-size _ _ _ _ _ _ (s .pre .0) in
     (z, c .before .before .before .runs .ensures (c .before .before .if1 .taken) .word, omega (arith, z .least))
 
@@ -27,7 +28,8 @@ same-length-2 : tie.Need-same-length-2
 same-length-2 c = search needs
 
 returns : tie.Need-returns
-returns c = let s = c .before .before .before .before .before .before .before .before .before .before .before .before .before .before .before .before .before .before in
+returns c =
+    let s = c .before .before .before .before .before .before .before .before .before .before .before .before .before .before .before .before .before .before in
     let h = c .before .before .before .before .before .before .before .before .runs .ensures (c .before .before .before .before .before .before .before .if1 .taken) in
     let m = unit-value _ _ _ _ _ _ (s .pre .0) _ h _ (s .pre .1 ∙ ap items.Term (c .before .before .before .before .before .before .before .before .before .before .enum-told .given .1)) in
     kept-in _ _ _ _ _ _ (s .pre .0) _ _ _ (c .before .before .before .before .put-value .ensures) m

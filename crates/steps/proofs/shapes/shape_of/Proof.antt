@@ -1,7 +1,6 @@
 -- `steps::shapes::shape_of` meets its contract: an arm for each term with parts.
 -- Assumes nothing.
 use mathlib.Core.Path.{_≡_, refl, sym, ap}
-use mathlib.Core.List.{List, [], _∷_}
 use types.Run.{OneOf, miss}
 use denote.Enum.Declared.{tagOf}
 use Rattle.table.specs.declared.Term.{Term}
