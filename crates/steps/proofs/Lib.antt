@@ -1,0 +1,4 @@
+pub mod May
+pub mod PartLaws
+pub mod SendSteps
+pub mod WordSteps
