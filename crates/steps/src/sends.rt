@@ -1,7 +1,6 @@
 // The step of a send for one block.
 use crate::live::runs;
 use permset::PermSet;
-use rows::row::any;
 use rules::layout::Layout;
 use rules::made::Site;
 use rules::send::Message;
@@ -9,18 +8,15 @@ use rules::send::permissions_at;
 use rules::send::send_to;
 use table::Item;
 use table::Term;
+use word_rules::send::has_message;
 ghost use mathlib.Core.Path.{_≡_};
 ghost use mathlib.Core.Bool.{true};
-ghost use Prim.Native.Nat.{_*_, _<_};
-ghost use lib.ListN.{length, take, drop};
 ghost use Rattle.table.specs.Item.{itemAt};
 ghost use Rattle.table.specs.Scan.{accepted, reading};
 ghost use Rattle.table.specs.Code.{code};
 ghost use Rattle.calculus.specs.Elements.{sendable};
 ghost use Rattle.calculus.specs.Constraint.{C, some};
-ghost use Rattle.rows.specs.Rows.{meets};
 ghost use Rattle.rules.specs.Fired.{Fired};
-ghost use Rattle.rules.specs.Sized.{Sized};
 ghost use Rattle.rules.specs.Sending.{sendRule, Sends};
 ghost use Rattle.steps.specs.Live.{Live};
 ghost use Rattle.steps.specs.Running.{Running};
@@ -39,15 +35,6 @@ fn is_block(words: &[u32], b: usize) -> bool
         Item::Block(_) => true,
         Item::Term(_) => false,
     }
-}
-
-// Whether C(d) has what may be sent.
-fn has_message(est: &[u32], messages: &[u32], l: Layout, d: usize) -> bool
-    requires { ⌜ Sized l (now est) × (d < l .size) × (length (now messages) ≡ l .row) ⌝ }
-    ensures { λ r. ⌜ r ≡ meets (now (messages .entry)) (take (l .row) (drop (2 * d * l .row) (now (est .entry)))) ⌝ }
-{
-    let at = 2 * d * l.row;
-    any(&est[at..at + l.row], messages)
 }
 
 // The rule for the block at b, if there is a message.
