@@ -1,1 +1,2 @@
 // Sound steps: parts of the rule of a word, each under the tests that the rule makes.
+pub mod things;
