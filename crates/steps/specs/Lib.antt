@@ -1,3 +1,4 @@
+pub mod Live
 pub mod Sound
 pub mod Running
 pub mod Found

@@ -1,2 +1,3 @@
 // Sound steps: parts of the rule of a word, each under the tests that the rule makes.
+pub mod live;
 pub mod things;

@@ -1,34 +1,158 @@
 // Steps at one thing: what a term does for a function, a record or a cell that its first part may be, and for one block that it sends to.
+use crate::live::runs;
 use rules::layout::Layout;
+use rules::made::Action;
+use rules::made::Site;
+use rules::made::act;
 use rules::results::has_digit;
-use word_rules::word::is_live;
+use rules::small::has_string;
 ghost use mathlib.Core.Path.{_≡_};
 ghost use mathlib.Core.Bool.{true};
 ghost use Prim.Native.Nat.{_+_, _*_, _<_, _≤_};
 ghost use lib.ListN.{length};
+ghost use Rattle.table.specs.Item.{itemAt};
+ghost use Rattle.table.specs.Code.{code};
 ghost use Rattle.rules.specs.Sized.{Sized};
 ghost use Rattle.steps.specs.Found.{Holds, Found};
+ghost use Rattle.steps.specs.Running.{Running};
+ghost use Rattle.steps.specs.Sound.{Kept};
+ghost use Rattle.table.specs.declared.Item.the-variants as items;
+ghost use Rattle.table.specs.declared.Term.the-variants as terms;
 
-// Whether the thing f is in C(a) and in the mask.
-fn has_thing(est: &[u32], mask: &[u32], l: Layout, a: usize, f: usize) -> bool
-    requires { ⌜ Sized l (now est) × (a < l .size) × (length (now mask) ≡ l .row) × (l .size + 64 ≤ 32 * l .row) ⌝ }
-    ensures { λ r. ⌜ (r ≡ true → Holds (now (est .entry)) (now (mask .entry)) l a f) ⌝ }
+// Whether the thing f is in C(a) and in the mask of the sort.
+fn has_thing(est: &[u32], masks: &[u32], l: Layout, sort: usize, a: usize, f: usize) -> bool
+    requires { ⌜ Sized l (now est) × (a < l .size) × (sort < 4) × (4 * l .row ≤ length (now masks)) × (l .size + 64 ≤ 32 * l .row) ⌝ }
+    ensures { λ r. ⌜ (r ≡ true → Holds (now (est .entry)) (now (masks .entry)) l sort a f) ⌝ }
 {
     if f >= l.size {
         return false;
     }
-    let k = 2 + f / 32;
-    let at = 2 * a * l.row + k;
-    has_digit(est[at] & mask[k], (f % 32) as u32)
+    let at = 2 * a * l.row + (2 + f / 32);
+    let of = sort * l.row + (2 + f / 32);
+    has_digit(est[at] & masks[of], (f % 32) as u32)
 }
 
-// Whether p is live and the thing f is in C(p + 1) and in the mask.
-fn finds(est: &[u32], mask: &[u32], l: Layout, p: usize, f: usize) -> bool
-    requires { ⌜ Sized l (now est) × (p + 1 < l .size) × (length (now mask) ≡ l .row) × (l .size + 64 ≤ 32 * l .row) ⌝ }
-    ensures { λ r. ⌜ (r ≡ true → Found (now (est .entry)) (now (mask .entry)) l p f) ⌝ }
+// Whether p is live and the thing f is in C(p + 1) and in the mask of the sort.
+fn finds(est: &[u32], masks: &[u32], l: Layout, sort: usize, p: usize, f: usize) -> bool
+    requires { ⌜ Sized l (now est) × (p + 1 < l .size) × (sort < 4) × (4 * l .row ≤ length (now masks)) × (l .size + 64 ≤ 32 * l .row) ⌝ }
+    ensures { λ r. ⌜ (r ≡ true → Found (now (est .entry)) (now (masks .entry)) l sort p f) ⌝ }
 {
-    if !is_live(est, l, p) {
-        return false;
+    if runs(est, l, p) {
+        has_thing(est, masks, l, sort, p + 1, f)
+    } else {
+        false
     }
-    has_thing(est, mask, l, p + 1, f)
+}
+
+// All of an application for the function f.
+fn meet_apply(
+    words: &[u32],
+    links: &[u32],
+    masks: &[u32],
+    est: &mut [u32],
+    scratch: &mut [u32],
+    log: &mut [u32],
+    l: Layout,
+    p: usize,
+    f: usize,
+)
+    requires { ⌜ Running (now words) (now links) (now masks) (now est) (now scratch) l ⌝ }
+    requires { ⌜ itemAt (now words) p ≡ items.Term terms.Apply ⌝ }
+    ensures { λ _. ⌜ Kept (code (now (words .entry))) (now (est .entry)) (now (est .exit)) ⌝ }
+{
+    let d = table::links::link_at(links, p + 1).end;
+    if finds(est, masks, l, 0, p, f) {
+        act(est, scratch, log, l, Site { p, d }, Action::Apply, f);
+    }
+}
+
+// An assignment for the cell f.
+fn meet_assign(
+    words: &[u32],
+    links: &[u32],
+    masks: &[u32],
+    est: &mut [u32],
+    scratch: &mut [u32],
+    log: &mut [u32],
+    l: Layout,
+    p: usize,
+    f: usize,
+)
+    requires { ⌜ Running (now words) (now links) (now masks) (now est) (now scratch) l ⌝ }
+    requires { ⌜ itemAt (now words) p ≡ items.Term terms.Assign ⌝ }
+    ensures { λ _. ⌜ Kept (code (now (words .entry))) (now (est .entry)) (now (est .exit)) ⌝ }
+{
+    let d = table::links::link_at(links, p + 1).end;
+    if finds(est, masks, l, 2, p, f) {
+        act(est, scratch, log, l, Site { p, d }, Action::Assign, f);
+    }
+}
+
+// A read for the cell f; it has no second part.
+fn meet_read(
+    words: &[u32],
+    links: &[u32],
+    masks: &[u32],
+    est: &mut [u32],
+    scratch: &mut [u32],
+    log: &mut [u32],
+    l: Layout,
+    p: usize,
+    f: usize,
+)
+    requires { ⌜ Running (now words) (now links) (now masks) (now est) (now scratch) l ⌝ }
+    requires { ⌜ itemAt (now words) p ≡ items.Term terms.Read ⌝ }
+    ensures { λ _. ⌜ Kept (code (now (words .entry))) (now (est .entry)) (now (est .exit)) ⌝ }
+{
+    if finds(est, masks, l, 2, p, f) {
+        act(est, scratch, log, l, Site { p, d: p }, Action::Read, f);
+    }
+}
+
+// A get for the record f.
+fn meet_get(
+    words: &[u32],
+    links: &[u32],
+    masks: &[u32],
+    est: &mut [u32],
+    scratch: &mut [u32],
+    log: &mut [u32],
+    l: Layout,
+    p: usize,
+    f: usize,
+)
+    requires { ⌜ Running (now words) (now links) (now masks) (now est) (now scratch) l ⌝ }
+    requires { ⌜ itemAt (now words) p ≡ items.Term terms.Get ⌝ }
+    ensures { λ _. ⌜ Kept (code (now (words .entry))) (now (est .entry)) (now (est .exit)) ⌝ }
+{
+    let d = table::links::link_at(links, p + 1).end;
+    if has_string(est, l, d) {
+        if finds(est, masks, l, 1, p, f) {
+            act(est, scratch, log, l, Site { p, d }, Action::Get, f);
+        }
+    }
+}
+
+// A set for the record f; what is done for it names no other part.
+fn meet_set(
+    words: &[u32],
+    links: &[u32],
+    masks: &[u32],
+    est: &mut [u32],
+    scratch: &mut [u32],
+    log: &mut [u32],
+    l: Layout,
+    p: usize,
+    f: usize,
+)
+    requires { ⌜ Running (now words) (now links) (now masks) (now est) (now scratch) l ⌝ }
+    requires { ⌜ itemAt (now words) p ≡ items.Term terms.Set ⌝ }
+    ensures { λ _. ⌜ Kept (code (now (words .entry))) (now (est .entry)) (now (est .exit)) ⌝ }
+{
+    let d = table::links::link_at(links, p + 1).end;
+    if has_string(est, l, d) {
+        if finds(est, masks, l, 1, p, f) {
+            act(est, scratch, log, l, Site { p, d }, Action::Set, f);
+        }
+    }
 }
