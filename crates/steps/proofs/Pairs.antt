@@ -21,7 +21,7 @@ use Rattle.table.specs.Code.{Code, code}
 use Rattle.table.proofs.Nodes.{term-at}
 use Rattle.calculus.specs.Elements.{made, Making, makes, isFunction, isRecord, isCell, isString}
 use Rattle.calculus.specs.Constraint.{C, B, P, L, Rule, put, sub, given, some, only, range, _and_}
-use Rattle.calculus.specs.Rules.{eachMade, flow}
+use Rattle.calculus.specs.Rules.{fill, eachMade, flow}
 use Rattle.calculus.specs.Layout.{bit, base, span, sets, rowWords}
 use Rattle.calculus.proofs.Digits.{T-fst, T-snd}
 use Rattle.calculus.proofs.Firing.{any-found}
@@ -33,6 +33,7 @@ use Rattle.rules.specs.declared.layout.Layout.{Layout}
 use Rattle.rules.specs.declared.made.Action.{Action}
 use Rattle.rules.specs.declared.made.Action.the-variants as actions
 use Rattle.rules.specs.Sized.{Sized, FiredIn}
+use Rattle.rules.specs.Well.{FiredWell}
 use Rattle.rules.specs.Made.{actionRule, Picks, Placed}
 use Rattle.rules.proofs.Handed.{picks-made, picks-records}
 use Rattle.rules.proofs.Spelled.{read-is, apply-is, assign-is, get-is}
@@ -41,8 +42,9 @@ use Rattle.word_rules.proofs.Given.{placed}
 use Rattle.word_rules.proofs.Terms.{read-at, apply-at, assign-at, get-at, set-at, no-read, no-assign, no-get, no-set, functions-things, masks-long}
 use Rattle.steps.specs.Sound.{Kept}
 use Rattle.steps.specs.Running.{Running}
+use Rattle.steps.specs.Live.{Live}
 use Rattle.steps.specs.Found.{Holds, Found}
-use Rattle.steps.proofs.May.{May, may-left, may-right, may-given, may-only, may-some, may-each, may-flow, laid, has-size, at-word, kept-in}
+use Rattle.steps.proofs.May.{May, may-left, may-right, may-given, may-only, may-some, may-each, may-flow, laid, has-size, at-word, kept-in, kept-well, kept-and, still, may-later}
 
 -- a mask of the four is inside
 pub mask-inside : (sort row n : ℕ) → sort < 4 → 4 * row ≤ n → sort * row + row ≤ n
@@ -242,3 +244,43 @@ module _ (ws links masks est scratch : List ℕ) (l : Layout) (a : Running ws li
   module _ (action : Action) (p d f : ℕ) (s : Step ws est scratch l action p d f) where
     pub kept-step : (new : List ℕ) (n : ℕ) → FiredIn l (actionRule action p d f) est new n → Kept (code ws) est new
     kept-step new n g = kept-in ws links masks est scratch l a new n (actionRule action p d f) g (s .may)
+
+  -- ---- the parts of an application
+
+  module _ (p d f : ℕ) (s : Step ws est scratch l actions.Apply p d f) where
+    may-call : May (code ws) est (put (L (f + 1)) 0 and sub (C d) (B f) and sub (C (f + 1)) (C p) and sub (P (f + 1)) (P p))
+    unfolding actionRule
+    may-call =
+        let z : suc f ≡ f + 1 = omega arith in
+        subst (λ (g : ℕ). May (code ws) est (put (L g) 0 and sub (C d) (B f) and sub (C g) (C p) and sub (P g) (P p))) z (s .may)
+
+    pub kept-values : (new : List ℕ) (n : ℕ) → FiredIn l (sub (C (f + 1)) (C p)) est new n → Kept (code ws) est new
+    kept-values new n g =
+        kept-in ws links masks est scratch l a new n _ g (may-left _ _ _ _ (may-right _ _ _ _ (may-right _ _ _ _ may-call)))
+
+    pub kept-perms : (new : List ℕ) (n : ℕ) → FiredIn l (sub (P (f + 1)) (P p)) est new n → Kept (code ws) est new
+    kept-perms new n g =
+        kept-in ws links masks est scratch l a new n _ g (may-right _ _ _ _ (may-right _ _ _ _ (may-right _ _ _ _ may-call)))
+
+    pub kept-entered : (mid new : List ℕ) (m n : ℕ) → FiredIn l (put (L (f + 1)) 0) est mid m → FiredIn l (sub (C d) (B f)) mid new n
+        → Kept (code ws) est new
+    kept-entered mid new m n g j =
+        let k = kept-in ws links masks est scratch l a mid m _ g (may-left _ _ _ _ may-call) in
+        kept-and (code ws) est mid new k
+        (kept-in ws links masks mid scratch l (still ws links masks est scratch l a mid k) new n _ j
+        (may-later ws links masks est scratch l a mid _ (g .words (code ws) (laid ws links masks est scratch l a)) _
+        (may-left _ _ _ _ (may-right _ _ _ _ may-call))))
+
+  -- ---- the opponent's record in a get
+
+  pub kept-filled : (p : ℕ) (h : itemAt ws p ≡ items.Term terms.Get) (k : Link) → k ≡ linkAt links (p + 1) → Live l est p
+      → not (eqb (bitAnd (getD est (2 * k .end * l .row) 0) 0xffffff00) 0) ≡ true
+      → (new : List ℕ) (n : ℕ) → FiredWell l (λ c. given (C (p + 1)) 7 (fill c (C p))) est new n → Kept (code ws) est new
+  unfolding flow
+  kept-filled p h k e v s new n g =
+      let t = get-at ws links masks est scratch l p (at-term p terms.Get h) k e h in
+      kept-well ws links masks est scratch l a new n _ g
+      (may-right _ _ _ _
+      (may-string (k .end) (t .second) s _
+      (subst (May (code ws) est) (get-is (code ws) p (p + 1) (k .end))
+      (may-right _ _ _ _ (may-right _ _ _ _ (may-flow ws links masks est scratch l a p v _ (t .node)))))))

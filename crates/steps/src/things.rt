@@ -4,8 +4,14 @@ use rules::layout::Layout;
 use rules::made::Action;
 use rules::made::Site;
 use rules::made::act;
+use rules::made::live;
+use rules::made::perms;
 use rules::results::has_digit;
+use rules::small::fill_value_if;
 use rules::small::has_string;
+use table::Term;
+use term_rules::flow::value_to_held;
+use term_rules::flow::value_to_value;
 ghost use mathlib.Core.Path.{_≡_};
 ghost use mathlib.Core.Bool.{true};
 ghost use Prim.Native.Nat.{_+_, _*_, _<_, _≤_};
@@ -153,6 +159,121 @@ fn meet_set(
     if has_string(est, l, d) {
         if finds(est, masks, l, 1, p, f) {
             act(est, scratch, log, l, Site { p, d }, Action::Set, f);
+        }
+    }
+}
+
+// What the term t does for the thing f.
+pub fn meet(
+    words: &[u32],
+    links: &[u32],
+    masks: &[u32],
+    est: &mut [u32],
+    scratch: &mut [u32],
+    log: &mut [u32],
+    l: Layout,
+    p: usize,
+    t: Term,
+    f: usize,
+)
+    requires { ⌜ Running (now words) (now links) (now masks) (now est) (now scratch) l ⌝ }
+    requires { ⌜ itemAt (now words) p ≡ items.Term t ⌝ }
+    ensures { λ _. ⌜ Kept (code (now (words .entry))) (now (est .entry)) (now (est .exit)) ⌝ }
+{
+    match t {
+        Term::Apply => meet_apply(words, links, masks, est, scratch, log, l, p, f),
+        Term::Get => meet_get(words, links, masks, est, scratch, log, l, p, f),
+        Term::Set => meet_set(words, links, masks, est, scratch, log, l, p, f),
+        Term::Read => meet_read(words, links, masks, est, scratch, log, l, p, f),
+        Term::Assign => meet_assign(words, links, masks, est, scratch, log, l, p, f),
+        _ => {}
+    }
+}
+
+// An application, into the function f: its body is live and what is handed to it is in its held set.
+pub fn apply_in(
+    words: &[u32],
+    links: &[u32],
+    masks: &[u32],
+    est: &mut [u32],
+    scratch: &mut [u32],
+    log: &mut [u32],
+    l: Layout,
+    p: usize,
+    f: usize,
+)
+    requires { ⌜ Running (now words) (now links) (now masks) (now est) (now scratch) l ⌝ }
+    requires { ⌜ itemAt (now words) p ≡ items.Term terms.Apply ⌝ }
+    ensures { λ _. ⌜ Kept (code (now (words .entry))) (now (est .entry)) (now (est .exit)) ⌝ }
+{
+    let d = table::links::link_at(links, p + 1).end;
+    if finds(est, masks, l, 0, p, f) {
+        live(est, log, l, f + 1);
+        value_to_held(est, scratch, log, l, d, f);
+    }
+}
+
+// An application, out of the function f: the values of its body.
+pub fn apply_out(
+    words: &[u32],
+    links: &[u32],
+    masks: &[u32],
+    est: &mut [u32],
+    scratch: &mut [u32],
+    log: &mut [u32],
+    l: Layout,
+    p: usize,
+    f: usize,
+)
+    requires { ⌜ Running (now words) (now links) (now masks) (now est) (now scratch) l ⌝ }
+    requires { ⌜ itemAt (now words) p ≡ items.Term terms.Apply ⌝ }
+    ensures { λ _. ⌜ Kept (code (now (words .entry))) (now (est .entry)) (now (est .exit)) ⌝ }
+{
+    if finds(est, masks, l, 0, p, f) {
+        value_to_value(est, scratch, log, l, f + 1, p);
+    }
+}
+
+// An application, out of the function f: the permissions of its body.
+pub fn apply_perms(
+    words: &[u32],
+    links: &[u32],
+    masks: &[u32],
+    est: &mut [u32],
+    scratch: &mut [u32],
+    log: &mut [u32],
+    l: Layout,
+    p: usize,
+    f: usize,
+)
+    requires { ⌜ Running (now words) (now links) (now masks) (now est) (now scratch) l ⌝ }
+    requires { ⌜ itemAt (now words) p ≡ items.Term terms.Apply ⌝ }
+    ensures { λ _. ⌜ Kept (code (now (words .entry))) (now (est .entry)) (now (est .exit)) ⌝ }
+{
+    if finds(est, masks, l, 0, p, f) {
+        perms(est, log, l, f + 1, p);
+    }
+}
+
+// All 64 for a get from the opponent's record.
+pub fn get_fill(
+    words: &[u32],
+    links: &[u32],
+    masks: &[u32],
+    est: &mut [u32],
+    scratch: &mut [u32],
+    log: &mut [u32],
+    l: Layout,
+    p: usize,
+)
+    requires { ⌜ Running (now words) (now links) (now masks) (now est) (now scratch) l ⌝ }
+    requires { ⌜ itemAt (now words) p ≡ items.Term terms.Get ⌝ }
+    ensures { λ _. ⌜ Kept (code (now (words .entry))) (now (est .entry)) (now (est .exit)) ⌝ }
+{
+    let d = table::links::link_at(links, p + 1).end;
+    if runs(est, l, p) {
+        if has_string(est, l, d) {
+            fill_value_if(est, log, l, p + 1, p);
         }
     }
 }
