@@ -9,6 +9,7 @@ use rules::made::perms;
 use rules::results::has_digit;
 use rules::small::fill_value_if;
 use rules::small::has_string;
+use table::Item;
 use table::Term;
 use term_rules::flow::value_to_held;
 use term_rules::flow::value_to_value;
@@ -275,5 +276,78 @@ pub fn get_fill(
         if has_string(est, l, d) {
             fill_value_if(est, log, l, p + 1, p);
         }
+    }
+}
+
+// What the term t hands to the thing f.
+pub fn hand_in(
+    words: &[u32],
+    links: &[u32],
+    masks: &[u32],
+    est: &mut [u32],
+    scratch: &mut [u32],
+    log: &mut [u32],
+    l: Layout,
+    p: usize,
+    t: Term,
+    f: usize,
+)
+    requires { ⌜ Running (now words) (now links) (now masks) (now est) (now scratch) l ⌝ }
+    requires { ⌜ itemAt (now words) p ≡ items.Term t ⌝ }
+    ensures { λ _. ⌜ Kept (code (now (words .entry))) (now (est .entry)) (now (est .exit)) ⌝ }
+{
+    match t {
+        Term::Apply => apply_in(words, links, masks, est, scratch, log, l, p, f),
+        _ => meet(words, links, masks, est, scratch, log, l, p, t, f),
+    }
+}
+
+// What the word p takes from the thing f.
+pub fn take_out(
+    words: &[u32],
+    links: &[u32],
+    masks: &[u32],
+    est: &mut [u32],
+    scratch: &mut [u32],
+    log: &mut [u32],
+    l: Layout,
+    p: usize,
+    f: usize,
+)
+    requires { ⌜ Running (now words) (now links) (now masks) (now est) (now scratch) l ⌝ }
+    ensures { λ _. ⌜ Kept (code (now (words .entry))) (now (est .entry)) (now (est .exit)) ⌝ }
+{
+    match table::links::item_at(words, p) {
+        Item::Gap => {}
+        Item::Block(_) => {}
+        Item::Term(t) => match t {
+            Term::Apply => apply_out(words, links, masks, est, scratch, log, l, p, f),
+            _ => meet(words, links, masks, est, scratch, log, l, p, t, f),
+        },
+    }
+}
+
+// The permissions that the word p takes from the function f.
+pub fn take_perms(
+    words: &[u32],
+    links: &[u32],
+    masks: &[u32],
+    est: &mut [u32],
+    scratch: &mut [u32],
+    log: &mut [u32],
+    l: Layout,
+    p: usize,
+    f: usize,
+)
+    requires { ⌜ Running (now words) (now links) (now masks) (now est) (now scratch) l ⌝ }
+    ensures { λ _. ⌜ Kept (code (now (words .entry))) (now (est .entry)) (now (est .exit)) ⌝ }
+{
+    match table::links::item_at(words, p) {
+        Item::Gap => {}
+        Item::Block(_) => {}
+        Item::Term(t) => match t {
+            Term::Apply => apply_perms(words, links, masks, est, scratch, log, l, p, f),
+            _ => {}
+        },
     }
 }
