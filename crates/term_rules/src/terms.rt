@@ -211,6 +211,22 @@ fn set_things(
     n + fill_held_if(est, log, l, s.p + 1, s.p)
 }
 
+// What a set does besides what it does for each record.
+pub fn set_base(
+    est: &mut [u32],
+    scratch: &mut [u32],
+    records: &[u32],
+    log: &mut [u32],
+    l: Layout,
+    s: Site,
+) -> usize
+    requires { ⌜ Placed l s (now est) (now scratch) × (s .p + 1 < l .size) × Things l actions.Set (now records) ⌝ }
+    ensures { λ r. ⌜ FiredFor l (λ c. Mask c (anyRecord c) (now (records .entry))) (λ c. some (C (s .p + 1)) (anyRecord c) (put (C (s .p)) (made c (s .p)) and sub (C (s .d)) (B (s .p))) and given (C (s .p + 1)) 7 (fill c (B (s .p)))) (now (est .entry)) (now (est .exit)) r ⌝ }
+{
+    let n = new_record(est, scratch, records, log, l, s);
+    n + fill_held_if(est, log, l, s.p + 1, s.p)
+}
+
 // What a set does where its second part has a string.
 fn set_all(
     est: &mut [u32],
