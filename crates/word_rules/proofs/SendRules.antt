@@ -70,7 +70,7 @@ sum-fits old mid new m n e f h = omega (arith, facts-most new)
 -- ---- the test for a message
 
 module _ (ws mask est scratch : List ℕ) (l : Layout) (s : Site) (m : Message) (h : Sends ws mask est scratch l s m) where
-  message-found : found (code ws) est (C (s .d)) (sendable (code ws)) ≡ meets mask (take (l .row) (drop (2 * s .d * l .row) est))
+  pub message-found : found (code ws) est (C (s .d)) (sendable (code ws)) ≡ meets mask (take (l .row) (drop (2 * s .d * l .row) est))
   message-found =
       let c = code ws in
       let i : s .d < c .size = omega (arith, h .laid .size, h .placed .second) in

@@ -25,7 +25,7 @@ ghost use Rattle.table.specs.declared.Item.the-variants as items;
 ghost use Rattle.table.specs.declared.Term.the-variants as terms;
 
 // Whether C(d) has what may be sent.
-fn has_message(est: &[u32], messages: &[u32], l: Layout, d: usize) -> bool
+pub fn has_message(est: &[u32], messages: &[u32], l: Layout, d: usize) -> bool
     requires { ⌜ Sized l (now est) × (d < l .size) × (length (now messages) ≡ l .row) ⌝ }
     ensures { λ r. ⌜ r ≡ meets (now (messages .entry)) (take (l .row) (drop (2 * d * l .row) (now (est .entry)))) ⌝ }
 {
