@@ -1,2 +1,3 @@
 pub mod May
 pub mod Pairs
+pub mod Mail

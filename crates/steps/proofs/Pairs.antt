@@ -17,7 +17,7 @@ use Rattle.table.specs.declared.Term.{Term}
 use Rattle.table.specs.declared.Term.the-variants as terms
 use Rattle.table.specs.Item.{itemAt}
 use Rattle.table.specs.Links.{linkAt}
-use Rattle.table.specs.Code.{Code, code}
+use Rattle.table.specs.Code.{code}
 use Rattle.table.proofs.Nodes.{term-at}
 use Rattle.calculus.specs.Elements.{made, Making, makes, isFunction, isRecord, isCell, isString}
 use Rattle.calculus.specs.Constraint.{C, B, P, L, Rule, put, sub, given, some, only, range, _and_}

@@ -3,7 +3,7 @@
 use native.Mathlib.Omega.{arith}
 use lib.Dec.{lit<}
 use Rattle.word_rules.proofs.Terms.{assign-at}
-use Rattle.steps.proofs.May.{has-size, kept-refl}
+use Rattle.steps.proofs.May.{kept-refl}
 use Rattle.steps.proofs.Pairs.{at-term, next-fits, may-find, assign-step, kept-step}
 use borrow.Author.Needs.{needs}
 use Rattle.steps.proofs.things.meet_assign.Statement.{statement}

@@ -1,10 +1,9 @@
 -- `steps::things::meet_read` meets its contract: what is done for each thing of the sort may be done for this one.
 -- Assumes nothing.
-use native.Mathlib.Omega.{arith}
 use lib.Dec.{lit<}
 use Rattle.word_rules.proofs.Terms.{read-at}
-use Rattle.steps.proofs.May.{has-size, kept-refl}
-use Rattle.steps.proofs.Pairs.{at-term, next-fits, may-find, read-step, kept-step}
+use Rattle.steps.proofs.May.{kept-refl}
+use Rattle.steps.proofs.Pairs.{at-term, may-find, read-step, kept-step}
 use borrow.Author.Needs.{needs}
 use Rattle.steps.proofs.things.meet_read.Statement.{statement}
 use Rattle.steps.proofs.things.meet_read.Tie as tie
