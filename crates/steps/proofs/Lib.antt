@@ -1,4 +1,5 @@
 pub mod May
 pub mod PartLaws
-pub mod SendSteps
 pub mod WordSteps
+pub mod Pairs
+pub mod Mail

@@ -2,4 +2,4 @@ pub mod Live
 pub mod PartRules
 pub mod Sound
 pub mod Running
-pub mod Target
+pub mod Found

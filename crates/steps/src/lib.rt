@@ -3,3 +3,4 @@ pub mod live;
 pub mod parts;
 pub mod sends;
 pub mod shapes;
+pub mod things;

@@ -1,8 +1,8 @@
--- `steps::sends::is_block` meets its contract: the item of a block stands only at one.
+-- `steps::sends::is_block` meets its contract: a block's item is met where a block is.
 -- Assumes nothing.
-use mathlib.Core.Path.{sym, subst, _∙_}
-use lib.Dec.{T}
-use Rattle.steps.proofs.SendSteps.{block-target}
+use mathlib.Core.Path.{sym, _∙_}
+use mathlib.Core.Bool.{false≢true}
+use Rattle.steps.proofs.Mail.{block-at}
 use borrow.Author.Needs.{needs}
 use Rattle.steps.proofs.sends.is_block.Statement.{statement}
 use Rattle.steps.proofs.sends.is_block.Tie as tie
@@ -20,13 +20,14 @@ enum-told-3 : tie.Need-enum-told-3
 enum-told-3 c = search needs
 
 returns : tie.Need-returns
-returns c = λ e. absurd (subst T (sym e) tt)
+returns c = λ e. absurd (false≢true e)
 
 returns-2 : tie.Need-returns-2
-returns-2 c = λ e. block-target _ (c .before .before .before .before .pre) _ _ (sym (c .before .before .item-at .ensures) ∙ c .enum-told2 .given .1)
+returns-2 c = λ e. block-at _ (c .before .before .before .before .pre) _ _ (sym (c .before .before .item-at .ensures) ∙ c .enum-told2 .given .1)
 
 returns-3 : tie.Need-returns-3
-returns-3 c = λ e. absurd (subst T (sym e) tt)
+returns-3 c = λ e. absurd (false≢true e)
 
 pub is-block-spec : {M : Type 1} → statement M
-is-block-spec = tie.close (tie.spec item-at-requires enum-told enum-told-2 enum-told-3 returns returns-2 returns-3)
+is-block-spec =
+    tie.close (tie.spec item-at-requires enum-told enum-told-2 enum-told-3 returns returns-2 returns-3)
