@@ -45,6 +45,9 @@ module _ (c : Code) (est : List ℕ) where
   pub may-right : (k j : Rule) → May c est (k and j) → May c est j
   may-right k j m = record { fits = m .fits .1; allowed = λ ρ e o i. m .allowed ρ e o i .1 }
 
+  pub may-both : (k j : Rule) → May c est k → May c est j → May c est (k and j)
+  may-both k j m n = record { fits = (m .fits, n .fits); allowed = λ ρ e o i. (m .allowed ρ e o i, n .allowed ρ e o i) }
+
   -- the first two of three, and the first three of four
   pub first-two : {k j i : Rule} → May c est (k and j and i) → May c est (k and j)
   first-two m = record { fits = (m .fits .0, m .fits .1 .0); allowed = λ ρ e o i. let x = m .allowed ρ e o i in (x .0, x .1 .0) }
