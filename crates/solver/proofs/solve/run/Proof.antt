@@ -11,8 +11,8 @@ slice-aggregate-settle c = search needs
 
 settle-requires : tie.Need-settle-requires
 settle-requires c κs =
-    let a = c .before .before .before .before .before .args in
-    let h = c .before .before .before .before .before .pre in
+    let a = c .before .before .before .before .before .before .args in
+    let h = c .before .before .before .before .before .before .pre in
     record { ready = h .0; well = h .1; room = omega (arith, h .0 .row, row-bound (a .words .now) (h .0 .readable)) }
 
 same-length : tie.Need-same-length
