@@ -13,7 +13,7 @@ use lib.Dec.{T, eqb}
 use lib.Count.{onesIn, ones, ones-step}
 use lib.Bits.{bitAnd, bitOr, bitXor, and-le-l, and-le-r, or-lt, xor-lt, or-add-and, xor-add-and, xor-self, and-comm, or-mod, xor-mod, or-shr, xor-shr}
 use lib.ListN.{length, getD, set, take, drop, take-append-drop, length-drop, drop-of-length-le}
-use lib.Seq.{take-suc, drop-cons, length-take-le, take-nil, drop-nil, take-length, set-getD}
+use lib.Seq.{take-suc, drop-cons, length-take-le, take-nil, drop-nil, take-length, set-getD, getD-take, getD-drop}
 use Rattle.calculus.specs.Layout.{bit, pour, Words}
 use Rattle.calculus.specs.Estimate.{facts}
 use Rattle.calculus.proofs.Digits.{T-true, T-and, T-fst, T-snd}
@@ -75,6 +75,14 @@ or-right-false : (a b : Bool) → (a || b) ≡ false → b ≡ false
 or-right-false true b h = absurd (true≢false h)
 or-right-false false b h = h
 
+or-false : (b : Bool) → (b || false) ≡ b
+or-false true = refl
+or-false false = refl
+
+or-assoc : (a b c : Bool) → (a || (b || c)) ≡ ((a || b) || c)
+or-assoc true b c = refl
+or-assoc false b c = refl
+
 or-none : (a b : ℕ) → eqb (bitOr a b) 0 ≡ (eqb a 0 && eqb b 0)
 or-none a b = go (ℕ-discrete a 0)
   where
@@ -96,7 +104,7 @@ not-and true b = refl
 not-and false b = refl
 
 -- what is missing so far, and in one word more
-pub missing-more : (m x y : ℕ) → not (eqb (bitOr m (bitXor x (bitAnd x y))) 0) ≡ (not (eqb m 0) || not (eqb (bitAnd x y) x))
+missing-more : (m x y : ℕ) → not (eqb (bitOr m (bitXor x (bitAnd x y))) 0) ≡ (not (eqb m 0) || not (eqb (bitAnd x y) x))
 missing-more m x y =
     ap not (or-none m (bitXor x (bitAnd x y)) ∙ ap (λ (b : Bool). eqb m 0 && b) (xor-none x (bitAnd x y)))
     ∙ not-and (eqb m 0) (eqb (bitAnd x y) x)
@@ -240,6 +248,9 @@ module _ (ws : List ℕ) (at row : ℕ) where
   pub length-row : at + row ≤ length ws → length (take row (drop at ws)) ≡ row
   length-row h = length-take-le row (drop at ws) (simp length-drop (omega arith))
 
+  pub getD-row : (i : ℕ) → i < row → getD (take row (drop at ws)) i 0 ≡ getD ws (at + i) 0
+  getD-row i h = getD-take row (drop at ws) i 0 h ∙ getD-drop at ws i 0
+
   pub length-part : at + row ≤ length ws → length (take (at + row - at) (drop at ws)) ≡ row
   length-part h = ap length same-part ∙ length-row h
 
@@ -254,14 +265,27 @@ module _ (ws : List ℕ) (at row : ℕ) where
 -- ---- a row that lacks nothing of another
 
 module _ (xs ys : List ℕ) (i : ℕ) where
-  pub lacking-at : i < length xs → i < length ys
+  lacking-at : i < length xs → i < length ys
       → lacking (drop i xs) (drop i ys) ≡ (not (eqb (bitAnd (getD xs i 0) (getD ys i 0)) (getD xs i 0)) || lacking (drop (i + 1) xs) (drop (i + 1) ys))
   unfolding lacking
   lacking-at h l = rw (add-one, drop-cons xs i 0, drop-cons ys i 0)
 
-  pub lacking-done : length xs ≤ i → lacking (drop i xs) (drop i ys) ≡ false
+  lacking-done : length xs ≤ i → lacking (drop i xs) (drop i ys) ≡ false
   unfolding lacking
   lacking-done h = rw (drop-of-length-le xs h)
+
+  -- what is missing before i, or from i on
+  pub missing-at : (m : ℕ) → i < length xs → i < length ys
+      → (not (eqb m 0) || lacking (drop i xs) (drop i ys))
+      ≡ (not (eqb (bitOr m (bitXor (getD xs i 0) (bitAnd (getD xs i 0) (getD ys i 0)))) 0) || lacking (drop (i + 1) xs) (drop (i + 1) ys))
+  missing-at m h l =
+      let more = not (eqb (bitAnd (getD xs i 0) (getD ys i 0)) (getD xs i 0)) in
+      let rest = lacking (drop (i + 1) xs) (drop (i + 1) ys) in
+      ap (λ (b : Bool). not (eqb m 0) || b) (lacking-at h l) ∙ or-assoc (not (eqb m 0)) more rest
+      ∙ ap (λ (b : Bool). b || rest) (sym (missing-more m (getD xs i 0) (getD ys i 0)))
+
+  pub missing-done : (m : ℕ) → length xs ≤ i → (not (eqb m 0) || lacking (drop i xs) (drop i ys)) ≡ not (eqb m 0)
+  missing-done m h = ap (λ (b : Bool). not (eqb m 0) || b) (lacking-done h) ∙ or-false (not (eqb m 0))
 
   pub meets-at : i < length xs → i < length ys
       → meets (drop i xs) (drop i ys) ≡ (not (eqb (bitAnd (getD xs i 0) (getD ys i 0)) 0) || meets (drop (i + 1) xs) (drop (i + 1) ys))
@@ -303,6 +327,10 @@ length-masked [] [] e = refl
 length-masked [] (x ∷ xs) e = e
 length-masked (m ∷ ms) [] e = refl
 length-masked (m ∷ ms) (x ∷ xs) e = ap suc (length-masked ms xs (omega arith))
+
+pub length-masked-row : (ms ws : List ℕ) (at row : ℕ) → length ms ≡ row → at + row ≤ length ws → length (masked ms (take row (drop at ws))) ≡ row
+length-masked-row ms ws at row e h =
+    let n = length-row ws at row h in length-masked ms (take row (drop at ws)) (e ∙ sym n) ∙ n
 
 pub meets-nonzero : (ms xs : List ℕ) → meets ms xs ≡ nonzero (masked ms xs)
 unfolding meets nonzero masked

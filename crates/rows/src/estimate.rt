@@ -64,9 +64,12 @@ pub fn pass_row(
 {
     let from = a * row;
     let to = b * row;
+    if !row::lacks_masked(est, mask, row, from, to) {
+        return 0;
+    }
     row::copy_masked(&est[from..from + row], mask, scratch);
     let added = row::join(&mut est[to..to + row], &scratch[..row]);
-    note_if(log, b, added);
+    note(log, b);
     added
 }
 

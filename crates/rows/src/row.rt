@@ -91,3 +91,18 @@ pub fn lacks(est: &[u32], row: usize, from: usize, to: usize) -> bool
     }
     missing != 0
 }
+
+// Whether the row of so many words at `to` lacks something of what the one at `from` has in common with a mask.
+pub fn lacks_masked(est: &[u32], mask: &[u32], row: usize, from: usize, to: usize) -> bool
+    requires { ⌜ (from + row ≤ length (now est)) × (to + row ≤ length (now est)) × (length (now mask) ≡ row) ⌝ }
+    ensures { λ r. ⌜ r ≡ lacking (masked (now (mask .entry)) (take row (drop from (now (est .entry))))) (take row (drop to (now (est .entry)))) ⌝ }
+{
+    let mut missing = 0u32;
+    let mut i = 0;
+    while i < row {
+        let x = mask[i] & est[from + i];
+        missing |= x ^ (x & est[to + i]);
+        i += 1;
+    }
+    missing != 0
+}

@@ -19,8 +19,9 @@ use Rattle.rules.specs.Ready.{Ready}
 use Rattle.rules.specs.Sized.{LaidOut}
 use Rattle.word_rules.specs.At.{At}
 use Rattle.solver.specs.Reading.{Readable}
-use Rattle.solver.specs.Sound.{Sound}
-use Rattle.solver.specs.Swept.{Running, Closed}
+use Rattle.steps.specs.Sound.{Sound}
+use Rattle.steps.specs.Running.{Running}
+use Rattle.solver.specs.Swept.{Closed}
 use Rattle.solver.proofs.Bounds.{words-bound}
 use Rattle.solver.proofs.Sounds.{SweptFrom, swept-start, swept-more, zeros-well, closed-least}
 use Rattle.solver.proofs.Zeros.{clear-all}

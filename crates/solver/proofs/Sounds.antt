@@ -18,7 +18,7 @@ use Rattle.calculus.proofs.Firing.{fire-adds, fire-well, fire-inside, fire-obey
 use Rattle.calculus.proofs.Facts.{facts-same}
 use Rattle.calculus.proofs.Fitting.{rule-fits}
 use Rattle.rules.specs.Fired.{Fired}
-use Rattle.solver.specs.Sound.{Sound}
+use Rattle.steps.specs.Sound.{Sound}
 use Rattle.solver.specs.Swept.{Swept, Closed}
 use Rattle.solver.proofs.Zeros.{zeros-at}
 

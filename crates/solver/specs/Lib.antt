@@ -1,5 +1,4 @@
 pub mod Analysis
 pub mod Calls
 pub mod Reading
-pub mod Sound
 pub mod Swept

@@ -1,4 +1,4 @@
--- What a sweep is handed, and what it promises: a sound step that counts what it adds, and has nothing to add only where every rule is obeyed.
+-- What a sweep promises: a sound step that counts what it adds, and has nothing to add only where every rule is obeyed.
 use Prim.Native.Nat.{ℕ, _+_, _≤_}
 use mathlib.Core.Path.{_≡_}
 use mathlib.Core.List.{List}
@@ -9,13 +9,7 @@ use Rattle.calculus.specs.Layout.{WellFormed, sets}
 use Rattle.calculus.specs.Estimate.{facts}
 use Rattle.rules.specs.declared.layout.Layout.{Layout}
 use Rattle.rules.specs.Ready.{Ready}
-use Rattle.solver.specs.Sound.{Sound}
-
--- an accepted table with its links, masks and layout, a well-formed estimate, and room for a row
-pub record Running (ws links masks est scratch : List ℕ) (l : Layout) : Type 0 where
-  pub ready : Ready ws links masks l
-  pub well : WellFormed (code ws) est
-  pub room : l .row ≤ length scratch
+use Rattle.steps.specs.Sound.{Sound}
 
 pub record Swept (c : Code) (ρ : ℕ) (old new : List ℕ) (added : ℕ) : Type 0 where
   pub sound : Sound c ρ old new

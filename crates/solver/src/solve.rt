@@ -16,17 +16,51 @@ ghost use Rattle.calculus.specs.Estimate.{estimate, leak};
 ghost use Rattle.rules.specs.Ready.{Ready};
 ghost use Rattle.rules.specs.Sized.{LaidOut};
 ghost use Rattle.rules.specs.Sending.{LinksOf};
+ghost use Rattle.steps.specs.Running.{Running};
 ghost use Rattle.solver.specs.Reading.{Readable};
 ghost use Rattle.solver.specs.Swept.{Closed};
 
-// Closes an estimate under the rules, with room for a row and a log of its own. Any sound step may stand before `close`.
+// Sweeps, whose notes nobody reads.
+fn sweep_all(
+    words: &[u32],
+    links: &[u32],
+    masks: &[u32],
+    est: &mut [u32],
+    scratch: &mut [u32],
+    l: Layout,
+    rho: PermSet,
+)
+    requires { ⌜ Running (now words) (now links) (now masks) (now est) (now scratch) l ⌝ }
+    ensures { λ _. ⌜ Closed (code (now (words .entry))) (rho .bits) (now (est .entry)) (now (est .exit)) ⌝ }
+{
+    let mut quiet = [0u32; 1];
+    close(words, links, masks, est, scratch, &mut quiet, l, rho);
+}
+
+// The schedule does the work by sound steps; the sweeps after it find nothing to add, and prove that every rule is obeyed.
+fn settle(
+    words: &[u32],
+    links: &[u32],
+    masks: &[u32],
+    est: &mut [u32],
+    scratch: &mut [u32],
+    l: Layout,
+    rho: PermSet,
+)
+    requires { ⌜ Running (now words) (now links) (now masks) (now est) (now scratch) l ⌝ }
+    ensures { λ _. ⌜ Closed (code (now (words .entry))) (rho .bits) (now (est .entry)) (now (est .exit)) ⌝ }
+{
+    schedule::run::run(words, links, masks, est, scratch, l, rho);
+    sweep_all(words, links, masks, est, scratch, l, rho);
+}
+
+// The same with room for a row of its own.
 fn run(words: &[u32], links: &[u32], masks: &[u32], est: &mut [u32], l: Layout, rho: PermSet)
     requires { ⌜ Ready (now words) (now links) (now masks) l × WellFormed (code (now words)) (now est) ⌝ }
     ensures { λ _. ⌜ Closed (code (now (words .entry))) (rho .bits) (now (est .entry)) (now (est .exit)) ⌝ }
 {
     let mut scratch = [0u32; 36];
-    let mut log = [0u32; 512];
-    close(words, links, masks, est, &mut scratch, &mut log, l, rho);
+    settle(words, links, masks, est, &mut scratch, l, rho);
 }
 
 // The same with masks of its own.

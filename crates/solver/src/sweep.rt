@@ -3,7 +3,8 @@ use permset::PermSet;
 use rules::layout::Layout;
 use word_rules::word::fire_word;
 ghost use Rattle.table.specs.Code.{code};
-ghost use Rattle.solver.specs.Swept.{Running, Swept, Closed};
+ghost use Rattle.steps.specs.Running.{Running};
+ghost use Rattle.solver.specs.Swept.{Swept, Closed};
 
 // The rule of each word once, from the last word to the first: values and permissions go up in one pass.
 pub fn sweep(

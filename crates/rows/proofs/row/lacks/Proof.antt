@@ -1,53 +1,17 @@
 -- `rows::row::lacks` meets its contract. The loop's invariant: something is missing so far, or it is from `i` on.
 -- Assumes nothing.
-use mathlib.Core.Path.{_≡_, refl, sym, ap, ap₂, _∙_}
-use mathlib.Core.Bool.{Bool, true, false, not, _||_}
-use mathlib.Core.List.{List}
-use Prim.Native.Nat.{ℕ, _+_, _-_, _≤_, _<_}
+use mathlib.Core.Path.{_≡_, refl, sym, ap₂, _∙_}
+use mathlib.Core.Bool.{not, _||_}
+use Prim.Native.Nat.{ℕ, _+_, _-_, _≤_}
 use native.Mathlib.Omega.{arith}
 use lib.Bits.{bitAnd, bitOr, bitXor}
 use lib.Dec.{eqb}
-use lib.ListN.{length, getD, take, drop, length-take, length-drop}
-use lib.Seq.{length-take-le, getD-take, getD-drop}
+use lib.ListN.{take, drop}
 use borrow.Author.Needs.{needs}
 use Rattle.rows.specs.Rows.{lacking}
-use Rattle.rows.proofs.Laws.{missing-more, lacking-at, lacking-done}
+use Rattle.rows.proofs.Laws.{length-row, getD-row, missing-at, missing-done}
 use Rattle.rows.proofs.row.lacks.Statement.{statement}
 use Rattle.rows.proofs.row.lacks.Tie as tie
-
-or-false : (b : Bool) → (b || false) ≡ b
-or-false true = refl
-or-false false = refl
-
-or-assoc : (a b c : Bool) → (a || (b || c)) ≡ ((a || b) || c)
-or-assoc true b c = refl
-or-assoc false b c = refl
-
-module _ (est : List ℕ) (row from to i m : ℕ) where
-  word : (at : ℕ) → i < row → getD (take row (drop at est)) i 0 ≡ getD est (at + i) 0
-  word at h = getD-take row (drop at est) i 0 h ∙ getD-drop at est i 0
-
-  inside : (at : ℕ) → i < row → at + row ≤ length est → i < length (take row (drop at est))
-  inside at h l = rw (length-take-le row (drop at est) (simp length-drop (omega arith))) h
-
-  one-more : i < row → from + row ≤ length est → to + row ≤ length est
-      → (not (eqb m 0) || lacking (drop i (take row (drop from est))) (drop i (take row (drop to est))))
-      ≡ (not (eqb (bitOr m (bitXor (getD est (from + i) 0) (bitAnd (getD est (from + i) 0) (getD est (to + i) 0)))) 0)
-      || lacking (drop (i + 1) (take row (drop from est))) (drop (i + 1) (take row (drop to est))))
-  one-more h f t =
-      let x = getD est (from + i) 0 in
-      let y = getD est (to + i) 0 in
-      let rest = lacking (drop (i + 1) (take row (drop from est))) (drop (i + 1) (take row (drop to est))) in
-      ap (λ (b : Bool). not (eqb m 0) || b)
-      (lacking-at (take row (drop from est)) (take row (drop to est)) i (inside from h f) (inside to h t)
-      ∙ ap₂ (λ (x y : ℕ). not (eqb (bitAnd x y) x) || rest) (word from h) (word to h))
-      ∙ or-assoc (not (eqb m 0)) (not (eqb (bitAnd x y) x)) rest
-      ∙ ap (λ (b : Bool). b || rest) (sym (missing-more m x y))
-
-  none-left : row ≤ i → (not (eqb m 0) || lacking (drop i (take row (drop from est))) (drop i (take row (drop to est)))) ≡ not (eqb m 0)
-  none-left h =
-      ap (λ (b : Bool). not (eqb m 0) || b)
-      (lacking-done (take row (drop from est)) (take row (drop to est)) i (simp length-take (omega arith))) ∙ or-false (not (eqb m 0))
 
 abbrev Inv-loop : tie.InvT-loop
 Inv-loop est row from to missing₀ i₀ missing i = (i ≤ row)
@@ -88,13 +52,22 @@ loop-again : tie.Need-loop-again Inv-loop μ-loop
 loop-again c =
     let l = c .before .before .before .loop in
     let a = c .before .before .before .before .args in
-    (omega arith, l .inv .1 ∙ one-more (a .est .now) (a .row) (a .from) (a .to) (l .i) (l .missing) (omega arith) (omega arith) (omega arith))
+    let xs = take (a .row) (drop (a .from) (a .est .now)) in
+    let ys = take (a .row) (drop (a .to) (a .est .now)) in
+    let n = length-row (a .est .now) (a .from) (a .row) (omega arith) in
+    let k = length-row (a .est .now) (a .to) (a .row) (omega arith) in (
+      omega arith,
+      l .inv .1 ∙ missing-at xs ys (l .i) (l .missing) (omega (arith, n)) (omega (arith, k))
+          ∙ ap₂ (λ (x y : ℕ). not (eqb (bitOr (l .missing) (bitXor x (bitAnd x y))) 0) || lacking (drop (l .i + 1) xs) (drop (l .i + 1) ys))
+          (getD-row (a .est .now) (a .from) (a .row) (l .i) (omega arith)) (getD-row (a .est .now) (a .to) (a .row) (l .i) (omega arith)),
+    )
 
 returns : tie.Need-returns Inv-loop μ-loop
 returns c =
     let l = c .before .loop in
     let a = c .before .before .args in
-    sym (l .inv .1 ∙ none-left (a .est .now) (a .row) (a .from) (a .to) (l .i) (l .missing) (omega arith))
+    let n = length-row (a .est .now) (a .from) (a .row) (omega arith) in
+    sym (l .inv .1 ∙ missing-done (take (a .row) (drop (a .from) (a .est .now))) (take (a .row) (drop (a .to) (a .est .now))) (l .i) (l .missing) (omega (arith, n)))
 
 pub lacks-spec : {M : Type 1} → statement M
 lacks-spec =

@@ -6,16 +6,13 @@ use borrow.Author.Needs.{needs}
 use Rattle.solver.proofs.solve.run.Statement.{statement}
 use Rattle.solver.proofs.solve.run.Tie as tie
 
-slice-aggregate-close : tie.Need-slice-aggregate-close
-slice-aggregate-close c = search needs
+slice-aggregate-settle : tie.Need-slice-aggregate-settle
+slice-aggregate-settle c = search needs
 
-slice-aggregate-close-2 : tie.Need-slice-aggregate-close-2
-slice-aggregate-close-2 c = search needs
-
-close-requires : tie.Need-close-requires
-close-requires c κs =
-    let a = c .before .before .before .before .before .before .before .args in
-    let h = c .before .before .before .before .before .before .before .pre in
+settle-requires : tie.Need-settle-requires
+settle-requires c κs =
+    let a = c .before .before .before .before .before .before .args in
+    let h = c .before .before .before .before .before .before .pre in
     record { ready = h .0; well = h .1; room = omega (arith, h .0 .row, row-bound (a .words .now) (h .0 .readable)) }
 
 same-length : tie.Need-same-length
@@ -27,4 +24,4 @@ returns c = search needs
 pub run-spec : {M : Type 1} → statement M
 run-spec =
     tie.close
-    (tie.spec slice-aggregate-close slice-aggregate-close-2 close-requires same-length returns)
+    (tie.spec slice-aggregate-settle settle-requires same-length returns)

@@ -10,7 +10,7 @@ use native.Mathlib.Omega.{arith}
 use lib.ListN.{length}
 use Rattle.table.specs.Code.{code}
 use Rattle.calculus.specs.Estimate.{facts}
-use Rattle.solver.specs.Sound.{Sound}
+use Rattle.steps.specs.Sound.{Sound}
 use Rattle.solver.proofs.sweep.close.Statement.{statement}
 use Rattle.solver.proofs.sweep.close.Tie as tie
 

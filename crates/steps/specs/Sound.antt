@@ -9,3 +9,7 @@ use Rattle.calculus.specs.Layout.{WellFormed, LiesIn}
 pub record Sound (c : Code) (ρ : ℕ) (old new : List ℕ) : Type 0 where
   pub well : WellFormed c old → WellFormed c new
   pub inside : WellFormed c old → (e : Sets) → Estimate c ρ e → LiesIn c old e → LiesIn c new e
+
+-- a step that asks for no opponent: it is sound for each
+abbrev pub Kept : Code → List ℕ → List ℕ → Type 0
+Kept c old new = (ρ : ℕ) → Sound c ρ old new

@@ -1,0 +1,5 @@
+pub mod Live
+pub mod PartRules
+pub mod Sound
+pub mod Running
+pub mod Found
