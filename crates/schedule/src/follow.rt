@@ -1,9 +1,11 @@
 // Followers: the words that have met a thing, or that send to a block, and the things that a word follows.
 use crate::memory::add_marked;
+use crate::memory::get;
 use crate::memory::has_bit;
 use crate::memory::next_common;
 use crate::memory::next_marked;
 use crate::plan::at_followers;
+use crate::plan::at_rows;
 use crate::plan::first_at;
 use crate::plan::mask_at;
 use rules::layout::Layout;
@@ -89,6 +91,27 @@ fn follows_anew(h: &mut [u32], n: usize, p: usize, f: usize) -> bool
     true
 }
 
+// Whether a term only takes what a thing holds.
+fn takes(t: Term) -> bool {
+    match t {
+        Term::Get => true,
+        Term::Set => true,
+        Term::Read => true,
+        _ => false,
+    }
+}
+
+// Whether the held set of f waits for its turn, at which all its followers hear of it.
+fn holds_back(h: &[u32], n: usize, f: usize, t: Term) -> bool
+    requires { ⌜ (n ≤ 1024) × (f < 1024) ⌝ }
+{
+    if takes(t) {
+        has_bit(h, at_rows(n) + 4, get(h, 4 * n + f))
+    } else {
+        false
+    }
+}
+
 // The word p acts on f, if it is new to it.
 fn meet_new(
     words: &[u32],
@@ -108,6 +131,9 @@ fn meet_new(
     ensures { λ _. ⌜ Kept (code (now (words .entry))) (now (est .entry)) (now (est .exit)) ⌝ }
 {
     if follows_anew(h, words.len(), p, f) {
+        if holds_back(h, words.len(), f, t) {
+            return;
+        }
         meet(words, links, masks, est, scratch, log, l, p, t, f);
     }
 }
