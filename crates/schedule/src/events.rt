@@ -4,8 +4,10 @@ use crate::follow::each_thing;
 use crate::follow::tell_followers;
 use crate::memory::add_marked;
 use crate::memory::get;
+use crate::memory::has_bit;
 use crate::memory::word;
 use crate::plan::at_followers;
+use crate::plan::at_rows;
 use crate::plan::first_at;
 use crate::plan::has_string;
 use crate::plan::past;
@@ -436,6 +438,37 @@ fn mark_first(
     }
 }
 
+// Whether the part of p after i has grown too and waits for its turn.
+fn later_waits(links: &[u32], h: &[u32], n: usize, p: usize, i: usize) -> bool {
+    let next = past(links, i % 2048);
+    if 1024 < n || get(h, next) != p {
+        return false;
+    }
+    has_bit(h, at_rows(n) + 4, get(h, 3 * n + next))
+}
+
+// The whole rule of p, of which the part i has grown; at the turn of a later part if that has grown too.
+fn step_last(
+    words: &[u32],
+    links: &[u32],
+    masks: &[u32],
+    est: &mut [u32],
+    scratch: &mut [u32],
+    log: &mut [u32],
+    h: &[u32],
+    l: Layout,
+    rho: PermSet,
+    p: usize,
+    i: usize,
+)
+    requires { ⌜ Running (now words) (now links) (now masks) (now est) (now scratch) l ⌝ }
+    ensures { λ _. ⌜ Sound (code (now (words .entry))) (rho .bits) (now (est .entry)) (now (est .exit)) ⌝ }
+{
+    if !later_waits(links, h, words.len(), p, i) {
+        step_word(words, links, masks, est, scratch, log, l, rho, p);
+    }
+}
+
 // C(i) has grown, a part of a send.
 fn send_grew(
     words: &[u32],
@@ -454,7 +487,7 @@ fn send_grew(
     ensures { λ _. ⌜ Sound (code (now (words .entry))) (rho .bits) (now (est .entry)) (now (est .exit)) ⌝ }
 {
     mark_first(words, links, est, h, l, p, i);
-    step_word(words, links, masks, est, scratch, log, l, rho, p);
+    step_last(words, links, masks, est, scratch, log, h, l, rho, p, i);
 }
 
 // C(i) has grown, a part of a term that follows no thing.
@@ -482,7 +515,7 @@ fn part_grew(
         Term::If => if_grew(words, links, masks, est, scratch, log, l, rho, p, i),
         Term::Cell => carry_cell(words, links, masks, est, scratch, log, l, p),
         Term::Send(_) => send_grew(words, links, masks, est, scratch, log, h, l, rho, p, i),
-        _ => step_word(words, links, masks, est, scratch, log, l, rho, p),
+        _ => step_last(words, links, masks, est, scratch, log, h, l, rho, p, i),
     }
 }
 

@@ -34,8 +34,8 @@ enum-told-5 c = search needs
 send-grew-requires : tie.Need-send-grew-requires
 send-grew-requires c κs = c .before .before .before .before .before .before .before .before .before .before .before .before .before .pre .0
 
-step-word-requires : tie.Need-step-word-requires
-step-word-requires c κs = c .before .before .before .before .before .before .before .before .before .before .before .pre .0 .0
+step-last-requires : tie.Need-step-last-requires
+step-last-requires c κs = c .before .before .before .before .before .before .before .before .before .before .before .before .pre .0 .0
 
 same-length : tie.Need-same-length
 same-length c = search needs
@@ -109,8 +109,11 @@ same-length-18 c = search needs
 same-length-19 : tie.Need-same-length-19
 same-length-19 c = search needs
 
+same-length-20 : tie.Need-same-length-20
+same-length-20 c = search needs
+
 returns-6 : tie.Need-returns-6
-returns-6 c = c .before .before .before .before .before .before .step-word .ensures
+returns-6 c = c .before .before .before .before .before .before .step-last .ensures
 
 pub part-grew-spec : {M : Type 1} → statement M
-part-grew-spec = tie.close (tie.spec enum-told carry-let-requires enum-told-2 carry-sequence-requires enum-told-3 if-grew-requires enum-told-4 carry-cell-requires enum-told-5 send-grew-requires step-word-requires same-length same-length-2 same-length-3 returns same-length-4 same-length-5 same-length-6 returns-2 same-length-7 same-length-8 same-length-9 returns-3 same-length-10 same-length-11 same-length-12 returns-4 same-length-13 same-length-14 same-length-15 same-length-16 returns-5 same-length-17 same-length-18 same-length-19 returns-6)
+part-grew-spec = tie.close (tie.spec enum-told carry-let-requires enum-told-2 carry-sequence-requires enum-told-3 if-grew-requires enum-told-4 carry-cell-requires enum-told-5 send-grew-requires step-last-requires same-length same-length-2 same-length-3 returns same-length-4 same-length-5 same-length-6 returns-2 same-length-7 same-length-8 same-length-9 returns-3 same-length-10 same-length-11 same-length-12 returns-4 same-length-13 same-length-14 same-length-15 same-length-16 returns-5 same-length-17 same-length-18 same-length-19 same-length-20 returns-6)

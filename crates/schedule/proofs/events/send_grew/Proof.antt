@@ -7,8 +7,8 @@ use Rattle.schedule.proofs.events.send_grew.Tie as tie
 mark-first-requires : tie.Need-mark-first-requires
 mark-first-requires c κs = (short _ _ _ _ _ _ (c .before .before .before .before .before .before .before .before .before .pre .0), c .before .before .before .before .before .before .before .before .before .pre .1)
 
-step-word-requires : tie.Need-step-word-requires
-step-word-requires c κs = search needs
+step-last-requires : tie.Need-step-last-requires
+step-last-requires c κs = search needs
 
 same-length : tie.Need-same-length
 same-length c = search needs
@@ -30,7 +30,7 @@ send-grew-spec =
     tie.close
     (tie.spec
     mark-first-requires
-    step-word-requires
+    step-last-requires
     same-length
     same-length-2
     same-length-3
