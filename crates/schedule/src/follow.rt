@@ -4,10 +4,12 @@ use crate::memory::get;
 use crate::memory::has_bit;
 use crate::memory::next_common;
 use crate::memory::next_marked;
+use crate::memory::word;
 use crate::plan::at_followers;
 use crate::plan::at_rows;
 use crate::plan::first_at;
 use crate::plan::mask_at;
+use crate::plan::row_at;
 use rules::layout::Layout;
 use steps::sends::send_one;
 use steps::things::hand_in;
@@ -31,6 +33,40 @@ pub enum News {
     Block,
 }
 
+// Whether P(p) lacks something of P(q).
+pub fn lacks_permissions(est: &[u32], l: Layout, q: usize, p: usize) -> bool {
+    let at = row_at(l, l.size % 2048 * 2);
+    let set = word(est, at + q % 2048) % 16777216;
+    set & word(est, at + p % 2048) != set
+}
+
+// The follower p of a function or a block hears of permissions of the word q, if they are new to it.
+fn tell_permissions(
+    words: &[u32],
+    links: &[u32],
+    masks: &[u32],
+    est: &mut [u32],
+    scratch: &mut [u32],
+    log: &mut [u32],
+    l: Layout,
+    p: usize,
+    f: usize,
+    block: bool,
+)
+    requires { ⌜ Running (now words) (now links) (now masks) (now est) (now scratch) l ⌝ }
+    ensures { λ _. ⌜ Kept (code (now (words .entry))) (now (est .entry)) (now (est .exit)) ⌝ }
+{
+    let q = if block { f } else { f % 2048 + 1 };
+    if !lacks_permissions(est, l, q, p) {
+        return;
+    }
+    if block {
+        send_one(words, links, masks, est, scratch, log, l, p, f);
+    } else {
+        take_perms(words, links, masks, est, scratch, log, l, p, f);
+    }
+}
+
 // One follower p hears of it.
 fn tell(
     words: &[u32],
@@ -49,8 +85,19 @@ fn tell(
 {
     match news {
         News::Values => take_out(words, links, masks, est, scratch, log, l, p, f),
-        News::Permissions => take_perms(words, links, masks, est, scratch, log, l, p, f),
-        News::Block => send_one(words, links, masks, est, scratch, log, l, p, f),
+        News::Permissions => tell_permissions(
+            words,
+            links,
+            masks,
+            est,
+            scratch,
+            log,
+            l,
+            p,
+            f,
+            false,
+        ),
+        News::Block => tell_permissions(words, links, masks, est, scratch, log, l, p, f, true),
     }
 }
 
