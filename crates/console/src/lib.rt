@@ -9,8 +9,10 @@ use verdict::Report;
 use verdict::Verdict;
 use verdict::numbers::fault_number;
 use verdict::numbers::fault_place;
+ghost use mathlib.Core.Path.{_≡_};
 ghost use Prim.Native.Nat.{_+_, _<_, _≤_};
 ghost use lib.ListN.{length};
+ghost use Rattle.console.specs.Answers.{accepted};
 
 pub fn text(s: &[u8]) {
     io::write_all(STDOUT_FILENO, s);
@@ -35,7 +37,9 @@ fn report(r: Report, over: bool, first: u32) {
 }
 
 // The first line, and whether there are handlers to tell of.
-pub fn first_line(v: Verdict) -> bool {
+pub fn first_line(v: Verdict) -> bool
+    ensures { λ r. ⌜ r ≡ accepted v ⌝ }
+{
     match v {
         Verdict::Refused(f) => {
             fault(f);

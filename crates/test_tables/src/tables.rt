@@ -2,7 +2,8 @@
 use crate::show::end;
 use crate::show::reading;
 use crate::show::text;
-ghost use Prim.Native.Nat.{_≤_, _<_};
+ghost use mathlib.Core.Path.{_≡_};
+ghost use Prim.Native.Nat.{_+_, _*_, _%_, _≤_, _<_};
 
 // Document 01's sample relay.
 pub const RELAY: [u32; 11] = [
@@ -20,7 +21,9 @@ pub const RELAY: [u32; 11] = [
 ];
 
 // The word of a kind and an argument.
-pub fn word(kind: usize, argument: usize) -> u32 {
+pub fn word(kind: usize, argument: usize) -> u32
+    ensures { λ r. ⌜ r ≡ kind % 256 * 16777216 + argument % 16777216 ⌝ }
+{
     (kind % 256 * 16777216 + argument % 16777216) as u32
 }
 
