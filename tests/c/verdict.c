@@ -1,5 +1,5 @@
-/* Calls the proved library as a build tool in C does: every sample of document 01 that has at most 256 words, every refusal, and what becomes
-   of the bytes of both slices. Prints one line, and exits 1 at the first difference. */
+/* Calls the proved library as a build tool in C does: every sample of document 01, every refusal, and what becomes of the bytes of both slices.
+   Prints one line, and exits 1 at the first difference. */
 #include "wiphosega.h"
 #include <stdio.h>
 #include <stdlib.h>
@@ -114,6 +114,20 @@ static void refusals(void) {
     check("3 bytes", large, 3, 0, 0, MOST_ESTIMATE, MOST_WORK, REFUSED(30, 0));
 }
 
+/* The two samples that are longer than the interface takes: 31 handlers of 33 words, new cells around the message, and one word more. */
+static void long_samples(void) {
+    static uint8_t system[4 * 1025];
+    char block[9 * 33 + 1];
+    size_t bytes = bytes_of("0100001f", system);
+    for (int i = 0; i < 31; i++) {
+        sprintf(block, "02000000 030000%02x 04000000 ", i);
+        for (int k = 0; k < 29; k++) strcat(block, "20000000 ");
+        bytes += bytes_of(strcat(block, "14000000"), system + bytes);
+    }
+    check("1,024 words", system, bytes, 0, 0, MOST_ESTIMATE, MOST_WORK, REFUSED(31, 0));
+    check("1,025 words", system, bytes + bytes_of("20000000", system + bytes), 0, 0, MOST_ESTIMATE, MOST_WORK, REFUSED(31, 0));
+}
+
 /* Five words need 2 * 5 * 3 + 5 words of estimate and 20 of work. */
 static void slices(void) {
     uint8_t system[20], none = 0;
@@ -146,6 +160,7 @@ static void estimate_of_direct(void) {
 int main(void) {
     samples();
     refusals();
+    long_samples();
     slices();
     estimate_of_direct();
     printf("C: %d calls answered as expected\n", calls);

@@ -1,14 +1,14 @@
 // Solves the system on standard input, of up to 1,024 words, as often as the argument says, and prints its leak and facts.
+use calls::Fault;
+use calls::numbers::fault_number;
+use calls::numbers::fault_place;
 use libc::STDIN_FILENO;
 use libc::STDOUT_FILENO;
 use little_endian::words_of;
 use permset::PermSet;
+use readers::facts;
 use solver::Analysis;
-use solver::Fault;
 use solver::analyse::analyse;
-use solver::readers::facts;
-use verdict::numbers::fault_number;
-use verdict::numbers::fault_place;
 ghost use Prim.Native.Nat.{_≤_};
 ghost use lib.ListN.{length};
 

@@ -1,17 +1,20 @@
 -- The example runs come out as they say: one claim over the list, computed.
-use mathlib.Core.Path.{_≡_, refl}
-use mathlib.Core.List.{map}
+use Prim.Native.Nat.{ℕ}
+use mathlib.Core.Path.{_≡_, refl, sym, subst}
+use mathlib.Core.List.{List, [], _∷_, map, List·Memᴰ, List·Memᴰ·head}
 use Rattle.permset.specs.Sets.{member, within}
 use Rattle.table.specs.Words.{partsByKind, parts, arity, termsByKind, termOf, constantOf, operationOf, constantNumber}
 use Rattle.table.specs.Scan.{next, under}
 use Rattle.table.specs.Code.{code, nodeFor, scopeFor, homeFor, blocksFrom, taskAt, tasks, trace, part, skip, termNode}
 use Rattle.calculus.specs.Rules.{nameOf, permsOf, guarded, admits}
+use Rattle.calculus.specs.Guarantee.{Covers}
+use Rattle.calculus.specs.Values.{unit}
 use Rattle.calculus.specs.Values.{whole, look, getField, deleteField, setField, plain, known, datum, sameNumber, same, operate}
 use Rattle.calculus.specs.Values.{onAtom, onFunction, onFields, onCell, onNumber, onText, onName, onTruth}
 use Rattle.calculus.specs.Machine.{step, frameStep, secondStep, twoStep, withField, firstStep, choose, oneStep, termStep}
 use Rattle.calculus.specs.Machine.{leafStep, found}
-use Rattle.calculus.specs.Run.{run, after, act, stepped, moved, effect, sent, joined}
-use Rattle.calculus.specs.Runs.{examples, outcome, reached, expected}
+use Rattle.calculus.specs.Run.{Event, starts, exercised, run, after, act, stepped, moved, effect, sent, joined}
+use Rattle.calculus.specs.Runs.{alone, times, examples, outcome, reached, expected}
 
 pub runs : map reached examples ≡ map expected examples
 unfolding
@@ -21,3 +24,23 @@ unfolding
     blocksFrom taskAt tasks trace part skip termNode next under partsByKind parts arity termsByKind termOf constantOf
     operationOf constantNumber
 runs = refl
+
+-- The promise says something: 0 does not cover *direct*, whose run exercises permission 1.
+abbrev direct : List ℕ
+direct = alone 0 (0x24000002 ∷ [])
+
+abbrev events : List Event
+events = starts 1 unit ∷ times 3 0
+
+ran : exercised (run (code direct) 0 events) ≡ 2 ∷ []
+unfolding
+    exercised run after act stepped moved effect sent joined step frameStep secondStep twoStep withField firstStep
+    choose oneStep termStep leafStep found whole look getField deleteField setField plain known datum sameNumber same operate onAtom
+    onFunction onFields onCell onNumber onText onName onTruth nameOf permsOf guarded admits member within code nodeFor scopeFor homeFor
+    blocksFrom taskAt tasks trace part skip termNode next under partsByKind parts arity termsByKind termOf constantOf
+    operationOf constantNumber
+ran = refl
+
+pub too-small : Covers (code direct) 0 0 → ⊥
+unfolding member
+too-small k = k events 1 (2, subst (List·Memᴰ 2) (sym ran) (List·Memᴰ·head refl), tt)

@@ -1,4 +1,3 @@
-pub mod Numbers
 pub mod Room
 pub mod Samples
 pub mod Written

@@ -14,12 +14,12 @@ use Rattle.calculus.specs.Layout.{estimateWords}
 use Rattle.calculus.specs.Estimate.{whole, estimate}
 use Rattle.calculus.specs.Answer.{Verdict, Answer, refused, verdict, workWords, callerTests, judge, analysis, answer}
 use Rattle.calculus.proofs.Firing.{whole-is}
-use Rattle.solver.specs.Analysis.{faultNumber, faultPlace}
-use Rattle.solver.specs.Calls.{Fit}
-use Rattle.verdict.specs.declared.Verdict.{Verdict as Declared·Verdict}
-use Rattle.verdict.specs.declared.Verdict.the-variants as variants
-use Rattle.verdict.specs.Values.{answerOf}
-use Rattle.capi.specs.Places.{PlaceFits}
+use Rattle.calls.specs.Faults.{faultNumber, faultPlace}
+use Rattle.calls.specs.Calls.{Fit}
+use Rattle.comparison.specs.declared.Verdict.{Verdict as Declared·Verdict}
+use Rattle.comparison.specs.declared.Verdict.the-variants as variants
+use Rattle.comparison.specs.Values.{answerOf}
+use Rattle.interface.specs.Places.{PlaceFits}
 
 scan-place : (ws keys : List ℕ) (at : ℕ) (ts : List Task) (n p : ℕ) → scan ws keys at ts ≡ unreadable n p → p ≤ at + length ws
 unfolding scan

@@ -16,7 +16,8 @@ use Rattle.calculus.specs.Rules.{nameOf, permsOf, guarded, permissions, admits,
 use Rattle.calculus.specs.Layout.{rowWords, estimateWords}
 use Rattle.calculus.specs.Answer.{Answer, answer}
 use Rattle.little_endian.specs.LittleEndian.{wordsOf, bytesOf}
-use Rattle.capi.specs.Interface.{answerNumber, bytesAnswer}
+use Rattle.capi.specs.Interface.{bytesAnswer}
+use Rattle.interface.specs.Numbers.{answerNumber}
 
 -- one handler with permissions 0 and 1, and this body
 abbrev single : ℕ → List ℕ

@@ -12,7 +12,8 @@ use Rattle.table.specs.Scan.{firstOf}
 use Rattle.calculus.specs.Answer.{Answer, refused, answer}
 use Rattle.little_endian.specs.LittleEndian.{wordsOf}
 use Rattle.little_endian.proofs.Laws.{length-wordsOf}
-use Rattle.capi.specs.Interface.{systemTests, answerNumber, bytesAnswer, estimateBytes, workBytes, Answered}
+use Rattle.capi.specs.Interface.{bytesAnswer, estimateBytes, workBytes, Answered}
+use Rattle.interface.specs.Numbers.{systemTests, answerNumber}
 use Rattle.capi.proofs.Written.{read-first}
 
 -- all words of a system of at most 1,024 bytes

@@ -1,9 +1,7 @@
--- The C interface (document 01, "Parts and program"): its answer as one number, and what it leaves in the two slices of bytes.
-use Prim.Native.Nat.{ℕ, zero, suc, _+_, _*_, _/_, _%_, _^_}
+-- The C interface (document 01, "Parts and program"): its answer to bytes, and what it leaves in the two slices of bytes.
+use Prim.Native.Nat.{ℕ, zero, suc, _*_, _/_}
 use mathlib.Core.Path.{_≡_}
-use mathlib.Core.Bool.{Bool, true, false, not}
-use mathlib.Core.List.{List, [], _∷_, _++_}
-use lib.Dec.{eqb, ltb}
+use mathlib.Core.List.{List, _++_}
 use lib.ListN.{length, drop, replicate}
 use Rattle.little_endian.specs.LittleEndian.{wordsOf, bytesOf}
 use Rattle.table.specs.Scan.{firstOf}
@@ -11,19 +9,7 @@ use Rattle.table.specs.Code.{code}
 use Rattle.calculus.specs.Layout.{estimateWords}
 use Rattle.calculus.specs.Estimate.{estimate}
 use Rattle.calculus.specs.Answer.{Answer, refused, verdict, answer, workWords}
-
-abbrev pub overPart : Bool → ℕ
-overPart true = 2 ^ 24
-overPart false = 0
-
--- the leak, plus 2^24 if over; refused, 2^32 + number × 65,536 + place
-unfoldable pub answerNumber : Answer → ℕ
-answerNumber (refused number place) = 2 ^ 32 + number * 65536 + place
-answerNumber (verdict v) = v .leak + overPart (v .over)
-
--- what comes before the reading of a system of this many bytes: too many, no whole words
-unfoldable pub systemTests : ℕ → List (Bool × ℕ)
-systemTests size = (ltb 1024 size, 31) ∷ (not (eqb (size % 4) 0), 30) ∷ []
+use Rattle.interface.specs.Numbers.{answerNumber, systemTests}
 
 -- the answer to the bytes of a system, ρ, a bound, and slices of `est` and `work` bytes
 unfoldable pub bytesAnswer : List ℕ → ℕ → ℕ → ℕ → ℕ → Answer

@@ -1,27 +1,17 @@
 // The verdict for programs in C, over bytes.
-mod answers;
 mod slices;
 
-use crate::answers::answer_number;
 use crate::slices::with_bytes;
+use interface::answer_number;
+use interface::system_fault;
 use little_endian::words_of;
 ghost use mathlib.Core.Path.{_≡_};
 ghost use Prim.Native.Nat.{_/_, _≤_};
 ghost use lib.ListN.{length};
 ghost use Rattle.little_endian.specs.LittleEndian.{wordsOf};
-ghost use Rattle.table.specs.Scan.{firstOf};
 ghost use Rattle.calculus.specs.Answer.{answer};
-ghost use Rattle.capi.specs.Interface.{systemTests, answerNumber, bytesAnswer, estimateBytes, workBytes, Answered};
-
-// The number that refuses a system of this many bytes before it is read, and 0 where none does.
-fn system_fault(size: usize) -> u32
-    ensures { λ r. ⌜ r ≡ firstOf (systemTests size) ⌝ }
-{
-    if 1024 < size {
-        return 31;
-    }
-    if size % 4 == 0 { 0 } else { 30 }
-}
+ghost use Rattle.interface.specs.Numbers.{answerNumber};
+ghost use Rattle.capi.specs.Interface.{bytesAnswer, estimateBytes, workBytes, Answered};
 
 fn of_words(words: &[u32], rho: u32, bound: u32, estimate: &mut [u8], work: &mut [u8]) -> u64
     requires { ⌜ length (now words) ≤ 256 ⌝ }

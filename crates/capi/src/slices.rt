@@ -1,13 +1,13 @@
 // A call on words whose slices are bytes: their whole words are copied to arrays that have room for the largest system, and back.
+use comparison::Verdict;
 use little_endian::bytes_of;
 use little_endian::words_of;
-use verdict::Verdict;
 use verdict::judge::verdict;
 ghost use mathlib.Core.Path.{_≡_};
 ghost use Prim.Native.Nat.{_/_, _≤_};
 ghost use lib.ListN.{length};
 ghost use Rattle.calculus.specs.Answer.{answer};
-ghost use Rattle.verdict.specs.Values.{answerOf};
+ghost use Rattle.comparison.specs.Values.{answerOf};
 ghost use Rattle.capi.specs.Interface.{estimateLeft, estimateBytes, workBytes};
 
 // The work slice as bytes, over words that are lent.

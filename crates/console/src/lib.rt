@@ -1,14 +1,14 @@
 // What the programs print of a verdict: its first line, and a line for each handler.
+use calls::Fault;
+use calls::numbers::fault_number;
+use calls::numbers::fault_place;
+use comparison::Report;
+use comparison::Verdict;
 use libc::STDOUT_FILENO;
 use permset::PermSet;
-use rules::layout::Layout;
-use solver::Fault;
+use rows::layout::Layout;
 use table::Handler;
 use table::Item;
-use verdict::Report;
-use verdict::Verdict;
-use verdict::numbers::fault_number;
-use verdict::numbers::fault_place;
 ghost use mathlib.Core.Path.{_≡_};
 ghost use Prim.Native.Nat.{_+_, _<_, _≤_};
 ghost use lib.ListN.{length};
@@ -75,7 +75,7 @@ fn handler_at(words: &[u32], rho: u32, flags: &[u32], p: usize, position: usize)
     requires { ⌜ (position ≤ p) × (p < length (now words)) ⌝ }
     ensures { λ r. ⌜ r ≤ p + 1 ⌝ }
 {
-    match table::links::item_at(words, p) {
+    match table_links::item_at(words, p) {
         Item::Block(h) => {
             handler(position, h, rho, word_at(flags, p));
             position + 1

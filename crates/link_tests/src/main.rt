@@ -1,7 +1,7 @@
 // What stands at each word of accepted tables, and the links that `link` writes.
 use table::Item;
-use table::links::item_at;
-use table::links::link_at;
+use table_links::item_at;
+use table_links::link_at;
 use test_tables::show::end;
 use test_tables::show::hex;
 use test_tables::show::item;
@@ -80,7 +80,7 @@ fn rest(words: &[u32], links: &[u32]) {
 // The links of a table of at most 32 words.
 fn of(label: &[u8], words: &[u32]) {
     let mut links = [4294967295u32; 32];
-    table::links::link(words, &mut links);
+    table_links::link(words, &mut links);
     text(label);
     end();
     lines(words, &links);
@@ -90,7 +90,7 @@ fn of(label: &[u8], words: &[u32]) {
 // A slice that is too short.
 fn short() {
     let mut links = [4294967295u32; 10];
-    table::links::link(&RELAY, &mut links);
+    table_links::link(&RELAY, &mut links);
     hex(b"relay with 10 words for its links, the first ", links[0]);
     end();
 }
@@ -101,7 +101,7 @@ fn last() {
     words[0] = 0x0100001f;
     blocks(&mut words, 33, 0);
     let mut links = [0u32; 1024];
-    table::links::link(&words, &mut links);
+    table_links::link(&words, &mut links);
     text(b"1,024 words: the last two, and the place after them");
     end();
     line(&words, &links, 1022);

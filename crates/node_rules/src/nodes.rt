@@ -1,5 +1,5 @@
 // The rules of the terms with parts: the parts, and then what the term adds.
-use rules::layout::Layout;
+use rows::layout::Layout;
 use rules::made::Site;
 use rules::small::fire_operation;
 use rules::small::fire_part;
@@ -23,7 +23,7 @@ ghost use Rattle.calculus.specs.Constraint.{C, B, put, sub, given, some, _and_}
 ghost use Rattle.calculus.specs.Rules.{part, fill, eachMade, flow};
 ghost use Rattle.rules.specs.Sized.{Sized, FiredIn};
 ghost use Rattle.rules.specs.Well.{FiredWell};
-ghost use Rattle.rules.specs.Ready.{Mask, madeAs};
+ghost use Rattle.rows.specs.Mask.{Mask, madeAs};
 ghost use Rattle.rules.specs.Made.{actionRule, Placed, Things};
 ghost use Rattle.term_rules.specs.For.{FiredFor};
 ghost use Rattle.rules.specs.declared.made.Action.the-variants as actions;

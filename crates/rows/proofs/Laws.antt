@@ -21,7 +21,7 @@ use Rattle.calculus.proofs.Slices.{length-pour, pour-adds}
 use Rattle.calculus.proofs.Facts.{facts-le, facts-set, facts-append, pour-one}
 use Rattle.calculus.specs.Layout.{masked}
 use Rattle.calculus.proofs.Masks.{bit-masked, masked-words, nonzero, digit-nonzero, nonzero-digit}
-use Rattle.rows.specs.Rows.{meets, lacking, Poured}
+use Rattle.rows.specs.Rows.{meets, lacking, Poured, gained}
 
 -- ---- the digits of one word
 
@@ -143,6 +143,16 @@ length-poured ws new at xs added p = ap length (p .words) ∙ length-pour ws at 
 -- facts are not lost
 pub pour-grows : (ws : List ℕ) (at : ℕ) (xs : List ℕ) → facts ws ≤ facts (pour ws at xs)
 pour-grows ws at xs = facts-le ws (pour ws at xs) (sym (length-pour ws at xs)) (pour-adds ws at xs)
+
+-- where nobody counted
+pub uncounted : (old new : List ℕ) (at : ℕ) (xs : List ℕ) → new ≡ pour old at xs → Poured old new at xs (gained old new)
+uncounted old new at xs e =
+    let f : facts new ≡ facts (pour old at xs) = ap facts e in record { words = e; count = omega (arith, f, pour-grows old at xs) }
+
+pub merged-more : (ws old xs : List ℕ) (i : ℕ) → i < length xs → old ≡ pour ws 0 (take i xs)
+    → set old i (bitOr (getD old i 0) (getD xs i 0)) ≡ pour ws 0 (take (i + 1) xs)
+merged-more ws old xs i h e =
+    sym (pour-one old i (getD xs i 0)) ∙ ap (λ (ys : List ℕ). pour ys i (getD xs i 0 ∷ [])) e ∙ pour-more ws xs i h
 
 -- ---- one word or-ed in
 

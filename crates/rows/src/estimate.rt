@@ -6,7 +6,7 @@ ghost use mathlib.Core.List.{[], _∷_};
 ghost use Prim.Native.Nat.{_+_, _*_, _<_, _≤_};
 ghost use lib.ListN.{length, drop, take};
 ghost use Rattle.calculus.specs.Layout.{masked};
-ghost use Rattle.rows.specs.Rows.{Poured};
+ghost use Rattle.rows.specs.Rows.{Poured, gained};
 
 // Notes a number: word 0 of the log counts the notes, and a full log takes no more.
 fn note(log: &mut [u32], n: usize) {
@@ -47,6 +47,27 @@ pub fn sub_row(
     let added = row::join(&mut est[to..to + row], &scratch[..row]);
     note(log, b);
     added
+}
+
+// Row a in row b, for whoever needs no count.
+pub fn merge_row(
+    est: &mut [u32],
+    scratch: &mut [u32],
+    log: &mut [u32],
+    row: usize,
+    a: usize,
+    b: usize,
+)
+    requires { ⌜ (row < 64) × (a < 2048) × (b < 2048) × (a * row + row ≤ length (now est)) × (b * row + row ≤ length (now est)) × (row ≤ length (now scratch)) ⌝ }
+    ensures { λ _. ⌜ Poured (now (est .entry)) (now (est .exit)) (b * row) (take row (drop (a * row) (now (est .entry)))) (gained (now (est .entry)) (now (est .exit))) ⌝ }
+{
+    let from = a * row;
+    let to = b * row;
+    if row::lacks(est, row, from, to) {
+        row::copy(&est[from..from + row], scratch);
+        row::merge(&mut est[to..to + row], &scratch[..row]);
+        note(log, b);
+    }
 }
 
 // What row a has in common with a mask in row b.

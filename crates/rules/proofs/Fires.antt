@@ -14,7 +14,7 @@ use Rattle.calculus.proofs.Folds.{fire-and}
 use Rattle.calculus.proofs.RowOperations.{fire-live, fire-put-C, fire-sub, fire-sub-P}
 use Rattle.rows.specs.Rows.{Poured}
 use Rattle.rows.proofs.Laws.{facts-most}
-use Rattle.rules.specs.declared.layout.Layout.{Layout}
+use Rattle.rows.specs.declared.layout.Layout.{Layout}
 use Rattle.rules.specs.declared.made.Action.{Action}
 use Rattle.rules.specs.declared.made.Action.the-variants as actions
 use Rattle.rules.specs.Made.{actionRule}

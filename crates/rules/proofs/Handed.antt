@@ -1,6 +1,6 @@
--- What the functions for things and for send ask of an accepted table, its masks and a well-formed estimate.
+-- What the functions for things ask of an accepted table, its masks and a well-formed estimate.
 use Prim.Native.Nat.{ℕ, suc, _+_, _-_, _*_, _/_, _≤_, _<_}
-use mathlib.Core.Path.{_≡_, refl, sym, ap, ap₂, _∙_, subst}
+use mathlib.Core.Path.{_≡_, ap, ap₂, _∙_, subst}
 use mathlib.Core.Bool.{Bool, true, false, _&&_, _||_}
 use mathlib.Core.List.{List}
 use native.Mathlib.Nat.{mul-le-mul}
@@ -8,29 +8,20 @@ use native.Mathlib.Omega.{arith}
 use borrow.Author.Tests.{le-leb, ne-eqb}
 use lib.Dec.{T, leb, eqb}
 use lib.ListN.{length}
-use Rattle.table.specs.declared.Item.{Item}
-use Rattle.table.specs.declared.Item.the-variants as items
-use Rattle.table.specs.declared.Term.{Term}
-use Rattle.table.specs.declared.Term.the-variants as terms
 use Rattle.table.specs.Scan.{accepted, reading}
-use Rattle.table.specs.Item.{itemAt}
-use Rattle.table.specs.Code.{Code, Node, code, termNode}
-use Rattle.table.specs.Links.{linkAt, linked}
+use Rattle.table.specs.Code.{Code, code}
 use Rattle.table.proofs.Blocks.{head-word}
 use Rattle.table.proofs.Linked.{linked as code-linked}
-use Rattle.table.proofs.Nodes.{itemNode, nodeAt, node-item, home-link}
 use Rattle.calculus.specs.Elements.{plain, made, elements, Making, makes, making, isFunction, isRecord, isCell, anyRecord}
-use Rattle.calculus.specs.Rules.{permsOf, permissions}
 use Rattle.calculus.specs.Layout.{bit, rowWords, estimateWords, WellFormed}
 use Rattle.calculus.proofs.Places.{fits-row}
 use Rattle.calculus.proofs.Fitting.{body-lt}
-use Rattle.rules.specs.declared.layout.Layout.{Layout}
+use Rattle.rows.specs.declared.layout.Layout.{Layout}
 use Rattle.rules.specs.declared.made.Action.{Action}
 use Rattle.rules.specs.declared.made.Action.the-variants as actions
-use Rattle.rules.specs.Ready.{Mask, madeAs}
+use Rattle.rows.specs.Mask.{Mask, madeAs}
 use Rattle.rules.specs.Sized.{LaidOut, Sized}
 use Rattle.rules.specs.Made.{Picks, Things}
-use Rattle.rules.specs.Sending.{itemPerms}
 
 -- ---- masks
 
@@ -95,45 +86,3 @@ module _ (ws : List ℕ) (e : reading ws ≡ accepted) (l : Layout) (o : LaidOut
             let g : f < code ws .size = omega (arith, o .size) in
             omega (arith, body-lt (code ws) (code-linked ws e) f g (subst T (picks-made (code ws) isFunction m k f g) t), o .size);
       }
-
--- ---- the permissions of a word's block
-
-term-perms : (t : Term) (a b d : ℕ) → permsOf (termNode t a b d) ≡ 0
-unfolding permsOf termNode
-term-perms (terms.Constant k) a b d = refl
-term-perms (terms.Number n) a b d = refl
-term-perms (terms.Literal n) a b d = refl
-term-perms (terms.Name n) a b d = refl
-term-perms (terms.Variable n) a b d = refl
-term-perms terms.Function a b d = refl
-term-perms terms.Apply a b d = refl
-term-perms terms.Let a b d = refl
-term-perms terms.Sequence a b d = refl
-term-perms terms.If a b d = refl
-term-perms terms.While a b d = refl
-term-perms (terms.Operation o) a b d = refl
-term-perms terms.Record a b d = refl
-term-perms terms.Get a b d = refl
-term-perms terms.Set a b d = refl
-term-perms terms.Delete a b d = refl
-term-perms terms.Cell a b d = refl
-term-perms terms.Read a b d = refl
-term-perms terms.Assign a b d = refl
-term-perms (terms.Send s) a b d = refl
-term-perms (terms.Exercise s) a b d = refl
-
-item-perms : (x : Item) (a b d : ℕ) → itemPerms x ≡ permsOf (itemNode x a b d)
-unfolding itemPerms itemNode permsOf
-item-perms items.Gap a b d = refl
-item-perms (items.Block h) a b d = refl
-item-perms (items.Term t) a b d = sym (term-perms t a b d)
-
--- what `permissions_at` answers at a term
-pub permissions-are : (ws : List ℕ) → reading ws ≡ accepted → (slice : List ℕ) → length ws ≤ length slice → (p : ℕ) (t : Term)
-    → itemAt ws p ≡ items.Term t → itemPerms (itemAt ws (linkAt (linked ws slice) p .home)) ≡ permissions (code ws) p
-unfolding permissions
-permissions-are ws e slice room p t h =
-    let q : ℕ = linkAt (linked ws slice) p .home in
-    item-perms (itemAt ws q) _ _ _
-    ∙ ap permsOf (sym (node-item ws e slice room q))
-    ∙ ap (λ (n : ℕ). permsOf (code ws .node n)) (sym (home-link ws e slice room p t h))

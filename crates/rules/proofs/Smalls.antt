@@ -19,7 +19,7 @@ use Rattle.calculus.proofs.RowRules.{C-row, B-row, fire-fill-32, fire-members}
 use Rattle.calculus.proofs.OperationResults.{operationMask, fire-operation-mask}
 use Rattle.rows.specs.Rows.{Poured}
 use Rattle.rows.proofs.Laws.{facts-most}
-use Rattle.rules.specs.declared.layout.Layout.{Layout}
+use Rattle.rows.specs.declared.layout.Layout.{Layout}
 use Rattle.rules.specs.Sized.{LaidOut, Sized, FiredIn}
 use Rattle.rules.specs.Well.{FiredWell}
 use Rattle.rules.proofs.Fires.{row-inside}

@@ -18,7 +18,7 @@ use Rattle.calculus.specs.Layout.{bit, base, rowWords, sets}
 use Rattle.calculus.specs.Estimate.{fire}
 use Rattle.calculus.proofs.Folds.{fire-only-not, fire-present, fire-absent, loop-start, loop-step, loop-skip, loop-end}
 use Rattle.calculus.proofs.RowOperations.{sets-C}
-use Rattle.rules.specs.declared.layout.Layout.{Layout}
+use Rattle.rows.specs.declared.layout.Layout.{Layout}
 use Rattle.rules.specs.declared.made.Action.{Action}
 use Rattle.rules.specs.Made.{both, Picks, Next, Things}
 use Rattle.rules.specs.Sized.{LaidOut, Sized}

@@ -13,7 +13,7 @@ use Rattle.calculus.specs.Constraint.{C, B, P, L, Rule, put, sub, _and_}
 use Rattle.calculus.specs.Rules.{eachMade}
 use Rattle.calculus.specs.Layout.{bit}
 use Rattle.calculus.specs.Estimate.{fire, facts}
-use Rattle.rules.specs.declared.layout.Layout.{Layout}
+use Rattle.rows.specs.declared.layout.Layout.{Layout}
 use Rattle.rules.specs.declared.made.Action.{Action}
 use Rattle.rules.specs.declared.made.Action.the-variants as actions
 use Rattle.rules.specs.declared.made.Site.{Site}

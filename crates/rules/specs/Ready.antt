@@ -1,26 +1,15 @@
 -- What the rules are handed besides an estimate: an accepted table, its links, its masks and the layout.
-use Prim.Native.Nat.{ℕ, _+_, _*_, _<_, _≤_}
+use Prim.Native.Nat.{ℕ, _*_, _≤_}
 use mathlib.Core.Path.{_≡_}
-use mathlib.Core.Bool.{Bool, _&&_}
 use mathlib.Core.List.{List}
-use lib.Dec.{leb}
 use lib.ListN.{length, take, drop}
 use Rattle.table.specs.Scan.{accepted, reading}
-use Rattle.table.specs.Code.{Code, code}
+use Rattle.table.specs.Code.{code}
 use Rattle.table.specs.Links.{linked}
-use Rattle.calculus.specs.Elements.{plain, elements, Making, isFunction, isCell, making, sendable, anyRecord}
-use Rattle.calculus.specs.Layout.{bit, rowWords, Words}
-use Rattle.rules.specs.declared.layout.Layout.{Layout}
-
--- m is a row whose digits are the elements with the property q
-pub record Mask (c : Code) (q : ℕ → Bool) (m : List ℕ) : Type 0 where
-  pub long : length m ≡ rowWords c
-  pub words : Words m
-  pub digits : (v : ℕ) → v < elements c → bit m v ≡ q v
-
--- the made elements of a sort
-abbrev pub madeAs : Code → (Making → Bool) → ℕ → Bool
-madeAs c q v = leb (plain c) v && q (making c v)
+use Rattle.calculus.specs.Elements.{isFunction, isCell, sendable, anyRecord}
+use Rattle.calculus.specs.Layout.{rowWords}
+use Rattle.rows.specs.declared.layout.Layout.{Layout}
+use Rattle.rows.specs.Mask.{Mask, madeAs}
 
 pub record Ready (ws links masks : List ℕ) (l : Layout) : Type 0 where
   pub readable : reading ws ≡ accepted

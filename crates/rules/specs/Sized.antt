@@ -7,7 +7,7 @@ use Rattle.table.specs.Code.{Code}
 use Rattle.calculus.specs.Constraint.{Rule}
 use Rattle.calculus.specs.Layout.{rowWords}
 use Rattle.calculus.specs.Estimate.{fire, facts}
-use Rattle.rules.specs.declared.layout.Layout.{Layout}
+use Rattle.rows.specs.declared.layout.Layout.{Layout}
 
 -- l is the layout of the code c
 pub record LaidOut (c : Code) (l : Layout) : Type 0 where

@@ -7,7 +7,7 @@ use Rattle.table.specs.Code.{Code}
 use Rattle.calculus.specs.Constraint.{Rule}
 use Rattle.calculus.specs.Layout.{WellFormed}
 use Rattle.calculus.specs.Estimate.{fire, facts}
-use Rattle.rules.specs.declared.layout.Layout.{Layout}
+use Rattle.rows.specs.declared.layout.Layout.{Layout}
 use Rattle.rules.specs.Sized.{LaidOut}
 
 pub record FiredWell (l : Layout) (k : Code → Rule) (old new : List ℕ) (added : ℕ) : Type 0 where

@@ -1,8 +1,3 @@
-// The flow rules in code: for each word, what its rule adds to an estimate.
-pub mod branches;
-pub mod layout;
+// Pieces of the flow rules in code, each with how many bits it added: parts, single elements, things in a value set.
 pub mod made;
-pub mod masks;
-pub mod results;
-pub mod send;
 pub mod small;

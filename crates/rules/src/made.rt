@@ -1,8 +1,8 @@
 // Rules that hold for each function, record or cell in a value set.
-use crate::layout::Layout;
 use rows::estimate::gain;
 use rows::estimate::put_bits;
 use rows::estimate::sub_row;
+use rows::layout::Layout;
 ghost use mathlib.Core.Path.{_≡_};
 ghost use Prim.Native.Nat.{_+_, _*_, _/_, _%_, _^_, _<_, _≤_};
 ghost use lib.ListN.{length};

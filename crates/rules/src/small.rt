@@ -1,15 +1,15 @@
 // The rules that add little: parts, single elements, what depends on one element, and operations.
-use crate::layout::Layout;
 use crate::made::live;
 use crate::made::perms;
-use crate::results::constant_bit;
-use crate::results::digit;
-use crate::results::has_digit;
-use crate::results::operate;
-use crate::results::sign_bit;
+use results::constant_bit;
+use results::digit;
+use results::has_digit;
+use results::operate;
+use results::sign_bit;
 use rows::estimate::fill_row;
 use rows::estimate::gain;
 use rows::estimate::put_bits;
+use rows::layout::Layout;
 use table::Constant;
 use table::Operation;
 ghost use mathlib.Core.Path.{_≡_};

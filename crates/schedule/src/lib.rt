@@ -1,8 +1,4 @@
 // The schedule: which sound step to take next, so that the closing sweep of the solver finds nothing left to add. It only chooses:
 // what it remembers may be wrong, and the estimate still changes by sound steps alone.
 mod events;
-mod follow;
-mod memory;
-mod plan;
-mod queue;
 pub mod run;

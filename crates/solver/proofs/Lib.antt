@@ -1,6 +1,3 @@
-pub mod Sounds
 pub mod Zeros
-pub mod Bounds
-pub mod Found
-pub mod Runs
-pub mod Answers
+pub mod Least
+pub mod Begun

@@ -1,28 +1,17 @@
--- Document 01's number and place for each refusal of a call, and what an analysis says beside the answer for all inputs.
+-- What an analysis says beside the answer for all inputs, and what it leaves in the slices.
 use Prim.Native.Nat.{ℕ}
-use Rattle.table.specs.Answer.{number, place}
-use Rattle.calculus.specs.Answer.{Answer, verdict}
+use mathlib.Core.Path.{_≡_}
+use mathlib.Core.List.{List, _++_}
+use lib.ListN.{length, drop, replicate}
+use Rattle.permset.specs.declared.PermSet.{PermSet}
+use Rattle.table.specs.Code.{code}
+use Rattle.calculus.specs.Layout.{estimateWords}
+use Rattle.calculus.specs.Estimate.{estimate, leak}
+use Rattle.calculus.specs.Answer.{Answer, verdict, workWords}
 use Rattle.calculus.specs.Answer as answers
-use Rattle.solver.specs.declared.Fault.{Fault}
-use Rattle.solver.specs.declared.Fault.the-variants as faults
+use Rattle.calls.specs.Faults.{faultNumber, faultPlace}
 use Rattle.solver.specs.declared.Analysis.{Analysis}
 use Rattle.solver.specs.declared.Analysis.the-variants as analyses
-
-unfoldable pub faultNumber : Fault → ℕ
-unfolding number
-faultNumber (faults.Table r) = number r
-faultNumber faults.Rho = 20
-faultNumber faults.Bound = 20
-faultNumber faults.ShortEstimate = 21
-faultNumber faults.ShortWork = 22
-
-unfoldable pub faultPlace : Fault → ℕ
-unfolding place
-faultPlace (faults.Table r) = place r
-faultPlace faults.Rho = 0
-faultPlace faults.Bound = 0
-faultPlace faults.ShortEstimate = 0
-faultPlace faults.ShortWork = 0
 
 -- an answer without what depends on a bound or is read from the estimate later: a refusal's number and place, or the leak
 pub data Summary : Type 0 where
@@ -37,3 +26,9 @@ unfoldable pub said : Analysis → Summary
 unfolding faultNumber faultPlace
 said (analyses.Refused f) = refused (faultNumber f) (faultPlace f)
 said (analyses.Solved s) = solved (s .bits)
+
+-- the least estimate in the first words of one slice, zeros in those of the other, and the leak
+pub record SolvedIn (ws : List ℕ) (ρ : ℕ) (est work est′ work′ : List ℕ) (r : PermSet) : Type 0 where
+  pub estimates : est′ ≡ estimate (code ws) ρ ++ drop (estimateWords (code ws)) est
+  pub works : work′ ≡ replicate (workWords (length ws)) 0 ++ drop (workWords (length ws)) work
+  pub leaks : r .bits ≡ leak (code ws) ρ (estimate (code ws) ρ)

@@ -1,4 +1,1 @@
 pub mod Analysis
-pub mod Calls
-pub mod Reading
-pub mod Swept

@@ -1,15 +1,15 @@
 // The analysis of any words, refused or not.
 use crate::Analysis;
-use crate::checks::Checked;
-use crate::checks::check;
-use crate::checks::words_needed;
 use crate::solve::solve;
+use calls::checks::Checked;
+use calls::checks::check;
+use calls::checks::words_needed;
 use permset::PermSet;
 ghost use mathlib.Core.Path.{_≡_};
 ghost use lib.ListN.{length};
 ghost use Rattle.calculus.specs.Answer.{ownBound, answer as Answer·answer, estimateAfter, workAfter};
-ghost use Rattle.solver.specs.Analysis.{said, summary};
-ghost use Rattle.solver.specs.Calls.{Fit, SolvedIn};
+ghost use Rattle.solver.specs.Analysis.{said, summary, SolvedIn};
+ghost use Rattle.calls.specs.Calls.{Fit};
 
 // The least estimate in the first words of its slice and zeros in those of the work slice, where both are long enough.
 pub fn solve_in(words: &[u32], rho: PermSet, est: &mut [u32], work: &mut [u32]) -> PermSet

@@ -1,11 +1,10 @@
 // The least estimate in a lent slice.
 use crate::memory::clear;
-use crate::readers;
-use crate::sweep::close;
+use masks::fill_masks;
 use permset::PermSet;
-use rules::layout::Layout;
-use rules::masks::fill_masks;
-use table::links::link;
+use rows::layout::Layout;
+use sweeps::close;
+use table_links::link;
 ghost use mathlib.Core.Path.{_≡_};
 ghost use Prim.Native.Nat.{_*_, _≤_};
 ghost use lib.ListN.{length, replicate};
@@ -15,10 +14,10 @@ ghost use Rattle.calculus.specs.Layout.{estimateWords, WellFormed};
 ghost use Rattle.calculus.specs.Estimate.{estimate, leak};
 ghost use Rattle.rules.specs.Ready.{Ready};
 ghost use Rattle.rules.specs.Sized.{LaidOut};
-ghost use Rattle.rules.specs.Sending.{LinksOf};
-ghost use Rattle.steps.specs.Running.{Running};
-ghost use Rattle.solver.specs.Reading.{Readable};
-ghost use Rattle.solver.specs.Swept.{Closed};
+ghost use Rattle.send_rules.specs.Sending.{LinksOf};
+ghost use Rattle.word_laws.specs.Running.{Running};
+ghost use Rattle.readers.specs.Reading.{Readable};
+ghost use Rattle.sweeps.specs.Swept.{Closed};
 
 // Sweeps, whose notes nobody reads.
 fn sweep_all(

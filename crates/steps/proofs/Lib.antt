@@ -1,5 +1,4 @@
-pub mod May
+pub mod Delivery
+pub mod KindLaws
 pub mod PartLaws
 pub mod WordSteps
-pub mod Pairs
-pub mod Mail

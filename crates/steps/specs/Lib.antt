@@ -1,5 +1,3 @@
-pub mod Live
+pub mod Deliverable
 pub mod PartRules
-pub mod Sound
-pub mod Running
-pub mod Found
+pub mod HasPart

@@ -1,6 +1,6 @@
-// Sound steps: parts of the rule of a word, each under the tests that the rule makes.
-pub mod live;
+// Sound steps at a word and its parts, and of a send to one block, each under the tests that the rule of the word makes.
+pub mod lift;
 pub mod parts;
 pub mod sends;
-pub mod shapes;
-pub mod things;
+mod shapes;
+pub mod wake;

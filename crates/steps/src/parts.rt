@@ -1,53 +1,37 @@
-// Steps that renew what a word says of its parts, or carry the value of one part on.
-use crate::live::runs;
-use crate::shapes::fire_shape;
-use crate::shapes::shape_of;
-use permset::PermSet;
-use rules::layout::Layout;
-use rules::small::fire_part;
+// Steps that carry the value of a part or of a binder on.
+use rows::layout::Layout;
 use rules::small::put_value;
 use table::Item;
 use table::Term;
-use term_rules::flow::value_to_held;
-use term_rules::flow::value_to_value;
-use word_rules::word::fire_word;
+use table::words::kind_of;
+use word_laws::flow::held_to_value;
+use word_laws::flow::value_to_held;
+use word_laws::flow::value_to_value;
+use word_laws::live::runs;
 ghost use mathlib.Core.Path.{_≡_};
+ghost use mathlib.Core.Bool.{true};
+ghost use lib.ListN.{getD};
+ghost use Rattle.table.specs.Words.{argument};
 ghost use Rattle.table.specs.Item.{itemAt};
 ghost use Rattle.table.specs.Code.{code};
-ghost use Rattle.steps.specs.Live.{Live};
-ghost use Rattle.steps.specs.Running.{Running};
-ghost use Rattle.steps.specs.Sound.{Sound, Kept};
+ghost use Rattle.word_laws.specs.Running.{Running};
+ghost use Rattle.word_laws.specs.Sound.{Kept};
 ghost use Rattle.table.specs.declared.Item.the-variants as items;
 ghost use Rattle.table.specs.declared.Term.the-variants as terms;
 
-// The parts of a live word.
-fn live_parts(
-    words: &[u32],
-    links: &[u32],
-    masks: &[u32],
-    est: &mut [u32],
-    scratch: &mut [u32],
-    log: &mut [u32],
-    l: Layout,
-    p: usize,
-)
-    requires { ⌜ Running (now words) (now links) (now masks) (now est) (now scratch) l ⌝ }
-    requires { ⌜ Live l (now est) p ⌝ }
-    ensures { λ _. ⌜ Kept (code (now (words .entry))) (now (est .entry)) (now (est .exit)) ⌝ }
+// Whether a variable stands at p.
+fn is_variable(words: &[u32], p: usize) -> bool
+    ensures { λ r. ⌜ (r ≡ true → itemAt (now (words .entry)) p ≡ items.Term (terms.Variable (argument (getD (now (words .entry)) p 0)))) ⌝ }
 {
-    match table::links::item_at(words, p) {
-        Item::Gap => {}
-        Item::Block(_) => {
-            fire_part(est, log, l, p, p + 3);
-        }
-        Item::Term(t) => {
-            fire_shape(links, est, log, l, p, shape_of(t));
-        }
+    if p < words.len() {
+        kind_of(words[p]) == 20
+    } else {
+        false
     }
 }
 
-// What the rule of the word p says of its parts alone.
-pub fn renew_parts(
+// The value of a variable: what its binder holds.
+pub fn carry_use(
     words: &[u32],
     links: &[u32],
     masks: &[u32],
@@ -60,8 +44,11 @@ pub fn renew_parts(
     requires { ⌜ Running (now words) (now links) (now masks) (now est) (now scratch) l ⌝ }
     ensures { λ _. ⌜ Kept (code (now (words .entry))) (now (est .entry)) (now (est .exit)) ⌝ }
 {
-    if runs(est, l, p) {
-        live_parts(words, links, masks, est, scratch, log, l, p);
+    if is_variable(words, p) {
+        if runs(est, l, p) {
+            let binder = table_links::link_at(links, p).binder;
+            held_to_value(est, scratch, log, l, binder, p);
+        }
     }
 }
 
@@ -82,7 +69,7 @@ pub fn carry_let(
     ensures { λ _. ⌜ Kept (code (now (words .entry))) (now (est .entry)) (now (est .exit)) ⌝ }
 {
     if runs(est, l, p) {
-        let d = table::links::link_at(links, p + 1).end;
+        let d = table_links::link_at(links, p + 1).end;
         if i == d {
             value_to_value(est, scratch, log, l, i, p);
         } else if i == p + 1 {
@@ -108,7 +95,7 @@ pub fn carry_sequence(
     ensures { λ _. ⌜ Kept (code (now (words .entry))) (now (est .entry)) (now (est .exit)) ⌝ }
 {
     if runs(est, l, p) {
-        let d = table::links::link_at(links, p + 1).end;
+        let d = table_links::link_at(links, p + 1).end;
         if i == d {
             value_to_value(est, scratch, log, l, i, p);
         }
@@ -132,8 +119,8 @@ pub fn carry_if(
     ensures { λ _. ⌜ Kept (code (now (words .entry))) (now (est .entry)) (now (est .exit)) ⌝ }
 {
     if runs(est, l, p) {
-        let b = table::links::link_at(links, p + 1).end;
-        let d = table::links::link_at(links, b).end;
+        let b = table_links::link_at(links, p + 1).end;
+        let d = table_links::link_at(links, b).end;
         if i == b {
             value_to_value(est, scratch, log, l, i, p);
         } else if i == d {
@@ -199,27 +186,7 @@ pub fn send_unit(
     requires { ⌜ Running (now words) (now links) (now masks) (now est) (now scratch) l ⌝ }
     ensures { λ _. ⌜ Kept (code (now (words .entry))) (now (est .entry)) (now (est .exit)) ⌝ }
 {
-    if let Item::Term(t) = table::links::item_at(words, p) {
+    if let Item::Term(t) = table_links::item_at(words, p) {
         send_value(words, links, masks, est, scratch, log, l, p, t);
-    }
-}
-
-// The whole rule of the word p.
-pub fn step_word(
-    words: &[u32],
-    links: &[u32],
-    masks: &[u32],
-    est: &mut [u32],
-    scratch: &mut [u32],
-    log: &mut [u32],
-    l: Layout,
-    rho: PermSet,
-    p: usize,
-)
-    requires { ⌜ Running (now words) (now links) (now masks) (now est) (now scratch) l ⌝ }
-    ensures { λ _. ⌜ Sound (code (now (words .entry))) (rho .bits) (now (est .entry)) (now (est .exit)) ⌝ }
-{
-    if p < l.size {
-        fire_word(words, links, masks, est, scratch, log, l, rho, p);
     }
 }

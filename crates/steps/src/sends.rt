@@ -1,14 +1,14 @@
 // The step of a send for one block.
-use crate::live::runs;
 use permset::PermSet;
-use rules::layout::Layout;
+use rows::layout::Layout;
 use rules::made::Site;
-use rules::send::Message;
-use rules::send::permissions_at;
-use rules::send::send_to;
+use send_rules::Message;
+use send_rules::permissions_at;
+use send_rules::send_to;
 use table::Item;
 use table::Term;
-use word_rules::send::has_message;
+use word_laws::live::runs;
+use word_laws::message::has_message;
 ghost use mathlib.Core.Path.{_≡_};
 ghost use mathlib.Core.Bool.{true};
 ghost use Prim.Native.Nat.{_*_, _<_, _≤_};
@@ -17,9 +17,9 @@ ghost use Rattle.table.specs.Item.{itemAt};
 ghost use Rattle.table.specs.Scan.{accepted, reading};
 ghost use Rattle.table.specs.Code.{code};
 ghost use Rattle.rules.specs.Sized.{Sized};
-ghost use Rattle.steps.specs.Found.{BlockAt, Mailed};
-ghost use Rattle.steps.specs.Running.{Running};
-ghost use Rattle.steps.specs.Sound.{Kept};
+ghost use Rattle.steps.specs.Deliverable.{BlockAt, Deliverable};
+ghost use Rattle.word_laws.specs.Running.{Running};
+ghost use Rattle.word_laws.specs.Sound.{Kept};
 ghost use Rattle.table.specs.declared.Item.the-variants as items;
 ghost use Rattle.table.specs.declared.Term.the-variants as terms;
 
@@ -28,7 +28,7 @@ fn is_block(words: &[u32], b: usize) -> bool
     requires { ⌜ reading (now words) ≡ accepted ⌝ }
     ensures { λ r. ⌜ (r ≡ true → BlockAt (now (words .entry)) b) ⌝ }
 {
-    match table::links::item_at(words, b) {
+    match table_links::item_at(words, b) {
         Item::Gap => false,
         Item::Block(_) => true,
         Item::Term(_) => false,
@@ -36,7 +36,7 @@ fn is_block(words: &[u32], b: usize) -> bool
 }
 
 // Whether p is live, C(d) has what may be sent, and a block stands at b.
-fn has_mail(
+fn has_message_for(
     words: &[u32],
     masks: &[u32],
     est: &[u32],
@@ -46,7 +46,7 @@ fn has_mail(
     b: usize,
 ) -> bool
     requires { ⌜ (reading (now words) ≡ accepted) × Sized l (now est) × (d < l .size) × (4 * l .row ≤ length (now masks)) ⌝ }
-    ensures { λ r. ⌜ (r ≡ true → Mailed (now (words .entry)) (now (masks .entry)) (now (est .entry)) l p d b) ⌝ }
+    ensures { λ r. ⌜ (r ≡ true → Deliverable (now (words .entry)) (now (masks .entry)) (now (est .entry)) l p d b) ⌝ }
 {
     let row = l.row;
     if !runs(est, l, p) {
@@ -76,9 +76,9 @@ fn send_block(
     ensures { λ _. ⌜ Kept (code (now (words .entry))) (now (est .entry)) (now (est .exit)) ⌝ }
 {
     let row = l.row;
-    let d = table::links::link_at(links, p + 1).end;
+    let d = table_links::link_at(links, p + 1).end;
     let sender = permissions_at(words, links, p);
-    if has_mail(words, masks, est, l, p, d, b) {
+    if has_message_for(words, masks, est, l, p, d, b) {
         let s = Site { p, d };
         let m = Message {
             a: p + 1,
@@ -114,7 +114,7 @@ pub fn send_one(
     requires { ⌜ Running (now words) (now links) (now masks) (now est) (now scratch) l ⌝ }
     ensures { λ _. ⌜ Kept (code (now (words .entry))) (now (est .entry)) (now (est .exit)) ⌝ }
 {
-    match table::links::item_at(words, p) {
+    match table_links::item_at(words, p) {
         Item::Gap => {}
         Item::Block(_) => {}
         Item::Term(t) => match t {

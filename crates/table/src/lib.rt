@@ -1,5 +1,5 @@
-// The reading of a system table: the terms, the refusals, and what the layers above see of an accepted table.
-pub mod links;
+// The reading of a system table: the terms and the refusals. What the layers above see of an accepted table is in table_links.
+mod packing;
 pub mod read;
 pub mod words;
 

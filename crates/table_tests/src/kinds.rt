@@ -1,5 +1,5 @@
 // Every kind of term: its arguments at and past their limit, and its parts, one less and one more.
-use table::links::item_at;
+use table_links::item_at;
 use test_tables::show::end;
 use test_tables::show::item;
 use test_tables::show::number;

@@ -20,11 +20,11 @@ use Rattle.calculus.proofs.Folds.{found, fire-and, fire-some, fire-some-not}
 use Rattle.calculus.proofs.RowRules.{C-row, fire-pass, found-masked, found-string}
 use Rattle.rows.specs.Rows.{meets, Poured}
 use Rattle.rows.proofs.Laws.{facts-most, meets-nonzero}
-use Rattle.rules.specs.declared.layout.Layout.{Layout}
+use Rattle.rows.specs.declared.layout.Layout.{Layout}
 use Rattle.rules.specs.declared.made.Action.{Action}
 use Rattle.rules.specs.declared.made.Action.the-variants as actions
 use Rattle.rules.specs.declared.made.Site.{Site}
-use Rattle.rules.specs.Ready.{Mask, madeAs}
+use Rattle.rows.specs.Mask.{Mask, madeAs}
 use Rattle.rules.specs.Sized.{LaidOut, FiredIn}
 use Rattle.rules.specs.Well.{FiredWell}
 use Rattle.rules.specs.Made.{actionRule, Picks, FiredMade}

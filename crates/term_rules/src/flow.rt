@@ -1,6 +1,6 @@
 // Rules of terms for which the layout suffices: values that pass from row to row, parts, let and new cells.
 use rows::estimate::sub_row;
-use rules::layout::Layout;
+use rows::layout::Layout;
 use rules::made::Site;
 use rules::small::fire_part;
 use rules::small::put_value;

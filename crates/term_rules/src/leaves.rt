@@ -1,6 +1,6 @@
 // Rules of terms with no part that runs, and what a block that is started holds.
 use rows::estimate::fill_row;
-use rules::layout::Layout;
+use rows::layout::Layout;
 use rules::made::live;
 use rules::small::put_value;
 ghost use Prim.Native.Nat.{_+_, _*_, _<_, _≤_};

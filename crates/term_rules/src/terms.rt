@@ -1,8 +1,8 @@
 // Rules that ask for the things in a value set, by the mask of cells, of functions or of records.
 use crate::flow::new_thing;
 use rows::estimate::pass_row;
+use rows::layout::Layout;
 use rows::row::any;
-use rules::layout::Layout;
 use rules::made::Action;
 use rules::made::Site;
 use rules::made::each_made;
@@ -18,7 +18,7 @@ ghost use Rattle.calculus.specs.Constraint.{C, B, put, sub, given, some, _and_}
 ghost use Rattle.calculus.specs.Rules.{fill, pass, eachMade, oneRule, twoRule};
 ghost use Rattle.rows.specs.Rows.{meets};
 ghost use Rattle.rules.specs.Sized.{Sized};
-ghost use Rattle.rules.specs.Ready.{Mask, madeAs};
+ghost use Rattle.rows.specs.Mask.{Mask, madeAs};
 ghost use Rattle.rules.specs.Made.{actionRule, Placed, Things};
 ghost use Rattle.term_rules.specs.For.{FiredFor};
 ghost use Rattle.rules.specs.declared.made.Action.the-variants as actions;

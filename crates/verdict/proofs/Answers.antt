@@ -1,56 +1,26 @@
 -- What a verdict says is the answer to its call, and what the call leaves.
-use Prim.Native.Nat.{ℕ, _-_}
+use Prim.Native.Nat.{ℕ}
 use mathlib.Core.Path.{_≡_, refl, sym, ap, ap₂, _∙_}
-use mathlib.Core.Bool.{Bool, true, false, not}
 use mathlib.Core.List.{List, _++_}
-use native.Mathlib.Omega.{arith}
-use lib.Bits.{bitAnd}
-use lib.Count.{trailingZeros, trailing-of-zero}
 use lib.Seq.{take-append-seam}
 use lib.ListN.{length, drop, take, replicate}
-use borrow.Author.Tests.{eqb-true, eq-eqb, ne-eqb}
-use Rattle.permset.specs.Sets.{difference, within, lowest}
 use Rattle.table.specs.Scan.{accepted, reading}
 use Rattle.table.specs.Code.{code}
 use Rattle.table.proofs.Linked.{linked}
 use Rattle.calculus.specs.Layout.{estimateWords}
 use Rattle.calculus.specs.Estimate.{estimate, leak, facts}
-use Rattle.calculus.specs.Answer.{Verdict, Answer, refused, verdict, ownBound, boundUsed, judge, answer}
+use Rattle.calculus.specs.Answer.{refused, verdict, boundUsed, judge, answer}
 use Rattle.calculus.proofs.Covers.{verdict-covers}
 use Rattle.calculus.proofs.Least.{estimate-well}
-use Rattle.verdict.specs.declared.judge.Findings.{Findings}
-use Rattle.solver.specs.Calls.{Fits}
-use Rattle.solver.proofs.Answers.{after-refused, after-solved}
-use Rattle.verdict.specs.declared.Verdict.{Verdict as Declared·Verdict}
-use Rattle.verdict.specs.declared.Verdict.the-variants as variants
-use Rattle.verdict.specs.Values.{answerOf, compare, Guaranteed, Judged, FoundIn}
+use Rattle.comparison.specs.declared.Findings.{Findings}
+use Rattle.calls.specs.Calls.{Fits}
+use Rattle.calls.proofs.Answers.{after-refused, after-solved}
+use Rattle.comparison.specs.declared.Verdict.{Verdict as Declared·Verdict}
+use Rattle.comparison.specs.declared.Verdict.the-variants as variants
+use Rattle.comparison.specs.Values.{answerOf, compare}
+use Rattle.verdict.specs.Values.{Guaranteed, Judged, FoundIn}
 
 -- ---- a leak compared with a bound
-
-pub own-bound : (ρ bound : ℕ) → bound ≡ ownBound → ρ ≡ boundUsed ρ bound
-unfolding boundUsed
-own-bound ρ bound e = sym (rw (eq-eqb bound ownBound e, boundUsed))
-
-pub given-bound : (ρ bound : ℕ) → (bound ≡ ownBound → ⊥) → bound ≡ boundUsed ρ bound
-unfolding boundUsed
-given-bound ρ bound e = sym (rw (ne-eqb bound ownBound e, boundUsed))
-
-pub within-bound : (leak bound facts : ℕ) → within leak bound ≡ true
-    → verdict (record { leak = leak; bound = bound; over = false; first = 32; facts = facts }) ≡ compare leak bound facts
-unfolding compare within difference lowest
-within-bound leak bound facts e =
-    let none : leak - bitAnd leak bound ≡ 0 = omega (arith, eqb-true (bitAnd leak bound) leak e) in
-    ap₂ (λ (o : Bool) (f : ℕ). verdict (record { leak = leak; bound = bound; over = o; first = f; facts = facts }))
-    (sym (ap not e))
-    (sym (ap (trailingZeros 32) none ∙ trailing-of-zero 32))
-
-pub over-bound : (leak bound facts : ℕ) → within leak bound ≡ false
-    → verdict (record { leak = leak; bound = bound; over = true; first = lowest (difference leak bound); facts = facts })
-    ≡ compare leak bound facts
-unfolding compare
-over-bound leak bound facts e =
-    ap (λ (o : Bool). verdict (record { leak = leak; bound = bound; over = o; first = lowest (difference leak bound); facts = facts }))
-    (sym (ap not e))
 
 compare-judge : (ws : List ℕ) (ρ bound : ℕ) (us : List ℕ)
     → compare (leak (code ws) ρ us) (boundUsed ρ bound) (facts us) ≡ verdict (judge (code ws) ρ bound us)

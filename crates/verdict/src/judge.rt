@@ -1,34 +1,20 @@
 // The verdict.
-use crate::Report;
-use crate::Verdict;
+use calls::checks::Checked;
+use calls::checks::check;
+use calls::checks::words_needed;
+use comparison::Findings;
+use comparison::Verdict;
+use comparison::bound_used;
+use comparison::compared;
 use permset::PermSet;
+use readers::facts;
 use solver::analyse::solve_in;
-use solver::checks::Checked;
-use solver::checks::check;
-use solver::checks::words_needed;
-use solver::readers::facts;
 ghost use mathlib.Core.Path.{_≡_};
 ghost use lib.ListN.{length};
-ghost use Rattle.calculus.specs.Answer.{answer, boundUsed, estimateAfter, workAfter};
-ghost use Rattle.solver.specs.Calls.{Fit, Fits};
-ghost use Rattle.verdict.specs.Values.{answerOf, compare, Guaranteed, Judged, FoundIn};
-
-// The bound that a leak is compared with: 80000000 hex means the opponent's own set.
-fn bound_used(rho: u32, bound: u32) -> PermSet
-    ensures { λ r. ⌜ r .bits ≡ boundUsed rho bound ⌝ }
-{
-    if bound == 0x80000000 {
-        PermSet { bits: rho }
-    } else {
-        PermSet { bits: bound }
-    }
-}
-
-// What was found of an accepted system: its leak, and the number of facts.
-struct Findings {
-    leak: PermSet,
-    facts: usize,
-}
+ghost use Rattle.calculus.specs.Answer.{answer, estimateAfter, workAfter};
+ghost use Rattle.calls.specs.Calls.{Fit, Fits};
+ghost use Rattle.comparison.specs.Values.{answerOf};
+ghost use Rattle.verdict.specs.Values.{Guaranteed, Judged, FoundIn};
 
 // The least estimate in the first words of its slice, its leak and its facts.
 fn find(words: &[u32], rho: PermSet, est: &mut [u32], work: &mut [u32]) -> Findings
@@ -41,20 +27,6 @@ fn find(words: &[u32], rho: PermSet, est: &mut [u32], work: &mut [u32]) -> Findi
         leak,
         facts: facts(&est[..need]),
     }
-}
-
-// What was found, compared with a bound.
-fn compared(found: Findings, bound: PermSet) -> Verdict
-    ensures { λ r. ⌜ answerOf r ≡ compare (found .leak .bits) (bound .bits) (found .facts) ⌝ }
-{
-    let leak = found.leak;
-    let facts = found.facts;
-    let report = Report { leak, bound, facts };
-    if leak.within(bound) {
-        return Verdict::Within(report);
-    }
-    let outside = leak.difference(bound);
-    Verdict::Over(report, outside.lowest())
 }
 
 // The verdict where nothing is wrong with the call.

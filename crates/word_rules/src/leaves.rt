@@ -1,9 +1,9 @@
 // Rules of the terms with no part that runs, where more than the layout is asked: literals, names, variables and exercises.
 use permset::PermSet;
-use rules::layout::Layout;
-use rules::send::permissions_at;
+use rows::layout::Layout;
 use rules::small::fire_exercise;
 use rules::small::put_value;
+use send_rules::permissions_at;
 use term_rules::flow::held_to_value;
 ghost use Prim.Native.Nat.{_+_, _^_, _<_, _≤_};
 ghost use lib.ListN.{length};
@@ -14,7 +14,7 @@ ghost use Rattle.calculus.specs.Elements.{literalElement, nameElement};
 ghost use Rattle.calculus.specs.Constraint.{C, B, P, put, sub, only, every, _and_};
 ghost use Rattle.rules.specs.Sized.{Sized, FiredIn};
 ghost use Rattle.rules.specs.Well.{FiredWell};
-ghost use Rattle.rules.specs.Sending.{itemPerms};
+ghost use Rattle.send_rules.specs.Sending.{itemPerms};
 
 pub fn at_literal(est: &mut [u32], log: &mut [u32], l: Layout, p: usize, n: u32) -> usize
     requires { ⌜ Sized l (now est) × (p < l .size) × (n < 23) ⌝ }
@@ -42,7 +42,7 @@ pub fn at_variable(
     requires { ⌜ Sized l (now est) × (l .row ≤ length (now scratch)) × (linkAt (now links) p .binder < l .size) × (p < l .size) ⌝ }
     ensures { λ r. ⌜ FiredIn l (sub (B (linkAt (now (links .entry)) p .binder)) (C p)) (now (est .entry)) (now (est .exit)) r ⌝ }
 {
-    let binder = table::links::link_at(links, p).binder;
+    let binder = table_links::link_at(links, p).binder;
     held_to_value(est, scratch, log, l, binder, p)
 }
 

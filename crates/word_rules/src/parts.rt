@@ -1,5 +1,7 @@
 // The rules of the terms with parts at their words: the links say where the parts stand, and each rule is handed its mask.
 // Every function has the same parameters but for the operation, whether its rule needs them or not.
+use branch_rules::fire_if;
+use branch_rules::fire_while;
 use node_rules::nodes::node_apply;
 use node_rules::nodes::node_assign;
 use node_rules::nodes::node_cell;
@@ -10,9 +12,7 @@ use node_rules::nodes::node_operation;
 use node_rules::nodes::node_read;
 use node_rules::nodes::node_sequence;
 use node_rules::nodes::node_update;
-use rules::branches::fire_if;
-use rules::branches::fire_while;
-use rules::layout::Layout;
+use rows::layout::Layout;
 use rules::made::Site;
 use table::Operation;
 ghost use mathlib.Core.Path.{_≡_};
@@ -20,7 +20,7 @@ ghost use Rattle.table.specs.Item.{itemAt};
 ghost use Rattle.table.specs.Code.{code};
 ghost use Rattle.calculus.specs.Rules.{flow};
 ghost use Rattle.rules.specs.Fired.{Fired};
-ghost use Rattle.word_rules.specs.At.{At};
+ghost use Rattle.word_laws.specs.At.{At};
 ghost use Rattle.table.specs.declared.Item.the-variants as items;
 ghost use Rattle.table.specs.declared.Term.the-variants as terms;
 
@@ -38,7 +38,7 @@ pub fn at_apply(
     requires { ⌜ itemAt (now words) p ≡ items.Term terms.Apply ⌝ }
     ensures { λ r. ⌜ Fired (code (now (words .entry))) (flow (code (now (words .entry))) p (code (now (words .entry)) .node p)) (now (est .entry)) (now (est .exit)) r ⌝ }
 {
-    let d = table::links::link_at(links, p + 1).end;
+    let d = table_links::link_at(links, p + 1).end;
     let row = l.row;
     node_apply(est, scratch, &masks[..row], log, l, Site { p, d })
 }
@@ -57,7 +57,7 @@ pub fn at_let(
     requires { ⌜ itemAt (now words) p ≡ items.Term terms.Let ⌝ }
     ensures { λ r. ⌜ Fired (code (now (words .entry))) (flow (code (now (words .entry))) p (code (now (words .entry)) .node p)) (now (est .entry)) (now (est .exit)) r ⌝ }
 {
-    let d = table::links::link_at(links, p + 1).end;
+    let d = table_links::link_at(links, p + 1).end;
     node_let(est, scratch, log, l, Site { p, d })
 }
 
@@ -75,7 +75,7 @@ pub fn at_sequence(
     requires { ⌜ itemAt (now words) p ≡ items.Term terms.Sequence ⌝ }
     ensures { λ r. ⌜ Fired (code (now (words .entry))) (flow (code (now (words .entry))) p (code (now (words .entry)) .node p)) (now (est .entry)) (now (est .exit)) r ⌝ }
 {
-    let d = table::links::link_at(links, p + 1).end;
+    let d = table_links::link_at(links, p + 1).end;
     node_sequence(est, scratch, log, l, Site { p, d })
 }
 
@@ -93,8 +93,8 @@ pub fn at_if(
     requires { ⌜ itemAt (now words) p ≡ items.Term terms.If ⌝ }
     ensures { λ r. ⌜ Fired (code (now (words .entry))) (flow (code (now (words .entry))) p (code (now (words .entry)) .node p)) (now (est .entry)) (now (est .exit)) r ⌝ }
 {
-    let b = table::links::link_at(links, p + 1).end;
-    let d = table::links::link_at(links, b).end;
+    let b = table_links::link_at(links, p + 1).end;
+    let d = table_links::link_at(links, b).end;
     fire_if(est, scratch, log, l, p, p + 1, b, d)
 }
 
@@ -112,7 +112,7 @@ pub fn at_while(
     requires { ⌜ itemAt (now words) p ≡ items.Term terms.While ⌝ }
     ensures { λ r. ⌜ Fired (code (now (words .entry))) (flow (code (now (words .entry))) p (code (now (words .entry)) .node p)) (now (est .entry)) (now (est .exit)) r ⌝ }
 {
-    let d = table::links::link_at(links, p + 1).end;
+    let d = table_links::link_at(links, p + 1).end;
     fire_while(est, log, l, p, p + 1, d)
 }
 
@@ -131,7 +131,7 @@ pub fn at_operation(
     requires { ⌜ itemAt (now words) p ≡ items.Term (terms.Operation o) ⌝ }
     ensures { λ r. ⌜ Fired (code (now (words .entry))) (flow (code (now (words .entry))) p (code (now (words .entry)) .node p)) (now (est .entry)) (now (est .exit)) r ⌝ }
 {
-    let d = table::links::link_at(links, p + 1).end;
+    let d = table_links::link_at(links, p + 1).end;
     node_operation(est, log, l, Site { p, d }, o)
 }
 
@@ -149,7 +149,7 @@ pub fn at_get(
     requires { ⌜ itemAt (now words) p ≡ items.Term terms.Get ⌝ }
     ensures { λ r. ⌜ Fired (code (now (words .entry))) (flow (code (now (words .entry))) p (code (now (words .entry)) .node p)) (now (est .entry)) (now (est .exit)) r ⌝ }
 {
-    let d = table::links::link_at(links, p + 1).end;
+    let d = table_links::link_at(links, p + 1).end;
     let row = l.row;
     node_get(est, scratch, &masks[row..2 * row], log, l, Site { p, d })
 }
@@ -168,8 +168,8 @@ pub fn at_set(
     requires { ⌜ itemAt (now words) p ≡ items.Term terms.Set ⌝ }
     ensures { λ r. ⌜ Fired (code (now (words .entry))) (flow (code (now (words .entry))) p (code (now (words .entry)) .node p)) (now (est .entry)) (now (est .exit)) r ⌝ }
 {
-    let b = table::links::link_at(links, p + 1).end;
-    let d = table::links::link_at(links, b).end;
+    let b = table_links::link_at(links, p + 1).end;
+    let d = table_links::link_at(links, b).end;
     let row = l.row;
     node_update(est, scratch, &masks[row..2 * row], log, l, Site { p, d }, b)
 }
@@ -188,7 +188,7 @@ pub fn at_delete(
     requires { ⌜ itemAt (now words) p ≡ items.Term terms.Delete ⌝ }
     ensures { λ r. ⌜ Fired (code (now (words .entry))) (flow (code (now (words .entry))) p (code (now (words .entry)) .node p)) (now (est .entry)) (now (est .exit)) r ⌝ }
 {
-    let d = table::links::link_at(links, p + 1).end;
+    let d = table_links::link_at(links, p + 1).end;
     let row = l.row;
     node_delete(est, scratch, &masks[row..2 * row], log, l, Site { p, d })
 }
@@ -250,7 +250,7 @@ pub fn at_assign(
     requires { ⌜ itemAt (now words) p ≡ items.Term terms.Assign ⌝ }
     ensures { λ r. ⌜ Fired (code (now (words .entry))) (flow (code (now (words .entry))) p (code (now (words .entry)) .node p)) (now (est .entry)) (now (est .exit)) r ⌝ }
 {
-    let d = table::links::link_at(links, p + 1).end;
+    let d = table_links::link_at(links, p + 1).end;
     let row = l.row;
     node_assign(
         est,

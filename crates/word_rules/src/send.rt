@@ -1,37 +1,25 @@
 // The rule of a send with its parts.
 use permset::PermSet;
-use rows::row::any;
-use rules::layout::Layout;
+use rows::layout::Layout;
 use rules::made::Site;
-use rules::send::Message;
-use rules::send::permissions_at;
-use rules::send::send_all;
 use rules::small::put_value;
+use send_rules::Message;
+use send_rules::permissions_at;
+use send_rules::send_all;
 use term_rules::flow::fire_parts;
+use word_laws::message::has_message;
 ghost use mathlib.Core.Path.{_≡_};
 ghost use Prim.Native.Nat.{_+_, _*_, _<_};
-ghost use lib.ListN.{length, take, drop};
 ghost use Rattle.table.specs.Item.{itemAt};
 ghost use Rattle.table.specs.Code.{code};
 ghost use Rattle.calculus.specs.Elements.{sendable};
 ghost use Rattle.calculus.specs.Constraint.{C, put, some, each, _and_};
 ghost use Rattle.calculus.specs.Rules.{part, flow};
-ghost use Rattle.rows.specs.Rows.{meets};
 ghost use Rattle.rules.specs.Fired.{Fired};
-ghost use Rattle.rules.specs.Sized.{Sized};
-ghost use Rattle.rules.specs.Sending.{sendRule, Sends, LinksOf};
-ghost use Rattle.word_rules.specs.At.{At};
+ghost use Rattle.send_rules.specs.Sending.{sendRule, Sends, LinksOf};
+ghost use Rattle.word_laws.specs.At.{At};
 ghost use Rattle.table.specs.declared.Item.the-variants as items;
 ghost use Rattle.table.specs.declared.Term.the-variants as terms;
-
-// Whether C(d) has what may be sent.
-pub fn has_message(est: &[u32], messages: &[u32], l: Layout, d: usize) -> bool
-    requires { ⌜ Sized l (now est) × (d < l .size) × (length (now messages) ≡ l .row) ⌝ }
-    ensures { λ r. ⌜ r ≡ meets (now (messages .entry)) (take (l .row) (drop (2 * d * l .row) (now (est .entry)))) ⌝ }
-{
-    let at = 2 * d * l.row;
-    any(&est[at..at + l.row], messages)
-}
 
 // The rule for every block, if there is a message.
 fn send_messages(
@@ -109,7 +97,7 @@ pub fn at_send(
     ensures { λ r. ⌜ Fired (code (now (words .entry))) (flow (code (now (words .entry))) p (code (now (words .entry)) .node p)) (now (est .entry)) (now (est .exit)) r ⌝ }
 {
     let row = l.row;
-    let d = table::links::link_at(links, p + 1).end;
+    let d = table_links::link_at(links, p + 1).end;
     let s = Site { p, d };
     let sender = permissions_at(words, links, p);
     let m = Message {

@@ -17,8 +17,7 @@ use crate::parts::at_set;
 use crate::parts::at_while;
 use crate::send::at_send;
 use permset::PermSet;
-use rules::layout::Layout;
-use rules::results::has_digit;
+use rows::layout::Layout;
 use rules::small::fire_constant;
 use rules::small::fire_number;
 use rules::small::fire_part;
@@ -26,11 +25,11 @@ use table::Item;
 use table::Term;
 use term_rules::leaves::leaf_made;
 use term_rules::leaves::start_block;
+use word_laws::live::is_live;
 ghost use mathlib.Core.Path.{_≡_};
 ghost use mathlib.Core.Bool.{true};
-ghost use Prim.Native.Nat.{_+_, _*_, _<_};
-ghost use lib.ListN.{getD};
-ghost use Rattle.permset.specs.Sets.{member, within};
+ghost use Prim.Native.Nat.{_+_, _<_};
+ghost use Rattle.permset.specs.Sets.{within};
 ghost use Rattle.table.specs.Item.{itemAt};
 ghost use Rattle.table.specs.Code.{code};
 ghost use Rattle.calculus.specs.Constraint.{B, L, put, given, only, _and_};
@@ -38,18 +37,9 @@ ghost use Rattle.calculus.specs.Rules.{fill, part, flow, rule};
 ghost use Rattle.rules.specs.Fired.{Fired};
 ghost use Rattle.rules.specs.Sized.{Sized, FiredIn};
 ghost use Rattle.rules.specs.Well.{FiredWell};
-ghost use Rattle.word_rules.specs.At.{At};
-ghost use Rattle.word_rules.specs.Partless.{partless};
+ghost use Rattle.word_laws.specs.At.{At};
+ghost use Rattle.word_laws.specs.Partless.{partless};
 ghost use Rattle.table.specs.declared.Item.the-variants as items;
-
-// Whether p is live.
-pub fn is_live(est: &[u32], l: Layout, p: usize) -> bool
-    requires { ⌜ Sized l (now est) × (p < l .size) ⌝ }
-    ensures { λ r. ⌜ r ≡ member (getD (now (est .entry)) (2 * l .size * l .row + p) 0) 24 ⌝ }
-{
-    let at = l.flags(p);
-    has_digit(est[at], 24)
-}
 
 // The rule of a live term with no part that runs.
 fn fire_leaf(
@@ -199,7 +189,7 @@ pub fn fire_word(
     requires { ⌜ At (now words) (now links) (now masks) (now est) (now scratch) l p ⌝ }
     ensures { λ r. ⌜ Fired (code (now (words .entry))) (rule (code (now (words .entry))) (rho .bits) p) (now (est .entry)) (now (est .exit)) r ⌝ }
 {
-    match table::links::item_at(words, p) {
+    match table_links::item_at(words, p) {
         Item::Gap => 0,
         Item::Block(h) => fire_block(est, log, l, rho, p, h.guard),
         Item::Term(t) => fire_live(words, links, masks, est, scratch, log, l, p, t),

@@ -2,7 +2,8 @@
 use mathlib.Core.Path.{ap, _∙_}
 use native.Mathlib.Omega.{arith}
 use Rattle.calculus.specs.Answer.{Answer}
-use Rattle.capi.specs.Interface.{answerNumber, estimateBytes, workBytes}
+use Rattle.capi.specs.Interface.{estimateBytes, workBytes}
+use Rattle.interface.specs.Numbers.{answerNumber}
 use Rattle.capi.proofs.Refusals.{place-fits}
 use borrow.Author.Needs.{needs}
 use Rattle.capi.proofs.of_words.Statement.{statement}

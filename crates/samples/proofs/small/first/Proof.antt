@@ -12,12 +12,6 @@ slice-aggregate-sample c = sym (length-take-le _ _ (omega arith))
 sample-requires : tie.Need-sample-requires
 sample-requires c κs = search needs
 
-same-length : tie.Need-same-length
-same-length c = search needs
-
-same-length-2 : tie.Need-same-length-2
-same-length-2 c = search needs
-
 returns : tie.Need-returns
 returns c = search needs
 
@@ -27,4 +21,4 @@ returns-2 c = search needs
 pub first-spec : {M : Type 1} → statement M
 first-spec =
     tie.close
-    (tie.spec slice-aggregate-sample sample-requires same-length same-length-2 returns returns-2)
+    (tie.spec slice-aggregate-sample sample-requires returns returns-2)

@@ -4,8 +4,8 @@ use mathlib.Core.Path.{sym, ap, _∙_, subst}
 use lib.ListN.{length}
 use Rattle.calculus.specs.Answer.{ownBound, judge}
 use Rattle.solver.specs.Analysis.{solved, said, summary}
-use Rattle.solver.specs.Calls.{CheckedAs}
-use Rattle.solver.proofs.Answers.{after-refused, after-solved}
+use Rattle.calls.specs.Calls.{CheckedAs}
+use Rattle.calls.proofs.Answers.{after-refused, after-solved}
 use borrow.Author.Needs.{needs}
 use Rattle.solver.proofs.analyse.analyse.Statement.{statement}
 use Rattle.solver.proofs.analyse.analyse.Tie as tie

@@ -2,8 +2,8 @@
 -- Assumes nothing.
 use mathlib.Core.Path.{sym}
 use Rattle.solver.proofs.Zeros.{zeros-at}
-use Rattle.solver.proofs.Bounds.{row-bound}
-use Rattle.solver.proofs.Runs.{ready-of}
+use Rattle.calls.proofs.Bounds.{row-bound}
+use Rattle.solver.proofs.Begun.{ready-of}
 use native.Mathlib.Omega.{arith}
 use borrow.Author.Needs.{needs}
 use Rattle.solver.proofs.solve.fill.Statement.{statement}

@@ -1,6 +1,6 @@
 -- `solver::solve::least` meets its contract: it starts from zeros.
 -- Assumes nothing.
-use Rattle.solver.proofs.Runs.{begun, ended}
+use Rattle.solver.proofs.Begun.{begun, ended}
 use borrow.Author.Needs.{needs}
 use Rattle.solver.proofs.solve.least.Statement.{statement}
 use Rattle.solver.proofs.solve.least.Tie as tie

@@ -1,6 +1,6 @@
 -- `solver::solve::run` meets its contract: a row has at most 36 words.
 -- Assumes nothing.
-use Rattle.solver.proofs.Bounds.{row-bound}
+use Rattle.calls.proofs.Bounds.{row-bound}
 use native.Mathlib.Omega.{arith}
 use borrow.Author.Needs.{needs}
 use Rattle.solver.proofs.solve.run.Statement.{statement}

@@ -1,6 +1,6 @@
 -- `solver::solve::settle` meets its contract: sweeps after sound steps. Assumes nothing.
-use Rattle.solver.proofs.Runs.{running-again}
-use Rattle.solver.proofs.Sounds.{sound-then}
+use Rattle.sweeps.proofs.Runs.{running-again}
+use Rattle.sweeps.proofs.Sounds.{sound-then}
 use borrow.Author.Needs.{needs}
 use Rattle.solver.proofs.solve.settle.Statement.{statement}
 use Rattle.solver.proofs.solve.settle.Tie as tie

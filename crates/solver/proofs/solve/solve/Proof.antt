@@ -7,7 +7,7 @@ use Rattle.table.specs.Code.{code}
 use Rattle.table.proofs.Limits.{size-le}
 use Rattle.calculus.specs.Estimate.{leak}
 use Rattle.solver.proofs.Zeros.{clear-all}
-use Rattle.solver.proofs.Bounds.{laid-out}
+use Rattle.calls.proofs.Bounds.{laid-out}
 use native.Mathlib.Omega.{arith}
 use borrow.Author.Needs.{needs}
 use Rattle.solver.proofs.solve.solve.Statement.{statement}

@@ -1,7 +1,7 @@
 -- `steps::parts::carry_cell` meets its contract: the part of a cell is what it holds.
 -- Assumes nothing.
 use native.Mathlib.Omega.{arith}
-use Rattle.steps.proofs.May.{has-size, kept-in}
+use Rattle.word_laws.proofs.May.{has-size, kept-in}
 use Rattle.steps.proofs.WordSteps.{value-below, cell-held}
 use borrow.Author.Needs.{needs}
 use Rattle.steps.proofs.parts.carry_cell.Statement.{statement}

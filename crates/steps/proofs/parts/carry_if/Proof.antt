@@ -1,7 +1,7 @@
 -- `steps::parts::carry_if` meets its contract: the part is one of the two branches.
 -- Assumes nothing.
 use native.Mathlib.Omega.{arith}
-use Rattle.steps.proofs.May.{has-size, kept-in}
+use Rattle.word_laws.proofs.May.{has-size, kept-in}
 use Rattle.steps.proofs.WordSteps.{value-below, true-value, false-value}
 use borrow.Author.Needs.{needs}
 use Rattle.steps.proofs.parts.carry_if.Statement.{statement}

@@ -1,7 +1,7 @@
 -- `steps::parts::carry_let` meets its contract: the part is one of the two that the rule reads.
 -- Assumes nothing.
 use native.Mathlib.Omega.{arith}
-use Rattle.steps.proofs.May.{has-size, kept-in}
+use Rattle.word_laws.proofs.May.{has-size, kept-in}
 use Rattle.steps.proofs.WordSteps.{value-below, let-held, let-value}
 use borrow.Author.Needs.{needs}
 use Rattle.steps.proofs.parts.carry_let.Statement.{statement}

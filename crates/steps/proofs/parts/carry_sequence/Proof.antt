@@ -1,7 +1,7 @@
 -- `steps::parts::carry_sequence` meets its contract: the part is the second.
 -- Assumes nothing.
 use native.Mathlib.Omega.{arith}
-use Rattle.steps.proofs.May.{has-size, kept-in}
+use Rattle.word_laws.proofs.May.{has-size, kept-in}
 use Rattle.steps.proofs.WordSteps.{value-below, sequence-value}
 use borrow.Author.Needs.{needs}
 use Rattle.steps.proofs.parts.carry_sequence.Statement.{statement}

@@ -3,7 +3,7 @@
 use mathlib.Core.Path.{ap, _∙_}
 use native.Mathlib.Omega.{arith}
 use Rattle.table.specs.declared.Item.the-variants as items
-use Rattle.steps.proofs.May.{has-size, kept-in}
+use Rattle.word_laws.proofs.May.{has-size, kept-in}
 use Rattle.steps.proofs.WordSteps.{unit-value}
 use borrow.Author.Needs.{needs}
 use Rattle.steps.proofs.parts.send_value.Statement.{statement}

@@ -2,7 +2,7 @@
 -- Assumes nothing.
 use mathlib.Core.Path.{sym, _∙_}
 use mathlib.Core.Bool.{false≢true}
-use Rattle.steps.proofs.Mail.{block-at}
+use Rattle.steps.proofs.Delivery.{block-at}
 use borrow.Author.Needs.{needs}
 use Rattle.steps.proofs.sends.is_block.Statement.{statement}
 use Rattle.steps.proofs.sends.is_block.Tie as tie

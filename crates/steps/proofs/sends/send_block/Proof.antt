@@ -1,10 +1,9 @@
 -- `steps::sends::send_block` meets its contract: what a send does for each block may be done for this one.
 -- Assumes nothing.
 use native.Mathlib.Omega.{arith}
-use Rattle.word_rules.proofs.Terms.{masks-long}
-use Rattle.steps.proofs.May.{has-size, kept-refl}
-use Rattle.steps.proofs.Pairs.{at-term, next-fits}
-use Rattle.steps.proofs.Mail.{second-inside, may-send, kept-sent}
+use Rattle.word_laws.proofs.Terms.{masks-long}
+use Rattle.word_laws.proofs.May.{has-size, kept-refl, at-term, next-fits}
+use Rattle.steps.proofs.Delivery.{second-inside, may-send, kept-sent}
 use borrow.Author.Needs.{needs}
 use Rattle.steps.proofs.sends.send_block.Statement.{statement}
 use Rattle.steps.proofs.sends.send_block.Tie as tie
@@ -20,8 +19,8 @@ link-at-requires c κs = search needs
 permissions-at-requires : tie.Need-permissions-at-requires
 permissions-at-requires c κs = search needs
 
-has-mail-requires : tie.Need-has-mail-requires
-has-mail-requires c κs =
+has-message-for-requires : tie.Need-has-message-for-requires
+has-message-for-requires c κs =
     let s = c .before .before .before .before .before .before .before .before .before in (
       s .pre .0 .ready .readable,
       has-size _ _ _ _ _ _ (s .pre .0),
@@ -59,7 +58,7 @@ part-send-to-end c =
 send-to-requires : tie.Need-send-to-requires
 send-to-requires c κs =
     let s = c .before .before .before .before .before .before .before .before .before .before .before .before .before .before .before in
-    let g = c .before .before .before .before .before .has-mail .ensures (c .before .before .before .before .if1 .taken) in
+    let g = c .before .before .before .before .before .has-message-for .ensures (c .before .before .before .before .if1 .taken) in
     (may-send _ _ _ _ _ _ (s .pre .0) _ _ (s .pre .1) _ (c .before .before .before .before .before .before .before .before .link-at .ensures) _ (c .before .before .before .before .before .before .before .permissions-at .ensures), g .receiver .inside, g .receiver .task)
 
 same-length : tie.Need-same-length
@@ -74,7 +73,7 @@ same-length-3 c = search needs
 returns : tie.Need-returns
 returns c =
     let s = c .before .before .before .before .before .before .before .before .before .before .before .before .before .before .before .before .before .before .before .before .before .before in
-    kept-sent _ _ _ _ _ _ (s .pre .0) _ _ (s .pre .1) _ (c .before .before .before .before .before .before .before .before .before .before .before .before .before .before .before .link-at .ensures) _ (c .before .before .before .before .before .before .before .before .before .before .before .before .before .before .permissions-at .ensures) _ (c .before .before .before .before .before .before .before .before .before .before .before .before .has-mail .ensures (c .before .before .before .before .before .before .before .before .before .before .before .if1 .taken)) _ _ (c .before .before .before .before .before .before .send-to .ensures)
+    kept-sent _ _ _ _ _ _ (s .pre .0) _ _ (s .pre .1) _ (c .before .before .before .before .before .before .before .before .before .before .before .before .before .before .before .link-at .ensures) _ (c .before .before .before .before .before .before .before .before .before .before .before .before .before .before .permissions-at .ensures) _ (c .before .before .before .before .before .before .before .before .before .before .before .before .has-message-for .ensures (c .before .before .before .before .before .before .before .before .before .before .before .if1 .taken)) _ _ (c .before .before .before .before .before .before .send-to .ensures)
 
 same-length-4 : tie.Need-same-length-4
 same-length-4 c = search needs
@@ -84,4 +83,4 @@ returns-2 c = kept-refl _ _
 
 pub send-block-spec : {M : Type 1} → statement M
 send-block-spec =
-    tie.close (tie.spec add-link-at link-at-requires permissions-at-requires has-mail-requires add-t21 mul-send-to mul-send-to-2 mul-send-to-3 sub-send-to part-send-to-start part-send-to-end send-to-requires same-length same-length-2 same-length-3 returns same-length-4 returns-2)
+    tie.close (tie.spec add-link-at link-at-requires permissions-at-requires has-message-for-requires add-t21 mul-send-to mul-send-to-2 mul-send-to-3 sub-send-to part-send-to-start part-send-to-end send-to-requires same-length same-length-2 same-length-3 returns same-length-4 returns-2)

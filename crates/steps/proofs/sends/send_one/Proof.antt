@@ -1,8 +1,8 @@
 -- `steps::sends::send_one` meets its contract: a send alone sends.
 -- Assumes nothing.
 use mathlib.Core.Path.{sym, _∙_}
-use Rattle.word_rules.proofs.Tags.{term-is}
-use Rattle.steps.proofs.May.{kept-refl}
+use Rattle.word_laws.proofs.Tags.{term-is}
+use Rattle.word_laws.proofs.May.{kept-refl}
 use borrow.Author.Needs.{needs}
 use Rattle.steps.proofs.sends.send_one.Statement.{statement}
 use Rattle.steps.proofs.sends.send_one.Tie as tie

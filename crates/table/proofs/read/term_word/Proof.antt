@@ -1,7 +1,7 @@
 -- `table::read::term_word` meets its contract: its tests are those of the fault of a term's word, in the same order.
 -- Assumes nothing.
 use mathlib.Core.Path.{_≡_, sym, ap, _∙_}
-use mathlib.Core.Bool.{true, false, _&&_}
+use mathlib.Core.Bool.{Bool, true, false, _&&_}
 use mathlib.Core.List.{List}
 use Prim.Native.Nat.{ℕ, _<_, _≤_}
 use native.Mathlib.Omega.{arith}
@@ -54,6 +54,13 @@ module _ (keys : List ℕ) (w d h : ℕ) (s : List ℕ) where
 said : (n m at : ℕ) → n ≡ m → judged m at ≡ judged n at
 said n m at e = ap (λ (x : ℕ). judged x at) (sym e)
 
+-- the test of a variable, by what the calls answered
+variable : {k a b : ℕ} {r v : Bool} (w : ℕ) (s : List ℕ) → k ≡ kind w → a ≡ argument w → length s ≡ b → r ≡ (eqb k 20 && leb b a) → r ≡ v
+    → (eqb (kind w) 20 && leb (length s) (argument w)) ≡ v
+variable w s p q e t u =
+    let p′ = sym p in
+    let q′ = sym q in (λ i. eqb (p′ i) 20 && leb (e i) (q′ i)) ∙ sym t ∙ u
+
 kind-of-requires : tie.Need-kind-of-requires
 kind-of-requires c κs = search needs
 
@@ -80,15 +87,15 @@ unbound-requires c κs = search needs
 
 returns-4 : tie.Need-returns-4
 unfolding outcome number place judged
-returns-4 c = λ keys h s e. said _ 10 _ (free keys _ _ h s (omega arith) (omega arith) (omega arith) (cc))
+returns-4 c = λ keys h s e. said _ 10 _ (free keys _ _ h s (omega arith) (omega arith) (omega arith) (variable _ s (c .before .before .before .before .before .before .before .kind-of .ensures) (c .before .before .before .before .before .before .argument-of .ensures) e (c .before .unbound .ensures) (c .if4 .taken)))
 
 returns-5 : tie.Need-returns-5
 unfolding outcome number place judged
-returns-5 c = λ keys h s e. said _ 11 _ (deep keys _ _ h s (omega arith) (omega arith) (omega arith) (cc) (omega arith))
+returns-5 c = λ keys h s e. said _ 11 _ (deep keys _ _ h s (omega arith) (omega arith) (omega arith) (variable _ s (c .before .before .before .before .before .before .before .before .kind-of .ensures) (c .before .before .before .before .before .before .before .argument-of .ensures) e (c .before .before .unbound .ensures) (c .before .if4 .left)) (omega arith))
 
 returns-6 : tie.Need-returns-6
 unfolding outcome number place judged
-returns-6 c = λ keys h s e. said _ 0 _ (fine keys _ _ h s (omega arith) (omega arith) (omega arith) (cc) (omega arith))
+returns-6 c = λ keys h s e. said _ 0 _ (fine keys _ _ h s (omega arith) (omega arith) (omega arith) (variable _ s (c .before .before .before .before .before .before .before .before .kind-of .ensures) (c .before .before .before .before .before .before .before .argument-of .ensures) e (c .before .before .unbound .ensures) (c .before .if4 .left)) (omega arith))
 
 pub term-word-spec : {M : Type 1} → statement M
 term-word-spec =

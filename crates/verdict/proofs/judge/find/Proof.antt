@@ -5,7 +5,7 @@ use native.Mathlib.Omega.{arith}
 use lib.ListN.{length, take}
 use lib.Seq.{length-take-le}
 use Rattle.calculus.specs.Estimate.{facts}
-use Rattle.solver.proofs.Bounds.{words-bound}
+use Rattle.calls.proofs.Bounds.{words-bound}
 use Rattle.verdict.proofs.Answers.{first-words}
 use borrow.Author.Needs.{needs}
 use Rattle.verdict.proofs.judge.find.Statement.{statement}

@@ -1,9 +1,9 @@
 -- `verdict::judge::verdict` meets its contract: refused by its checks, or judged. Assumes nothing.
 use mathlib.Core.Path.{refl, subst}
 use lib.ListN.{length}
-use Rattle.solver.specs.Calls.{CheckedAs}
-use Rattle.verdict.specs.declared.Verdict.the-variants.{Refused}
-use Rattle.verdict.specs.Values.{answerOf}
+use Rattle.calls.specs.Calls.{CheckedAs}
+use Rattle.comparison.specs.declared.Verdict.the-variants.{Refused}
+use Rattle.comparison.specs.Values.{answerOf}
 use Rattle.verdict.proofs.Answers.{rejected, guaranteed}
 use borrow.Author.Needs.{needs}
 use Rattle.verdict.proofs.judge.verdict.Statement.{statement}

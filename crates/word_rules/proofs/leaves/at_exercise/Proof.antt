@@ -2,7 +2,7 @@
 -- Assumes nothing.
 use mathlib.Core.Path.{sym, ap, _∙_}
 use Rattle.permset.specs.Sets.{within}
-use Rattle.word_rules.proofs.LeafRules.{only-well, only-left}
+use Rattle.word_laws.proofs.LeafRules.{only-well, only-left}
 use borrow.Author.Needs.{needs}
 use Rattle.word_rules.proofs.leaves.at_exercise.Statement.{statement}
 use Rattle.word_rules.proofs.leaves.at_exercise.Tie as tie

@@ -1,6 +1,6 @@
 -- `word_rules::leaves::at_variable` meets its contract: the link tells the binder.
 -- Assumes nothing.
-use Rattle.word_rules.proofs.LeafRules.{binder-below, binder-fired}
+use Rattle.word_laws.proofs.LeafRules.{binder-below, binder-fired}
 use borrow.Author.Needs.{needs}
 use Rattle.word_rules.proofs.leaves.at_variable.Statement.{statement}
 use Rattle.word_rules.proofs.leaves.at_variable.Tie as tie

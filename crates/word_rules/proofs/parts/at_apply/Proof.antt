@@ -1,7 +1,7 @@
 -- `word_rules::parts::at_apply` meets its contract: its node is that of its term.
 -- Assumes nothing.
-use Rattle.word_rules.proofs.Given.{placed, fired-for}
-use Rattle.word_rules.proofs.Terms.{apply-at, functions-things}
+use Rattle.word_laws.proofs.Given.{placed, fired-for}
+use Rattle.word_laws.proofs.Terms.{apply-at, functions-things}
 use borrow.Author.Needs.{needs}
 use Rattle.word_rules.proofs.parts.at_apply.Statement.{statement}
 use Rattle.word_rules.proofs.parts.at_apply.Tie as tie

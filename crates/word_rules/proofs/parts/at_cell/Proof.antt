@@ -1,7 +1,7 @@
 -- `word_rules::parts::at_cell` meets its contract: its node is that of its term.
 -- Assumes nothing.
-use Rattle.word_rules.proofs.Given.{fired-in, has-size, wide}
-use Rattle.word_rules.proofs.Terms.{cell-at, cell-is}
+use Rattle.word_laws.proofs.Given.{fired-in, has-size, wide}
+use Rattle.word_laws.proofs.Terms.{cell-at, cell-is}
 use borrow.Author.Needs.{needs}
 use Rattle.word_rules.proofs.parts.at_cell.Statement.{statement}
 use Rattle.word_rules.proofs.parts.at_cell.Tie as tie

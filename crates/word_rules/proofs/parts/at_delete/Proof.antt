@@ -2,8 +2,8 @@
 -- Assumes nothing.
 use native.Mathlib.Omega.{arith}
 use mathlib.Core.Path.{sym, _∙_}
-use Rattle.word_rules.proofs.Given.{fired-for, placed}
-use Rattle.word_rules.proofs.Terms.{delete-at, records-mask, masks-long}
+use Rattle.word_laws.proofs.Given.{fired-for, placed}
+use Rattle.word_laws.proofs.Terms.{delete-at, records-mask, masks-long}
 use borrow.Author.Needs.{needs}
 use Rattle.word_rules.proofs.parts.at_delete.Statement.{statement}
 use Rattle.word_rules.proofs.parts.at_delete.Tie as tie

@@ -1,8 +1,8 @@
 -- `word_rules::parts::at_if` meets its contract: its node is that of its term.
 -- Assumes nothing.
-use Rattle.rules.proofs.Chains.{if-flow}
-use Rattle.word_rules.proofs.Given.{fired-in, has-size}
-use Rattle.word_rules.proofs.Terms.{if-at}
+use Rattle.branch_rules.proofs.Chains.{if-flow}
+use Rattle.word_laws.proofs.Given.{fired-in, has-size}
+use Rattle.word_laws.proofs.Terms.{if-at}
 use borrow.Author.Needs.{needs}
 use Rattle.word_rules.proofs.parts.at_if.Statement.{statement}
 use Rattle.word_rules.proofs.parts.at_if.Tie as tie

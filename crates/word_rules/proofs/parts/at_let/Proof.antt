@@ -1,7 +1,7 @@
 -- `word_rules::parts::at_let` meets its contract: its node is that of its term.
 -- Assumes nothing.
-use Rattle.word_rules.proofs.Given.{placed, fired-in}
-use Rattle.word_rules.proofs.Terms.{let-at, let-is}
+use Rattle.word_laws.proofs.Given.{placed, fired-in}
+use Rattle.word_laws.proofs.Terms.{let-at, let-is}
 use borrow.Author.Needs.{needs}
 use Rattle.word_rules.proofs.parts.at_let.Statement.{statement}
 use Rattle.word_rules.proofs.parts.at_let.Tie as tie

@@ -1,7 +1,7 @@
 -- `word_rules::parts::at_operation` meets its contract: its node is that of its term.
 -- Assumes nothing.
-use Rattle.word_rules.proofs.Given.{fired-well, has-size}
-use Rattle.word_rules.proofs.Terms.{operation-at}
+use Rattle.word_laws.proofs.Given.{fired-well, has-size}
+use Rattle.word_laws.proofs.Terms.{operation-at}
 use borrow.Author.Needs.{needs}
 use Rattle.word_rules.proofs.parts.at_operation.Statement.{statement}
 use Rattle.word_rules.proofs.parts.at_operation.Tie as tie

@@ -1,7 +1,7 @@
 -- `word_rules::parts::at_sequence` meets its contract: its node is that of its term.
 -- Assumes nothing.
-use Rattle.word_rules.proofs.Given.{fired-in, placed}
-use Rattle.word_rules.proofs.Terms.{sequence-at, sequence-is}
+use Rattle.word_laws.proofs.Given.{fired-in, placed}
+use Rattle.word_laws.proofs.Terms.{sequence-at, sequence-is}
 use borrow.Author.Needs.{needs}
 use Rattle.word_rules.proofs.parts.at_sequence.Statement.{statement}
 use Rattle.word_rules.proofs.parts.at_sequence.Tie as tie

@@ -1,8 +1,8 @@
 -- `word_rules::parts::at_while` meets its contract: its node is that of its term.
 -- Assumes nothing.
-use Rattle.rules.proofs.Chains.{while-flow}
-use Rattle.word_rules.proofs.Given.{fired-in, has-size}
-use Rattle.word_rules.proofs.Terms.{while-part}
+use Rattle.branch_rules.proofs.Chains.{while-flow}
+use Rattle.word_laws.proofs.Given.{fired-in, has-size}
+use Rattle.word_laws.proofs.Terms.{while-part}
 use borrow.Author.Needs.{needs}
 use Rattle.word_rules.proofs.parts.at_while.Statement.{statement}
 use Rattle.word_rules.proofs.parts.at_while.Tie as tie

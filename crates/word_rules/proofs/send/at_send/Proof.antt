@@ -2,9 +2,9 @@
 -- Assumes nothing.
 use Prim.Native.Nat.{_-_, _*_}
 use native.Mathlib.Omega.{arith}
-use Rattle.word_rules.proofs.Given.{has-size}
-use Rattle.word_rules.proofs.SendRules.{parts, send-given, send-fired, links-of}
-use Rattle.word_rules.proofs.Terms.{masks-long}
+use Rattle.word_laws.proofs.Given.{has-size}
+use Rattle.word_laws.proofs.SendRules.{parts, send-given, send-fired, links-of}
+use Rattle.word_laws.proofs.Terms.{masks-long}
 use borrow.Author.Needs.{needs}
 use Rattle.word_rules.proofs.send.at_send.Statement.{statement}
 use Rattle.word_rules.proofs.send.at_send.Tie as tie

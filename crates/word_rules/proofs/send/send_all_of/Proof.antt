@@ -2,7 +2,7 @@
 -- Assumes nothing.
 use mathlib.Core.Path.{refl}
 use native.Mathlib.Omega.{arith}
-use Rattle.word_rules.proofs.SendRules.{in-fired, then-fired, sum-fits, sends-after-unit}
+use Rattle.word_laws.proofs.SendRules.{in-fired, then-fired, sum-fits, sends-after-unit}
 use borrow.Author.Needs.{needs}
 use Rattle.word_rules.proofs.send.send_all_of.Statement.{statement}
 use Rattle.word_rules.proofs.send.send_all_of.Tie as tie

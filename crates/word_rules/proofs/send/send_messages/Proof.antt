@@ -1,7 +1,7 @@
 -- `word_rules::send::send_messages` meets its contract: its test is that of the rule.
 -- Assumes nothing.
 use mathlib.Core.Path.{sym, _∙_}
-use Rattle.word_rules.proofs.SendRules.{message-fired, message-left}
+use Rattle.word_laws.proofs.SendRules.{message-fired, message-left}
 use borrow.Author.Needs.{needs}
 use Rattle.word_rules.proofs.send.send_messages.Statement.{statement}
 use Rattle.word_rules.proofs.send.send_messages.Tie as tie

@@ -3,7 +3,7 @@
 use mathlib.Core.Path.{refl}
 use Prim.Native.Nat.{_+_}
 use native.Mathlib.Omega.{arith}
-use Rattle.word_rules.proofs.SendRules.{in-fired, pair-fired, sum-fits, sends-after-parts}
+use Rattle.word_laws.proofs.SendRules.{in-fired, pair-fired, sum-fits, sends-after-parts}
 use borrow.Author.Needs.{needs}
 use Rattle.word_rules.proofs.send.send_node.Statement.{statement}
 use Rattle.word_rules.proofs.send.send_node.Tie as tie

@@ -2,7 +2,7 @@
 -- Assumes nothing.
 use mathlib.Core.Path.{sym, _∙_}
 use native.Mathlib.Omega.{arith}
-use Rattle.word_rules.proofs.WordRules.{live-in, live-in-left}
+use Rattle.word_laws.proofs.WordRules.{live-in, live-in-left}
 use borrow.Author.Needs.{needs}
 use Rattle.word_rules.proofs.word.fire_body.Statement.{statement}
 use Rattle.word_rules.proofs.word.fire_body.Tie as tie

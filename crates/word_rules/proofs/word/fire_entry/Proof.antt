@@ -1,7 +1,7 @@
 -- `word_rules::word::fire_entry` meets its contract: its test is that of the rule.
 -- Assumes nothing.
 use mathlib.Core.Path.{sym, _∙_}
-use Rattle.word_rules.proofs.LeafRules.{only-well, only-left}
+use Rattle.word_laws.proofs.LeafRules.{only-well, only-left}
 use borrow.Author.Needs.{needs}
 use Rattle.word_rules.proofs.word.fire_entry.Statement.{statement}
 use Rattle.word_rules.proofs.word.fire_entry.Tie as tie

@@ -1,9 +1,9 @@
 -- `word_rules::word::fire_leaf` meets its contract: an arm for each term.
 -- Assumes nothing.
-use Rattle.word_rules.proofs.Given.{has-size, wide}
-use Rattle.word_rules.proofs.LeafRules.{literal-below, name-below, variable-below, exercise-below}
-use Rattle.word_rules.proofs.LeafRules.{constant-fired, number-fired, literal-fired, name-fired, variable-fired, function-fired, record-fired, exercise-fired}
-use Rattle.word_rules.proofs.Tags.{not-both, term-is}
+use Rattle.word_laws.proofs.Given.{has-size, wide}
+use Rattle.word_laws.proofs.LeafRules.{literal-below, name-below, variable-below, exercise-below}
+use Rattle.word_laws.proofs.LeafRules.{constant-fired, number-fired, literal-fired, name-fired, variable-fired, function-fired, record-fired, exercise-fired}
+use Rattle.word_laws.proofs.Tags.{not-both, term-is}
 use borrow.Author.Needs.{needs}
 use Rattle.word_rules.proofs.word.fire_leaf.Statement.{statement}
 use Rattle.word_rules.proofs.word.fire_leaf.Tie as tie

@@ -1,8 +1,8 @@
 -- `word_rules::word::fire_live` meets its contract: its test is that of the rule.
 -- Assumes nothing.
 use mathlib.Core.Path.{sym, _∙_}
-use Rattle.word_rules.proofs.Given.{laid, has-size}
-use Rattle.word_rules.proofs.WordRules.{live-fired, live-left}
+use Rattle.word_laws.proofs.Given.{laid, has-size}
+use Rattle.word_laws.proofs.WordRules.{live-fired, live-left}
 use borrow.Author.Needs.{needs}
 use Rattle.word_rules.proofs.word.fire_live.Statement.{statement}
 use Rattle.word_rules.proofs.word.fire_live.Tie as tie

@@ -1,6 +1,6 @@
 -- `word_rules::word::fire_term` meets its contract: an arm for each term with parts.
 -- Assumes nothing.
-use Rattle.word_rules.proofs.Tags.{leaf-tag, term-is}
+use Rattle.word_laws.proofs.Tags.{leaf-tag, term-is}
 use borrow.Author.Needs.{needs}
 use Rattle.word_rules.proofs.word.fire_term.Statement.{statement}
 use Rattle.word_rules.proofs.word.fire_term.Tie as tie

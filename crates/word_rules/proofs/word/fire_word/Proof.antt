@@ -1,7 +1,7 @@
 -- `word_rules::word::fire_word` meets its contract: an arm for each item.
 -- Assumes nothing.
-use Rattle.word_rules.proofs.Given.{has-size}
-use Rattle.word_rules.proofs.WordRules.{item-is, body-inside, gap-rule, block-rule, term-rule}
+use Rattle.word_laws.proofs.Given.{has-size}
+use Rattle.word_laws.proofs.WordRules.{item-is, body-inside, gap-rule, block-rule, term-rule}
 use borrow.Author.Needs.{needs}
 use Rattle.word_rules.proofs.word.fire_word.Statement.{statement}
 use Rattle.word_rules.proofs.word.fire_word.Tie as tie

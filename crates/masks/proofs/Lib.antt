@@ -1,0 +1,2 @@
+pub mod FourMasks
+pub mod Sorts

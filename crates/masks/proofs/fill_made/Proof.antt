@@ -1,0 +1,88 @@
+-- `masks::fill_made` meets its contract. The loop's invariant: what the words passed make is set.
+-- Assumes nothing.
+use mathlib.Core.Path.{_≡_, refl, ap, _∙_, subst, sym}
+use mathlib.Core.List.{List}
+use Prim.Native.Nat.{ℕ, _+_, _-_, _≤_}
+use native.Mathlib.Omega.{arith}
+use lib.ListN.{length}
+use Rattle.table.specs.Code.{code}
+use Rattle.masks.specs.Masks.{Filled}
+use Rattle.masks.proofs.FourMasks.{one-more}
+use borrow.Author.Needs.{needs}
+use Rattle.masks.proofs.fill_made.Statement.{statement}
+use Rattle.masks.proofs.fill_made.Tie as tie
+
+abbrev Inv-loop : tie.InvT-loop
+Inv-loop words masks₀ row p₀ masks p =
+    (length masks ≡ length masks₀) × (p ≤ length words) × Filled (code words) row (64 + p) masks
+
+abbrev μ-loop : tie.MeasureT-loop
+μ-loop words masks₀ row p₀ masks p = length words - p
+
+loop-holds : tie.Need-loop-holds Inv-loop μ-loop
+loop-holds c = (refl, search needs, c .before .before .pre .1 .1)
+
+add-set-word : tie.Need-add-set-word Inv-loop μ-loop
+add-set-word c = search needs
+
+mul-word-makes : tie.Need-mul-word-makes Inv-loop μ-loop
+mul-word-makes c = search needs
+
+shared-slice-read-word-makes : tie.Need-shared-slice-read-word-makes Inv-loop μ-loop
+shared-slice-read-word-makes c = search needs
+
+word-makes-requires : tie.Need-word-makes-requires Inv-loop μ-loop
+word-makes-requires c κs = search needs
+
+set-word-requires : tie.Need-set-word-requires Inv-loop μ-loop
+set-word-requires c κs =
+    let l = c .before .before .before .before .loop in
+    let h = c .before .before .before .before .before .before .before .pre .1 .0 in
+    let t = c .before .before .before .loop-test .taken in
+    (omega (arith, h, t), omega (arith, h, l .inv .0), omega (arith, h, l .inv .0))
+
+add-p : tie.Need-add-p Inv-loop μ-loop
+add-p c = search needs
+
+loop-less : tie.Need-loop-less Inv-loop μ-loop
+loop-less c = search needs
+
+loop-again : tie.Need-loop-again Inv-loop μ-loop
+loop-again c =
+    let l = c .before .before .before .before .before .before .before .loop in
+    let s = c .before .before .before .before .before .before .before .before .before .before in
+    let t = c .before .before .before .before .before .before .loop-test .taken in (
+      c .before .before .set-word .kept .0 ∙ l .inv .0,
+      omega (arith, t),
+      subst (Filled (code (s .args .words .now)) (s .args .row) (64 + (l .p + 1))) (sym (c .before .before .set-word .ensures))
+          (one-more (s .args .words .now) (l .masks) (s .args .row) (l .p) (s .pre .0) (omega (arith, s .pre .1 .0, t)) (omega (arith, s .pre .1 .0, l .inv .0)) _
+          (c .before .before .before .word-makes .ensures) (l .inv .2)),
+    )
+
+same-length : tie.Need-same-length Inv-loop μ-loop
+same-length c = search needs
+
+returns : tie.Need-returns Inv-loop μ-loop
+returns c =
+    let l = c .before .loop in
+    let a = c .before .before .before .before .args in
+    let e : l .p ≡ length (a .words .now) = omega arith in
+    subst (λ (n : ℕ). Filled (code (a .words .now)) (a .row) (64 + n) (l .masks)) e (l .inv .2)
+
+pub fill-made-spec : {M : Type 1} → statement M
+fill-made-spec =
+    tie.close
+    (tie.spec
+    Inv-loop
+    μ-loop
+    loop-holds
+    add-set-word
+    mul-word-makes
+    shared-slice-read-word-makes
+    word-makes-requires
+    set-word-requires
+    add-p
+    loop-less
+    loop-again
+    same-length
+    returns)

@@ -1,0 +1,145 @@
+// Which elements are functions, records (or 7), cells, and which may be sent: four rows, one after the other.
+use results::digit;
+use rows::layout::Layout;
+use rows::row::set;
+use table::words::kind_of;
+ghost use mathlib.Core.Path.{_≡_};
+ghost use Prim.Native.Nat.{ℕ, _+_, _*_, _<_, _≤_};
+ghost use lib.ListN.{length, getD};
+ghost use Rattle.table.specs.Scan.{accepted, reading};
+ghost use Rattle.table.specs.Code.{code};
+ghost use Rattle.calculus.specs.Layout.{mark, rowWords};
+ghost use Rattle.masks.specs.Masks.{Masked, wordMakes, sortHas, markIf, markWord, plainMasks, Filled};
+
+// The sorts of elements, in the order of their masks.
+pub enum Sort {
+    Function,
+    Record,
+    Cell,
+    Message,
+}
+
+// Sets digit n of the words.
+fn set_digit(masks: &mut [u32], n: usize)
+    requires { ⌜ n < 32 * length (now masks) ⌝ }
+    ensures { λ _. ⌜ now (masks .exit) ≡ mark (now (masks .entry)) n ⌝ }
+{
+    let at = n / 32;
+    masks[at] = masks[at] | digit((n % 32) as u32);
+}
+
+// Sets digit n if it is told to.
+fn set_if(masks: &mut [u32], n: usize, told: bool)
+    requires { ⌜ n < 32 * length (now masks) ⌝ }
+    ensures { λ _. ⌜ now (masks .exit) ≡ markIf told (now (masks .entry)) n ⌝ }
+{
+    if told {
+        set_digit(masks, n);
+    }
+}
+
+// What a word makes, by the place of its kind among those of terms: 1 a function, 2 a record, 3 a cell.
+const MAKES: [u32; 21] = [
+    0,
+    0,
+    0,
+    0,
+    0,
+    1,
+    0,
+    0,
+    0,
+    0,
+    0,
+    0,
+    2,
+    0,
+    2,
+    0,
+    3,
+    0,
+    0,
+    0,
+    0,
+];
+
+fn word_makes(w: u32) -> u32
+    ensures { λ r. ⌜ r ≡ wordMakes w ⌝ }
+{
+    let kind = kind_of(w);
+    if kind < 16 {
+        return 0;
+    }
+    if 36 < kind {
+        return 2;
+    }
+    MAKES[(kind - 16) as usize]
+}
+
+// Whether what a word makes is of a sort.
+fn made_has(s: Sort, m: u32) -> bool
+    ensures { λ r. ⌜ r ≡ sortHas s m ⌝ }
+{
+    match s {
+        Sort::Function => m == 1,
+        Sort::Record => m == 2,
+        Sort::Cell => m == 3,
+        Sort::Message => m != 1 && m != 3,
+    }
+}
+
+// Sets digit n if what a word makes is of a sort.
+fn set_sort(masks: &mut [u32], s: Sort, n: usize, m: u32)
+    requires { ⌜ n < 32 * length (now masks) ⌝ }
+    ensures { λ _. ⌜ now (masks .exit) ≡ markIf (sortHas s m) (now (masks .entry)) n ⌝ }
+{
+    set_if(masks, n, made_has(s, m));
+}
+
+// Sets the element v, which is a word that makes m, in the mask of each sort that it has.
+fn set_word(masks: &mut [u32], row: usize, v: usize, m: u32)
+    requires { ⌜ (v < 32 * row) × (4 * row ≤ length (now masks)) × (length (now masks) ≤ 256) ⌝ }
+    ensures { λ _. ⌜ now (masks .exit) ≡ markWord row v m (now (masks .entry)) ⌝ }
+{
+    set_sort(masks, Sort::Function, v, m);
+    set_sort(masks, Sort::Record, 32 * row + v, m);
+    set_sort(masks, Sort::Cell, 64 * row + v, m);
+    set_sort(masks, Sort::Message, 96 * row + v, m);
+}
+
+// Sets what the words make.
+fn fill_made(words: &[u32], masks: &mut [u32], row: usize)
+    requires { ⌜ reading (now words) ≡ accepted ⌝ }
+    requires { ⌜ (64 + length (now words) ≤ 32 * row) × (4 * row ≤ length (now masks)) × (length (now masks) ≤ 256) ⌝ }
+    requires { ⌜ Filled (code (now words)) row 64 (now masks) ⌝ }
+    ensures { λ _. ⌜ Filled (code (now (words .entry))) row (64 + length (now (words .entry))) (now (masks .exit)) ⌝ }
+{
+    let mut p = 0;
+    while p < words.len() {
+        set_word(masks, row, 64 + p, word_makes(words[p]));
+        p += 1;
+    }
+}
+
+// Sets the plain elements: 7, the opponent's record, and all that may be sent.
+fn fill_plain(masks: &mut [u32], row: usize)
+    requires { ⌜ (2 ≤ row) × (4 * row ≤ length (now masks)) × (length (now masks) ≤ 256) ⌝ }
+    ensures { λ _. ⌜ now (masks .exit) ≡ plainMasks row (now (masks .entry)) ⌝ }
+{
+    set_digit(masks, 32 * row + 7);
+    set(masks, 3 * row, 4294967295);
+    set(masks, 3 * row + 1, 4294967295);
+}
+
+// Fills the masks of an accepted table into a slice of zeros.
+pub fn fill_masks(words: &[u32], masks: &mut [u32], l: Layout)
+    requires { ⌜ reading (now words) ≡ accepted ⌝ }
+    requires { ⌜ l .row ≡ rowWords (code (now words)) ⌝ }
+    requires { ⌜ ((k : ℕ) → getD (now masks) k 0 ≡ 0) ⌝ }
+    requires { ⌜ (4 * l .row ≤ length (now masks)) × (length (now masks) ≤ 256) ⌝ }
+    ensures { λ _. ⌜ Masked (code (now (words .entry))) (now (masks .exit)) (l .row) ⌝ }
+{
+    let row = l.row;
+    fill_plain(masks, row);
+    fill_made(words, masks, row);
+}

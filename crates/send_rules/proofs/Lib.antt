@@ -1,0 +1,4 @@
+pub mod Handlers
+pub mod Permissions
+pub mod Sends
+pub mod Spelled

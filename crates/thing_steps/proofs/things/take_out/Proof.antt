@@ -1,0 +1,67 @@
+-- `thing_steps::things::take_out` meets its contract: an application takes values alone, any other term acts as a whole.
+-- Assumes nothing.
+use mathlib.Core.Path.{sym, _∙_}
+use Rattle.word_laws.proofs.Tags.{term-is}
+use Rattle.word_laws.proofs.May.{kept-refl}
+use borrow.Author.Needs.{needs}
+use Rattle.thing_steps.proofs.things.take_out.Statement.{statement}
+use Rattle.thing_steps.proofs.things.take_out.Tie as tie
+
+item-at-requires : tie.Need-item-at-requires
+item-at-requires c κs = search needs
+
+enum-told : tie.Need-enum-told
+enum-told c = search needs
+
+enum-told-2 : tie.Need-enum-told-2
+enum-told-2 c = search needs
+
+enum-known-t : tie.Need-enum-known-t
+enum-known-t c = search needs
+
+enum-told-3 : tie.Need-enum-told-3
+enum-told-3 c = search needs
+
+apply-out-requires : tie.Need-apply-out-requires
+apply-out-requires c κs =
+    let s = c .before .before .before .before .before .before .before .before .before .before .before .before .before .before .before in
+    (s .pre, term-is (s .args .words .now) (s .args .p) _ _ (sym (c .before .before .before .before .before .before .before .before .item-at .ensures) ∙ c .before .before .before .before .before .before .t .given .1) (c .before .before .before .enum-told3 .given .1))
+
+meet-requires : tie.Need-meet-requires
+meet-requires c κs =
+    let s = c .before .before .before .before .before .before .before .before .before .before .before .before .before .before in
+    (s .pre, sym (c .before .before .before .before .before .before .before .item-at .ensures) ∙ c .before .before .before .before .before .t .given .1)
+
+returns : tie.Need-returns
+returns c = kept-refl _ _
+
+returns-2 : tie.Need-returns-2
+returns-2 c = kept-refl _ _
+
+same-length : tie.Need-same-length
+same-length c = search needs
+
+same-length-2 : tie.Need-same-length-2
+same-length-2 c = search needs
+
+same-length-3 : tie.Need-same-length-3
+same-length-3 c = search needs
+
+returns-3 : tie.Need-returns-3
+returns-3 c = c .before .before .before .before .before .before .apply-out .ensures
+
+same-length-4 : tie.Need-same-length-4
+same-length-4 c = search needs
+
+same-length-5 : tie.Need-same-length-5
+same-length-5 c = search needs
+
+same-length-6 : tie.Need-same-length-6
+same-length-6 c = search needs
+
+returns-4 : tie.Need-returns-4
+returns-4 c = c .before .before .before .before .before .before .meet .ensures
+
+pub take-out-spec : {M : Type 1} → statement M
+take-out-spec =
+    tie.close (tie.spec item-at-requires enum-told enum-told-2 enum-known-t enum-told-3 apply-out-requires meet-requires returns returns-2 same-length same-length-2 same-length-3 returns-3 same-length-4 same-length-5 same-length-6 returns-4)
