@@ -67,7 +67,7 @@ pub fn follows_things(kind: Kind) -> bool
     }
 }
 
-// The term of such a kind.
+// The term of a kind that follows things; for any other kind a record, which does nothing for a thing.
 pub fn term_for(kind: Kind) -> Term
     ensures { λ r. ⌜ r ≡ termFor kind ⌝ }
 {

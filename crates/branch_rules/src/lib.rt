@@ -21,7 +21,7 @@ fn wait_for(est: &mut [u32], log: &mut [u32], l: Layout, p: usize, b: usize, d: 
 }
 
 // The part that runs first, and the two that wait.
-pub fn if_parts(
+fn if_parts(
     est: &mut [u32],
     log: &mut [u32],
     l: Layout,
@@ -100,14 +100,7 @@ pub fn fire_if(
 }
 
 // The part that runs first, and the body, which waits.
-pub fn while_parts(
-    est: &mut [u32],
-    log: &mut [u32],
-    l: Layout,
-    p: usize,
-    a: usize,
-    d: usize,
-) -> usize
+fn while_parts(est: &mut [u32], log: &mut [u32], l: Layout, p: usize, a: usize, d: usize) -> usize
     requires { ⌜ Sized l (now est) × (p < l .size) × (a < l .size) × (d < l .size) ⌝ }
     ensures { λ r. ⌜ FiredIn l ((put (L a) 0 and sub (P a) (P p)) and sub (P d) (P p)) (now (est .entry)) (now (est .exit)) r ⌝ }
 {

@@ -7,7 +7,7 @@ ghost use Rattle.word_laws.specs.Running.{Running};
 ghost use Rattle.sweeps.specs.Swept.{Swept, Closed};
 
 // The rule of each word once, from the last word to the first: values and permissions go up in one pass.
-pub fn sweep(
+fn sweep(
     words: &[u32],
     links: &[u32],
     masks: &[u32],

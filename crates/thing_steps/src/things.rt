@@ -194,7 +194,7 @@ pub fn meet(
 }
 
 // An application, into the function f: its body is live and what is handed to it is in its held set.
-pub fn apply_in(
+fn apply_in(
     words: &[u32],
     links: &[u32],
     masks: &[u32],
@@ -216,7 +216,7 @@ pub fn apply_in(
 }
 
 // An application, out of the function f: the values of its body.
-pub fn apply_out(
+fn apply_out(
     words: &[u32],
     links: &[u32],
     masks: &[u32],
@@ -237,7 +237,7 @@ pub fn apply_out(
 }
 
 // An application, out of the function f: the permissions of its body.
-pub fn apply_perms(
+fn apply_perms(
     words: &[u32],
     links: &[u32],
     masks: &[u32],
