@@ -10,14 +10,14 @@
 extern "C" {
 #endif
 
-/* As the bound: the opponent's own set, rho. */
-#define WIPHOSEGA_OWN_SET UINT32_C(0x80000000)
+/* As the bound: the empty set. */
+#define WIPHOSEGA_STANDING_BOUND UINT32_C(0x80000000)
 
 /* The answer: the leak in bits 0 to 23, and 2^24 added if the leak is over the bound. Refused: 2^32 + number * 65536 + place.
 
    system    the words of the table, low byte first; at most 1,024 bytes, a multiple of four (else refused 31 or 30)
    rho       the permissions that the opponent holds: bits 0 to 23
-   bound     the permissions that the leak is compared with: bits 0 to 23, or WIPHOSEGA_OWN_SET
+   bound     the permissions that the leak is compared with: bits 0 to 23, or WIPHOSEGA_STANDING_BOUND
    estimate  with W words of the system and R = (64 + W + 31) / 32, at least 2WR + W words; 21,504 bytes are enough for every system
    work      at least 4W words; 4,096 bytes are enough for every system
 

@@ -119,16 +119,16 @@ module _ (c : Code) (ρ bound : ℕ) (ws : List ℕ) where
   -- x leaks and is not in the bound used
   pub record Outside (x : ℕ) : Type 0 where
     pub leaks : T (member (leak c ρ ws) x)
-    pub absent : T (member (boundUsed ρ bound) x) → ⊥
+    pub absent : T (member (boundUsed bound) x) → ⊥
 
   abbrev excess : ℕ
-  excess = difference (leak c ρ ws) (boundUsed ρ bound)
+  excess = difference (leak c ρ ws) (boundUsed bound)
 
   outside : (x : ℕ) → T (member excess x) → Outside x
   outside x t =
       record {
-        leaks = difference-first (leak c ρ ws) (boundUsed ρ bound) x t;
-        absent = difference-second (leak c ρ ws) (boundUsed ρ bound) x t;
+        leaks = difference-first (leak c ρ ws) (boundUsed bound) x t;
+        absent = difference-second (leak c ρ ws) (boundUsed bound) x t;
       }
 
   -- a bound fails precisely where the leak has a member outside it, and the first one reported is the lowest of them
@@ -137,16 +137,16 @@ module _ (c : Code) (ρ bound : ℕ) (ws : List ℕ) where
   over-first h =
       outside (lowest excess)
       (lowest-member excess
-      (lowest-lt 32 excess (lit≤ tt) (difference-lt 32 (leak c ρ ws) (boundUsed ρ bound) (omega (arith, leak-lt c ρ ws)))
-      (λ e. T-not (within (leak c ρ ws) (boundUsed ρ bound)) h (empty-difference (leak c ρ ws) (boundUsed ρ bound) e))))
+      (lowest-lt 32 excess (lit≤ tt) (difference-lt 32 (leak c ρ ws) (boundUsed bound) (omega (arith, leak-lt c ρ ws)))
+      (λ e. T-not (within (leak c ρ ws) (boundUsed bound)) h (empty-difference (leak c ρ ws) (boundUsed bound) e))))
 
   pub outside-over : (x : ℕ) → Outside x → T (judge c ρ bound ws .over)
   unfolding judge
   outside-over x o =
-      not-T (within (leak c ρ ws) (boundUsed ρ bound))
-      (λ h. o .absent (within-member (leak c ρ ws) (boundUsed ρ bound) x h (o .leaks)))
+      not-T (within (leak c ρ ws) (boundUsed bound))
+      (λ h. o .absent (within-member (leak c ρ ws) (boundUsed bound) x h (o .leaks)))
 
   pub first-lowest : (x : ℕ) → x < judge c ρ bound ws .first → Outside x → ⊥
   unfolding judge
   first-lowest x l o =
-      subst T (lowest-below excess x l) (in-difference (leak c ρ ws) (boundUsed ρ bound) x (o .leaks) (o .absent))
+      subst T (lowest-below excess x l) (in-difference (leak c ρ ws) (boundUsed bound) x (o .leaks) (o .absent))

@@ -23,12 +23,12 @@ pub data Answer : Type 0 where
   refused : (number place : ℕ) → Answer
   verdict : Verdict → Answer
 
--- the bound that means ρ itself
-abbrev pub ownBound : ℕ
-ownBound = 0x80000000
+-- the standing bound: it means the empty set
+abbrev pub standingBound : ℕ
+standingBound = 0x80000000
 
-unfoldable pub boundUsed : ℕ → ℕ → ℕ
-boundUsed ρ bound = elim (eqb bound ownBound) [ true ↦ ρ | false ↦ bound ]
+unfoldable pub boundUsed : ℕ → ℕ
+boundUsed bound = elim (eqb bound standingBound) [ true ↦ 0 | false ↦ bound ]
 
 -- the verdict read from the words of an estimate
 unfoldable pub judge : Code → ℕ → ℕ → List ℕ → Verdict
@@ -36,9 +36,9 @@ unfolding facts leak boundUsed
 judge c ρ bound ws =
     record {
       leak = leak c ρ ws;
-      bound = boundUsed ρ bound;
-      over = not (within (leak c ρ ws) (boundUsed ρ bound));
-      first = lowest (difference (leak c ρ ws) (boundUsed ρ bound));
+      bound = boundUsed bound;
+      over = not (within (leak c ρ ws) (boundUsed bound));
+      first = lowest (difference (leak c ρ ws) (boundUsed bound));
       facts = facts ws;
     }
 
@@ -50,7 +50,7 @@ workWords size = 4 * size
 unfoldable pub callerTests : Code → ℕ → ℕ → ℕ → ℕ → List (Bool × ℕ)
 callerTests c ρ bound est work =
     (leb (2 ^ width) ρ, 20)
-    ∷ (leb (2 ^ width) bound && not (eqb bound ownBound), 20)
+    ∷ (leb (2 ^ width) bound && not (eqb bound standingBound), 20)
     ∷ (ltb est (estimateWords c), 21)
     ∷ (ltb work (workWords (c .size)), 22)
     ∷ []

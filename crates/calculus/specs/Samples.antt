@@ -8,14 +8,16 @@ use lib.Dec.{eqb}
 use Rattle.table.specs.Code.{code}
 use Rattle.calculus.specs.Layout.{estimateWords}
 use Rattle.calculus.specs.Estimate.{same, estimate}
-use Rattle.calculus.specs.Answer.{Answer, refused, verdict, answer, ownBound, workWords}
+use Rattle.calculus.specs.Answer.{Answer, refused, verdict, answer, standingBound, workWords}
 
--- what a sample is to give: a refusal, or a leak, and the facts and the words of the estimate where they are known
+-- what a sample is to give: a refusal, or a leak, and the facts and the words of the estimate where they are known; or a leak over its bound,
+-- with the bound used and the lowest permission outside
 pub data Expected : Type 0 where
   refusal : (number place : ℕ) → Expected
   leaks : (leak : ℕ) → Expected
   counts : (leak facts : ℕ) → Expected
   fills : (leak facts : ℕ) (words : List ℕ) → Expected
+  exceeds : (leak bound first : ℕ) → Expected
 
 pub record Sample : Type 0 where
   pub words : List ℕ
@@ -32,11 +34,13 @@ agrees s (counts l f) (refused m q) = false
 agrees s (counts l f) (verdict v) = eqb l (v .leak) && eqb f (v .facts)
 agrees s (fills l f ws) (refused m q) = false
 agrees s (fills l f ws) (verdict v) = eqb l (v .leak) && eqb f (v .facts) && same ws (estimate (code (s .words)) (s .opponent))
+agrees s (exceeds l b x) (refused m q) = false
+agrees s (exceeds l b x) (verdict v) = v .over && eqb l (v .leak) && eqb b (v .bound) && eqb x (v .first)
 
--- the answer to a sample, with its own set as the bound and slices that are just long enough
+-- the answer to a sample, with the standing bound and slices that are just long enough
 unfoldable pub answerTo : Sample → Answer
 unfolding answer
-answerTo s = answer (s .words) (s .opponent) ownBound (estimateWords (code (s .words))) (workWords (length (s .words)))
+answerTo s = answer (s .words) (s .opponent) standingBound (estimateWords (code (s .words))) (workWords (length (s .words)))
 
 unfoldable pub passes : List Sample → Bool
 unfolding agrees answerTo
@@ -69,6 +73,8 @@ samples =
     ∷ record { words = single 0 (0x24000002 ∷ []); opponent = 0; expected = counts 2 69 }
     ∷ record { words = single 4 (0x24000002 ∷ []); opponent = 0; expected = counts 0 0 }
     ∷ record { words = single 4 (0x24000002 ∷ []); opponent = 4; expected = leaks 2 }
+    -- ours: direct with ρ 2, where the standing bound lets no permission pass
+    ∷ record { words = single 0 (0x24000002 ∷ []); opponent = 2; expected = exceeds 2 0 1 }
     -- a permission that the handler lacks
     ∷ record { words = single 0 (0x24000004 ∷ []); opponent = 0; expected = counts 0 66 }
     -- if on true; with the message as condition

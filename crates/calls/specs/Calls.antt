@@ -10,14 +10,14 @@ use Rattle.table.specs.Scan.{accepted, reading}
 use Rattle.table.specs.Code.{code}
 use Rattle.calculus.specs.Layout.{estimateWords}
 use Rattle.calculus.specs.Estimate.{estimate}
-use Rattle.calculus.specs.Answer.{refused, verdict, ownBound, workWords, judge, answer}
+use Rattle.calculus.specs.Answer.{refused, verdict, standingBound, workWords, judge, answer}
 use Rattle.calls.specs.declared.checks.Checked.{Checked}
 use Rattle.calls.specs.declared.checks.Checked.the-variants.{Fine, Wrong}
 use Rattle.calls.specs.Faults.{faultNumber, faultPlace}
 
--- a bound with bits above the permissions, save the one that means ρ itself
+-- a bound with bits above the permissions, save the standing bound
 abbrev pub strayBound : ℕ → Bool
-strayBound bound = leb (2 ^ width) bound && not (eqb bound ownBound)
+strayBound bound = leb (2 ^ width) bound && not (eqb bound standingBound)
 
 -- an accepted table, with slices of `est` and `work` words that are long enough
 pub record Fit (ws : List ℕ) (est work : ℕ) : Type 0 where

@@ -14,7 +14,7 @@ pub enum Checked {
     Wrong(Fault),
 }
 
-// A bound with bits above the permissions, save the one that means the opponent's own set.
+// A bound with bits above the permissions, save the standing bound, which means the empty set.
 fn stray_bound(bound: u32) -> bool
     ensures { λ r. ⌜ r ≡ strayBound bound ⌝ }
 {

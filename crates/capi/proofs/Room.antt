@@ -13,7 +13,7 @@ use Rattle.table.specs.Scan.{firstOf, accepted, refused as unreadable, reading}
 use Rattle.table.specs.Code.{Code, code}
 use Rattle.calculus.specs.Layout.{rowWords, estimateWords}
 use Rattle.calculus.specs.Estimate.{whole, estimate}
-use Rattle.calculus.specs.Answer.{Answer, refused, verdict, ownBound, workWords, callerTests, judge, analysis, answer}
+use Rattle.calculus.specs.Answer.{Answer, refused, verdict, standingBound, workWords, callerTests, judge, analysis, answer}
 
 capped-test : (x m n : ℕ) → n ≤ m → ltb (min x m) n ≡ ltb x n
 capped-test x m n h = go (ltb x n) refl
@@ -26,7 +26,7 @@ module _ (c : Code) (ρ bound est work mostEst mostWork : ℕ) (roomEst : estima
   tests-capped : callerTests c ρ bound (min est mostEst) (min work mostWork) ≡ callerTests c ρ bound est work
   unfolding callerTests
   tests-capped =
-      ap₂ (λ (s t : Bool). (leb (2 ^ width) ρ, 20) ∷ (leb (2 ^ width) bound && not (eqb bound ownBound), 20) ∷ (s, 21) ∷ (t, 22) ∷ [])
+      ap₂ (λ (s t : Bool). (leb (2 ^ width) ρ, 20) ∷ (leb (2 ^ width) bound && not (eqb bound standingBound), 20) ∷ (s, 21) ∷ (t, 22) ∷ [])
       (capped-test est mostEst (estimateWords c) roomEst)
       (capped-test work mostWork (workWords (c .size)) roomWork)
 

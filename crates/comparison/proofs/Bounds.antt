@@ -7,16 +7,16 @@ use lib.Bits.{bitAnd}
 use lib.Count.{trailingZeros, trailing-of-zero}
 use borrow.Author.Tests.{eqb-true, eq-eqb, ne-eqb}
 use Rattle.permset.specs.Sets.{difference, within, lowest}
-use Rattle.calculus.specs.Answer.{verdict, ownBound, boundUsed}
+use Rattle.calculus.specs.Answer.{verdict, standingBound, boundUsed}
 use Rattle.comparison.specs.Values.{compare}
 
-pub own-bound : (ρ bound : ℕ) → bound ≡ ownBound → ρ ≡ boundUsed ρ bound
+pub standing-bound : (bound : ℕ) → bound ≡ standingBound → 0 ≡ boundUsed bound
 unfolding boundUsed
-own-bound ρ bound e = sym (rw (eq-eqb bound ownBound e, boundUsed))
+standing-bound bound e = sym (rw (eq-eqb bound standingBound e, boundUsed))
 
-pub given-bound : (ρ bound : ℕ) → (bound ≡ ownBound → ⊥) → bound ≡ boundUsed ρ bound
+pub given-bound : (bound : ℕ) → (bound ≡ standingBound → ⊥) → bound ≡ boundUsed bound
 unfolding boundUsed
-given-bound ρ bound e = sym (rw (ne-eqb bound ownBound e, boundUsed))
+given-bound bound e = sym (rw (ne-eqb bound standingBound e, boundUsed))
 
 pub within-bound : (leak bound facts : ℕ) → within leak bound ≡ true
     → verdict (record { leak = leak; bound = bound; over = false; first = 32; facts = facts }) ≡ compare leak bound facts

@@ -26,12 +26,12 @@ pub struct Findings {
     pub facts: usize,
 }
 
-// The bound that a leak is compared with: 80000000 hex means the opponent's own set.
-pub fn bound_used(rho: u32, bound: u32) -> PermSet
-    ensures { λ r. ⌜ r .bits ≡ boundUsed rho bound ⌝ }
+// The bound that a leak is compared with: 80000000 hex means the empty set.
+pub fn bound_used(bound: u32) -> PermSet
+    ensures { λ r. ⌜ r .bits ≡ boundUsed bound ⌝ }
 {
     if bound == 0x80000000 {
-        PermSet { bits: rho }
+        PermSet { bits: 0 }
     } else {
         PermSet { bits: bound }
     }

@@ -26,6 +26,8 @@ inputs =
     ∷ 0x04000008 ∷ 0x24000002 ∷ [])
     -- direct, its leak the bound
     ∷ bytesOf (0 ∷ 2 ∷ 0x01000001 ∷ 0x02000000 ∷ 0x03000003 ∷ 0x04000000 ∷ 0x24000002 ∷ [])
+    -- direct with ρ 2 and the standing bound
+    ∷ bytesOf (2 ∷ 0x80000000 ∷ 0x01000001 ∷ 0x02000000 ∷ 0x03000003 ∷ 0x04000000 ∷ 0x24000002 ∷ [])
     -- a variable without binder; no system; too few bytes, an odd one, and too many
     ∷ bytesOf (0 ∷ 0 ∷ 0x01000001 ∷ 0x02000000 ∷ 0x03000003 ∷ 0x04000000 ∷ 0x14000001 ∷ [])
     ∷ replicate 8 0
@@ -40,6 +42,7 @@ pub samples-printed :
     ++ bytes "handler 0 name 0 entry yes live yes set 000002\n"
     ++ bytes "handler 1 name 1 entry no live yes set 000002\n")
     ∷ (bytes "leak 000002 bound 000002 verdict within first - facts 69\n" ++ bytes "handler 0 name 0 entry yes live yes set 000002\n")
+    ∷ (bytes "leak 000002 bound 000000 verdict over first 1 facts 69\n" ++ bytes "handler 0 name 0 entry yes live yes set 000002\n")
     ∷ bytes "refused 10 at 4\n"
     ∷ bytes "refused 1 at 0\n"
     ∷ bytes "refused 30 at 0\n"

@@ -7,7 +7,7 @@ use calls::checks::words_needed;
 use permset::PermSet;
 ghost use mathlib.Core.Path.{_≡_};
 ghost use lib.ListN.{length};
-ghost use Rattle.calculus.specs.Answer.{ownBound, answer as Answer·answer, estimateAfter, workAfter};
+ghost use Rattle.calculus.specs.Answer.{standingBound, answer as Answer·answer, estimateAfter, workAfter};
 ghost use Rattle.solver.specs.Analysis.{said, summary, SolvedIn};
 ghost use Rattle.calls.specs.Calls.{Fit};
 
@@ -24,9 +24,9 @@ pub fn solve_in(words: &[u32], rho: PermSet, est: &mut [u32], work: &mut [u32]) 
 // The least estimate of a table where the opponent holds rho. Of the slices, est gets the estimate in its first words, and the first words
 // of work are zeroed; a refusal leaves both as they were.
 pub fn analyse(words: &[u32], rho: u32, est: &mut [u32], work: &mut [u32]) -> Analysis
-    ensures answer { λ r. ⌜ said r ≡ summary (Answer·answer (now (words .entry)) rho ownBound (length (now (est .entry))) (length (now (work .entry)))) ⌝ }
-    ensures estimate { λ _. ⌜ now (est .exit) ≡ estimateAfter (now (words .entry)) rho ownBound (now (est .entry)) (now (work .entry)) ⌝ }
-    ensures work { λ _. ⌜ now (work .exit) ≡ workAfter (now (words .entry)) rho ownBound (now (est .entry)) (now (work .entry)) ⌝ }
+    ensures answer { λ r. ⌜ said r ≡ summary (Answer·answer (now (words .entry)) rho standingBound (length (now (est .entry))) (length (now (work .entry)))) ⌝ }
+    ensures estimate { λ _. ⌜ now (est .exit) ≡ estimateAfter (now (words .entry)) rho standingBound (now (est .entry)) (now (work .entry)) ⌝ }
+    ensures work { λ _. ⌜ now (work .exit) ≡ workAfter (now (words .entry)) rho standingBound (now (est .entry)) (now (work .entry)) ⌝ }
 {
     match check(words, rho, 0x80000000, est.len(), work.len()) {
         Checked::Wrong(f) => Analysis::Refused(f),

@@ -23,7 +23,7 @@ use Rattle.verdict.specs.Values.{Guaranteed, Judged, FoundIn}
 -- ---- a leak compared with a bound
 
 compare-judge : (ws : List ℕ) (ρ bound : ℕ) (us : List ℕ)
-    → compare (leak (code ws) ρ us) (boundUsed ρ bound) (facts us) ≡ verdict (judge (code ws) ρ bound us)
+    → compare (leak (code ws) ρ us) (boundUsed bound) (facts us) ≡ verdict (judge (code ws) ρ bound us)
 unfolding compare judge
 compare-judge ws ρ bound us = refl
 
@@ -40,11 +40,11 @@ first-words ws ρ r xs ys n e m =
 module _ (ws : List ℕ) (ρ bound : ℕ) (est work : List ℕ) (r : Declared·Verdict) where
   -- it passes its checks, s was found, and it is compared with b
   pub judged : (est′ work′ : List ℕ) (s : Findings) (b : ℕ) → Fits ws ρ bound (length est) (length work)
-      → FoundIn ws ρ est work est′ work′ s → answerOf r ≡ compare (s .leak .bits) b (s .facts) → b ≡ boundUsed ρ bound
+      → FoundIn ws ρ est work est′ work′ s → answerOf r ≡ compare (s .leak .bits) b (s .facts) → b ≡ boundUsed bound
       → Judged ws ρ bound est work r est′ work′
   judged est′ work′ s b f d a e =
       let after = after-solved ws ρ bound est work (judge (code ws) ρ bound (estimate (code ws) ρ)) (f .judged) in
-      let same : compare (s .leak .bits) b (s .facts) ≡ compare (leak (code ws) ρ (estimate (code ws) ρ)) (boundUsed ρ bound) (facts (estimate (code ws) ρ)) =
+      let same : compare (s .leak .bits) b (s .facts) ≡ compare (leak (code ws) ρ (estimate (code ws) ρ)) (boundUsed bound) (facts (estimate (code ws) ρ)) =
       cc (d .solved .leaks, d .counted) in
       record {
         answers = a ∙ same ∙ compare-judge ws ρ bound (estimate (code ws) ρ) ∙ sym (f .judged);

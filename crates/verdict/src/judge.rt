@@ -35,10 +35,10 @@ fn judged(words: &[u32], rho: u32, bound: u32, est: &mut [u32], work: &mut [u32]
     ensures { λ r. ⌜ Judged (now (words .entry)) rho bound (now (est .entry)) (now (work .entry)) r (now (est .exit)) (now (work .exit)) ⌝ }
 {
     let found = find(words, PermSet { bits: rho }, est, work);
-    compared(found, bound_used(rho, bound))
+    compared(found, bound_used(bound))
 }
 
-// The verdict on a table where the opponent holds rho, compared with a bound (80000000 hex: rho itself). Of the slices, est gets the
+// The verdict on a table where the opponent holds rho, compared with a bound (80000000 hex: the empty set). Of the slices, est gets the
 // least estimate in its first words, and the first words of work are zeroed; a refusal leaves both as they were.
 pub fn verdict(words: &[u32], rho: u32, bound: u32, est: &mut [u32], work: &mut [u32]) -> Verdict
     ensures answer { λ r. ⌜ answerOf r ≡ answer (now (words .entry)) rho bound (length (now (est .entry))) (length (now (work .entry))) ⌝ }

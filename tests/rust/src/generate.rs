@@ -2,7 +2,7 @@
 
 use crate::estimate::Layout;
 use crate::machine::{Event, Value, World};
-use crate::table::{arguments, arity, kind::*, Table, LITERALS, MOST_DEPTH, MOST_WORDS, NAMES, OWN_SET};
+use crate::table::{arguments, arity, kind::*, Table, LITERALS, MOST_DEPTH, MOST_WORDS, NAMES, STANDING_BOUND};
 use crate::terms::{block, system, word, Term};
 use crate::verdict::bytes_of;
 
@@ -435,7 +435,7 @@ pub fn call(random: &mut Random) -> Call {
     }
     let rho = if random.once_in(30) { 1 << (24 + random.below(8)) } else { random.permissions(4) };
     let bound = match random.below(8) {
-        0 => OWN_SET,
+        0 => STANDING_BOUND,
         1 => 1 << random.below(32),
         _ => random.permissions(8),
     };

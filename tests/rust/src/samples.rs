@@ -1,6 +1,6 @@
 //! Document 01's samples, starred or not, with what it says of them.
 
-use crate::table::{kind::*, OWN_SET};
+use crate::table::{kind::*, STANDING_BOUND};
 use crate::terms::*;
 
 /// What the document says: the leak, and the facts where it gives them; or a refusal's number and place.
@@ -73,13 +73,9 @@ pub fn samples() -> Vec<Sample> {
     add("depth 65", system(&[block(0, 3, 0, nested(65))]), 0, Refused(11, 68));
     add("1,024 words", large(1024), 0, Leak(0, None));
     add("1,025 words", large(1025), 0, Refused(2, 0));
-    samples.push(Sample {
-        name: "relay, the opponent's own set as bound",
-        words: hex(RELAY),
-        rho: 2,
-        bound: OWN_SET,
-        expected: Leak(2, None),
-    });
+    for (name, words) in [("direct, the standing bound", body("24000002")), ("relay, the standing bound", hex(RELAY))] {
+        samples.push(Sample { name, words, rho: 2, bound: STANDING_BOUND, expected: Leak(2, None) });
+    }
     samples.extend(traps());
     samples
 }

@@ -35,8 +35,8 @@ pub const MOST_HANDLERS: u32 = 32;
 pub const MOST_DEPTH: usize = 64;
 pub const NAMES: u32 = 32;
 pub const LITERALS: u32 = 23;
-/// As a bound: the opponent's own set.
-pub const OWN_SET: u32 = 0x8000_0000;
+/// As a bound: the empty set.
+pub const STANDING_BOUND: u32 = 0x8000_0000;
 
 #[derive(Clone, Copy, Debug, PartialEq, Eq)]
 pub struct Refusal {
@@ -262,7 +262,7 @@ pub fn read(words: &[u32]) -> Result<Table, Refusal> {
 /// Refusals 1 to 12, 20, 21 and 22, in this order: the lengths are those of the two lent slices, in words.
 pub fn accept(words: &[u32], rho: u32, bound: u32, estimate: usize, work: usize) -> Result<Table, Refusal> {
     let table = read(words)?;
-    if rho >> 24 != 0 || bound >> 24 != 0 && bound != OWN_SET {
+    if rho >> 24 != 0 || bound >> 24 != 0 && bound != STANDING_BOUND {
         return refused(20, 0);
     }
     if estimate < crate::estimate::Layout::of(words.len()).total() {

@@ -2,7 +2,7 @@
 
 use crate::estimate::{facts, leak, Layout, LIVE, PERMISSIONS_MASK};
 use crate::solve::solve;
-use crate::table::{accept, refused, within, Refusal, Table, MOST_WORDS, OWN_SET};
+use crate::table::{accept, refused, within, Refusal, Table, MOST_WORDS, STANDING_BOUND};
 use std::fmt::Write;
 
 #[derive(Clone, Copy, Debug, PartialEq, Eq)]
@@ -31,7 +31,7 @@ pub fn analyse(words: &[u32], rho: u32, bound: u32, estimate: &mut [u32], work: 
 
 pub fn verdict(words: &[u32], rho: u32, bound: u32, estimate: &mut [u32], work: &mut [u32]) -> Result<(Table, Verdict), Refusal> {
     let table = analyse(words, rho, bound, estimate, work)?;
-    let bound = if bound == OWN_SET { rho } else { bound };
+    let bound = if bound == STANDING_BOUND { 0 } else { bound };
     let verdict = Verdict { leak: leak(&table, rho, estimate), bound, facts: facts(&table, estimate) };
     Ok((table, verdict))
 }

@@ -5,7 +5,7 @@ use peer::estimate::{Layout, FALSE, NEGATIVE, POSITIVE, TRUE, ZERO};
 use peer::generate::{call, damaged, random_words, table, Random};
 use peer::inputs::inputs;
 use peer::naive::{self, pair};
-use peer::table::{read, Table, OWN_SET};
+use peer::table::{read, Table, STANDING_BOUND};
 use peer::verdict::{bytes_of, verdict_of_bytes, words_of};
 use peer::{estimate, solve};
 
@@ -91,7 +91,7 @@ fn calls_of_the_c_interface() {
             let table = read(&words).unwrap();
             let naive = naive::solve(&table, call.rho);
             let leak = estimate::leak(&table, call.rho, &naive);
-            let bound = if call.bound == OWN_SET { call.rho } else { call.bound };
+            let bound = if call.bound == STANDING_BOUND { 0 } else { call.bound };
             assert_eq!(answer, u64::from(leak) + if leak & !bound != 0 { 1 << 24 } else { 0 });
             expected.estimate[..4 * naive.len()].copy_from_slice(&bytes_of(&naive));
             expected.work[..16 * words.len()].fill(0);

@@ -2,7 +2,7 @@
 
 use peer::estimate::Layout;
 use peer::samples::samples;
-use peer::table::{accept, kind::*, read, OWN_SET};
+use peer::table::{accept, kind::*, read, STANDING_BOUND};
 use peer::terms::*;
 use peer::verdict::{bytes_of, verdict, verdict_of_bytes};
 
@@ -117,11 +117,11 @@ fn order_of_the_callers_refusals() {
     let (estimate, work) = (Layout::of(good.len()).total(), 4 * good.len());
     let number = |words: &[u32], rho, bound, estimate, work| accept(words, rho, bound, estimate, work).err().map(|r| (r.number, r.place));
     assert_eq!(number(&good, 0xff_ffff, 0xff_ffff, estimate, work), None);
-    assert_eq!(number(&good, 0, OWN_SET, estimate, work), None);
-    assert_eq!(number(&good[..4], OWN_SET, 1 << 24, 0, 0), Some((8, 4)));
-    assert_eq!(number(&good, OWN_SET, 0, 0, 0), Some((20, 0)));
-    assert_eq!(number(&good, 1 << 24, OWN_SET, 0, 0), Some((20, 0)));
-    assert_eq!(number(&good, 0, OWN_SET + 1, 0, 0), Some((20, 0)));
+    assert_eq!(number(&good, 0, STANDING_BOUND, estimate, work), None);
+    assert_eq!(number(&good[..4], STANDING_BOUND, 1 << 24, 0, 0), Some((8, 4)));
+    assert_eq!(number(&good, STANDING_BOUND, 0, 0, 0), Some((20, 0)));
+    assert_eq!(number(&good, 1 << 24, STANDING_BOUND, 0, 0), Some((20, 0)));
+    assert_eq!(number(&good, 0, STANDING_BOUND + 1, 0, 0), Some((20, 0)));
     assert_eq!(number(&good, 0, 0, estimate - 1, 0), Some((21, 0)));
     assert_eq!(number(&good, 0, 0, estimate, work - 1), Some((22, 0)));
 }
@@ -169,12 +169,13 @@ fn answers_of_the_c_interface() {
     assert_eq!(ask(&[0; 1023], 0, 0), refused(30, 0));
     assert_eq!(ask(&[0; 1024], 0, 0), refused(1, 0));
     assert_eq!(ask(&[], 0, 0), refused(1, 0));
-    assert_eq!(ask(&[1], OWN_SET, 0), refused(30, 0));
+    assert_eq!(ask(&[1], STANDING_BOUND, 0), refused(30, 0));
     let direct = bytes_of(&body(&exercise(2)));
     assert_eq!(ask(&direct[..16], 0, 0), refused(8, 4));
     assert_eq!(ask(&direct, 0, 0), 0x0100_0002);
     assert_eq!(ask(&direct, 0, 2), 2);
-    assert_eq!(ask(&direct, 2, OWN_SET), 2);
+    assert_eq!(ask(&direct, 2, 2), 2);
+    assert_eq!(ask(&direct, 2, STANDING_BOUND), 0x0100_0002);
     assert_eq!(verdict_of_bytes(&direct, 0, 0, &mut [0; 4 * 35 - 1], &mut [0; 80]), refused(21, 0));
     assert_eq!(verdict_of_bytes(&direct, 0, 0, &mut [0; 4 * 35], &mut [0; 79]), refused(22, 0));
     assert_eq!(verdict_of_bytes(&direct, 0, 0, &mut [0; 4 * 35], &mut [0; 80]), 0x0100_0002);

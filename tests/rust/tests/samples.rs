@@ -44,8 +44,13 @@ fn lines_of_the_program() {
     let handlers = "handler 0 name 0 entry yes live yes set 000002\nhandler 1 name 1 entry no live yes set 000002\n";
     let first = "leak 000002 bound 000000 verdict over first 1 facts 205\n";
     assert_eq!(printed(0, 0, &relay), format!("{first}{handlers}"));
-    let first = "leak 000002 bound 000003 verdict within first - facts 205\n";
     assert_eq!(printed(3, 0x8000_0000, &relay), format!("{first}{handlers}"));
+    let first = "leak 000002 bound 000003 verdict within first - facts 205\n";
+    assert_eq!(printed(3, 3, &relay), format!("{first}{handlers}"));
+    let lines = "leak 000002 bound 000000 verdict over first 1 facts 69\nhandler 0 name 0 entry yes live yes set 000002\n";
+    for rho in [0, 2] {
+        assert_eq!(printed(rho, 0x8000_0000, &sample("direct").words), lines);
+    }
     assert_eq!(printed(0, 0, &sample("unbound variable").words), "refused 10 at 4\n");
     assert_eq!(printed(0, 0, &[0x0100_0000]), "leak 000000 bound 000000 verdict within first - facts 0\n");
 }
@@ -59,5 +64,7 @@ fn refusals_of_the_program() {
     assert_eq!(program(&[0; 1031]), "refused 30 at 0\n");
     assert_eq!(program(&[0; 1032]), "refused 1 at 0\n");
     assert_eq!(program(&[0; 1033]), "refused 31 at 0\n");
-    assert_eq!(printed(0x8000_0000, 0, &[0x0100_0000]), "refused 20 at 0\n");
+    for (rho, bound) in [(0x8000_0000, 0), (0x8000_0000, 0x8000_0000), (0, 0x8000_0001)] {
+        assert_eq!(printed(rho, bound, &[0x0100_0000]), "refused 20 at 0\n");
+    }
 }

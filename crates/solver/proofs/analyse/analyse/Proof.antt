@@ -2,7 +2,7 @@
 -- Assumes nothing.
 use mathlib.Core.Path.{sym, ap, _∙_, subst}
 use lib.ListN.{length}
-use Rattle.calculus.specs.Answer.{ownBound, judge}
+use Rattle.calculus.specs.Answer.{standingBound, judge}
 use Rattle.solver.specs.Analysis.{solved, said, summary}
 use Rattle.calls.specs.Calls.{CheckedAs}
 use Rattle.calls.proofs.Answers.{after-refused, after-solved}
@@ -22,14 +22,14 @@ enum-told c = search needs
 solve-in-requires : tie.Need-solve-in-requires
 solve-in-requires c κs =
     let a = c .before .before .before .before .before .before .before .before .args in
-    subst (CheckedAs (a .words .now) (a .rho) ownBound (length (a .est .now)) (length (a .work .now))) (c .before .before .enum-told .given .1) (c .before .before .before .before .check .ensures) .fit
+    subst (CheckedAs (a .words .now) (a .rho) standingBound (length (a .est .now)) (length (a .work .now))) (c .before .before .enum-told .given .1) (c .before .before .before .before .check .ensures) .fit
 
 returns : tie.Need-returns
 unfolding said summary
 returns c =
     let a = c .before .before .before .before .before .before .before .args in
-    let e = subst (CheckedAs (a .words .now) (a .rho) ownBound (length (a .est .now)) (length (a .work .now))) (c .before .f .given .1) (c .before .before .before .check .ensures) in
-    let k = after-refused (a .words .now) (a .rho) ownBound (a .est .now) (a .work .now) _ _ e in
+    let e = subst (CheckedAs (a .words .now) (a .rho) standingBound (length (a .est .now)) (length (a .work .now))) (c .before .f .given .1) (c .before .before .before .check .ensures) in
+    let k = after-refused (a .words .now) (a .rho) standingBound (a .est .now) (a .work .now) _ _ e in
     (ap summary (sym e), k)
 
 same-length : tie.Need-same-length
@@ -42,9 +42,9 @@ returns-2 : tie.Need-returns-2
 unfolding said summary judge
 returns-2 c =
     let a = c .before .before .before .before .before .before .before .before .before .before .before .before .before .args in
-    let h = subst (CheckedAs (a .words .now) (a .rho) ownBound (length (a .est .now)) (length (a .work .now))) (c .before .before .before .before .before .before .before .enum-told .given .1) (c .before .before .before .before .before .before .before .before .before .check .ensures) in
+    let h = subst (CheckedAs (a .words .now) (a .rho) standingBound (length (a .est .now)) (length (a .work .now))) (c .before .before .before .before .before .before .before .enum-told .given .1) (c .before .before .before .before .before .before .before .before .before .check .ensures) in
     let s = c .before .before .before .before .solve-in .ensures in
-    let k = after-solved (a .words .now) (a .rho) ownBound (a .est .now) (a .work .now) _ (h .judged) in
+    let k = after-solved (a .words .now) (a .rho) standingBound (a .est .now) (a .work .now) _ (h .judged) in
     (ap solved (s .leaks) ∙ ap summary (sym (h .judged)), (s .estimates ∙ k .0, s .works ∙ k .1))
 
 pub analyse-spec : {M : Type 1} → statement M
