@@ -11,11 +11,6 @@ ghost use Rattle.calculus.proofs.EqualResults.{anyDigit, comparables, sameMask,
 ghost use Rattle.calculus.proofs.OperationResults.{operationMask};
 ghost use Rattle.results.specs.Signs.{signTable};
 
-// The sign results: for the signs negative, zero and positive of the first number, the same three of the second.
-const SUM: [u32; 9] = [16, 16, 112, 16, 32, 64, 112, 64, 64];
-
-const LESS: [u32; 9] = [12, 4, 4, 8, 8, 4, 8, 8, 12];
-
 pub fn constant_bit(k: Constant) -> u32
     ensures { λ r. ⌜ r ≡ 2 ^ constantElement k ⌝ }
 {
@@ -55,12 +50,29 @@ pub fn digit(i: u32) -> u32
     1u32 << i
 }
 
-// The entry of a pair of signs.
+// What pair i of signs gives: the first is i / 3, the second i % 3.
 fn sign_result(sum: bool, i: usize) -> u32
     requires { ⌜ i < 9 ⌝ }
     ensures { λ r. ⌜ r ≡ getD (signTable sum) i 0 ⌝ }
 {
-    if sum { SUM[i] } else { LESS[i] }
+    // negative 0, zero 1, positive 2
+    let x = i / 3;
+    let y = i % 3;
+    if sum {
+        // equal signs stay, zero is neutral, opposite signs give all three
+        if x == y {
+            return 16 << x;
+        }
+        if x == 1 {
+            return 16 << y;
+        }
+        return if y == 1 { 16 << x } else { 112 };
+    }
+    // negative, zero, positive in that order; equal non-zero signs give both truths, zero with zero false
+    if x == y {
+        return if x == 1 { 8 } else { 12 };
+    }
+    if x < y { 4 } else { 8 }
 }
 
 // The entry of pair i if both rows have its signs.
