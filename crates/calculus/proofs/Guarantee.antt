@@ -13,6 +13,7 @@ pub mod Relation
 pub mod Values
 pub mod Operations
 pub mod Elements
+pub mod Messages
 pub mod Records
 pub mod Words
 pub mod Steps

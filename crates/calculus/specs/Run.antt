@@ -6,7 +6,7 @@ use mathlib.Core.List.{List, [], _∷_, _++_}
 use lib.ListN.{set, getElem?}
 use Rattle.table.specs.Code.{Code}
 use Rattle.calculus.specs.Rules.{permsOf, guarded, admits}
-use Rattle.calculus.specs.Values.{Value, Environment, plain, datum}
+use Rattle.calculus.specs.Values.{Value, Environment, plain, sentAs, datum}
 use Rattle.calculus.specs.Machine.{Control, Frame, Effect, Move, step}
 
 -- an instance: its handler's permissions, what it is at, its frames and its own cells
@@ -36,12 +36,12 @@ unfoldable pub joined : Bool → Instance → List Instance → List ℕ → (be
 joined true x is rs before = world (is ++ (x ∷ [])) rs
 joined false x is rs before = before
 
--- A send by an instance with the permissions `held`: it starts nothing, or the handler at b if the send allows it. `is` are the instances
--- after the send's step, and `before` is the world before it: a choice that the send does not allow changes nothing.
+-- A send by an instance with the permissions `held`: it starts nothing, or the handler at b, with what is sent of its value, if the send allows it.
+-- `is` are the instances after the send's step, and `before` is the world before it: a choice that the send does not allow changes nothing.
 unfoldable pub sent : Code → (held required target : ℕ) → Value → Option ℕ → List Instance → List ℕ → (before : World) → World
 sent c held r n v none is rs before = world is rs
 sent c held r n v (some b) is rs before =
-    joined (plain v && admits n r held (c .node b)) (started (permsOf (c .node b)) b v) is rs before
+    joined (plain (sentAs v) && admits n r held (c .node b)) (started (permsOf (c .node b)) b (sentAs v)) is rs before
 
 unfoldable pub effect : Code → (held : ℕ) → Effect → Option ℕ → List Instance → List ℕ → World → World
 effect c held Effect.silent choice is rs before = world is rs

@@ -1,13 +1,13 @@
 -- Example runs of small tables: what is exercised, the last one first, and how many instances were started. proofs/Runs.antt
 -- computes them from the words.
-use Prim.Native.Nat.{ℕ}
+use Prim.Native.Nat.{ℕ, _+_}
 use mathlib.Core.Bool.{true, false}
 use mathlib.Core.Option.{none, some}
 use mathlib.Core.List.{List, [], _∷_, _++_}
 use lib.ListN.{length, replicate}
 use Rattle.table.specs.Words.{wordOf}
 use Rattle.table.specs.Code.{code}
-use Rattle.calculus.specs.Values.{named, atom, cell, fields, field, empty, unit, truth}
+use Rattle.calculus.specs.Values.{Value, named, atom, function, cell, fields, field, empty, closed, undefined, unit, truth}
 use Rattle.calculus.specs.Run.{Event, steps, starts, World, world, run}
 
 -- a table, the opponent's set and a list of events, with what is to come of them
@@ -30,6 +30,16 @@ twin = 0x02000001 ∷ 0x03000004 ∷ 0x04000008 ∷ 0x24000004 ∷ []
 -- n steps of instance i that start nothing
 abbrev pub times : ℕ → ℕ → List Event
 times n i = replicate n (steps i none)
+
+-- The handler at word 1 sends the message that the words m build to the name 1, then exercises 8. The handler of that name exercises 1 if the term
+-- `read` gives undefined, and 2 if not. It is started where the send allows it, by a start of the sender with this datum; then each takes its steps.
+abbrev pub carried : (m : List ℕ) (datum : Value) (read : List ℕ) (exercised : List ℕ) (instances : ℕ) → Example
+carried m datum read rs n =
+    example
+    (0x01000002 ∷ 0x02000000 ∷ 0x03000008 ∷ 0x04000000 ∷ 0x18000000 ∷ 0x23000000 ∷ 0x13000001 ∷ m
+    ++ (0x24000008 ∷ 0x02000001 ∷ 0x03000003 ∷ 0x04000008 ∷ 0x19000000 ∷ 0x1b000002 ∷ read ++ (0x10000000 ∷ 0x24000001 ∷ 0x24000002 ∷ []))) 0
+    (starts 1 datum ∷ replicate 40 (steps 0 (some (8 + length m))) ++ times 30 1 ++ times 10 0)
+    rs n
 
 unfoldable pub examples : List Example
 examples =
@@ -59,12 +69,39 @@ examples =
     ∷ example (relays 3 0 twin) 0
     (starts 1 unit ∷ times 4 0 ++ steps 0 (some 7) ∷ steps 0 (some 11) ∷ times 1 1 ++ times 1 2)
     (2 ∷ []) 2
-    -- a message that holds a function, here in a record, starts nothing; the send itself yields, and what follows it runs
-    ∷ example (0x01000002 ∷ 0x02000000 ∷ 0x03000008 ∷ 0x04000000 ∷ 0x18000000
-    ∷ 0x23000000 ∷ 0x13000001 ∷ 0x1e000000 ∷ 0x1c000000 ∷ 0x12000000 ∷ 0x15000000 ∷ 0x10000000
-    ∷ 0x24000008 ∷ 0x02000001 ∷ 0x03000002 ∷ 0x04000008 ∷ 0x24000002 ∷ []) 0
-    (starts 1 unit ∷ times 11 0 ++ steps 0 (some 13) ∷ times 9 1 ++ times 9 0)
+    -- a field that is a function vanishes, and the send goes on: the receiver reads it as undefined
+    ∷ carried (0x1e000000 ∷ 0x1c000000 ∷ 0x12000000 ∷ 0x15000000 ∷ 0x10000000 ∷ []) unit (0x1d000000 ∷ 0x14000000 ∷ 0x12000000 ∷ [])
+    (1 ∷ 8 ∷ []) 2
+    -- the field beside it stays
+    ∷ carried (0x1e000000 ∷ 0x1e000000 ∷ 0x1c000000 ∷ 0x12000000 ∷ 0x15000000 ∷ 0x10000000 ∷ 0x12000001 ∷ 0x10000001 ∷ []) unit
+    (0x1d000000 ∷ 0x14000000 ∷ 0x12000001 ∷ [])
+    (2 ∷ 8 ∷ []) 2
+    -- the same two records further in
+    ∷ carried
+    (0x1e000000 ∷ 0x1c000000 ∷ 0x12000000 ∷ 0x1e000000 ∷ 0x1c000000 ∷ 0x12000000 ∷ 0x1e000000 ∷ 0x1c000000 ∷ 0x12000000 ∷ 0x15000000
+    ∷ 0x10000000 ∷ []) unit
+    (0x1d000000 ∷ 0x1d000000 ∷ 0x1d000000 ∷ 0x14000000 ∷ 0x12000000 ∷ 0x12000000 ∷ 0x12000000 ∷ [])
+    (1 ∷ 8 ∷ []) 2
+    -- a message that then still holds a cell starts nothing: in a record, beside a function, or by itself; the send itself yields, and what
+    -- follows it runs
+    ∷ carried (0x1e000000 ∷ 0x1c000000 ∷ 0x12000000 ∷ 0x20000000 ∷ 0x10000000 ∷ []) unit (0x14000000 ∷ [])
     (8 ∷ []) 1
+    ∷ carried (0x1e000000 ∷ 0x1e000000 ∷ 0x1c000000 ∷ 0x12000000 ∷ 0x15000000 ∷ 0x10000000 ∷ 0x12000001 ∷ 0x20000000 ∷ 0x10000000 ∷ [])
+    unit (0x14000000 ∷ [])
+    (8 ∷ []) 1
+    ∷ carried (0x20000000 ∷ 0x10000000 ∷ []) unit (0x14000000 ∷ [])
+    (8 ∷ []) 1
+    -- a message that is itself a function starts nothing, and one that is itself undefined starts its receiver
+    ∷ carried (0x15000000 ∷ 0x10000000 ∷ []) unit (0x14000000 ∷ [])
+    (8 ∷ []) 1
+    ∷ carried (0x10000000 ∷ []) unit (0x14000000 ∷ [])
+    (1 ∷ 8 ∷ []) 2
+    -- a key that is there twice in a record of the opponent's, which is passed on: the first one counts. Where it vanishes the later one does
+    -- too, and where the later one alone is undefined nothing changes
+    ∷ carried (0x14000000 ∷ []) (fields (field 0 undefined (field 0 unit empty))) (0x1d000000 ∷ 0x14000000 ∷ 0x12000000 ∷ [])
+    (1 ∷ 8 ∷ []) 2
+    ∷ carried (0x14000000 ∷ []) (fields (field 0 unit (field 0 undefined empty))) (0x1d000000 ∷ 0x14000000 ∷ 0x12000000 ∷ [])
+    (2 ∷ 8 ∷ []) 2
     -- a start whose guard is not within ρ changes nothing
     ∷ example (alone 4 (0x24000002 ∷ [])) 0
     (starts 1 unit ∷ times 3 0)
@@ -125,3 +162,23 @@ reached (example ws ρ events rs n) = outcome (run (code ws) ρ events)
 
 unfoldable pub expected : Example → List ℕ × ℕ
 expected (example ws ρ events rs n) = (rs, n)
+
+-- ---- messages: a value, and what is sent of it
+
+unfoldable pub messages : List (Value × Value)
+messages =
+    -- undefined and functions vanish, and nothing else does; a record may lose all its fields
+    (fields (field 0 undefined (field 1 (function 4 closed) (field 2 unit (field 3 (cell 0) empty)))), fields (field 2 unit (field 3 (cell 0) empty)))
+    ∷ (fields (field 0 undefined empty), fields empty)
+    -- at every depth
+    ∷ (
+      fields (field 0 (fields (field 0 (fields (field 0 undefined (field 1 unit empty))) empty)) empty),
+      fields (field 0 (fields (field 0 (fields (field 1 unit empty)) empty)) empty),
+    )
+    -- a key that is there twice
+    ∷ (fields (field 0 undefined (field 0 unit (field 1 unit empty))), fields (field 1 unit empty))
+    ∷ (fields (field 0 unit (field 0 undefined empty)), fields (field 0 unit empty))
+    -- a message that is no record stays as it is
+    ∷ (undefined, undefined)
+    ∷ (function 4 closed, function 4 closed)
+    ∷ []

@@ -187,3 +187,32 @@ unfoldable pub operate : Operation → Atom → Atom → Option Value
 operate operations.Add a b = onNumber a (λ y. onNumber b (λ z. some (atom (number (y +ℤ z)))) none) none
 operate operations.Less a b = onNumber a (λ y. onNumber b (λ z. some (truth (ltZ y z))) none) none
 operate operations.Equal a b = some (truth (same a b))
+
+-- ---- messages (ECMA-262, JSON.stringify)
+
+-- a field with such a value vanishes: undefined, or a function
+unfoldable pub leftOut : Value → Bool
+unfolding same
+leftOut (atom a) = same a (constant constants.Undefined)
+leftOut (function p vs) = true
+leftOut (fields fs) = false
+leftOut (cell i) = false
+
+-- these fields, and before them one more unless it is left out
+unfoldable pub kept : (out : Bool) → ℕ → Value → Fields → Fields
+kept true k v fs = fs
+kept false k v fs = field k v fs
+
+-- What is sent of a value: fields vanish at every depth. The first field of a key counts: where it vanishes, so do the later ones.
+unfoldable mutual
+  unfolding leftOut kept deleteField
+
+  pub sentAs : Value → Value
+  sentAs (atom a) = atom a
+  sentAs (function p vs) = function p vs
+  sentAs (fields fs) = fields (sentFields fs)
+  sentAs (cell i) = cell i
+
+  pub sentFields : Fields → Fields
+  sentFields empty = empty
+  sentFields (field k v fs) = kept (leftOut v) k (sentAs v) (deleteField (sentFields fs) k)

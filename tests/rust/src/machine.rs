@@ -1,4 +1,4 @@
-//! Document 01's machine in small steps.
+//! Document 01's machine in small steps, with the messages of document 02's wish 3.
 //!
 //! Records and cells carry the word that made them, which no step looks at: tests compare them with the estimate.
 
@@ -64,6 +64,21 @@ impl Value {
             Record(record) => record.plain,
             _ => true,
         }
+    }
+
+    /// A field with this value vanishes from a message.
+    fn left_out(&self) -> bool {
+        matches!(self, Undefined | Function(..))
+    }
+
+    /// What is sent of it: fields vanish at every depth. The first field of a key counts, and one that vanishes takes the later ones with it.
+    pub fn sent(&self) -> Value {
+        let Record(record) = self else {
+            return self.clone();
+        };
+        let first = |i: &usize| record.fields[..*i].iter().all(|(key, _)| *key != record.fields[*i].0);
+        let fields = (0..record.fields.len()).filter(first).map(|i| &record.fields[i]);
+        Value::record(record.made, fields.filter(|(_, value)| !value.left_out()).map(|(key, value)| (*key, value.sent())).collect())
     }
 }
 
@@ -318,9 +333,11 @@ impl World {
             return;
         };
         let started = match (target, choice) {
-            (Name(name), Some(handler)) => match table.blocks.get(handler) {
-                Some(block) if block.name == *name && block.admits(table.argument(p), instance.permissions(table)) && message.plain() => {
-                    Some(Instance::new(block.start, message.clone()))
+            (Name(name), Some(handler)) => match (table.blocks.get(handler), message.sent()) {
+                (Some(block), message)
+                    if block.name == *name && block.admits(table.argument(p), instance.permissions(table)) && message.plain() =>
+                {
+                    Some(Instance::new(block.start, message))
                 }
                 _ => return,
             },

@@ -18,6 +18,7 @@ struct Counts {
     exercised: u64,
     instances: u64,
     sent: u64,
+    mended: u64,
 }
 
 /// The word at hand is live, and its value, once there, lies in its value set.
@@ -41,6 +42,13 @@ fn without_effect(table: &Table, rho: u32, world: &World, event: &Event) -> bool
     }
 }
 
+/// Is this the step of a send whose message loses a field?
+fn mended(table: &Table, world: &World, event: &Event) -> bool {
+    let Event::Step { instance, .. } = event else { return false };
+    let sending = world.instances.get(*instance).and_then(|instance| instance.sending(table));
+    sending.is_some_and(|(_, _, message)| message.sent() != *message)
+}
+
 fn run(random: &mut Random, words: &[u32], table: &Table, rho: u32, counts: &mut Counts) {
     let layout = Layout::of(table.size());
     let mut estimate = vec![0; layout.total()];
@@ -52,7 +60,9 @@ fn run(random: &mut Random, words: &[u32], table: &Table, rho: u32, counts: &mut
         let event = event(random, table, &world);
         let before = without_effect(table, rho, &world, &event).then(|| world.clone());
         let instances = world.instances.len();
+        let mended = mended(table, &world, &event);
         world.act(table, rho, &event);
+        counts.mended += u64::from(mended && world.instances.len() > instances);
         starts += usize::from(matches!(event, Event::Start { .. }) && world.instances.len() > instances);
         counts.events += 1;
         if let Some(before) = before {
@@ -93,6 +103,7 @@ fn what_is_exercised_lies_in_the_leak() {
     }
     println!("{counts:?}");
     assert!(counts.exercising * 2 > counts.systems && counts.whole * 10 > counts.leaking && counts.sent * 10 > counts.systems);
+    assert!(counts.mended * 100 > counts.systems);
 }
 
 /// A run of one handler alone: steps until nothing changes.
@@ -180,9 +191,52 @@ fn choices_of_a_send() {
     assert_eq!(attempt(0, constant(1), Some(4)), (false, 0));
     let nested = |inner| set(empty(), literal(0), set(empty(), literal(1), inner));
     assert_eq!(attempt(0, nested(constant(1)), Some(1)), (true, 1));
-    for forbidden in [function(constant(1)), cell(constant(1))] {
-        assert_eq!(attempt(0, forbidden.clone(), Some(1)), (false, 0));
-        assert_eq!(attempt(0, nested(forbidden.clone()), Some(1)), (false, 0));
-        assert_eq!(attempt(0, nested(forbidden), None), (true, 0));
+    for message in [function(constant(1)), cell(constant(1)), nested(cell(constant(1)))] {
+        assert_eq!(attempt(0, message.clone(), Some(1)), (false, 0));
+        assert_eq!(attempt(0, message, None), (true, 0));
     }
+    for message in [constant(0), nested(constant(0)), nested(function(constant(1)))] {
+        assert_eq!(attempt(0, message, Some(1)), (true, 1));
+    }
+    let both = set(nested(cell(constant(1))), literal(2), function(constant(1)));
+    assert_eq!(attempt(0, both, Some(1)), (false, 0));
+}
+
+/// Fields that are undefined or functions vanish from a message at every depth, with the later fields of their key; nothing else does.
+#[test]
+fn what_is_sent() {
+    let record = |fields| Value::record(None, fields);
+    let function = || Value::Function(4, None);
+    let sent = |value: Value| value.sent();
+    for value in [Value::Undefined, Value::Unit, Value::Number(-3), Value::Text(40), function(), Value::Cell(0), record(vec![])] {
+        assert_eq!(sent(value.clone()), value);
+    }
+    assert_eq!(sent(record(vec![(0, Value::Undefined)])), record(vec![]));
+    let rest = vec![(1, Value::Cell(0)), (2, Value::Unit)];
+    assert_eq!(sent(record([vec![(0, function())], rest.clone()].concat())), record(rest));
+    let nested = |inner| record(vec![(0, record(vec![(0, record(inner))]))]);
+    assert_eq!(sent(nested(vec![(0, function()), (1, Value::Undefined), (2, Value::Unit)])), nested(vec![(2, Value::Unit)]));
+    assert_eq!(sent(record(vec![(0, Value::Undefined), (0, Value::Unit), (1, Value::Unit)])), record(vec![(1, Value::Unit)]));
+    assert_eq!(sent(record(vec![(0, Value::Unit), (0, Value::Undefined)])), record(vec![(0, Value::Unit)]));
+    let made = Value::record(Some(7), vec![(0, function())]);
+    assert_eq!(made.sent(), Value::record(Some(7), vec![]));
+}
+
+/// What the receiver of a relayed message reads at a key that stands twice.
+#[test]
+fn a_key_that_stands_twice() {
+    let receiver = branch(term(peer::table::kind::OPERATION, 2, [get(variable(0), literal(0)), constant(0)]), exercise(1), exercise(2));
+    let table = read(&system(&[block(0, 8, 0, send(0, name(1), variable(0))), block(1, 3, 8, receiver)])).unwrap();
+    let exercised = |fields| {
+        let mut world = World::empty();
+        world.act(&table, 0, &Event::Start { handler: 0, datum: Value::record(None, fields) });
+        for instance in [0, 1] {
+            for _ in 0..30 {
+                world.act(&table, 0, &Event::Step { instance, choice: Some(1) });
+            }
+        }
+        world.exercised.iter().map(|(_, set)| *set).collect::<Vec<_>>()
+    };
+    assert_eq!(exercised(vec![(0, Value::Undefined), (0, Value::Unit)]), [1]);
+    assert_eq!(exercised(vec![(0, Value::Unit), (0, Value::Undefined)]), [2]);
 }

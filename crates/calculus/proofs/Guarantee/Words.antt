@@ -9,11 +9,12 @@ use Rattle.table.specs.Code.{Code, Node, Two, Within, Linked, NodeLinked}
 use Rattle.calculus.specs.Constraint.{C, B, P, L, Sets, Obeys}
 use Rattle.calculus.specs.Elements.{nameElement}
 use Rattle.calculus.specs.Rules.{Estimate, rule, entry, flow, twoRule, nameOf, permsOf, permissions, guarded, admits}
-use Rattle.calculus.specs.Values.{Value, Environment, closed, bound, plain, datum}
+use Rattle.calculus.specs.Values.{Value, Environment, closed, bound, plain, sentAs, datum}
 use Rattle.calculus.specs.Machine.{Frame, first, second, third, again}
 use Rattle.calculus.proofs.Ranges.{below-in}
 use Rattle.calculus.proofs.Guarantee.Relation.{Sub, partOf, In, Bound, Leaks, Runs, Wait, Starts}
 use Rattle.calculus.proofs.Guarantee.Values.{both, moved, datum-in, weaken, weaken-bound}
+use Rattle.calculus.proofs.Guarantee.Messages.{sent-in}
 use Rattle.calculus.proofs.Guarantee.Elements.{stands}
 
 -- ---- the frames
@@ -145,20 +146,20 @@ module _ (c : Code) (linked : Linked c) (ρ : ℕ) (e : Sets) (est : Estimate c 
       → Obeys e (twoRule c p (Two.send r) a d)
       → T (e (C a) (nameElement n))
       → In c e h ty v (e (C d))
-      → T (plain v)
+      → T (plain (sentAs v))
       → T (admits n r (permsOf (c .node h)) (c .node b))
-      → Starts c ρ e b v
+      → Starts c ρ e b (sentAs v)
   unfolding twoRule permissions
   sent-good h ty p r a d n b v q leaks o i j k t =
       let held = permsOf (c .node h) in
       let f : T (guarded (c .node b) held) = admitted n r held (c .node b) t .2 in
       let name : n ≡ nameOf (c .node b) = sym (admitted n r held (c .node b) t .0) in
-      let s = stands c e h ty v (e (C d)) j in
+      let s = stands c e h ty (sentAs v) (e (C d)) (sent-in c e h ty v (e (C d)) j) in
       let g =
       o .1 (s .0) (s .3 k) (s .2) b (block-listed b held f)
       (subst (λ (z : ℕ). T (admits (nameOf (c .node b)) r (permsOf (c .node z)) (c .node b))) (sym q)
       (subst (λ (z : ℕ). T (admits z r held (c .node b))) name t))
       (subst (λ (z : ℕ). T (e (C a) (nameElement z))) name i)
       in
-      start-good b held v f (g .0) (λ x u. leaks x (g .1 .1 x u))
-      (moved c e h ty b [] v (e (B b)) k (s .4 (e (B b)) (g .1 .0 (s .0) (below-in (s .1)) (s .3 k) (s .2))))
+      start-good b held (sentAs v) f (g .0) (λ x u. leaks x (g .1 .1 x u))
+      (moved c e h ty b [] (sentAs v) (e (B b)) k (s .4 (e (B b)) (g .1 .0 (s .0) (below-in (s .1)) (s .3 k) (s .2))))
