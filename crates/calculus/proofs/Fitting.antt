@@ -101,39 +101,39 @@ results-lt c o x y z m = lows-mem (results c o x y) (results-low c o x y) z m
 module _ (c : Code) (k : Linked c) where
   -- ---- elements and rows of words of the code
 
-  may-C : {i v : ℕ} → i < c .size → v < elements c → T (allowed c (C i) v)
+  pub may-C : {i v : ℕ} → i < c .size → v < elements c → T (allowed c (C i) v)
   unfolding owner span
   may-C {i} {v} h l = is-allowed c (C i) v h l
 
-  may-B : {i v : ℕ} → i < c .size → v < elements c → T (allowed c (B i) v)
+  pub may-B : {i v : ℕ} → i < c .size → v < elements c → T (allowed c (B i) v)
   unfolding owner span
   may-B {i} {v} h l = is-allowed c (B i) v h l
 
-  may-P : {i v : ℕ} → i < c .size → v < width → T (allowed c (P i) v)
+  pub may-P : {i v : ℕ} → i < c .size → v < width → T (allowed c (P i) v)
   unfolding owner span
   may-P {i} {v} h l = is-allowed c (P i) v h l
 
-  may-L : {i : ℕ} → i < c .size → T (allowed c (L i) 0)
+  pub may-L : {i : ℕ} → i < c .size → T (allowed c (L i) 0)
   unfolding owner span
   may-L {i} h = is-allowed c (L i) 0 h (lit< tt)
 
-  CC : {i j : ℕ} → i < c .size → j < c .size → Alike c (C i) (C j)
+  pub CC : {i j : ℕ} → i < c .size → j < c .size → Alike c (C i) (C j)
   unfolding owner span shift
   CC h l = record { from = h; to = l; spans = refl; unshifted-from = refl; unshifted-to = refl }
 
-  CB : {i j : ℕ} → i < c .size → j < c .size → Alike c (C i) (B j)
+  pub CB : {i j : ℕ} → i < c .size → j < c .size → Alike c (C i) (B j)
   unfolding owner span shift
   CB h l = record { from = h; to = l; spans = refl; unshifted-from = refl; unshifted-to = refl }
 
-  BC : {i j : ℕ} → i < c .size → j < c .size → Alike c (B i) (C j)
+  pub BC : {i j : ℕ} → i < c .size → j < c .size → Alike c (B i) (C j)
   unfolding owner span shift
   BC h l = record { from = h; to = l; spans = refl; unshifted-from = refl; unshifted-to = refl }
 
-  BB : {i j : ℕ} → i < c .size → j < c .size → Alike c (B i) (B j)
+  pub BB : {i j : ℕ} → i < c .size → j < c .size → Alike c (B i) (B j)
   unfolding owner span shift
   BB h l = record { from = h; to = l; spans = refl; unshifted-from = refl; unshifted-to = refl }
 
-  PP : {i j : ℕ} → i < c .size → j < c .size → Alike c (P i) (P j)
+  pub PP : {i j : ℕ} → i < c .size → j < c .size → Alike c (P i) (P j)
   unfolding owner span shift
   PP h l = record { from = h; to = l; spans = refl; unshifted-from = refl; unshifted-to = refl }
 

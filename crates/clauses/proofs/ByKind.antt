@@ -1,0 +1,101 @@
+-- The clauses of a word by its kind.
+use Prim.Native.Nat.{ℕ, zero, suc, _+_, _-_, _≤_, _<_}
+use mathlib.Core.Path.{_≡_, sym, ap, _∙_}
+use mathlib.Core.Bool.{true, false}
+use mathlib.Core.List.{List, []}
+use native.Mathlib.Decide.{decLt}
+use native.Mathlib.Omega.{arith}
+use lib.Dec.{eqb, ltb}
+use lib.ListN.{getD, List·getD-eq-default}
+use borrow.Author.Tests.{ne-eqb, le-ltb, lt-ltb}
+use Rattle.table.specs.declared.Item.{Item}
+use Rattle.table.specs.declared.Item.the-variants as items
+use Rattle.table.specs.declared.Term.{Term}
+use Rattle.table.specs.declared.Term.the-variants as terms
+use Rattle.table.specs.Words.{kind, argument, termOf, termsByKind}
+use Rattle.table.specs.Item.{handlerAt, itemAt}
+use Rattle.clauses.specs.declared.Clause.{Clause}
+use Rattle.clauses.specs.Clauses.{never, ofOther, ofValue, ofTerm, siteAt, ofItem, clausesAt, clauseAt}
+
+-- what stands at p, where its word is of the kind k
+unfoldable pub byKind : List ℕ → ℕ → ℕ → Item
+byKind ws p k =
+    elim (eqb k 2) [
+      | true ↦ items.Block (handlerAt ws p)
+      | false ↦
+          elim (ltb k 16) [
+            | true ↦ items.Gap
+            | false ↦ items.Term (getD (termsByKind (argument (getD ws p 0))) (k - 16) terms.Record)
+          ]
+    ]
+
+pub item-by : (ws : List ℕ) (p k : ℕ) → kind (getD ws p 0) ≡ k → itemAt ws p ≡ byKind ws p k
+unfolding byKind itemAt termOf
+item-by ws p k e = ap (byKind ws p) e
+
+-- past the kinds a term counts as a record
+kind-past : (a j : ℕ) → 37 ≤ j → getD (termsByKind a) (j - 16) terms.Record ≡ terms.Record
+unfolding termsByKind
+kind-past a j h = List·getD-eq-default (termsByKind a) terms.Record {n = j - 16} (omega arith)
+
+kind-low : (ws : List ℕ) (p j : ℕ) → eqb j 2 ≡ false → j < 16 → byKind ws p j ≡ items.Gap
+unfolding byKind
+kind-low ws p j e h = rw (e, lt-ltb j 16 h, byKind)
+
+kind-high : (ws : List ℕ) (p j : ℕ) → eqb j 2 ≡ false → 37 ≤ j → byKind ws p j ≡ items.Term terms.Record
+unfolding byKind
+kind-high ws p j e h = rw (e, le-ltb j 16 (omega arith), byKind) (ap items.Term (kind-past (argument (getD ws p 0)) j h))
+
+other-low : (p own j : ℕ) → j < 16 → ofOther p own j ≡ []
+unfolding ofOther
+other-low p own j h = rw (lt-ltb j 16 h, ofOther)
+
+other-high : (p own j : ℕ) → 16 ≤ j → ofOther p own j ≡ ofValue p own
+unfolding ofOther
+other-high p own j h = rw (le-ltb j 16 h, ofOther)
+
+not-lt : (j : ℕ) → (j < 16 → ⊥) → 16 ≤ j
+not-lt j h = omega arith
+
+module _ (ws ls : List ℕ) (plain p k : ℕ) where
+  pub kinded : (r : Clause) (j : ℕ) → kind (getD ws p 0) ≡ j → r ≡ getD (ofItem ws ls plain p (byKind ws p j)) k never
+      → r ≡ clauseAt ws ls plain p k
+  unfolding clauseAt clausesAt
+  kinded r j e h = h ∙ ap (λ (x : Item). getD (ofItem ws ls plain p x) k never) (sym (item-by ws p j e))
+
+  -- ---- past the arms: the kind is none of 2 and 16 to 36
+
+  abbrev NoneFrom : Type 0 → ℕ → ℕ → Type 0
+  NoneFrom a zero j = a
+  NoneFrom a (suc n) j = NoneFrom a n j × (j ≡ 16 + n → ⊥)
+
+  above : (a : Type 0) (n j : ℕ) → NoneFrom a n j → 16 ≤ j → 16 + n ≤ j
+  above a zero j t h = h
+  above a (suc n) j t h =
+      let m : 16 + n ≤ j = above a n j (t .0) h in
+      let d : j ≡ 16 + n → ⊥ = t .1 in
+      omega arith
+
+  module _ (j : ℕ) (two : eqb j 2 ≡ false) where
+    low-item : j < 16 → getD (ofOther p (plain + p) j) k never ≡ getD (ofItem ws ls plain p (byKind ws p j)) k never
+    unfolding ofItem
+    low-item h =
+        ap (λ (xs : List Clause). getD xs k never) (other-low p (plain + p) j h)
+        ∙ ap (λ (x : Item). getD (ofItem ws ls plain p x) k never) (sym (kind-low ws p j two h))
+
+    high-item : 37 ≤ j → getD (ofOther p (plain + p) j) k never ≡ getD (ofItem ws ls plain p (byKind ws p j)) k never
+    unfolding ofItem ofTerm
+    high-item h =
+        ap (λ (xs : List Clause). getD xs k never) (other-high p (plain + p) j (omega arith))
+        ∙ ap (λ (x : Item). getD (ofItem ws ls plain p x) k never) (sym (kind-high ws p j two h))
+
+  pub beyond : (r : Clause) (j : ℕ) → kind (getD ws p 0) ≡ j → NoneFrom (Unit {0} × (j ≡ 2 → ⊥)) 21 j → r ≡ getD (ofOther p (plain + p) j) k never
+      → r ≡ clauseAt ws ls plain p k
+  beyond r j e t h = kinded r j e (h ∙ go (decLt j 16))
+    where
+      two : eqb j 2 ≡ false
+      two = ne-eqb j 2 (t .0 .0 .0 .0 .0 .0 .0 .0 .0 .0 .0 .0 .0 .0 .0 .0 .0 .0 .0 .0 .0 .1)
+
+      go : Dec (j < 16) → getD (ofOther p (plain + p) j) k never ≡ getD (ofItem ws ls plain p (byKind ws p j)) k never
+      go (yes h) = low-item j two h
+      go (no h) = high-item j two (above (Unit {0} × (j ≡ 2 → ⊥)) 21 j t (not-lt j h))

@@ -1,0 +1,7 @@
+pub mod Arms
+pub mod Asked
+pub mod ByKind
+pub mod Links
+pub mod OfWord
+pub mod Permissions
+pub mod Sorts

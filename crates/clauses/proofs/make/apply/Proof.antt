@@ -1,0 +1,101 @@
+-- `clauses::make::apply` meets its contract: an arm for each clause, and none past them. Assumes nothing.
+use mathlib.Core.Path.{refl}
+use borrow.Author.Needs.{needs}
+use Rattle.clauses.proofs.make.apply.Statement.{statement}
+use Rattle.clauses.proofs.make.apply.Tie as tie
+use Rattle.clauses.specs.Clauses.{ofApply, free}
+use Rattle.clauses.proofs.Arms.{arm, past}
+use Rattle.table.proofs.words.Outside.{outside}
+
+of-requires : tie.Need-of-requires
+of-requires c κs = search needs
+
+free-requires : tie.Need-free-requires
+free-requires c κs = search needs
+
+of-requires-2 : tie.Need-of-requires-2
+of-requires-2 c κs = search needs
+
+free-requires-2 : tie.Need-free-requires-2
+free-requires-2 c κs = search needs
+
+mul-of : tie.Need-mul-of
+mul-of c = search needs
+
+of-requires-3 : tie.Need-of-requires-3
+of-requires-3 c κs = search needs
+
+free-requires-3 : tie.Need-free-requires-3
+free-requires-3 c κs = search needs
+
+mul-of-2 : tie.Need-mul-of-2
+mul-of-2 c = search needs
+
+of-requires-4 : tie.Need-of-requires-4
+of-requires-4 c κs = search needs
+
+free-requires-4 : tie.Need-free-requires-4
+free-requires-4 c κs = search needs
+
+of-requires-5 : tie.Need-of-requires-5
+of-requires-5 c κs = search needs
+
+free-requires-5 : tie.Need-free-requires-5
+free-requires-5 c κs = search needs
+
+never-requires : tie.Need-never-requires
+never-requires c κs = search needs
+
+returns : tie.Need-returns
+unfolding ofApply
+returns c =
+    arm (ofApply _ _) _ 0 (c .before .before .match .keys1) free _ _ _ (c .free .ensures) (c .before .of .ensures) refl
+
+returns-2 : tie.Need-returns-2
+unfolding ofApply
+returns-2 c =
+    arm (ofApply _ _) _ 1 (c .before .before .match .keys2) free _ _ _ (c .free2 .ensures) (c .before .of2 .ensures) refl
+
+returns-3 : tie.Need-returns-3
+unfolding ofApply
+returns-3 c =
+    arm (ofApply _ _) _ 2 (c .before .before .match .keys3) free _ _ _ (c .free3 .ensures) (c .before .of3 .ensures) refl
+
+returns-4 : tie.Need-returns-4
+unfolding ofApply
+returns-4 c =
+    arm (ofApply _ _) _ 3 (c .before .before .match .keys4) free _ _ _ (c .free4 .ensures) (c .before .of4 .ensures) refl
+
+returns-5 : tie.Need-returns-5
+unfolding ofApply
+returns-5 c =
+    arm (ofApply _ _) _ 4 (c .before .before .match .keys5) free _ _ _ (c .free5 .ensures) (c .before .of5 .ensures) refl
+
+returns-6 : tie.Need-returns-6
+unfolding ofApply
+returns-6 c =
+    past (ofApply _ _) _ _ (c .never .ensures) (outside 5 _ (c .before .match .rest))
+
+pub apply-spec : {M : Type 1} → statement M
+apply-spec =
+    tie.close
+    (tie.spec
+    of-requires
+    free-requires
+    of-requires-2
+    free-requires-2
+    mul-of
+    of-requires-3
+    free-requires-3
+    mul-of-2
+    of-requires-4
+    free-requires-4
+    of-requires-5
+    free-requires-5
+    never-requires
+    returns
+    returns-2
+    returns-3
+    returns-4
+    returns-5
+    returns-6)

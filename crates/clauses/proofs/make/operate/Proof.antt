@@ -1,0 +1,51 @@
+-- `clauses::make::operate` meets its contract: an arm for each clause, and none past them. Assumes nothing.
+use mathlib.Core.Path.{refl}
+use borrow.Author.Needs.{needs}
+use Rattle.clauses.proofs.make.operate.Statement.{statement}
+use Rattle.clauses.proofs.make.operate.Tie as tie
+use Rattle.clauses.specs.Clauses.{ofOperation, free}
+use Rattle.clauses.proofs.Arms.{arm, past}
+use Rattle.table.proofs.words.Outside.{outside}
+
+of-requires : tie.Need-of-requires
+of-requires c κs = search needs
+
+free-requires : tie.Need-free-requires
+free-requires c κs = search needs
+
+of-requires-2 : tie.Need-of-requires-2
+of-requires-2 c κs = search needs
+
+free-requires-2 : tie.Need-free-requires-2
+free-requires-2 c κs = search needs
+
+never-requires : tie.Need-never-requires
+never-requires c κs = search needs
+
+returns : tie.Need-returns
+unfolding ofOperation
+returns c =
+    arm (ofOperation _ _ _) _ 0 (c .before .before .match .keys1) free _ _ _ (c .free .ensures) (c .before .of .ensures) refl
+
+returns-2 : tie.Need-returns-2
+unfolding ofOperation
+returns-2 c =
+    arm (ofOperation _ _ _) _ 1 (c .before .before .match .keys2) free _ _ _ (c .free2 .ensures) (c .before .of2 .ensures) refl
+
+returns-3 : tie.Need-returns-3
+unfolding ofOperation
+returns-3 c =
+    past (ofOperation _ _ _) _ _ (c .never .ensures) (outside 2 _ (c .before .match .rest))
+
+pub operate-spec : {M : Type 1} → statement M
+operate-spec =
+    tie.close
+    (tie.spec
+    of-requires
+    free-requires
+    of-requires-2
+    free-requires-2
+    never-requires
+    returns
+    returns-2
+    returns-3)

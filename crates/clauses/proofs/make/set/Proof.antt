@@ -1,0 +1,137 @@
+-- `clauses::make::set` meets its contract: an arm for each clause, and none past them. Assumes nothing.
+use mathlib.Core.Path.{refl}
+use borrow.Author.Needs.{needs}
+use Rattle.clauses.proofs.make.set.Statement.{statement}
+use Rattle.clauses.proofs.make.set.Tie as tie
+use Rattle.clauses.specs.Clauses.{ofSet, free, text, textHas, textSome}
+use Rattle.clauses.proofs.Arms.{arm, past}
+use Rattle.table.proofs.words.Outside.{outside}
+
+of-requires : tie.Need-of-requires
+of-requires c κs = search needs
+
+free-requires : tie.Need-free-requires
+free-requires c κs = search needs
+
+add-text-some : tie.Need-add-text-some
+add-text-some c = search needs
+
+mul-put : tie.Need-mul-put
+mul-put c = search needs
+
+put-requires : tie.Need-put-requires
+put-requires c κs = search needs
+
+text-some-requires : tie.Need-text-some-requires
+text-some-requires c κs = search needs
+
+add-text-some-2 : tie.Need-add-text-some-2
+add-text-some-2 c = search needs
+
+mul-flow : tie.Need-mul-flow
+mul-flow c = search needs
+
+mul-flow-2 : tie.Need-mul-flow-2
+mul-flow-2 c = search needs
+
+add-flow : tie.Need-add-flow
+add-flow c = search needs
+
+flow-requires : tie.Need-flow-requires
+flow-requires c κs = search needs
+
+text-some-requires-2 : tie.Need-text-some-requires-2
+text-some-requires-2 c κs = search needs
+
+add-text-has : tie.Need-add-text-has
+add-text-has c = search needs
+
+mul-fill : tie.Need-mul-fill
+mul-fill c = search needs
+
+add-fill : tie.Need-add-fill
+add-fill c = search needs
+
+fill-requires : tie.Need-fill-requires
+fill-requires c κs = search needs
+
+text-has-requires : tie.Need-text-has-requires
+text-has-requires c κs = search needs
+
+mul-of : tie.Need-mul-of
+mul-of c = search needs
+
+add-of : tie.Need-add-of
+add-of c = search needs
+
+of-requires-2 : tie.Need-of-requires-2
+of-requires-2 c κs = search needs
+
+text-requires : tie.Need-text-requires
+text-requires c κs = search needs
+
+never-requires : tie.Need-never-requires
+never-requires c κs = search needs
+
+returns : tie.Need-returns
+unfolding ofSet
+returns c =
+    arm (ofSet _ _ _ _) _ 0 (c .before .before .match .keys1) free _ _ _ (c .free .ensures) (c .before .of .ensures) refl
+
+returns-2 : tie.Need-returns-2
+unfolding ofSet
+returns-2 c =
+    arm (ofSet _ _ _ _) _ 1 (c .before .before .match .keys2) (textSome _ _ _) _ _ _ (c .text-some .ensures) (c .before .put .ensures) refl
+
+returns-3 : tie.Need-returns-3
+unfolding ofSet
+returns-3 c =
+    arm (ofSet _ _ _ _) _ 2 (c .before .before .match .keys3) (textSome _ _ _) _ _ _ (c .text-some2 .ensures) (c .before .flow .ensures) refl
+
+returns-4 : tie.Need-returns-4
+unfolding ofSet
+returns-4 c =
+    arm (ofSet _ _ _ _) _ 3 (c .before .before .match .keys4) (textHas _ _ _) _ _ _ (c .text-has .ensures) (c .before .fill .ensures) refl
+
+returns-5 : tie.Need-returns-5
+unfolding ofSet
+returns-5 c =
+    arm (ofSet _ _ _ _) _ 4 (c .before .before .match .keys5) (text _) _ _ _ (c .text .ensures) (c .before .of2 .ensures) refl
+
+returns-6 : tie.Need-returns-6
+unfolding ofSet
+returns-6 c =
+    past (ofSet _ _ _ _) _ _ (c .never .ensures) (outside 5 _ (c .before .match .rest))
+
+pub set-spec : {M : Type 1} → statement M
+set-spec =
+    tie.close
+    (tie.spec
+    of-requires
+    free-requires
+    add-text-some
+    mul-put
+    put-requires
+    text-some-requires
+    add-text-some-2
+    mul-flow
+    mul-flow-2
+    add-flow
+    flow-requires
+    text-some-requires-2
+    add-text-has
+    mul-fill
+    add-fill
+    fill-requires
+    text-has-requires
+    mul-of
+    add-of
+    of-requires-2
+    text-requires
+    never-requires
+    returns
+    returns-2
+    returns-3
+    returns-4
+    returns-5
+    returns-6)

@@ -1,0 +1,34 @@
+-- `clauses::make::value` meets its contract: an arm for each clause, and none past them. Assumes nothing.
+use mathlib.Core.Path.{refl}
+use borrow.Author.Needs.{needs}
+use Rattle.clauses.proofs.make.value.Statement.{statement}
+use Rattle.clauses.proofs.make.value.Tie as tie
+use Rattle.clauses.specs.Clauses.{ofValue, free}
+use Rattle.clauses.proofs.Arms.{arm, past}
+use Rattle.table.proofs.words.Outside.{outside}
+
+mul-put : tie.Need-mul-put
+mul-put c = search needs
+
+put-requires : tie.Need-put-requires
+put-requires c κs = search needs
+
+free-requires : tie.Need-free-requires
+free-requires c κs = search needs
+
+never-requires : tie.Need-never-requires
+never-requires c κs = search needs
+
+returns : tie.Need-returns
+unfolding ofValue
+returns c =
+    arm (ofValue _ _) _ 0 (c .before .before .match .keys1) free _ _ _ (c .free .ensures) (c .before .put .ensures) refl
+
+returns-2 : tie.Need-returns-2
+unfolding ofValue
+returns-2 c =
+    past (ofValue _ _) _ _ (c .never .ensures) (outside 1 _ (c .before .match .rest))
+
+pub value-spec : {M : Type 1} → statement M
+value-spec =
+    tie.close (tie.spec mul-put put-requires free-requires never-requires returns returns-2)

@@ -1,0 +1,49 @@
+-- `clauses::make::variable` meets its contract: an arm for each clause, and none past them. Assumes nothing.
+use mathlib.Core.Path.{refl}
+use borrow.Author.Needs.{needs}
+use Rattle.clauses.proofs.make.variable.Statement.{statement}
+use Rattle.clauses.proofs.make.variable.Tie as tie
+use Rattle.clauses.specs.Clauses.{ofVariable, free}
+use Rattle.clauses.proofs.Arms.{arm, past}
+use Rattle.table.proofs.words.Outside.{outside}
+
+mul-flow : tie.Need-mul-flow
+mul-flow c = search needs
+
+add-flow : tie.Need-add-flow
+add-flow c = search needs
+
+mul-flow-2 : tie.Need-mul-flow-2
+mul-flow-2 c = search needs
+
+flow-requires : tie.Need-flow-requires
+flow-requires c κs = search needs
+
+free-requires : tie.Need-free-requires
+free-requires c κs = search needs
+
+never-requires : tie.Need-never-requires
+never-requires c κs = search needs
+
+returns : tie.Need-returns
+unfolding ofVariable
+returns c =
+    arm (ofVariable _ _) _ 0 (c .before .before .match .keys1) free _ _ _ (c .free .ensures) (c .before .flow .ensures) refl
+
+returns-2 : tie.Need-returns-2
+unfolding ofVariable
+returns-2 c =
+    past (ofVariable _ _) _ _ (c .never .ensures) (outside 1 _ (c .before .match .rest))
+
+pub variable-spec : {M : Type 1} → statement M
+variable-spec =
+    tie.close
+    (tie.spec
+    mul-flow
+    add-flow
+    mul-flow-2
+    flow-requires
+    free-requires
+    never-requires
+    returns
+    returns-2)
