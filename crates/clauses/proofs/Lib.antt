@@ -3,6 +3,7 @@ pub mod Asked
 pub mod ByKind
 pub mod Fit
 pub mod Links
+pub mod Numbered
 pub mod OfWord
 pub mod Permissions
 pub mod Sorts

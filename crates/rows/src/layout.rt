@@ -2,20 +2,22 @@
 ghost use mathlib.Core.Path.{_≡_};
 ghost use Prim.Native.Nat.{_+_, _*_, _/_, _<_, _≤_};
 
-// The words of the table, and the words of a row.
+// The words of the table, the words of a row, and how many of those the plain elements fill.
 pub struct Layout {
     pub size: usize,
     pub row: usize,
+    pub lead: usize,
 }
 
 impl Layout {
     pub fn of(size: usize) -> Layout
         requires { ⌜ size ≤ 1024 ⌝ }
-        ensures { λ r. ⌜ (r .size ≡ size) × (r .row ≡ (size + 95) / 32) ⌝ }
+        ensures { λ r. ⌜ (r .size ≡ size) × (r .row ≡ (size + 95) / 32) × (r .lead ≡ 2) ⌝ }
     {
         Layout {
             size,
             row: (size + 95) / 32,
+            lead: 2,
         }
     }
 

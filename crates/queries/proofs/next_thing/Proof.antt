@@ -1,0 +1,79 @@
+-- `queries::next_thing` meets its contract. The loop's invariant: none of the things passed is in the row and the mask.
+-- Assumes nothing.
+use mathlib.Core.Path.{_≡_, refl, sym, _∙_, subst}
+use mathlib.Core.Bool.{false}
+use Prim.Native.Nat.{ℕ, _+_, _-_, _*_, _/_, _≤_, _<_}
+use native.Mathlib.Omega.{arith}
+use lib.Count.{trailingZeros, trailing-le}
+use borrow.Author.Needs.{needs}
+use Rattle.permset.specs.Sets.{lowest}
+use Rattle.queries.specs.Things.{both, Next}
+use Rattle.queries.proofs.Nexts.{next-word, next-found}
+use Rattle.queries.proofs.next_thing.Statement.{statement}
+use Rattle.queries.proofs.next_thing.Tie as tie
+
+abbrev Inv-loop : tie.InvT-loop
+Inv-loop est masks l r m from at to size lead f₀ f =
+    (from ≤ f) × (f ≤ l .size + 32) × ((g : ℕ) → from ≤ g → g < f → both est masks (l .lead) (r * l .row) (m * l .row) g ≡ false)
+
+abbrev μ-loop : tie.MeasureT-loop
+μ-loop est masks l r m from at to size lead f₀ f = l .size - f
+
+loop-holds : tie.Need-loop-holds Inv-loop μ-loop
+loop-holds c = (omega arith, omega arith, λ g l m. absurd (omega arith))
+
+common-from-requires : tie.Need-common-from-requires Inv-loop μ-loop
+common-from-requires c κs = search needs
+
+cast-result : tie.Need-cast-result Inv-loop μ-loop
+cast-result c = omega (arith, trailing-le 32 (c .before .common-from .result))
+
+add-result : tie.Need-add-result Inv-loop μ-loop
+add-result c = omega (arith, trailing-le 32 (c .before .common-from .result))
+
+returns : tie.Need-returns Inv-loop μ-loop
+unfolding lowest
+returns c =
+    let a = c .before .before .before .before .before .before .args in
+    let i = c .before .before .before .loop .inv in
+    let e = c .before .common-from .ensures in
+    subst (λ (x : ℕ). Next (a .est .now) (a .mask .now) (a .at) (a .size) (a .from) (c .before .before .before .loop .f + trailingZeros 32 x)) (sym e)
+    (next-found (a .est .now) (a .mask .now) (a .at) (a .from) (c .before .before .before .loop .f) (i .0) (i .2) (omega (arith, c .before .before .before .before .before .shared-slice-known .given (a .at + (2 + c .before .before .before .loop .f / 32))))
+    (λ z. c .if1 .taken (e ∙ z)) (a .size))
+
+add-f : tie.Need-add-f Inv-loop μ-loop
+add-f c = search needs
+
+mul-f : tie.Need-mul-f Inv-loop μ-loop
+mul-f c = search needs
+
+loop-less : tie.Need-loop-less Inv-loop μ-loop
+loop-less c = search needs
+
+loop-again : tie.Need-loop-again Inv-loop μ-loop
+loop-again c =
+    let a = c .before .before .before .before .before .before .args in
+    let i = c .before .before .before .loop .inv in
+    (omega arith, omega arith, next-word (a .est .now) (a .mask .now) (a .at) (a .from) (c .before .before .before .loop .f) (i .0) (i .2) (sym (c .before .common-from .ensures) ∙ c .if1 .left))
+
+returns-2 : tie.Need-returns-2 Inv-loop μ-loop
+returns-2 c =
+    let i = c .before .loop .inv in
+    record { later = i .0; none = i .2; found = λ h. absurd (omega arith) }
+
+pub next-thing-spec : {M : Type 1} → statement M
+next-thing-spec =
+    tie.close
+    (tie.spec
+    Inv-loop
+    μ-loop
+    loop-holds
+    common-from-requires
+    cast-result
+    add-result
+    returns
+    add-f
+    mul-f
+    loop-less
+    loop-again
+    returns-2)
