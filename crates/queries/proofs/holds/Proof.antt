@@ -1,131 +1,150 @@
+-- `queries::holds` meets its contract: an arm for each test. Assumes nothing.
+use mathlib.Core.Path.{refl, ap, _∙_}
+use mathlib.Core.Bool.{true, false}
+use native.Mathlib.Omega.{arith}
+use Rattle.calculus.specs.Elements.{isString}
+use Rattle.clauses.specs.declared.Test.the-variants as tests
+use Rattle.clauses.specs.Asks.{sortAt}
+use Rattle.queries.specs.Passes.{passes, byMask}
+use Rattle.queries.proofs.Laws.{value-in, low-in, some-words, mask-in, low-element, guard-as, both-true, first-false, C-found, C-sets}
 use borrow.Author.Needs.{needs}
 use Rattle.queries.proofs.holds.Statement.{statement}
 use Rattle.queries.proofs.holds.Tie as tie
-use Rattle.queries.proofs.holds.Reads as reads
-use Rattle.queries.proofs.holds.Lts as lts
-use Rattle.queries.proofs.has.Reads as has-reads
-use Rattle.queries.proofs.has_some.Reads as has-some-reads
-use Rattle.queries.proofs.has_text.Reads as has-text-reads
 
--- src/lib.rt:64:24
 enum-told : tie.Need-enum-told
 enum-told c = search needs
 
--- src/lib.rt:65:23
 enum-told-2 : tie.Need-enum-told-2
 enum-told-2 c = search needs
 
--- src/lib.rt:66:34
 enum-told-3 : tie.Need-enum-told-3
 enum-told-3 c = search needs
 
--- src/lib.rt:66:34
 mul-has : tie.Need-mul-has
 mul-has c = search needs
 
--- src/lib.rt:66:22
 has-requires : tie.Need-has-requires
-has-requires c κs = ?
+has-requires c κs =
+    let s = c .before .before .before .before .before in let l = s .args .l in let e = s .args .est .now in let g = s .args .g in (value-in l e (s .pre .0) (g .a) (s .pre .1 .first), low-in l e (s .pre .0) (g .v) (s .pre .1 .element))
 
--- src/lib.rt:67:47
 enum-told-4 : tie.Need-enum-told-4
 enum-told-4 c = search needs
 
--- src/lib.rt:67:47
 mul-has-some : tie.Need-mul-has-some
 mul-has-some c = search needs
 
--- src/lib.rt:67:23
 has-some-requires : tie.Need-has-some-requires
-has-some-requires c κs = ?
+unfolding byMask
+has-some-requires c κs =
+    let s = c .before .before .before .before .before in let l = s .args .l in let e = s .args .est .now in let g = s .args .g in (value-in l e (s .pre .0) (g .a) (s .pre .1 .first), mask-in _ (l .row) (g .v) (s .pre .2) (s .pre .1 .mask (ap byMask (c .before .enum-told4 .given .1))))
 
--- src/lib.rt:68:40
 enum-told-5 : tie.Need-enum-told-5
 enum-told-5 c = search needs
 
--- src/lib.rt:68:40
 mul-has-text : tie.Need-mul-has-text
 mul-has-text c = search needs
 
--- src/lib.rt:68:23
 has-text-requires : tie.Need-has-text-requires
-has-text-requires c κs = ?
+has-text-requires c κs =
+    let s = c .before .before .before .before .before in let l = s .args .l in let e = s .args .est .now in let g = s .args .g in (value-in l e (s .pre .0) (g .d) (s .pre .1 .second), some-words l e (s .pre .0))
 
--- src/lib.rt:69:46
 enum-told-6 : tie.Need-enum-told-6
 enum-told-6 c = search needs
 
--- src/lib.rt:69:46
 mul-has-text-2 : tie.Need-mul-has-text-2
 mul-has-text-2 c = search needs
 
--- src/lib.rt:69:29
 has-text-requires-2 : tie.Need-has-text-requires-2
-has-text-requires-2 c κs = ?
+has-text-requires-2 c κs =
+    let s = c .before .before .before .before .before in let l = s .args .l in let e = s .args .est .now in let g = s .args .g in (value-in l e (s .pre .0) (g .d) (s .pre .1 .second), some-words l e (s .pre .0))
 
--- src/lib.rt:70:25
 mul-has-2 : tie.Need-mul-has-2
 mul-has-2 c = search needs
 
--- src/lib.rt:70:13
 has-requires-2 : tie.Need-has-requires-2
-has-requires-2 c κs = ?
+has-requires-2 c κs =
+    let s = c .before .before .before .before .before .before .before .before in let l = s .args .l in let e = s .args .est .now in let g = s .args .g in (value-in l e (s .pre .0) (g .a) (s .pre .1 .first), low-in l e (s .pre .0) (g .v) (s .pre .1 .element))
 
--- src/lib.rt:74:47
 enum-told-7 : tie.Need-enum-told-7
 enum-told-7 c = search needs
 
--- src/lib.rt:74:47
 mul-has-text-3 : tie.Need-mul-has-text-3
 mul-has-text-3 c = search needs
 
--- src/lib.rt:74:30
 has-text-requires-3 : tie.Need-has-text-requires-3
-has-text-requires-3 c κs = ?
+has-text-requires-3 c κs =
+    let s = c .before .before .before .before .before in let l = s .args .l in let e = s .args .est .now in let g = s .args .g in (value-in l e (s .pre .0) (g .d) (s .pre .1 .second), some-words l e (s .pre .0))
 
--- src/lib.rt:75:37
 mul-has-some-2 : tie.Need-mul-has-some-2
 mul-has-some-2 c = search needs
 
--- src/lib.rt:75:13
 has-some-requires-2 : tie.Need-has-some-requires-2
-has-some-requires-2 c κs = ?
+unfolding byMask
+has-some-requires-2 c κs =
+    let s = c .before .before .before .before .before .before .before .before in let l = s .args .l in let e = s .args .est .now in let g = s .args .g in (value-in l e (s .pre .0) (g .a) (s .pre .1 .first), mask-in _ (l .row) (g .v) (s .pre .2) (s .pre .1 .mask (ap byMask (c .before .before .before .before .enum-told7 .given .1))))
 
--- src/lib.rt:58:1
 returns : tie.Need-returns
-returns c = ?
+unfolding passes
+returns c =
+    let s = c .before .before .before .before in let l = s .args .l in let e = s .args .est .now in let g = s .args .g in
+    guard-as l e (s .args .masks .now) g tests.Never false (c .enum-told .given .1)
+    (λ k o w m. refl)
 
--- src/lib.rt:58:1
 returns-2 : tie.Need-returns-2
-returns-2 c = ?
+unfolding passes
+returns-2 c =
+    let s = c .before .before .before .before in let l = s .args .l in let e = s .args .est .now in let g = s .args .g in
+    guard-as l e (s .args .masks .now) g tests.Free true (c .enum-told2 .given .1)
+    (λ k o w m. refl)
 
--- src/lib.rt:58:1
 returns-3 : tie.Need-returns-3
-returns-3 c = ?
+unfolding passes
+returns-3 c =
+    let s = c .before .before .before .before .before .before in let l = s .args .l in let e = s .args .est .now in let g = s .args .g in
+    guard-as l e (s .args .masks .now) g tests.Has _ (c .before .before .enum-told3 .given .1)
+    (λ k o w m. c .has .ensures k o (omega (arith, s .pre .1 .first)) (low-element k l o (g .v) (s .pre .1 .element)) ∙ C-sets k e (g .a) (g .v))
 
--- src/lib.rt:58:1
 returns-4 : tie.Need-returns-4
-returns-4 c = ?
+unfolding passes byMask
+returns-4 c =
+    let s = c .before .before .before .before .before .before in let l = s .args .l in let e = s .args .est .now in let g = s .args .g in
+    guard-as l e (s .args .masks .now) g tests.Some _ (c .before .before .enum-told4 .given .1)
+    (λ k o w m. c .has-some .ensures k (sortAt (g .v) k) o w (m .mask (g .v) (s .pre .1 .mask (ap byMask (c .before .before .enum-told4 .given .1)))) (omega (arith, s .pre .1 .first)) ∙ C-found k e (g .a) (sortAt (g .v) k))
 
--- src/lib.rt:58:1
 returns-5 : tie.Need-returns-5
-returns-5 c = ?
+unfolding passes
+returns-5 c =
+    let s = c .before .before .before .before .before .before in let l = s .args .l in let e = s .args .est .now in let g = s .args .g in
+    guard-as l e (s .args .masks .now) g tests.Text _ (c .before .before .enum-told5 .given .1)
+    (λ k o w m. c .has-text .ensures k o w (omega (arith, s .pre .1 .second)) ∙ C-found k e (g .d) isString)
 
--- src/lib.rt:58:1
 returns-6 : tie.Need-returns-6
-returns-6 c = ?
+unfolding passes
+returns-6 c =
+    let s = c .before .before .before .before .before .before .before .before .before in let l = s .args .l in let e = s .args .est .now in let g = s .args .g in
+    guard-as l e (s .args .masks .now) g tests.TextHas _ (c .before .before .before .before .before .enum-told6 .given .1)
+    (λ k o w m. both-true _ _ _ _ (c .before .before .if1 .taken) (c .before .before .before .has-text2 .ensures k o w (omega (arith, s .pre .1 .second)) ∙ C-found k e (g .d) isString) (c .has2 .ensures k o (omega (arith, s .pre .1 .first)) (low-element k l o (g .v) (s .pre .1 .element)) ∙ C-sets k e (g .a) (g .v)))
 
--- src/lib.rt:58:1
 returns-7 : tie.Need-returns-7
-returns-7 c = ?
+unfolding passes
+returns-7 c =
+    let s = c .before .before .before .before .before .before .before in let l = s .args .l in let e = s .args .est .now in let g = s .args .g in
+    guard-as l e (s .args .masks .now) g tests.TextHas false (c .before .before .before .enum-told6 .given .1)
+    (λ k o w m. first-false _ _ _ (c .if1 .left) (c .before .has-text2 .ensures k o w (omega (arith, s .pre .1 .second)) ∙ C-found k e (g .d) isString))
 
--- src/lib.rt:58:1
 returns-8 : tie.Need-returns-8
-returns-8 c = ?
+unfolding passes byMask
+returns-8 c =
+    let s = c .before .before .before .before .before .before .before .before .before in let l = s .args .l in let e = s .args .est .now in let g = s .args .g in
+    guard-as l e (s .args .masks .now) g tests.TextSome _ (c .before .before .before .before .before .enum-told7 .given .1)
+    (λ k o w m. both-true _ _ _ _ (c .before .before .if2 .taken) (c .before .before .before .has-text3 .ensures k o w (omega (arith, s .pre .1 .second)) ∙ C-found k e (g .d) isString) (c .has-some2 .ensures k (sortAt (g .v) k) o w (m .mask (g .v) (s .pre .1 .mask (ap byMask (c .before .before .before .before .before .enum-told7 .given .1)))) (omega (arith, s .pre .1 .first)) ∙ C-found k e (g .a) (sortAt (g .v) k)))
 
--- src/lib.rt:58:1
 returns-9 : tie.Need-returns-9
-returns-9 c = ?
+unfolding passes
+returns-9 c =
+    let s = c .before .before .before .before .before .before .before in let l = s .args .l in let e = s .args .est .now in let g = s .args .g in
+    guard-as l e (s .args .masks .now) g tests.TextSome false (c .before .before .before .enum-told7 .given .1)
+    (λ k o w m. first-false _ _ _ (c .if2 .left) (c .before .has-text3 .ensures k o w (omega (arith, s .pre .1 .second)) ∙ C-found k e (g .d) isString))
 
 pub holds-spec : {M : Type 1} → statement M
 holds-spec =

@@ -20,7 +20,7 @@ shared-slice-read-result c = search needs
 returns : tie.Need-returns
 unfolding member
 returns c =
-    λ k o. let s = c .before .before .before in ap (λ (x : ℕ). member (getD (s .args .est .now) x 0) 24) (c .before .before .flags .ensures) ∙ live-is k (s .args .l) o (s .args .est .now) (s .args .p) (s .pre .1)
+    λ k o. let s = c .before .before .before in ap (λ (x : ℕ). member (getD (s .args .est .now) x 0) 24) (c .before .flags .ensures) ∙ live-is k (s .args .l) o (s .args .est .now) (s .args .p) (s .pre .1)
 
 pub is-live-spec : {M : Type 1} → statement M
 is-live-spec = tie.close (tie.spec flags-requires mul-result shared-slice-read-result returns)

@@ -13,11 +13,17 @@ use Rattle.queries.proofs.next_thing.Statement.{statement}
 use Rattle.queries.proofs.next_thing.Tie as tie
 
 abbrev Inv-loop : tie.InvT-loop
-Inv-loop est masks l r m from at to size lead f₀ f =
-    (from ≤ f) × (f ≤ l .size + 32) × ((g : ℕ) → from ≤ g → g < f → both est masks (l .lead) (r * l .row) (m * l .row) g ≡ false)
+Inv-loop est masks r m from at to size lead f₀ f =
+    (from ≤ f) × (f ≤ size + 32) × ((g : ℕ) → from ≤ g → g < f → both est masks lead at to g ≡ false)
 
 abbrev μ-loop : tie.MeasureT-loop
-μ-loop est masks l r m from at to size lead f₀ f = l .size - f
+μ-loop est masks r m from at to size lead f₀ f = size - f
+
+mul-at : tie.Need-mul-at Inv-loop μ-loop
+mul-at c = search needs
+
+mul-to : tie.Need-mul-to Inv-loop μ-loop
+mul-to c = search needs
 
 loop-holds : tie.Need-loop-holds Inv-loop μ-loop
 loop-holds c = (omega arith, omega arith, λ g l m. absurd (omega arith))
@@ -34,12 +40,13 @@ add-result c = omega (arith, trailing-le 32 (c .before .common-from .result))
 returns : tie.Need-returns Inv-loop μ-loop
 unfolding lowest
 returns c =
-    let a = c .before .before .before .before .before .before .args in
+    let a = c .before .before .before .before .before .before .before .before .args in
+    let f = c .before .before .before .loop .f in
     let i = c .before .before .before .loop .inv in
     let e = c .before .common-from .ensures in
-    subst (λ (x : ℕ). Next (a .est .now) (a .mask .now) (a .at) (a .size) (a .from) (c .before .before .before .loop .f + trailingZeros 32 x)) (sym e)
-    (next-found (a .est .now) (a .mask .now) (a .at) (a .from) (c .before .before .before .loop .f) (i .0) (i .2) (omega (arith, c .before .before .before .before .before .shared-slice-known .given (a .at + (2 + c .before .before .before .loop .f / 32))))
-    (λ z. c .if1 .taken (e ∙ z)) (a .size))
+    subst (λ (x : ℕ). Next (a .est .now) (a .masks .now) (a .l .lead) (a .r * a .l .row) (a .m * a .l .row) (a .l .size) (a .from) (f + trailingZeros 32 x)) (sym e)
+    (next-found (a .est .now) (a .masks .now) (a .l .lead) (a .r * a .l .row) (a .m * a .l .row) (a .from) f (i .0) (i .2)
+    (omega (arith, c .before .before .before .before .before .before .before .shared-slice-known .given (a .r * a .l .row + (a .l .lead + f / 32)))) (λ z. c .if1 .taken (e ∙ z)) (a .l .size))
 
 add-f : tie.Need-add-f Inv-loop μ-loop
 add-f c = search needs
@@ -52,9 +59,13 @@ loop-less c = search needs
 
 loop-again : tie.Need-loop-again Inv-loop μ-loop
 loop-again c =
-    let a = c .before .before .before .before .before .before .args in
-    let i = c .before .before .before .loop .inv in
-    (omega arith, omega arith, next-word (a .est .now) (a .mask .now) (a .at) (a .from) (c .before .before .before .loop .f) (i .0) (i .2) (sym (c .before .common-from .ensures) ∙ c .if1 .left))
+    let a = c .before .before .before .before .before .before .before .before .args in
+    let f = c .before .before .before .loop .f in
+    let i = c .before .before .before .loop .inv in (
+      omega arith,
+      omega arith,
+      next-word (a .est .now) (a .masks .now) (a .l .lead) (a .r * a .l .row) (a .m * a .l .row) (a .from) f (i .0) (i .2) (sym (c .before .common-from .ensures) ∙ c .if1 .left),
+    )
 
 returns-2 : tie.Need-returns-2 Inv-loop μ-loop
 returns-2 c =
@@ -67,6 +78,8 @@ next-thing-spec =
     (tie.spec
     Inv-loop
     μ-loop
+    mul-at
+    mul-to
     loop-holds
     common-from-requires
     cast-result
