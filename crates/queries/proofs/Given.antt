@@ -1,0 +1,35 @@
+-- What follows from an accepted table with its layout, and from a well-formed estimate of it.
+use Prim.Native.Nat.{ℕ, _+_, _*_, _/_, _≤_, _<_}
+use mathlib.Core.Path.{_≡_, sym, ap, ap₂, _∙_, subst}
+use mathlib.Core.List.{List}
+use native.Mathlib.Omega.{arith}
+use lib.ListN.{length}
+use Rattle.table.specs.Code.{Code, code, Linked}
+use Rattle.table.proofs.Linked.{linked as code-linked}
+use Rattle.table.proofs.Blocks.{head-word}
+use Rattle.calculus.specs.Elements.{plain, elements}
+use Rattle.calculus.specs.Layout.{rowWords, estimateWords, WellFormed}
+use Rattle.rows.specs.declared.layout.Layout.{Layout}
+use Rattle.rows.specs.Laid.{LaidOut, Sized}
+use Rattle.queries.specs.Ready.{Ready}
+
+module _ (ws links masks : List ℕ) (l : Layout) (y : Ready ws links masks l) where
+  -- the table as a code
+  pub linked-code : Linked (code ws)
+  linked-code = code-linked ws (y .readable)
+
+  pub size-is : length ws ≡ l .size
+  unfolding code
+  size-is = y .laid .size
+
+  pub sized : (est : List ℕ) → WellFormed (code ws) est → Sized l est
+  unfolding estimateWords rowWords code
+  sized est w =
+      let small : length ws ≤ 1024 = head-word ws (y .readable) .sized in
+      record {
+        size = omega (arith, y .laid .size);
+        lead = omega (arith, y .laid .lead);
+        wide = omega (arith, y .laid .size, y .laid .row, y .laid .lead);
+        most = omega (arith, y .laid .size, y .laid .row, y .laid .lead);
+        long = w .long ∙ ap₂ (λ (x r : ℕ). 2 * x * r + x) (y .laid .size) (y .laid .row);
+      }
