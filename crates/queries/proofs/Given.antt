@@ -2,6 +2,7 @@
 use Prim.Native.Nat.{ℕ, _+_, _*_, _/_, _≤_, _<_}
 use mathlib.Core.Path.{_≡_, sym, ap, ap₂, _∙_, subst}
 use mathlib.Core.List.{List}
+use native.Mathlib.Nat.{mul-le-mul}
 use native.Mathlib.Omega.{arith}
 use lib.ListN.{length}
 use Rattle.table.specs.Code.{Code, code, Linked}
@@ -26,10 +27,15 @@ module _ (ws links masks : List ℕ) (l : Layout) (y : Ready ws links masks l) w
   unfolding estimateWords rowWords code
   sized est w =
       let small : length ws ≤ 1024 = head-word ws (y .readable) .sized in
+      let long : length est ≡ 2 * l .size * l .row + l .size = w .long ∙ ap₂ (λ (x r : ℕ). 2 * x * r + x) (y .laid .size) (y .laid .row) in
+      let wide : l .row ≤ 36 = omega (arith, y .laid .size, y .laid .row, y .laid .lead) in
+      let n : l .size ≤ 1024 = omega (arith, y .laid .size) in
+      let most : 2 * l .size * l .row ≤ 2048 * 36 = mul-le-mul {n₂ = 2048} {m₂ = 36} (omega arith) wide in
       record {
         size = omega (arith, y .laid .size);
         lead = omega (arith, y .laid .lead);
         wide = omega (arith, y .laid .size, y .laid .row, y .laid .lead);
-        most = omega (arith, y .laid .size, y .laid .row, y .laid .lead);
-        long = w .long ∙ ap₂ (λ (x r : ℕ). 2 * x * r + x) (y .laid .size) (y .laid .row);
+        most = wide;
+        long = long;
+        short = omega (arith, long, most);
       }

@@ -21,3 +21,4 @@ pub record Sized (l : Layout) (est : List ℕ) : Type 0 where
   pub wide : l .size + 32 * l .lead ≤ 32 * l .row
   pub most : l .row ≤ 36
   pub long : length est ≡ 2 * l .size * l .row + l .size
+  pub short : length est ≤ 74752

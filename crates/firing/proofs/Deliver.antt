@@ -1,0 +1,244 @@
+-- The blocks of an accepted table in the rule of a send: what the test of one says of the code, and the loop over all.
+use Prim.Native.Nat.{ℕ, suc, _+_, _-_, _*_, _/_, _%_, _≤_, _<_}
+use mathlib.Core.Path.{_≡_, refl, sym, ap, ap₂, _∙_, subst}
+use mathlib.Core.Logic.{⊎-elim}
+use mathlib.Core.Bool.{Bool, true, false, _&&_, true≢false, false≢true}
+use mathlib.Core.List.{List, List·Memᴰ}
+use native.Mathlib.Decide.{decLt}
+use native.Mathlib.Omega.{arith}
+use borrow.Author.Tests.{eq-eqb}
+use lib.Dec.{T, eqb, lit<}
+use lib.ListN.{length, getD, drop}
+use Rattle.permset.specs.Sets.{member, within}
+use Rattle.table.specs.declared.Item.{Item}
+use Rattle.table.specs.declared.Item.the-variants as items
+use Rattle.table.specs.declared.Handler.{Handler}
+use Rattle.table.specs.declared.Term.{Term}
+use Rattle.table.specs.declared.Term.the-variants as terms
+use Rattle.table.specs.Words.{kind, argument}
+use Rattle.table.specs.Scan.{Task, name, accepted, reading}
+use Rattle.table.specs.Item.{handlerAt, itemAt}
+use Rattle.table.specs.Code.{Code, Node, gap, block, leaf, one, two, bind, while, branch, update, code, taskAt, tasks, nodeFor, blocksFrom, endOf, part, termNode, NodeLinked, Linked}
+use Rattle.table.specs.Links.{linkAt, linked}
+use Rattle.table.proofs.Faults.{Stands}
+use Rattle.table.proofs.Stack.{reach}
+use Rattle.table.proofs.Parts.{place-stands}
+use Rattle.table.proofs.Blocks.{Follows, Block, block as block-words, head-word, blocks-first, blocks-next, blocks-end}
+use Rattle.table.proofs.Linked.{linked as code-linked}
+use Rattle.table.proofs.LinkMeaning.{link-end}
+use Rattle.table.proofs.Nodes.{itemNode, nodeAt, node-item}
+use Rattle.calculus.specs.Elements.{nameElement, sendable, elements}
+use Rattle.calculus.specs.Constraint.{Row, C, B, P, L, Rule, put, sub, given, each, _and_}
+use Rattle.calculus.specs.Rules.{nameOf, permsOf, guarded, admits, permissions, pass, live}
+use Rattle.calculus.specs.Layout.{owner, span, shift, base, rowWords, sets, WellFormed}
+use Rattle.calculus.specs.Estimate.{fire}
+use Rattle.calculus.proofs.Places.{is-allowed}
+use Rattle.calculus.proofs.Firing.{Fits, fire-well}
+use Rattle.calculus.proofs.Folds.{fire-only-not, fire-present, fire-absent, each-nil, each-cons}
+use Rattle.rows.specs.declared.layout.Layout.{Layout}
+use Rattle.clauses.specs.Asks.{rowAt, sortAt, atBlock}
+use Rattle.clauses.proofs.Sorts.{row-C, row-B}
+
+-- a word that was made live leaves the estimate well formed
+pub live-well : (c : Code) (b : ℕ) → b < c .size → (old new : List ℕ) → WellFormed c old → new ≡ fire c (put (L b) 0) old → WellFormed c new
+unfolding owner span
+live-well c b h old new w e = subst (WellFormed c) (sym e) (fire-well c (put (L b) 0) (is-allowed c (L b) 0 h (lit< tt)) old w)
+
+-- ---- one block
+
+IsGap : Node → Type 0
+IsGap gap = Unit {0}
+IsGap (block n s g) = ⊥
+IsGap (leaf l) = ⊥
+IsGap (one o a) = ⊥
+IsGap (two t a b) = ⊥
+IsGap (bind a b) = ⊥
+IsGap (while a b) = ⊥
+IsGap (branch a b d) = ⊥
+IsGap (update a b d) = ⊥
+
+gap-no-block : {n s g : ℕ} → gap ≡ block n s g → ⊥
+unfolding IsGap
+gap-no-block e = subst IsGap e tt
+
+term-unguarded : (t : Term) (a b d s : ℕ) → guarded (termNode t a b d) s ≡ false
+unfolding termNode guarded
+term-unguarded (terms.Constant k) a b d s = refl
+term-unguarded (terms.Number n) a b d s = refl
+term-unguarded (terms.Literal n) a b d s = refl
+term-unguarded (terms.Name n) a b d s = refl
+term-unguarded (terms.Variable n) a b d s = refl
+term-unguarded terms.Function a b d s = refl
+term-unguarded terms.Apply a b d s = refl
+term-unguarded terms.Let a b d s = refl
+term-unguarded terms.Sequence a b d s = refl
+term-unguarded terms.If a b d s = refl
+term-unguarded terms.While a b d s = refl
+term-unguarded (terms.Operation o) a b d s = refl
+term-unguarded terms.Record a b d s = refl
+term-unguarded terms.Get a b d s = refl
+term-unguarded terms.Set a b d s = refl
+term-unguarded terms.Delete a b d s = refl
+term-unguarded terms.Cell a b d s = refl
+term-unguarded terms.Read a b d s = refl
+term-unguarded terms.Assign a b d s = refl
+term-unguarded (terms.Send r) a b d s = refl
+term-unguarded (terms.Exercise r) a b d s = refl
+
+and-fails : (x y : Bool) → y ≡ false → x && y ≡ false
+and-fails true y e = e
+and-fails false y e = refl
+
+all-rest : (x y z : Bool) → x && (y && z) ≡ true → y && z ≡ true
+all-rest true y z e = e
+all-rest false y z e = absurd (false≢true e)
+
+all-head : (x y z : Bool) → x && (y && z) ≡ true → x ≡ true
+all-head true y z e = refl
+all-head false y z e = e
+
+head-fails : (x y z : Bool) → x && (y && z) ≡ false → y && z ≡ true → x ≡ false
+head-fails true y z e f = absurd (true≢false (sym f ∙ e))
+head-fails false y z e f = refl
+
+module _ (ws : List ℕ) (r : reading ws ≡ accepted) (slice : List ℕ) (room : length ws ≤ length slice) (est : List ℕ) (x y z own : ℕ)
+    (q : own ≡ permissions (code ws) x) (b : ℕ) where
+  abbrev c : Code
+  c = code ws
+
+  -- what is done for the block
+  abbrev pub delivered : Rule
+  delivered = live b and pass c (C y) (sendable c) (B b) and sub (P b) (P x)
+
+  -- what is no block is not started
+  pub no-block : (i : Item) → itemAt ws b ≡ i → ((h : Handler) → i ≡ items.Block h → ⊥) → fire c (atBlock c x y z b) est ≡ est
+  unfolding admits guarded itemNode
+  no-block i e n =
+      fire-only-not c (admits (nameOf (c .node b)) z (permissions c x) (c .node b)) _ est
+      (and-fails (eqb (nameOf (c .node b)) (nameOf (c .node b)) && within z (permsOf (c .node b))) (guarded (c .node b) (permissions c x))
+      (ap (λ (m : Node). guarded m (permissions c x)) (node-item ws r slice room b ∙ ap (λ (k : Item). nodeAt ws r slice room k b) e) ∙ go i n))
+    where
+      go : (i : Item) → ((h : Handler) → i ≡ items.Block h → ⊥) → guarded (nodeAt ws r slice room i b) (permissions c x) ≡ false
+      go items.Gap n = refl
+      go (items.Block h) n = absurd (n h refl)
+      go (items.Term t) n = term-unguarded t _ _ _ (permissions c x)
+
+  module _ (i : itemAt ws b ≡ items.Block (handlerAt ws b)) where
+    node-is : c .node b ≡ block (argument (getD ws b 0)) (argument (getD ws (b + 1) 0)) (argument (getD ws (b + 2) 0))
+    unfolding itemNode handlerAt
+    node-is = node-item ws r slice room b ∙ ap (λ (k : Item). nodeAt ws r slice room k b) i
+
+    inside : b < c .size
+    inside = go (decLt b (c .size))
+      where
+        go : Dec (b < c .size) → b < c .size
+        go (yes h) = h
+        go (no h) = absurd (gap-no-block (sym (code-linked ws r .outside b (omega arith)) ∙ node-is))
+
+    linked-node : NodeLinked c b (block (argument (getD ws b 0)) (argument (getD ws (b + 1) 0)) (argument (getD ws (b + 2) 0)))
+    linked-node = subst (NodeLinked c b) node-is (code-linked ws r .nodes b inside)
+
+    pub block-inside : b < c .size
+    block-inside = inside
+
+    pub body-inside : b + 3 < c .size
+    body-inside = linked-node .3 .inside
+
+    pub name-small : argument (getD ws b 0) < c .names
+    name-small = linked-node .0
+
+    -- the two tests of permissions
+    abbrev tests : Bool
+    tests = within z (argument (getD ws (b + 1) 0)) && within (argument (getD ws (b + 2) 0)) own
+
+    abbrev named : Bool
+    named = sets c est (rowAt (2 * (x + 1))) (32 + argument (getD ws b 0))
+
+    admit-is : admits (nameOf (c .node b)) z (permissions c x) (c .node b) ≡ tests
+    unfolding admits nameOf permsOf guarded
+    admit-is =
+        ap (λ (n : Node). admits (nameOf n) z (permissions c x) n) node-is
+        ∙ ap₂ (λ (t : Bool) (s : ℕ). (t && within z (argument (getD ws (b + 1) 0))) && within (argument (getD ws (b + 2) 0)) s)
+        (eq-eqb (argument (getD ws b 0)) (argument (getD ws b 0)) refl) (sym q)
+
+    set-is : sets c est (C (x + 1)) (nameElement (nameOf (c .node b))) ≡ named
+    unfolding nameOf
+    set-is =
+        ap (λ (n : Node). sets c est (C (x + 1)) (nameElement (nameOf n))) node-is
+        ∙ ap (λ (s : Row). sets c est s (32 + argument (getD ws b 0))) (sym (row-C (x + 1)))
+
+    pub block-present : named && tests ≡ true → fire c (atBlock c x y z b) est ≡ fire c delivered est
+    block-present e =
+        let g = within z (argument (getD ws (b + 1) 0)) in
+        let h = within (argument (getD ws (b + 2) 0)) own in
+        fire-present c (admits (nameOf (c .node b)) z (permissions c x) (c .node b)) (C (x + 1)) (nameElement (nameOf (c .node b))) delivered est
+        (admit-is ∙ all-rest named g h e) (set-is ∙ all-head named g h e)
+
+    pub block-absent : named && tests ≡ false → fire c (atBlock c x y z b) est ≡ est
+    block-absent e = go tests refl
+      where
+        go : (t : Bool) → tests ≡ t → fire c (atBlock c x y z b) est ≡ est
+        go true g =
+            fire-absent c (admits (nameOf (c .node b)) z (permissions c x) (c .node b)) (C (x + 1)) (nameElement (nameOf (c .node b))) delivered est
+            (set-is ∙ head-fails named (within z (argument (getD ws (b + 1) 0))) (within (argument (getD ws (b + 2) 0)) own) e g)
+        go false g =
+            fire-only-not c (admits (nameOf (c .node b)) z (permissions c x) (c .node b)) _ est (admit-is ∙ g)
+
+-- what was delivered, by the numbers of the rows
+pub delivered-as : (c : Code) (y b : ℕ) (k : Rule) (est : List ℕ)
+    → fire c (put (L b) 0 and pass c (rowAt (2 * y)) (sortAt 3 c) (rowAt (2 * b + 1)) and k) est ≡ fire c (live b and pass c (C y) (sendable c) (B b) and k) est
+unfolding sortAt
+delivered-as c y b k est = ap₂ (λ (s t : Row). fire c (put (L b) 0 and pass c s (sendable c) t and k) est) (row-C y) (row-B b)
+
+-- ---- all blocks in turn
+
+-- the blocks from the place b on
+abbrev pub blocksOn : List ℕ → ℕ → List ℕ
+blocksOn ws b = blocksFrom (drop b (tasks ws)) b
+
+module _ (ws : List ℕ) (e : reading ws ≡ accepted) where
+  pub named-there : (b : ℕ) → Follows ws b → b < length ws → taskAt ws b ≡ name
+  named-there b f i = ⊎-elim (λ z. absurd (omega arith)) (λ x. x .1) f
+
+  pub follows-first : Follows ws 1
+  follows-first = head-word ws e .follows
+
+  module _ (b : ℕ) (i : b < length ws) (t : taskAt ws b ≡ name) where
+    stand : Stands (reach ws e b i .keys) (getD ws b 0) name
+    stand = subst (λ (u : Task). Stands (reach ws e b i .keys) (getD ws b 0) u) t (place-stands ws e b i)
+
+    pub item-is : itemAt ws b ≡ items.Block (handlerAt ws b)
+    unfolding itemAt
+    item-is = rw (eq-eqb (kind (getD ws b 0)) 2 (stand .0), itemAt)
+
+    pub next-inside : b + 3 < length ws
+    next-inside = block-words ws e b i t .inside
+
+    pub next-is : (links slice : List ℕ) → length ws ≤ length slice → links ≡ linked ws slice → linkAt links (b + 3) .end ≡ endOf ws (b + 3)
+    next-is links slice room k = ap (λ (x : List ℕ). linkAt x (b + 3) .end) k ∙ link-end ws e slice room (b + 3) next-inside
+
+    pub follows-next : Follows ws (endOf ws (b + 3))
+    follows-next = block-words ws e b i t .follows
+
+    pub next-later : b < endOf ws (b + 3)
+    unfolding endOf part
+    next-later = omega arith
+
+  module _ (k : ℕ → Rule) where
+    pub all-start : (est : List ℕ) → fire (code ws) (each (blocksOn ws 1) k) est ≡ fire (code ws) (each (code ws .blocks) k) est
+    unfolding code
+    all-start est = ap (λ (xs : List ℕ). fire (code ws) (each xs k) est) (sym (blocks-first ws e))
+
+    pub all-step : (b : ℕ) → b < length ws → taskAt ws b ≡ name → (est new : List ℕ) → new ≡ fire (code ws) (k b) est
+        → fire (code ws) (each (blocksOn ws (endOf ws (b + 3))) k) new ≡ fire (code ws) (each (blocksOn ws b) k) est
+    all-step b i t est new w =
+        ap (fire (code ws) (each (blocksOn ws (endOf ws (b + 3))) k)) w
+        ∙ sym (each-cons (code ws) b (blocksOn ws (endOf ws (b + 3))) k est)
+        ∙ ap (λ (xs : List ℕ). fire (code ws) (each xs k) est) (sym (blocks-next ws e b i t))
+
+    pub all-end : (b : ℕ) → Follows ws b → length ws ≤ b → (est : List ℕ) → fire (code ws) (each (blocksOn ws b) k) est ≡ est
+    all-end b f n est =
+        let z : b ≡ length ws = ⊎-elim (λ x. x) (λ x. absurd (omega (arith, x .0))) f in
+        ap (λ (x : ℕ). fire (code ws) (each (blocksOn ws x) k) est) z
+        ∙ ap (λ (xs : List ℕ). fire (code ws) (each xs k) est) (blocks-end ws e)
+        ∙ each-nil (code ws) k est

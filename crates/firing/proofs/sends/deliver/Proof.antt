@@ -1,0 +1,75 @@
+-- `firing::sends::deliver` meets its contract. Assumes nothing.
+use Prim.Native.Nat.{_+_, _*_}
+use mathlib.Core.Path.{sym, subst}
+use native.Mathlib.Omega.{arith}
+use Rattle.calculus.specs.Constraint.{P, L, put, sub, _and_}
+use Rattle.calculus.specs.Rules.{pass}
+use Rattle.calculus.specs.Layout.{WellFormed}
+use Rattle.clauses.specs.Asks.{rowAt, sortAt}
+use Rattle.queries.specs.Passes.{Masked}
+use Rattle.rows.proofs.Laws.{facts-most}
+use Rattle.firing.proofs.Fires.{in-for, and-for, sum-fits}
+use Rattle.firing.proofs.Deliver.{live-well}
+use borrow.Author.Needs.{needs}
+use Rattle.firing.proofs.sends.deliver.Statement.{statement}
+use Rattle.firing.proofs.sends.deliver.Tie as tie
+
+wake-requires : tie.Need-wake-requires
+wake-requires c κs = search needs
+
+mul-pass : tie.Need-mul-pass
+mul-pass c = search needs
+
+mul-pass-2 : tie.Need-mul-pass-2
+mul-pass-2 c = search needs
+
+add-pass : tie.Need-add-pass
+add-pass c = search needs
+
+pass-requires : tie.Need-pass-requires
+pass-requires c κs = search needs
+
+lift-requires : tie.Need-lift-requires
+lift-requires c κs = search needs
+
+add-result : tie.Need-add-result
+add-result c =
+    let s = c .before .before .before .before .before .before .before .before .before .before .before .before .before .before .before .before .before .before .before .before .before .before .before .before in let a = s .args in
+    omega (arith, sum-fits _ _ _ _ _ (c .before .before .before .before .before .before .before .before .before .before .before .pass .ensures .count) (c .before .before .before .before .lift .ensures .count), c .before .before .before .before .lift .kept .0, c .before .before .before .before .before .before .before .before .before .before .before .pass .kept .0, c .before .before .before .before .before .before .before .before .before .before .before .before .before .before .before .before .before .before .wake .kept .0, s .pre .0 .short)
+
+add-result-2 : tie.Need-add-result-2
+add-result-2 c =
+    let s = c .before .before .before .before .before .before .before .before .before .before .before .before .before .before .before .before .before .before .before .before .before .before .before .before in let a = s .args in
+    omega (arith, c .before .before .before .before .before .before .before .before .before .before .before .before .before .before .before .before .before .before .wake .ensures .count, c .before .before .before .before .before .before .before .before .before .before .before .pass .ensures .count, c .before .before .before .before .lift .ensures .count, sum-fits _ _ _ _ _ (c .before .before .before .before .before .before .before .before .before .before .before .pass .ensures .count) (c .before .before .before .before .lift .ensures .count), facts-most (c .before .before .before .before .lift .last .0), c .before .before .before .before .lift .kept .0, c .before .before .before .before .before .before .before .before .before .before .before .pass .kept .0, c .before .before .before .before .before .before .before .before .before .before .before .before .before .before .before .before .before .before .wake .kept .0, s .pre .0 .short)
+
+same-length : tie.Need-same-length
+same-length c = search needs
+
+same-length-2 : tie.Need-same-length-2
+same-length-2 c = search needs
+
+returns : tie.Need-returns
+returns c =
+    let s = c .before .before .before .before .before .before .before .before .before .before .before .before .before .before .before .before .before .before .before .before .before .before .before .before in let a = s .args in
+    and-for (a .l) (a .est .now) _ _ _ _ (λ k. WellFormed k (a .est .now) × Masked k (a .l) (a .masks .now)) (λ k. WellFormed k _ × Masked k (a .l) (a .masks .now))
+    (λ k. put (L (a .b)) 0) (λ k. pass k (rowAt (2 * a .d)) (sortAt 3 k) (rowAt (2 * a .b + 1)) and sub (P (a .b)) (P (a .p)))
+    (in-for (a .l) _ (put (L (a .b)) 0) (a .est .now) _ _ (c .before .before .before .before .before .before .before .before .before .before .before .before .before .before .before .before .before .before .wake .ensures))
+    (and-for (a .l) _ _ _ _ _ (λ k. WellFormed k _ × Masked k (a .l) (a .masks .now)) (λ k. Unit {0}) (λ k. pass k (rowAt (2 * a .d)) (sortAt 3 k) (rowAt (2 * a .b + 1))) (λ k. sub (P (a .b)) (P (a .p)))
+    (c .before .before .before .before .before .before .before .before .before .before .before .pass .ensures) (c .before .before .before .before .lift .ensures) (λ k o x e. tt))
+    (λ k o x e. (live-well k (a .b) (omega (arith, s .pre .3, o .size)) (a .est .now) _ (x .0) e, x .1))
+
+pub deliver-spec : {M : Type 1} → statement M
+deliver-spec =
+    tie.close
+    (tie.spec
+    wake-requires
+    mul-pass
+    mul-pass-2
+    add-pass
+    pass-requires
+    lift-requires
+    add-result
+    add-result-2
+    same-length
+    same-length-2
+    returns)

@@ -1,0 +1,81 @@
+-- `firing::targets::pass` meets its contract. Assumes nothing.
+use Prim.Native.Nat.{ℕ, _+_, _-_, _*_}
+use mathlib.Core.Path.{_≡_, ap, subst, sym, _∙_}
+use mathlib.Core.List.{List}
+use native.Mathlib.Omega.{arith}
+use lib.ListN.{take, drop}
+use lib.Seq.{length-take-le}
+use Rattle.calculus.specs.Layout.{masked, WellFormed}
+use Rattle.firing.proofs.Poured.{poured-words}
+use Rattle.rows.proofs.Laws.{length-part, same-part}
+use Rattle.clauses.specs.Asks.{sortAt}
+use Rattle.queries.specs.Passes.{maskAt, Masked}
+use Rattle.queries.proofs.Laws.{row-in, mask-in}
+use Rattle.firing.proofs.Fires.{pass-fired}
+use borrow.Author.Needs.{needs}
+use Rattle.firing.proofs.targets.pass.Statement.{statement}
+use Rattle.firing.proofs.targets.pass.Tie as tie
+
+mul-at : tie.Need-mul-at
+mul-at c =
+    let s = c .before .before .before in let a = s .args in
+    omega (arith, mask-in _ (a .l .row) (a .m) (s .pre .4) (s .pre .3))
+
+add-join-masked : tie.Need-add-join-masked
+add-join-masked c =
+    let s = c .before .before .before .before in let a = s .args in
+    omega (arith, mask-in _ (a .l .row) (a .m) (s .pre .4) (s .pre .3))
+
+mul-join-masked : tie.Need-mul-join-masked
+mul-join-masked c =
+    let s = c .before .before .before .before in let a = s .args in
+    omega (arith, mask-in _ (a .l .row) (a .m) (s .pre .4) (s .pre .3))
+
+sub-join-masked : tie.Need-sub-join-masked
+sub-join-masked c = search needs
+
+part-join-masked-start : tie.Need-part-join-masked-start
+part-join-masked-start c = search needs
+
+part-join-masked-end : tie.Need-part-join-masked-end
+part-join-masked-end c =
+    let s = c .before .before .before .before in let a = s .args in
+    omega (arith, mask-in _ (a .l .row) (a .m) (s .pre .4) (s .pre .3))
+
+join-masked-requires : tie.Need-join-masked-requires
+join-masked-requires c κs =
+    let s = c .before .before .before .before .before in let a = s .args in
+    (row-in (a .l) (a .est .now) (s .pre .0) (a .a) (s .pre .1), row-in (a .l) (a .est .now) (s .pre .0) (a .b) (s .pre .2), s .pre .0 .most, length-part (a .masks .now) (a .m * a .l .row) (a .l .row) (mask-in _ (a .l .row) (a .m) (s .pre .4) (s .pre .3)))
+
+grew-row-requires : tie.Need-grew-row-requires
+grew-row-requires c κs = search needs
+
+same-length : tie.Need-same-length
+same-length c = search needs
+
+same-length-2 : tie.Need-same-length-2
+same-length-2 c = search needs
+
+returns : tie.Need-returns
+returns c =
+    let s = c .before .before .before .before .before .before .before .before .before .before .before .before in let a = s .args in
+    pass-fired (a .l) (a .est .now) _ _ (λ k. WellFormed k (a .est .now) × Masked k (a .l) (a .masks .now)) (sortAt (a .m)) (maskAt (a .l) (a .masks .now) (a .m)) (a .a) (a .b) (s .pre .1) (s .pre .2)
+    (λ k o x. (x .0, x .1 .mask (a .m) (s .pre .3)))
+    (poured-words (a .est .now) _ (a .b * a .l .row) _ _ _ (c .before .before .before .before .before .before .join-masked .ensures)
+    (ap (λ (x : List ℕ). masked x (take (a .l .row) (drop (a .a * a .l .row) (a .est .now)))) (same-part (a .masks .now) (a .m * a .l .row) (a .l .row))))
+
+pub pass-spec : {M : Type 1} → statement M
+pass-spec =
+    tie.close
+    (tie.spec
+    mul-at
+    add-join-masked
+    mul-join-masked
+    sub-join-masked
+    part-join-masked-start
+    part-join-masked-end
+    join-masked-requires
+    grew-row-requires
+    same-length
+    same-length-2
+    returns)

@@ -1,0 +1,55 @@
+-- `firing::terms::operate_at` meets its contract. Assumes nothing.
+use Prim.Native.Nat.{_+_}
+use native.Mathlib.Omega.{arith}
+use Rattle.queries.proofs.Laws.{value-in}
+use Rattle.firing.proofs.Operated.{operated}
+use borrow.Author.Needs.{needs}
+use Rattle.firing.proofs.terms.operate_at.Statement.{statement}
+use Rattle.firing.proofs.terms.operate_at.Tie as tie
+
+add-results-of : tie.Need-add-results-of
+add-results-of c = search needs
+
+mul-results-of : tie.Need-mul-results-of
+mul-results-of c = search needs
+
+mul-results-of-2 : tie.Need-mul-results-of-2
+mul-results-of-2 c = search needs
+
+results-of-requires : tie.Need-results-of-requires
+results-of-requires c κs =
+    let s = c .before .before .before in let a = s .args in
+    (value-in (a .l) (a .est .now) (s .pre .0) (a .p + 1) (s .pre .1), value-in (a .l) (a .est .now) (s .pre .0) (a .d) (s .pre .2), s .pre .4)
+
+mul-put-word : tie.Need-mul-put-word
+mul-put-word c = search needs
+
+put-word-requires : tie.Need-put-word-requires
+put-word-requires c κs =
+    let s = c .before .before .before .before .before .before in let a = s .args in
+    (value-in (a .l) (a .est .now) (s .pre .0) (a .p) (omega (arith, s .pre .1)), omega (arith, s .pre .4))
+
+same-length : tie.Need-same-length
+same-length c = search needs
+
+same-length-2 : tie.Need-same-length-2
+same-length-2 c = search needs
+
+returns : tie.Need-returns
+returns c =
+    let s = c .before .before .before .before .before .before .before .before .before .before .before in let a = s .args in
+    operated (a .l) (a .est .now) _ _ (a .p) (a .d) _ _ (s .pre .1) (s .pre .2) (s .pre .3) (c .before .before .before .before .before .before .before .results-of .ensures) (c .before .before .before .before .put-word .ensures)
+
+pub operate-at-spec : {M : Type 1} → statement M
+operate-at-spec =
+    tie.close
+    (tie.spec
+    add-results-of
+    mul-results-of
+    mul-results-of-2
+    results-of-requires
+    mul-put-word
+    put-word-requires
+    same-length
+    same-length-2
+    returns)

@@ -1,0 +1,73 @@
+// The effects of one term: its parts, and the results of an operation.
+use crate::targets::lift;
+use crate::targets::lift_if;
+use crate::targets::part;
+use crate::targets::part_if;
+use crate::targets::put_word;
+use results::operate;
+use rows::layout::Layout;
+use table::Operation;
+ghost use mathlib.Core.Path.{_≡_};
+ghost use mathlib.Core.Bool.{not};
+ghost use Prim.Native.Nat.{_+_, _*_, _<_, _≤_};
+ghost use lib.Dec.{eqb};
+ghost use lib.ListN.{length, getD};
+ghost use Rattle.table.specs.Words.{operationOf};
+ghost use Rattle.table.specs.Code.{operation as operation·two};
+ghost use Rattle.calculus.specs.Constraint.{only, _and_};
+ghost use Rattle.calculus.specs.Rules.{part as Part, waiting, twoRule};
+ghost use Rattle.calculus.specs.Layout.{WellFormed};
+ghost use Rattle.calculus.proofs.OperationResults.{operationMask};
+ghost use Rattle.rows.specs.Laid.{Sized};
+ghost use Rattle.firing.specs.Fired.{FiredFor, FiredIn};
+
+// The parts p + 1, b and d, which are live with p; b and d may be 0.
+pub fn parts(est: &mut [u32], h: &mut [u32], l: Layout, p: usize, b: usize, d: usize) -> usize
+    requires { ⌜ Sized l (now est) × (p + 1 < l .size) × (b < l .size) × (d < l .size) ⌝ }
+    ensures { λ x. ⌜ FiredIn l (Part p (p + 1) and only (not (eqb b 0)) (Part p b) and only (not (eqb d 0)) (Part p d)) (now (est .entry)) (now (est .exit)) x ⌝ }
+{
+    let first = part(est, h, l, p, p + 1);
+    let second = part_if(est, h, l, p, b);
+    first + (second + part_if(est, h, l, p, d))
+}
+
+// The part p + 1, which is live with p, and the branches b and d, which wait; d may be 0.
+pub fn branches(est: &mut [u32], h: &mut [u32], l: Layout, p: usize, b: usize, d: usize) -> usize
+    requires { ⌜ Sized l (now est) × (p + 1 < l .size) × (b < l .size) × (d < l .size) ⌝ }
+    ensures { λ x. ⌜ FiredIn l (Part p (p + 1) and waiting p b and only (not (eqb d 0)) (waiting p d)) (now (est .entry)) (now (est .exit)) x ⌝ }
+{
+    let first = part(est, h, l, p, p + 1);
+    let second = lift(est, h, l, b, p);
+    first + (second + lift_if(est, h, l, d, p))
+}
+
+// The operation with a number.
+fn operation_of(o: usize) -> Operation
+    ensures { λ r. ⌜ r ≡ operationOf o ⌝ }
+{
+    match o {
+        0 => Operation::Add,
+        1 => Operation::Less,
+        2 => Operation::Equal,
+        _ => Operation::Add,
+    }
+}
+
+// The results of the operation o on the rows a and d, as bits of the first word of a row.
+pub fn results_of(est: &[u32], l: Layout, o: usize, a: usize, d: usize) -> u32
+    requires { ⌜ (a * l .row + l .row ≤ length (now est)) × (d * l .row + l .row ≤ length (now est)) × (2 ≤ l .row) ⌝ }
+    ensures { λ r. ⌜ r ≡ operationMask (operationOf o) (getD (now (est .entry)) (a * l .row) 0) (getD (now (est .entry)) (a * l .row + 1) 0) (getD (now (est .entry)) (d * l .row) 0) (getD (now (est .entry)) (d * l .row + 1) 0) ⌝ }
+{
+    let x = a * l.row;
+    let y = d * l.row;
+    operate(operation_of(o), est[x], est[x + 1], est[y], est[y + 1])
+}
+
+// The results of the operation o on C(p + 1) and C(d) in C(p).
+pub fn operate_at(est: &mut [u32], h: &mut [u32], l: Layout, p: usize, d: usize, o: usize) -> usize
+    requires { ⌜ Sized l (now est) × (p + 1 < l .size) × (d < l .size) × (d ≡ p → ⊥) × (2 ≤ l .row) ⌝ }
+    ensures { λ x. ⌜ FiredFor l (λ c. WellFormed c (now (est .entry)) × (c .names ≡ 32)) (λ c. twoRule c p (operation·two (operationOf o)) (p + 1) d) (now (est .entry)) (now (est .exit)) x ⌝ }
+{
+    let bits = results_of(est, l, o, 2 * (p + 1), 2 * d);
+    put_word(est, h, l, 2 * p, bits)
+}

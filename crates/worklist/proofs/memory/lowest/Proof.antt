@@ -1,0 +1,15 @@
+-- `worklist::memory::lowest` meets its contract. Assumes nothing.
+use borrow.Author.Needs.{needs}
+use lib.Count.{trailing-le}
+use native.Mathlib.Omega.{arith}
+use Rattle.worklist.proofs.memory.lowest.Statement.{statement}
+use Rattle.worklist.proofs.memory.lowest.Tie as tie
+
+cast-result : tie.Need-cast-result
+cast-result c = omega (arith, trailing-le 32 (c .args .w))
+
+returns : tie.Need-returns
+returns c = omega (arith, trailing-le 32 (c .args .w))
+
+pub lowest-spec : {M : Type 1} → statement M
+lowest-spec = tie.close (tie.spec cast-result returns)

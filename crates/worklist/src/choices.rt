@@ -1,0 +1,73 @@
+// Choices: clause k of the word p, for the target f of its effect or (0) for all of them, each packed into a word of a list whose first word
+// counts them. A full list takes no more; 3n + 8 words are enough for what an event calls for in a table of n words.
+use crate::memory::get;
+use crate::memory::put;
+use crate::sets::waits;
+ghost use mathlib.Core.Path.{_≡_};
+ghost use Prim.Native.Nat.{_+_, _*_, _/_, _%_, _<_};
+
+// A choice has room for targets and words below PLACES, and for clauses below CLAUSES.
+const PLACES: usize = 1024;
+
+const CLAUSES: usize = 4096;
+
+pub fn choice_word(k: usize, p: usize, f: usize) -> u32
+    ensures { λ r. ⌜ r ≡ (k % 4096 * 1024 + p % 1024) * 1024 + f % 1024 ⌝ }
+{
+    ((k % CLAUSES * PLACES + p % PLACES) * PLACES + f % PLACES) as u32
+}
+
+pub fn choice_clause(w: u32) -> usize
+    ensures { λ r. ⌜ (r ≡ w / 1048576) × (r < 4096) ⌝ }
+{
+    w as usize / (PLACES * PLACES)
+}
+
+pub fn choice_place(w: u32) -> usize
+    ensures { λ r. ⌜ (r ≡ w / 1024 % 1024) × (r < 1024) ⌝ }
+{
+    w as usize / PLACES % PLACES
+}
+
+pub fn choice_target(w: u32) -> usize
+    ensures { λ r. ⌜ (r ≡ w % 1024) × (r < 1024) ⌝ }
+{
+    w as usize % PLACES
+}
+
+// How many choices a list has.
+pub fn count(out: &[u32]) -> usize
+    ensures { λ r. ⌜ r < 4294967296 ⌝ }
+{
+    get(out, 0)
+}
+
+pub fn clear(out: &mut [u32]) {
+    put(out, 0, 0);
+}
+
+pub fn choose(out: &mut [u32], k: usize, p: usize, f: usize) {
+    let last = count(out) + 1;
+    if last < out.len() {
+        out[0] = (last % 4294967296) as u32;
+        out[last] = choice_word(k, p, f);
+    }
+}
+
+// The clauses of p from k on, before e, for all targets.
+pub fn choose_some(out: &mut [u32], k: usize, e: usize, p: usize) {
+    let mut i = k;
+    while i < e {
+        choose(out, i, p, 0);
+        i += 1;
+    }
+}
+
+// A clause that reads the row r, unless r waits: then it comes to all its readers at its turn.
+pub fn choose_unless(h: &[u32], out: &mut [u32], r: usize, k: usize, p: usize, f: usize)
+    requires { ⌜ r < 65536 ⌝ }
+{
+    if !waits(h, r) {
+        choose(out, k, p, f);
+    }
+}

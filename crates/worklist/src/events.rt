@@ -1,0 +1,253 @@
+// The clauses that an event calls for.
+use crate::choices::choose;
+use crate::choices::choose_some;
+use crate::choices::choose_unless;
+use crate::kinds;
+use crate::memory::parent;
+use crate::memory::use_of;
+use crate::memory::word;
+use crate::things::follow_names;
+use crate::things::meet_new;
+use crate::things::notify;
+use crate::things::tell;
+use crate::view::binder;
+use crate::view::close;
+use crate::view::end;
+use crate::view::kind_at;
+use crate::view::past;
+use crate::view::row_at;
+use rows::layout::Layout;
+ghost use Prim.Native.Nat.{_<_, _≤_};
+
+// The strings among the elements of the first word of a row.
+const STRINGS: u32 = 4294967040;
+
+// ---- live words
+
+// The word p, which is live: its value, and its parts.
+fn start(words: &[u32], links: &[u32], h: &[u32], out: &mut [u32], p: usize) {
+    let kind = kind_at(words, p);
+    match kind {
+        kinds::VARIABLE => choose_unless(h, out, 2 * binder(links, p) + 1, kinds::VALUE, p, 0),
+        kinds::CELL | kinds::SEND | kinds::EXERCISE => choose_some(out, 0, kinds::OWN_END, p),
+        _ => if kinds::TERM <= kind || kind == kinds::BLOCK {
+            choose(out, kinds::PARTS, p, 0);
+        },
+    }
+}
+
+// Whether p is a branch of an if or the body of a while, which is not live with it.
+fn is_branch(words: &[u32], h: &[u32], p: usize) -> bool
+    requires { ⌜ p < 2048 ⌝ }
+{
+    let q = parent(h, p);
+    let kind = kind_at(words, q);
+    if kind == kinds::IF || kind == kinds::WHILE {
+        p != q + 1
+    } else {
+        false
+    }
+}
+
+// The next word after p that may be live with it: past the body of a function.
+fn after(words: &[u32], links: &[u32], p: usize) -> usize
+    requires { ⌜ p < 2048 ⌝ }
+    ensures { λ r. ⌜ p < r ⌝ }
+{
+    if kind_at(words, p) == kinds::FUNCTION {
+        past(links, p)
+    } else {
+        p + 1
+    }
+}
+
+// The word p, if it is live with the words before it. Answers the next word that may be.
+fn visit(words: &[u32], links: &[u32], h: &[u32], out: &mut [u32], p: usize) -> usize
+    requires { ⌜ p < 2048 ⌝ }
+    ensures { λ r. ⌜ p < r ⌝ }
+{
+    if is_branch(words, h, p) {
+        return past(links, p);
+    }
+    start(words, links, h, out, p);
+    after(words, links, p)
+}
+
+// The block or the term at q is live, and what is live with it.
+pub fn woke(words: &[u32], links: &[u32], h: &[u32], out: &mut [u32], q: usize)
+    requires { ⌜ q < 2048 ⌝ }
+{
+    let e = close(words, links, q);
+    start(words, links, h, out, q);
+    let mut p = after(words, links, q);
+    while p < e {
+        p = visit(words, links, h, out, p);
+    }
+}
+
+// ---- rows
+
+// C(d) has a string, where d is the second part of p, a get or a set: what it may take from a record that is its first part.
+fn record_part(
+    masks: &[u32],
+    est: &[u32],
+    h: &mut [u32],
+    out: &mut [u32],
+    l: Layout,
+    kind: u32,
+    d: usize,
+    p: usize,
+)
+    requires { ⌜ (d < 2048) × (p < 1024) ⌝ }
+{
+    if word(est, row_at(l, 2 * d)) & STRINGS == 0 {
+        return;
+    }
+    let take = if kind == kinds::SET {
+        kinds::SET_TAKE
+    } else {
+        kinds::GET_TAKE
+    };
+    choose_some(out, kinds::RECORDS_FIRST, take, p);
+    meet_new(masks, est, h, out, l, kind, d, p);
+}
+
+// Part i of p, a term that does not act on things, whose second part is at d.
+fn plain_part(out: &mut [u32], kind: u32, d: usize, p: usize, i: usize)
+    requires { ⌜ p < 1024 ⌝ }
+{
+    let first = i == p + 1;
+    match kind {
+        kinds::LET => choose(
+            out,
+            if first {
+                kinds::LET_BIND
+            } else {
+                kinds::LET_RESULT
+            },
+            p,
+            0,
+        ),
+        kinds::SEQUENCE => if !first {
+            choose(out, kinds::SEQUENCE_RESULT, p, 0);
+        },
+        kinds::IF => if first {
+            choose_some(out, kinds::TESTS, kinds::TESTS_END, p);
+        } else {
+            choose(
+                out,
+                if i == d {
+                    kinds::IF_THEN
+                } else {
+                    kinds::IF_ELSE
+                },
+                p,
+                0,
+            );
+        },
+        kinds::WHILE => if first {
+            choose_some(out, kinds::TESTS, kinds::TESTS_END, p);
+        },
+        kinds::OPERATION => choose(out, kinds::OPERATION_RESULT, p, 0),
+        kinds::DELETE => choose(out, kinds::DELETE_RESULT, p, 0),
+        kinds::CELL => choose(out, kinds::CELL_HOLD, p, 0),
+        _ => {}
+    }
+}
+
+// The value of i, a part of p, has grown.
+fn part_grew(
+    words: &[u32],
+    links: &[u32],
+    masks: &[u32],
+    est: &[u32],
+    h: &mut [u32],
+    out: &mut [u32],
+    l: Layout,
+    i: usize,
+)
+    requires { ⌜ i < 1024 ⌝ }
+{
+    let p = parent(h, i);
+    let kind = kind_at(words, p);
+    let first = i == p + 1;
+    let d = end(links, p + 1);
+    match kind {
+        kinds::FUNCTION => notify(words, h, out, l.size, p),
+        kinds::APPLY => if first {
+            meet_new(masks, est, h, out, l, kind, d, p);
+        } else {
+            choose(out, kinds::APPLY_HAND, p, 0);
+        },
+        kinds::GET | kinds::SET => record_part(masks, est, h, out, l, kind, d, p),
+        kinds::READ => meet_new(masks, est, h, out, l, kind, d, p),
+        kinds::ASSIGN => {
+            choose(out, kinds::ASSIGN_RESULT, p, 0);
+            if first {
+                meet_new(masks, est, h, out, l, kind, d, p);
+            } else {
+                choose(out, kinds::ASSIGN_HAND, p, 0);
+            }
+        }
+        kinds::SEND => {
+            choose(out, kinds::SEND_SEND, p, 0);
+            if first {
+                follow_names(words, links, est, h, l, p);
+            }
+        }
+        _ => plain_part(out, kind, d, p, i),
+    }
+}
+
+// The uses of the binder i, from the last to the first.
+fn uses(h: &[u32], out: &mut [u32], i: usize)
+    requires { ⌜ i < 1024 ⌝ }
+{
+    let mut v = use_of(h, i);
+    while 0 < v {
+        choose(out, kinds::VALUE, v, 0);
+        let before = use_of(h, v);
+        v = if before < v { before } else { 0 };
+    }
+}
+
+// The row r has grown.
+pub fn row_grew(
+    words: &[u32],
+    links: &[u32],
+    masks: &[u32],
+    est: &[u32],
+    h: &mut [u32],
+    out: &mut [u32],
+    l: Layout,
+    r: usize,
+)
+    requires { ⌜ r < 2048 ⌝ }
+{
+    let i = r / 2;
+    if r % 2 == 0 {
+        part_grew(words, links, masks, est, h, out, l, i);
+    } else if kind_at(words, i) < kinds::RECORD {
+        uses(h, out, i);
+    } else {
+        notify(words, h, out, l.size, i);
+    }
+}
+
+// ---- permissions
+
+// The permissions of the word i have grown.
+pub fn permissions_grew(words: &[u32], est: &[u32], h: &[u32], out: &mut [u32], l: Layout, i: usize)
+    requires { ⌜ i < 2048 ⌝ }
+{
+    if kind_at(words, i) == kinds::BLOCK {
+        tell(est, h, out, l, kinds::SEND_SEND, i, i);
+        return;
+    }
+    let q = parent(h, i);
+    if kind_at(words, q) == kinds::FUNCTION {
+        tell(est, h, out, l, kinds::APPLY_LOWER, q, i);
+    } else {
+        choose(out, kinds::PARTS, q, 0);
+    }
+}

@@ -1,0 +1,121 @@
+// The memory h of the schedule, for a table of n words, at most 1,024: TURN + 6n words, and n / 32 + 2 for each of the n words.
+//
+//     ROWS                    2 + 64 words: a bit for each turn whose row waits
+//     LIVE                    1 + 32 words: a bit for each word that waits with the words that are live with it
+//     PERMISSIONS             1 + 32 words: a bit for each word whose permissions wait
+//     TURN + 3r               the turn of the row r, where 2p is C(p) and 2p + 1 is B(p)
+//     ROW + 3t                the row of the turn t
+//     PARENT + 6p             the word that p is a part of; 0 if there is none
+//     USE + 6p                of a binder its last use, of a use the one before it; 0 if there is none
+//     at_followers(n, f)      1 + n / 32 + 1 words: a bit for each word that acts on the thing f, or sends to the block f
+//
+// The first words of a set are its summary: a bit for each word after them that has a bit.
+ghost use Prim.Native.Nat.{_+_, _/_, _<_, _≤_};
+ghost use lib.ListN.{length};
+
+pub const ROWS: usize = 0;
+
+pub const LIVE: usize = ROWS + 2 + 64;
+
+pub const PERMISSIONS: usize = LIVE + 1 + 32;
+
+pub const TURN: usize = PERMISSIONS + 1 + 32;
+
+pub const ROW: usize = TURN + 1;
+
+pub const PARENT: usize = TURN + 2;
+
+pub const USE: usize = TURN + 5;
+
+// The most words of a table, and the most turns: two rows for each.
+pub const MOST: usize = 1024;
+
+pub const TURNS: usize = 2048;
+
+pub fn at_followers(n: usize, f: usize) -> usize
+    ensures { λ r. ⌜ r < 131072 ⌝ }
+{
+    let size = n % TURNS;
+    TURN + 6 * size + f % MOST * (size / 32 + 2)
+}
+
+// The word at a place, 0 past the end.
+pub fn word(h: &[u32], i: usize) -> u32 {
+    if i < h.len() { h[i] } else { 0 }
+}
+
+// Writes a word; nothing past the end.
+pub fn put_word(h: &mut [u32], i: usize, w: u32) {
+    if i < h.len() {
+        h[i] = w;
+    }
+}
+
+// The same as numbers.
+pub fn get(h: &[u32], i: usize) -> usize
+    ensures { λ r. ⌜ r < 4294967296 ⌝ }
+{
+    word(h, i) as usize
+}
+
+pub fn put(h: &mut [u32], i: usize, v: usize) {
+    put_word(h, i, (v % 4294967296) as u32);
+}
+
+// Bit i of the words from a place on.
+pub fn set_bit(h: &mut [u32], at: usize, i: usize)
+    requires { ⌜ (i < 4294967296) × (at + i / 32 < length (now h)) ⌝ }
+{
+    let k = at + i / 32;
+    h[k] = h[k] | (1u32 << (i % 32) as u32);
+}
+
+pub fn has_bit(h: &[u32], at: usize, i: usize) -> bool
+    requires { ⌜ (at < 4294967296) × (i < 4294967296) ⌝ }
+{
+    (word(h, at + i / 32) >> (i % 32) as u32) % 2 == 1
+}
+
+// The lowest bit of a word, and the highest; 32 and 0 if there is none.
+pub fn lowest(w: u32) -> usize
+    ensures { λ r. ⌜ r ≤ 32 ⌝ }
+{
+    u32::trailing_zeros(w) as usize
+}
+
+pub fn highest(w: u32) -> usize
+    ensures { λ r. ⌜ r < 32 ⌝ }
+{
+    (31 - u32::leading_zeros(w) % 32) as usize
+}
+
+// The word that p is a part of.
+pub fn parent(h: &[u32], p: usize) -> usize
+    requires { ⌜ p < 2048 ⌝ }
+    ensures { λ r. ⌜ r < 1024 ⌝ }
+{
+    get(h, PARENT + 6 * p) % MOST
+}
+
+// The last use of the binder p, or the use before the use p.
+pub fn use_of(h: &[u32], p: usize) -> usize
+    requires { ⌜ p < 2048 ⌝ }
+    ensures { λ r. ⌜ r < 1024 ⌝ }
+{
+    get(h, USE + 6 * p) % MOST
+}
+
+// The turn of the row r, and the row of the turn t.
+pub fn turn_of(h: &[u32], r: usize) -> usize
+    requires { ⌜ r < 65536 ⌝ }
+    ensures { λ t. ⌜ t < 2048 ⌝ }
+{
+    get(h, TURN + 3 * r) % TURNS
+}
+
+pub fn row_of(h: &[u32], t: usize) -> usize
+    requires { ⌜ t < 2048 ⌝ }
+    ensures { λ r. ⌜ r < 2048 ⌝ }
+{
+    get(h, ROW + 3 * t) % TURNS
+}

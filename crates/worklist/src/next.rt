@@ -1,0 +1,56 @@
+// The next event: live words first, the lowest of them; then rows by their turns, going round; then permissions, the highest word first.
+use crate::choices::clear;
+use crate::events::permissions_grew;
+use crate::events::row_grew;
+use crate::events::woke;
+use crate::memory::LIVE;
+use crate::memory::MOST;
+use crate::memory::PERMISSIONS;
+use crate::memory::TURN;
+use crate::memory::TURNS;
+use crate::memory::row_of;
+use crate::sets::NONE;
+use crate::sets::take_high;
+use crate::sets::take_low;
+use crate::sets::take_turn;
+use rows::layout::Layout;
+ghost use Prim.Native.Nat.{_≤_};
+
+// Where nothing waits.
+pub const NOTHING: usize = NONE;
+
+// Takes the next event from a turn on out of what waits, and writes the clauses that it calls for into `out`. Answers the turn after it, or NOTHING.
+pub fn next(
+    words: &[u32],
+    links: &[u32],
+    masks: &[u32],
+    est: &[u32],
+    h: &mut [u32],
+    out: &mut [u32],
+    l: Layout,
+    turn: usize,
+) -> usize
+    ensures { λ r. ⌜ r ≤ 4096 ⌝ }
+{
+    let from = turn % TURNS;
+    clear(out);
+    if h.len() < TURN {
+        return NOTHING;
+    }
+    let q = take_low(h, LIVE);
+    if q < MOST {
+        woke(words, links, h, out, q);
+        return from;
+    }
+    let t = take_turn(h, from);
+    if t < TURNS {
+        row_grew(words, links, masks, est, h, out, l, row_of(h, t));
+        return t + 1;
+    }
+    let p = take_high(h, PERMISSIONS);
+    if p < MOST {
+        permissions_grew(words, est, h, out, l, p);
+        return from;
+    }
+    NOTHING
+}

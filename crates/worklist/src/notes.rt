@@ -1,0 +1,32 @@
+// What has grown, noted by whoever writes the estimate: it waits from then on.
+use crate::memory::LIVE;
+use crate::memory::MOST;
+use crate::memory::PERMISSIONS;
+use crate::memory::ROWS;
+use crate::memory::TURN;
+use crate::memory::TURNS;
+use crate::memory::turn_of;
+use crate::sets::add;
+
+// The row r, where 2p is C(p) and 2p + 1 is B(p).
+pub fn note_row(h: &mut [u32], r: usize) {
+    let row = r % TURNS;
+    if TURN + 3 * row < h.len() {
+        let turn = turn_of(h, row);
+        add(h, ROWS, 2, turn);
+    }
+}
+
+// The word q is live.
+pub fn note_live(h: &mut [u32], q: usize) {
+    if TURN <= h.len() {
+        add(h, LIVE, 1, q % MOST);
+    }
+}
+
+// The permissions of the word p.
+pub fn note_perms(h: &mut [u32], p: usize) {
+    if TURN <= h.len() {
+        add(h, PERMISSIONS, 1, p % MOST);
+    }
+}

@@ -1,0 +1,159 @@
+// Before the first step: the parents, the uses of binders, and the turns of rows. A row's turn comes where the machine makes its values: B of a
+// block or a function before its body, B of a let before its second part, and C of a word, after B of what it makes, when all its parts are done.
+use crate::kinds;
+use crate::memory::MOST;
+use crate::memory::PARENT;
+use crate::memory::ROW;
+use crate::memory::TURN;
+use crate::memory::TURNS;
+use crate::memory::USE;
+use crate::memory::parent;
+use crate::memory::put;
+use crate::memory::use_of;
+use crate::view::binder;
+use crate::view::close;
+use crate::view::kind_at;
+ghost use Prim.Native.Nat.{_<_, _≤_};
+ghost use lib.ListN.{length};
+
+// The next turn, and the innermost word that is not done, 0 if there is none.
+struct Place {
+    turn: usize,
+    word: usize,
+}
+
+// The row r has the turn t. Answers the next turn.
+fn give(h: &mut [u32], t: usize, r: usize) -> usize
+    requires { ⌜ r < 2048 ⌝ }
+{
+    let turn = t % TURNS;
+    put(h, TURN + 3 * r, turn);
+    put(h, ROW + 3 * turn, r);
+    turn + 1
+}
+
+// The same, for a row that has a turn of its own only if `due`.
+fn give_if(h: &mut [u32], t: usize, r: usize, due: bool) -> usize
+    requires { ⌜ r < 2048 ⌝ }
+{
+    if due { give(h, t, r) } else { t }
+}
+
+// Whether a word of a kind holds what it makes, in B.
+fn holds(kind: u32) -> bool {
+    match kind {
+        kinds::RECORD | kinds::SET | kinds::CELL => true,
+        _ => false,
+    }
+}
+
+// Whether what a word of a kind binds comes from outside, before its body.
+fn opens(kind: u32) -> bool {
+    match kind {
+        kinds::BLOCK | kinds::FUNCTION => true,
+        _ => false,
+    }
+}
+
+// The word q is done.
+fn leave(words: &[u32], h: &mut [u32], t: usize, q: usize) -> usize
+    requires { ⌜ q < 1024 ⌝ }
+{
+    let turn = give_if(h, t, 2 * q + 1, holds(kind_at(words, q)));
+    give(h, turn, 2 * q)
+}
+
+// The word around q, which stands before it.
+fn outer(h: &[u32], q: usize) -> usize
+    requires { ⌜ (0 < q) × (q < 1024) ⌝ }
+    ensures { λ r. ⌜ r < q ⌝ }
+{
+    let p = parent(h, q);
+    if p < q { p } else { 0 }
+}
+
+// Leaves the words that are done before p.
+fn leave_all(words: &[u32], links: &[u32], h: &mut [u32], place: Place, p: usize) -> Place
+    requires { ⌜ place .word < 1024 ⌝ }
+    ensures { λ r. ⌜ r .word < 1024 ⌝ }
+{
+    let mut turn = place.turn;
+    let mut q = place.word;
+    while 0 < q {
+        if p < close(words, links, q) {
+            return Place { turn, word: q };
+        }
+        turn = leave(words, h, turn, q);
+        q = outer(h, q);
+    }
+    Place { turn, word: 0 }
+}
+
+// A variable at p is the last use of its binder so far.
+fn add_use(words: &[u32], links: &[u32], h: &mut [u32], p: usize)
+    requires { ⌜ p < 1024 ⌝ }
+{
+    if kind_at(words, p) == kinds::VARIABLE {
+        let b = binder(links, p);
+        let before = use_of(h, b);
+        put(h, USE + 6 * p, before);
+        put(h, USE + 6 * b, p);
+    }
+}
+
+// Whether p is the second part of q, a let, which has its value then.
+fn is_body(words: &[u32], q: usize, p: usize) -> bool
+    requires { ⌜ q < 1024 ⌝ }
+{
+    if kind_at(words, q) == kinds::LET {
+        p != q + 1
+    } else {
+        false
+    }
+}
+
+// The word p, a part of q.
+fn enter(words: &[u32], links: &[u32], h: &mut [u32], t: usize, q: usize, p: usize) -> usize
+    requires { ⌜ (q < 1024) × (p < 1024) ⌝ }
+{
+    put(h, PARENT + 6 * p, q);
+    add_use(words, links, h, p);
+    let turn = give_if(h, t, 2 * q + 1, is_body(words, q, p));
+    give_if(h, turn, 2 * p + 1, opens(kind_at(words, p)))
+}
+
+// Whether a word of a kind is a term or a block, and not a word of a block's head.
+fn has_rows(kind: u32) -> bool {
+    if kind < kinds::TERM {
+        kind == kinds::BLOCK
+    } else {
+        true
+    }
+}
+
+fn prepare_word(words: &[u32], links: &[u32], h: &mut [u32], place: Place, p: usize) -> Place
+    requires { ⌜ (place .word < 1024) × (p < 1024) ⌝ }
+    ensures { λ r. ⌜ r .word < 1024 ⌝ }
+{
+    if has_rows(kind_at(words, p)) {
+        let at = leave_all(words, links, h, place, p);
+        let turn = enter(words, links, h, at.turn, at.word, p);
+        return Place { turn, word: p };
+    }
+    place
+}
+
+// Fills a memory of zeros; nothing for more than MOST words.
+pub fn prepare(words: &[u32], links: &[u32], h: &mut [u32]) {
+    let n = words.len();
+    if MOST < n {
+        return;
+    }
+    let mut place = Place { turn: 0, word: 0 };
+    let mut p = 1;
+    while p < n {
+        place = prepare_word(words, links, h, place, p);
+        p += 1;
+    }
+    leave_all(words, links, h, place, n);
+}

@@ -1,0 +1,158 @@
+// Sets in the memory: s words that say which of the words after them have a bit, then a bit for each member.
+use crate::memory::MOST;
+use crate::memory::ROWS;
+use crate::memory::at_followers;
+use crate::memory::has_bit;
+use crate::memory::highest;
+use crate::memory::lowest;
+use crate::memory::set_bit;
+use crate::memory::turn_of;
+use crate::memory::word;
+ghost use Prim.Native.Nat.{_+_, _/_, _<_, _≤_};
+ghost use lib.ListN.{length};
+
+// Where nothing is to be taken.
+pub const NONE: usize = 4096;
+
+pub fn add(h: &mut [u32], base: usize, s: usize, i: usize)
+    requires { ⌜ (s ≤ 2) × (i < 2048) × (i / 1024 < s) × (base + s + i / 32 < length (now h)) ⌝ }
+{
+    set_bit(h, base, i / 32);
+    set_bit(h, base + s, i);
+}
+
+// Changes a bit of a word. Answers the word then.
+fn flip(h: &mut [u32], at: usize, bit: usize) -> u32
+    requires { ⌜ (bit < 32) × (at < length (now h)) ⌝ }
+{
+    let w = h[at] ^ (1u32 << bit as u32);
+    h[at] = w;
+    w
+}
+
+// Takes bit d of word k out of a set, and that of the summary where nothing is left of the word.
+fn take(h: &mut [u32], base: usize, s: usize, k: usize, d: usize) -> usize
+    requires { ⌜ (k < 64) × (base + s + k < length (now h)) ⌝ }
+    ensures { λ r. ⌜ r < 2048 ⌝ }
+{
+    let bit = d % 32;
+    let member = 32 * k + bit;
+    if flip(h, base + s + k, bit) == 0 {
+        flip(h, base + k / 32, k % 32);
+    }
+    member
+}
+
+// The lowest member of a set with one summary word, and the highest; NONE if it is empty.
+pub fn take_low(h: &mut [u32], base: usize) -> usize
+    requires { ⌜ base + 33 ≤ length (now h) ⌝ }
+    ensures { λ r. ⌜ r ≤ 4096 ⌝ }
+{
+    let top = h[base];
+    if top == 0 {
+        return NONE;
+    }
+    let k = lowest(top) % 32;
+    let bits = h[base + 1 + k];
+    take(h, base, 1, k, lowest(bits))
+}
+
+pub fn take_high(h: &mut [u32], base: usize) -> usize
+    requires { ⌜ base + 33 ≤ length (now h) ⌝ }
+    ensures { λ r. ⌜ r ≤ 4096 ⌝ }
+{
+    let top = h[base];
+    if top == 0 {
+        return NONE;
+    }
+    let k = highest(top);
+    let bits = h[base + 1 + k];
+    take(h, base, 1, k, highest(bits))
+}
+
+// The first word of the turns that wait from k on that has one; 64 or more if there is none.
+fn word_from(h: &[u32], k: usize) -> usize
+    requires { ⌜ 2 ≤ length (now h) ⌝ }
+    ensures { λ r. ⌜ r ≤ 96 ⌝ }
+{
+    if k < 32 {
+        let low = lowest(h[ROWS] >> k as u32);
+        if low < 32 {
+            return k + low;
+        }
+        return 32 + lowest(h[ROWS + 1]);
+    }
+    if k < 64 {
+        return k + lowest(h[ROWS + 1] >> (k - 32) as u32);
+    }
+    64
+}
+
+// The same, going round.
+fn word_round(h: &[u32], k: usize) -> usize
+    requires { ⌜ 2 ≤ length (now h) ⌝ }
+    ensures { λ r. ⌜ r ≤ 96 ⌝ }
+{
+    let next = word_from(h, k);
+    if next < 64 { next } else { word_from(h, 0) }
+}
+
+// Takes the next turn that waits from t on, going round; NONE if nothing waits.
+pub fn take_turn(h: &mut [u32], t: usize) -> usize
+    requires { ⌜ (t < 2048) × (66 ≤ length (now h)) ⌝ }
+    ensures { λ r. ⌜ r ≤ 4096 ⌝ }
+{
+    let k = t / 32;
+    let ahead = h[ROWS + 2 + k] >> (t % 32) as u32;
+    if ahead != 0 {
+        return take(h, ROWS, 2, k, t % 32 + lowest(ahead));
+    }
+    let next = word_round(h, k + 1);
+    if next < 64 {
+        let bits = h[ROWS + 2 + next];
+        return take(h, ROWS, 2, next, lowest(bits));
+    }
+    NONE
+}
+
+// Whether the row r waits.
+pub fn waits(h: &[u32], r: usize) -> bool
+    requires { ⌜ r < 65536 ⌝ }
+{
+    has_bit(h, ROWS + 2, turn_of(h, r))
+}
+
+// The word p follows f, a thing or a block; whether that is new.
+pub fn follow(h: &mut [u32], n: usize, f: usize, p: usize) -> bool {
+    let base = at_followers(n, f);
+    let i = p % MOST;
+    if h.len() <= base + 1 + i / 32 {
+        return false;
+    }
+    if has_bit(h, base + 1, i) {
+        return false;
+    }
+    add(h, base, 1, i);
+    true
+}
+
+// The next follower from `from` on, of those at `base`; MOST or more where there is none.
+pub fn next_follower(h: &[u32], base: usize, from: usize) -> usize
+    requires { ⌜ (base < 131072) × (from ≤ 1024) ⌝ }
+    ensures { λ r. ⌜ from ≤ r ⌝ }
+{
+    let k = from / 32;
+    let bits = word(h, base + 1 + k) >> (from % 32) as u32;
+    if bits != 0 {
+        return from + lowest(bits);
+    }
+    if 31 <= k {
+        return MOST;
+    }
+    let later = word(h, base) >> (k + 1) as u32;
+    if later == 0 {
+        return MOST;
+    }
+    let next = k + 1 + lowest(later);
+    32 * next + lowest(word(h, base + 1 + next))
+}

@@ -1,0 +1,68 @@
+// What the schedule sees of the table and the estimate.
+use crate::kinds;
+use crate::memory::MOST;
+use crate::memory::TURNS;
+use crate::memory::word;
+use rows::layout::Layout;
+use table::words::kind_of;
+use table_links::link_at;
+ghost use Prim.Native.Nat.{_<_, _≤_};
+
+pub fn kind_at(words: &[u32], p: usize) -> u32 {
+    kind_of(word(words, p))
+}
+
+pub fn binder(links: &[u32], p: usize) -> usize
+    ensures { λ r. ⌜ r < 2048 ⌝ }
+{
+    link_at(links, p).binder
+}
+
+// The word after the term at p.
+pub fn end(links: &[u32], p: usize) -> usize
+    ensures { λ r. ⌜ r < 2048 ⌝ }
+{
+    link_at(links, p).end
+}
+
+// The same, but later than p whatever the links say.
+pub fn past(links: &[u32], p: usize) -> usize
+    requires { ⌜ p < 4096 ⌝ }
+    ensures { λ r. ⌜ p < r ⌝ }
+{
+    let e = end(links, p);
+    if p < e { e } else { p + 1 }
+}
+
+// The word after the block or the term at p.
+pub fn close(words: &[u32], links: &[u32], p: usize) -> usize
+    requires { ⌜ p < 2048 ⌝ }
+    ensures { λ r. ⌜ r < 2048 ⌝ }
+{
+    if kind_at(words, p) == kinds::BLOCK {
+        end(links, p + 3)
+    } else {
+        end(links, p)
+    }
+}
+
+// How many words of a row the elements of plain data fill; made things come after them.
+pub fn lead(l: Layout) -> usize
+    ensures { λ r. ⌜ r < 64 ⌝ }
+{
+    let row = l.row % 64;
+    if row < 2 { row } else { 2 }
+}
+
+// The first word of the row r in an estimate, and of the mask r among the masks.
+pub fn row_at(l: Layout, r: usize) -> usize
+    requires { ⌜ r < 4096 ⌝ }
+    ensures { λ s. ⌜ s < 262144 ⌝ }
+{
+    r * (l.row % 64)
+}
+
+// The permissions of p and its live flag, in an estimate.
+pub fn flags(est: &[u32], l: Layout, p: usize) -> u32 {
+    word(est, row_at(l, 2 * (l.size % TURNS)) + p % MOST)
+}
