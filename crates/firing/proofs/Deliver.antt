@@ -4,7 +4,7 @@ use mathlib.Core.Path.{_≡_, refl, sym, ap, ap₂, _∙_, subst}
 use mathlib.Core.Logic.{⊎-elim}
 use mathlib.Core.Bool.{Bool, true, false, _&&_, true≢false, false≢true}
 use mathlib.Core.List.{List, List·Memᴰ}
-use native.Mathlib.Decide.{decLt}
+use native.Mathlib.Decide.{decLt, ℕ-discrete}
 use native.Mathlib.Omega.{arith}
 use borrow.Author.Tests.{eq-eqb}
 use lib.Dec.{T, eqb, lit<}
@@ -20,6 +20,7 @@ use Rattle.table.specs.Scan.{Task, name, accepted, reading}
 use Rattle.table.specs.Item.{handlerAt, itemAt}
 use Rattle.table.specs.Code.{Code, Node, gap, block, leaf, one, two, bind, while, branch, update, code, taskAt, tasks, nodeFor, blocksFrom, endOf, part, termNode, NodeLinked, Linked}
 use Rattle.table.specs.Links.{linkAt, linked}
+use Rattle.table.proofs.Items.{item-gap, item-term}
 use Rattle.table.proofs.Faults.{Stands}
 use Rattle.table.proofs.Stack.{reach}
 use Rattle.table.proofs.Parts.{place-stands}
@@ -32,10 +33,16 @@ use Rattle.calculus.specs.Constraint.{Row, C, B, P, L, Rule, put, sub, given, e
 use Rattle.calculus.specs.Rules.{nameOf, permsOf, guarded, admits, permissions, pass, live}
 use Rattle.calculus.specs.Layout.{owner, span, shift, base, rowWords, sets, WellFormed}
 use Rattle.calculus.specs.Estimate.{fire}
+use Rattle.calculus.proofs.Fitting.{may-L, may-B, PP}
 use Rattle.calculus.proofs.Places.{is-allowed}
+use Rattle.calculus.proofs.Ranges.{in-below}
 use Rattle.calculus.proofs.Firing.{Fits, fire-well}
 use Rattle.calculus.proofs.Folds.{fire-only-not, fire-present, fire-absent, each-nil, each-cons}
 use Rattle.rows.specs.declared.layout.Layout.{Layout}
+use Rattle.permset.specs.declared.PermSet.{PermSet}
+use Rattle.clauses.specs.declared.Effect.{Effect}
+use Rattle.firing.specs.Sending.{Sends}
+use Rattle.firing.proofs.EachThing.{sized-again}
 use Rattle.clauses.specs.Asks.{rowAt, sortAt, atBlock}
 use Rattle.clauses.proofs.Sorts.{row-C, row-B}
 
@@ -45,6 +52,19 @@ unfolding owner span
 live-well c b h old new w e = subst (WellFormed c) (sym e) (fire-well c (put (L b) 0) (is-allowed c (L b) 0 h (lit< tt)) old w)
 
 -- ---- one block
+
+IsBlockItem : Item → Type 0
+IsBlockItem items.Gap = ⊥
+IsBlockItem (items.Block h) = Unit {0}
+IsBlockItem (items.Term t) = ⊥
+
+gap-item : {h : Handler} → items.Gap ≡ items.Block h → ⊥
+unfolding IsBlockItem
+gap-item e = subst IsBlockItem (sym e) tt
+
+term-item : {t : Term} {h : Handler} → items.Term t ≡ items.Block h → ⊥
+unfolding IsBlockItem
+term-item e = subst IsBlockItem (sym e) tt
 
 IsGap : Node → Type 0
 IsGap gap = Unit {0}
@@ -190,6 +210,19 @@ pub delivered-as : (c : Code) (y b : ℕ) (k : Rule) (est : List ℕ)
 unfolding sortAt
 delivered-as c y b k est = ap₂ (λ (s t : Row). fire c (put (L b) 0 and pass c s (sendable c) t and k) est) (row-C y) (row-B b)
 
+-- an item that is a block has a block's kind
+block-kind : (ws : List ℕ) (b : ℕ) (h : Handler) → itemAt ws b ≡ items.Block h → kind (getD ws b 0) ≡ 2
+block-kind ws b h e = go (ℕ-discrete (kind (getD ws b 0)) 2) (decLt (kind (getD ws b 0)) 16)
+  where
+    go : Dec (kind (getD ws b 0) ≡ 2) → Dec (kind (getD ws b 0) < 16) → kind (getD ws b 0) ≡ 2
+    go (yes k) d = k
+    go (no k) (yes d) = absurd (gap-item (sym (item-gap ws b k d) ∙ e))
+    go (no k) (no d) = absurd (term-item (sym (item-term ws b (omega arith)) ∙ e))
+
+-- what a send asks for a block fits the code
+block-fits : (c : Code) (k : Linked c) (x y z b : ℕ) → x < c .size → b < c .size → Fits c (atBlock c x y z b)
+block-fits c k x y z b h i = λ t. (may-L c k i, ((λ v l s. may-B c k i (in-below l)), PP c k i h))
+
 -- ---- all blocks in turn
 
 -- the blocks from the place b on
@@ -242,3 +275,30 @@ module _ (ws : List ℕ) (e : reading ws ≡ accepted) where
         ap (λ (x : ℕ). fire (code ws) (each (blocksOn ws x) k) est) z
         ∙ ap (λ (xs : List ℕ). fire (code ws) (each xs k) est) (blocks-end ws e)
         ∙ each-nil (code ws) k est
+
+-- a word of another kind is no block
+pub not-block : (ws : List ℕ) (r : reading ws ≡ accepted) (est : List ℕ) (x y z own : ℕ) → own ≡ permissions (code ws) x → (b : ℕ)
+    → (kind (getD ws b 0) ≡ 2 → ⊥) → fire (code ws) (atBlock (code ws) x y z b) est ≡ est
+unfolding itemAt
+not-block ws r est x y z own q b n =
+    no-block ws r ws (omega arith) est x y z own q b (itemAt ws b) refl (λ h e. n (block-kind ws b h e))
+
+-- the estimate that a send leaves is handed on
+pub sends-again : (ws masks old new : List ℕ) (l : Layout) (e : Effect) (own : PermSet) → Sends ws masks old l e own → (b : ℕ)
+    → itemAt ws b ≡ items.Block (handlerAt ws b) → length new ≡ length old → new ≡ fire (code ws) (atBlock (code ws) (e .x) (e .y) (e .z) b) old
+    → Sends ws masks new l e own
+sends-again ws masks old new l e own s b i n w =
+    record {
+      readable = s .readable;
+      laid = s .laid;
+      masked = s .masked;
+      sized = sized-again l old new (s .sized) n;
+      well =
+          subst (WellFormed (code ws)) (sym w)
+          (fire-well (code ws) (atBlock (code ws) (e .x) (e .y) (e .z) b)
+          (block-fits (code ws) (code-linked ws (s .readable)) (e .x) (e .y) (e .z) b (omega (arith, s .word, s .laid .size)) (block-inside ws (s .readable) ws (omega arith) old (e .x) (e .y) (e .z) (own .bits) (s .sender) b i)) old
+          (s .well));
+      word = s .word;
+      message = s .message;
+      sender = s .sender;
+    }

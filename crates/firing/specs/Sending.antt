@@ -1,17 +1,22 @@
 -- What a send is handed: an accepted table with its layout and masks, a well-formed estimate, and the permissions of the sender.
-use Prim.Native.Nat.{ℕ, _+_, _<_, _≤_}
+use Prim.Native.Nat.{ℕ, _+_, _<_}
 use mathlib.Core.Path.{_≡_}
 use mathlib.Core.List.{List}
 use Rattle.permset.specs.declared.PermSet.{PermSet}
+use Rattle.table.specs.Scan.{accepted, reading}
 use Rattle.table.specs.Code.{code}
 use Rattle.calculus.specs.Rules.{permissions}
 use Rattle.calculus.specs.Layout.{WellFormed}
 use Rattle.rows.specs.declared.layout.Layout.{Layout}
+use Rattle.rows.specs.Laid.{LaidOut, Sized}
 use Rattle.clauses.specs.declared.Effect.{Effect}
-use Rattle.queries.specs.Ready.{Ready}
+use Rattle.queries.specs.Passes.{Masked}
 
-pub record Sends (ws links masks est : List ℕ) (l : Layout) (e : Effect) (own : PermSet) : Type 0 where
-  pub ready : Ready ws links masks l
+pub record Sends (ws masks est : List ℕ) (l : Layout) (e : Effect) (own : PermSet) : Type 0 where
+  pub readable : reading ws ≡ accepted
+  pub laid : LaidOut (code ws) l
+  pub masked : Masked (code ws) l masks
+  pub sized : Sized l est
   pub well : WellFormed (code ws) est
   pub word : e .x + 1 < l .size
   pub message : e .y < l .size

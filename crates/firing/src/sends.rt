@@ -24,6 +24,7 @@ ghost use Rattle.calculus.specs.Layout.{sets, WellFormed};
 ghost use Rattle.rows.specs.Laid.{LaidOut, Sized};
 ghost use Rattle.clauses.specs.Asks.{rowAt, sortAt, atBlock};
 ghost use Rattle.queries.specs.Passes.{Masked};
+ghost use Rattle.queries.specs.Ready.{Ready};
 ghost use Rattle.firing.specs.Fired.{Fired, FiredFor};
 ghost use Rattle.firing.specs.Sending.{Sends};
 ghost use Rattle.table.specs.declared.Item.the-variants as items;
@@ -77,4 +78,70 @@ fn deliver(
     let started = wake(est, h, l, b);
     let passed = pass(est, masks, h, l, 2 * d, 3, 2 * b + 1);
     started + (passed + lift(est, h, l, b, p))
+}
+
+// What a send does for the block at b.
+fn send_to(
+    words: &[u32],
+    est: &mut [u32],
+    masks: &[u32],
+    h: &mut [u32],
+    l: Layout,
+    e: Effect,
+    own: PermSet,
+    b: usize,
+) -> usize
+    requires { ⌜ Sends (now words) (now masks) (now est) l e own × (itemAt (now words) b ≡ items.Block (handlerAt (now words) b)) × (e .z < 4294967296) ⌝ }
+    ensures { λ r. ⌜ Fired (code (now (words .entry))) (atBlock (code (now (words .entry))) (e .x) (e .y) (e .z) b) (now (est .entry)) (now (est .exit)) r ⌝ }
+{
+    let x = e.x;
+    let required = PermSet { bits: e.z as u32 };
+    if !admits(words, est, l, x, required, own, b) {
+        return 0;
+    }
+    deliver(est, masks, h, l, x, e.y, b)
+}
+
+// What a send does for each block in turn.
+pub fn send_all(
+    words: &[u32],
+    links: &[u32],
+    est: &mut [u32],
+    masks: &[u32],
+    h: &mut [u32],
+    l: Layout,
+    e: Effect,
+    own: PermSet,
+) -> usize
+    requires { ⌜ Ready (now words) (now links) (now masks) l × Sends (now words) (now masks) (now est) l e own × (e .z < 4294967296) ⌝ }
+    ensures { λ r. ⌜ Fired (code (now (words .entry))) (each (code (now (words .entry)) .blocks) (atBlock (code (now (words .entry))) (e .x) (e .y) (e .z))) (now (est .entry)) (now (est .exit)) r ⌝ }
+{
+    let mut added = 0;
+    let mut b = 1;
+    while b < words.len() {
+        added += send_to(words, est, masks, h, l, e, own, b);
+        b = link_at(links, b + 3).end;
+    }
+    added
+}
+
+// What a send does for the block at b, if there is one.
+pub fn send_one(
+    words: &[u32],
+    est: &mut [u32],
+    masks: &[u32],
+    h: &mut [u32],
+    l: Layout,
+    e: Effect,
+    own: PermSet,
+    b: usize,
+) -> usize
+    requires { ⌜ Sends (now words) (now masks) (now est) l e own × (b < length (now words)) × (e .z < 4294967296) ⌝ }
+    ensures { λ r. ⌜ Fired (code (now (words .entry))) (atBlock (code (now (words .entry))) (e .x) (e .y) (e .z) b) (now (est .entry)) (now (est .exit)) r ⌝ }
+{
+    if kind_of(words[b]) == 2 {
+        send_to(words, est, masks, h, l, e, own, b)
+    } else {
+        0
+    }
 }

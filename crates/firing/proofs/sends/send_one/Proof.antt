@@ -1,0 +1,49 @@
+-- `firing::sends::send_one` meets its contract. Assumes nothing.
+use mathlib.Core.Path.{sym, _∙_}
+use native.Mathlib.Omega.{arith}
+use Rattle.table.proofs.Items.{item-block}
+use Rattle.firing.proofs.Deliver.{not-block}
+use borrow.Author.Needs.{needs}
+use Rattle.firing.proofs.sends.send_one.Statement.{statement}
+use Rattle.firing.proofs.sends.send_one.Tie as tie
+
+mul-kind-of : tie.Need-mul-kind-of
+mul-kind-of c = search needs
+
+shared-slice-read-kind-of : tie.Need-shared-slice-read-kind-of
+shared-slice-read-kind-of c = search needs
+
+kind-of-requires : tie.Need-kind-of-requires
+kind-of-requires c κs = search needs
+
+send-to-requires : tie.Need-send-to-requires
+send-to-requires c κs =
+    let s = c .before .before .before .before .before .before .before .before .before in let a = s .args in let e = a .e in let w = a .words .now in
+    (s .pre .0, item-block w (a .b) (sym (c .before .before .before .kind-of .ensures) ∙ c .before .before .if1 .taken), s .pre .2)
+
+same-length : tie.Need-same-length
+same-length c = search needs
+
+same-length-2 : tie.Need-same-length-2
+same-length-2 c = search needs
+
+returns : tie.Need-returns
+returns c = search needs
+
+returns-2 : tie.Need-returns-2
+returns-2 c =
+    let s = c .before .before .before .before .before .before .before in let a = s .args in let e = a .e in let w = a .words .now in
+    record { words = sym (not-block w (s .pre .0 .readable) (a .est .now) (e .x) (e .y) (e .z) (a .own .bits) (s .pre .0 .sender) (a .b) (λ z. c .if1 .left (c .before .kind-of .ensures ∙ z))); count = omega arith }
+
+pub send-one-spec : {M : Type 1} → statement M
+send-one-spec =
+    tie.close
+    (tie.spec
+    mul-kind-of
+    shared-slice-read-kind-of
+    kind-of-requires
+    send-to-requires
+    same-length
+    same-length-2
+    returns
+    returns-2)

@@ -1,0 +1,66 @@
+-- `firing::sends::send_to` meets its contract. Assumes nothing.
+use Prim.Native.Nat.{_+_, _*_}
+use mathlib.Core.Path.{sym, _∙_}
+use native.Mathlib.Omega.{arith}
+use borrow.Author.Tests.{not-true, not-false}
+use Rattle.table.specs.Code.{code}
+use Rattle.calculus.specs.Constraint.{P, sub}
+use Rattle.calculus.specs.Layout.{rowWords}
+use Rattle.queries.proofs.Laws.{value-in}
+use Rattle.firing.proofs.Deliver.{block-inside, body-inside, name-small, block-present, block-absent, delivered-as}
+use borrow.Author.Needs.{needs}
+use Rattle.firing.proofs.sends.send_to.Statement.{statement}
+use Rattle.firing.proofs.sends.send_to.Tie as tie
+
+cast-t11 : tie.Need-cast-t11
+cast-t11 c = search needs
+
+admits-requires : tie.Need-admits-requires
+unfolding rowWords code
+admits-requires c κs =
+    let s = c .before .before .before .before .before .before in let a = s .args in let e = a .e in let w = a .words .now in
+    (omega (arith, body-inside w (s .pre .0 .readable) w (omega arith) (a .est .now) (e .x) (e .y) (e .z) (a .own .bits) (s .pre .0 .sender) (a .b) (s .pre .1)), value-in (a .l) (a .est .now) (s .pre .0 .sized) (e .x + 1) (s .pre .0 .word), omega (arith, name-small w (s .pre .0 .readable) w (omega arith) (a .est .now) (e .x) (e .y) (e .z) (a .own .bits) (s .pre .0 .sender) (a .b) (s .pre .1), s .pre .0 .laid .row, s .pre .0 .laid .lead), omega (arith, s .pre .0 .word, s .pre .0 .sized .size))
+
+same-length : tie.Need-same-length
+same-length c = search needs
+
+returns : tie.Need-returns
+returns c =
+    let s = c .before .before .before .before .before .before .before .before in let a = s .args in let e = a .e in let w = a .words .now in
+    record { words = sym (block-absent w (s .pre .0 .readable) w (omega arith) (a .est .now) (e .x) (e .y) (e .z) (a .own .bits) (s .pre .0 .sender) (a .b) (s .pre .1) (sym (c .before .admits .ensures (code w) (s .pre .0 .laid) (s .pre .0 .word) (omega (arith, name-small w (s .pre .0 .readable) w (omega arith) (a .est .now) (e .x) (e .y) (e .z) (a .own .bits) (s .pre .0 .sender) (a .b) (s .pre .1)))) ∙ not-true _ (c .if1 .taken))); count = omega arith }
+
+deliver-requires : tie.Need-deliver-requires
+deliver-requires c κs =
+    let s = c .before .before .before .before .before .before .before .before .before .before in let a = s .args in let e = a .e in let w = a .words .now in
+    (s .pre .0 .sized, omega (arith, s .pre .0 .word), s .pre .0 .message, omega (arith, block-inside w (s .pre .0 .readable) w (omega arith) (a .est .now) (e .x) (e .y) (e .z) (a .own .bits) (s .pre .0 .sender) (a .b) (s .pre .1), s .pre .0 .laid .size), s .pre .0 .masked .long)
+
+same-length-2 : tie.Need-same-length-2
+same-length-2 c = search needs
+
+same-length-3 : tie.Need-same-length-3
+same-length-3 c = search needs
+
+returns-2 : tie.Need-returns-2
+returns-2 c =
+    let s = c .before .before .before .before .before .before .before .before .before .before .before .before .before .before .before in let a = s .args in let e = a .e in let w = a .words .now in
+    let d = c .before .before .before .before .deliver .ensures in
+    record {
+      words =
+          d .words (code w) (s .pre .0 .laid) (s .pre .0 .well, s .pre .0 .masked)
+          ∙ delivered-as (code w) (e .y) (a .b) (sub (P (a .b)) (P (e .x))) (a .est .now)
+          ∙ sym (block-present w (s .pre .0 .readable) w (omega arith) (a .est .now) (e .x) (e .y) (e .z) (a .own .bits) (s .pre .0 .sender) (a .b) (s .pre .1) (sym (c .before .before .before .before .before .before .before .before .admits .ensures (code w) (s .pre .0 .laid) (s .pre .0 .word) (omega (arith, name-small w (s .pre .0 .readable) w (omega arith) (a .est .now) (e .x) (e .y) (e .z) (a .own .bits) (s .pre .0 .sender) (a .b) (s .pre .1)))) ∙ not-false _ (c .before .before .before .before .before .before .before .if1 .left)));
+      count = d .count;
+    }
+
+pub send-to-spec : {M : Type 1} → statement M
+send-to-spec =
+    tie.close
+    (tie.spec
+    cast-t11
+    admits-requires
+    same-length
+    returns
+    deliver-requires
+    same-length-2
+    same-length-3
+    returns-2)
