@@ -127,8 +127,7 @@ module _ (c : Code) (k : Linked c) (e : Sets) where
       pub apply-asks : Obeys e (flow c p (two apply (p + 1) d)) → Every (Asked 0) (ofApply p d)
       unfolding flow twoRule ofApply asks under effect things forThing thingAt
       apply-asks o =
-          rw (row-C p, row-C d)
-          (
+          rw (row-C p, row-C d) (
             (o .0, ((λ t. o .1 .0), λ t. absurd t)),
             (
               (λ f m t h. o .1 .1 f m t h .0),
@@ -139,8 +138,7 @@ module _ (c : Code) (k : Linked c) (e : Sets) where
       pub apply-from : Every (Asked 0) (ofApply p d) → Obeys e (flow c p (two apply (p + 1) d))
       unfolding flow twoRule ofApply asks under effect things forThing thingAt
       apply-from a =
-          let b = rw (row-C p, row-C d) at a in
-          (
+          let b = rw (row-C p, row-C d) at a in (
             b .0 .0,
             (
               b .0 .1 .0 (is-part later),
@@ -186,8 +184,7 @@ module _ (c : Code) (k : Linked c) (e : Sets) where
       pub get-asks : Obeys e (flow c p (two get (p + 1) d)) → Every (Asked 0) (ofGet p d)
       unfolding flow twoRule ofGet asks under effect things forThing sortAt thingAt
       get-asks o =
-          rw (row-C p)
-          (
+          rw (row-C p) (
             (o .0, ((λ t. o .1 .0), λ t. absurd t)),
             (
               (λ v s h w r i. undefined-there (o .1 .1 v s h) w r i),
@@ -204,16 +201,14 @@ module _ (c : Code) (k : Linked c) (e : Sets) where
       pub get-from : Every (Asked 0) (ofGet p d) → Obeys e (flow c p (two get (p + 1) d))
       unfolding flow twoRule ofGet asks under effect things forThing sortAt thingAt
       get-from a =
-          let b = rw (row-C p) at a in
-          (
+          let b = rw (row-C p) at a in (
             b .0 .0,
             (
               b .0 .1 .0 (is-part later),
-              λ v s h.
-                  (
-                    (λ q m t i. (b .1 .1 .1 .0 v s h q m t i, b .1 .0 v s h (made c q) (is-record c k q t) i)),
-                    b .1 .1 .0 v s h,
-                  ),
+              λ v s h. (
+                (λ q m t i. (b .1 .1 .1 .0 v s h q m t i, b .1 .0 v s h (made c q) (is-record c k q t) i)),
+                b .1 .1 .0 v s h,
+              ),
             ),
           )
 
@@ -228,12 +223,11 @@ module _ (c : Code) (k : Linked c) (e : Sets) where
       pub assign-asks : Obeys e (flow c p (two assign (p + 1) d)) → Every (Asked 0) (ofAssign p d)
       unfolding flow twoRule ofAssign asks under effect things forThing sortAt thingAt
       assign-asks o =
-          rw (row-C p, row-C d)
-          (
+          rw (row-C p, row-C d) (
             (o .0, ((λ t. o .1 .0), λ t. absurd t)),
             (
               (λ w r i. let b = cell-by c k w r in
-              o .1 .1 (b .word) (below-in (b .inside)) (b .makes-it) (subst (λ (x : ℕ). T (e (C (p + 1)) x)) (b .element) i) .0),
+                  o .1 .1 (b .word) (below-in (b .inside)) (b .makes-it) (subst (λ (x : ℕ). T (e (C (p + 1)) x)) (b .element) i) .0),
               ((λ q m t i. o .1 .1 q m t i .1), tt),
             ),
           )
@@ -258,8 +252,7 @@ module _ (c : Code) (k : Linked c) (e : Sets) where
         pub if-asks : Obeys e (flow c p (branch (p + 1) d n)) → Every (Asked 0) (ofIf p d n)
         unfolding flow ofIf asks under effect
         if-asks o =
-            rw (row-C p, row-C d, row-C n)
-            (
+            rw (row-C p, row-C d, row-C n) (
               (o .0, (o .1 .0, λ t. o .1 .1 .0)),
               (o .1 .1 .1 .0, (o .1 .1 .1 .1 .0, (o .1 .1 .1 .1 .1 .0, (o .1 .1 .1 .1 .1 .1, tt)))),
             )
@@ -267,8 +260,7 @@ module _ (c : Code) (k : Linked c) (e : Sets) where
         pub if-from : Every (Asked 0) (ofIf p d n) → Obeys e (flow c p (branch (p + 1) d n))
         unfolding flow ofIf asks under effect
         if-from a =
-            let b = rw (row-C p, row-C d, row-C n) at a in
-            (
+            let b = rw (row-C p, row-C d, row-C n) at a in (
               b .0 .0,
               (b .0 .1 .0, (b .0 .1 .1 (is-part last), (b .1 .0, (b .1 .1 .0, (b .1 .1 .1 .0, b .1 .1 .1 .1 .0))))),
             )
@@ -277,8 +269,7 @@ module _ (c : Code) (k : Linked c) (e : Sets) where
         unfolding flow ofSet asks under effect things forThing sortAt thingAt
         set-asks o =
             let r = o .1 .1 .1 in
-            rw (row-C p, row-C n, row-B p)
-            (
+            rw (row-C p, row-C n, row-B p) (
               (o .0, ((λ t. o .1 .0), λ t. o .1 .1 .0)),
               (
                 (λ v s h w q i. r v s h .0 w q i .0),
@@ -289,18 +280,16 @@ module _ (c : Code) (k : Linked c) (e : Sets) where
         pub set-from : Every (Asked 0) (ofSet p d n (made c p)) → Obeys e (flow c p (update (p + 1) d n))
         unfolding flow ofSet asks under effect things forThing sortAt thingAt
         set-from a =
-            let b = rw (row-C p, row-C n, row-B p) at a in
-            (
+            let b = rw (row-C p, row-C n, row-B p) at a in (
               b .0 .0,
               (
                 b .0 .1 .0 (is-part later),
                 (
                   b .0 .1 .1 (is-part last),
-                  λ v s h.
-                      (
-                        (λ w q i. (b .1 .0 v s h w q i, b .1 .1 .0 v s h w q i)),
-                        (b .1 .1 .1 .1 .0 v s h, b .1 .1 .1 .0 v s h),
-                      ),
+                  λ v s h. (
+                    (λ w q i. (b .1 .0 v s h w q i, b .1 .1 .0 v s h w q i)),
+                    (b .1 .1 .1 .1 .0 v s h, b .1 .1 .1 .0 v s h),
+                  ),
                 ),
               ),
             )

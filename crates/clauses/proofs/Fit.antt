@@ -82,8 +82,7 @@ module _ (c : Code) (k : Linked c) where
         apply-fit : Every Fit (ofApply p d)
         unfolding ofApply asks under effect things forThing thingAt
         apply-fit =
-            rw (row-C p, row-C d)
-            (
+            rw (row-C p, row-C d) (
               (first-part a, ((λ t. a-part b), λ t. absurd t)),
               (
                 (λ f m t. may-L c k (body-lt c k f (in-below m) t)),
@@ -108,17 +107,15 @@ module _ (c : Code) (k : Linked c) where
 
         operation-fit : (o : ℕ) → Every Fit (ofOperation p d o)
         unfolding ofOperation asks under effect
-        operation-fit o =
-            (
-              (first-part a, ((λ t. a-part b), λ t. absurd t)),
-              ((λ x mx y my z mz. let l : z < 7 = results-lt c (operationOf o) x y z mz in may-C c k h (omega arith)), tt),
-            )
+        operation-fit o = (
+          (first-part a, ((λ t. a-part b), λ t. absurd t)),
+          ((λ x mx y my z mz. let l : z < 7 = results-lt c (operationOf o) x y z mz in may-C c k h (omega arith)), tt),
+        )
 
         get-fit : Every Fit (ofGet p d)
         unfolding ofGet asks under effect things forThing thingAt
         get-fit =
-            rw (row-C p)
-            (
+            rw (row-C p) (
               (first-part a, ((λ t. a-part b), λ t. absurd t)),
               (
                 may-C c k h (omega arith),
@@ -138,8 +135,7 @@ module _ (c : Code) (k : Linked c) where
         send-fit : (r : ℕ) → Every Fit (ofSend p d r)
         unfolding ofSend asks under effect blocks
         send-fit r =
-            rw (row-C p)
-            (
+            rw (row-C p) (
               (first-part a, ((λ t. a-part b), λ t. absurd t)),
               (
                 may-C c k h (omega arith),
@@ -156,8 +152,7 @@ module _ (c : Code) (k : Linked c) where
           if-fit : Every Fit (ofIf p d n)
           unfolding ofIf asks under effect
           if-fit =
-              rw (row-C p, row-C d, row-C n)
-              (
+              rw (row-C p, row-C d, row-C n) (
                 (first-part a, (PP c k b h, λ t. PP c k g h)),
                 (may-L c k b, (may-L c k g, (CC c k b h, (CC c k g h, tt)))),
               )
@@ -165,8 +160,7 @@ module _ (c : Code) (k : Linked c) where
           set-fit : Every Fit (ofSet p d n (made c p))
           unfolding ofSet asks under effect things forThing thingAt
           set-fit =
-              rw (row-C p, row-C n, row-B p)
-              (
+              rw (row-C p, row-C n, row-B p) (
                 (first-part a, ((λ t. a-part b), λ t. a-part g)),
                 (
                   may-C c k h (omega arith),

@@ -1,8 +1,11 @@
 pub mod Deliver
 pub mod EachThing
+pub mod Effects
 pub mod Fires
+pub mod Fitted
 pub mod Full
 pub mod Operated
 pub mod Poured
+pub mod Sender
 pub mod Tags
 pub mod Tests

@@ -1,3 +1,4 @@
 pub mod Fired
 pub mod Placed
 pub mod Sending
+pub mod Suits

@@ -1,8 +1,12 @@
 -- What a send is handed: an accepted table with its layout and masks, a well-formed estimate, and the permissions of the sender.
-use Prim.Native.Nat.{ℕ, _+_, _<_}
+use Prim.Native.Nat.{ℕ, _+_, _^_, _<_}
 use mathlib.Core.Path.{_≡_}
 use mathlib.Core.List.{List}
 use Rattle.permset.specs.declared.PermSet.{PermSet}
+use Rattle.permset.specs.Sets.{width}
+use Rattle.table.specs.declared.Item.the-variants as items
+use Rattle.table.specs.declared.Term.{Term}
+use Rattle.table.specs.Item.{itemAt}
 use Rattle.table.specs.Scan.{accepted, reading}
 use Rattle.table.specs.Code.{code}
 use Rattle.calculus.specs.Rules.{permissions}
@@ -21,3 +25,12 @@ pub record Sends (ws masks est : List ℕ) (l : Layout) (e : Effect) (own : Perm
   pub word : e .x + 1 < l .size
   pub message : e .y < l .size
   pub sender : own .bits ≡ permissions (code ws) (e .x)
+
+-- a send at a term of the table, to all blocks or (f not 0) to one
+pub record Sending (ws : List ℕ) (l : Layout) (e : Effect) (f : ℕ) : Type 0 where
+  pub word : e .x + 1 < l .size
+  pub message : e .y < l .size
+  pub required : e .z < 2 ^ width
+  pub target : f < l .size
+  pub term : Term
+  pub there : itemAt ws (e .x) ≡ items.Term term

@@ -60,7 +60,14 @@ pub fn each_thing(est: &mut [u32], masks: &[u32], h: &mut [u32], l: Layout, e: E
 }
 
 // The effect for the thing f, where C(x + 1) and the mask z have it.
-pub fn one_thing(est: &mut [u32], masks: &[u32], h: &mut [u32], l: Layout, e: Effect, f: usize) -> usize
+pub fn one_thing(
+    est: &mut [u32],
+    masks: &[u32],
+    h: &mut [u32],
+    l: Layout,
+    e: Effect,
+    f: usize,
+) -> usize
     requires { ⌜ Sized l (now est) × Each l (now masks) e × (f < l .size) ⌝ }
     ensures { λ r. ⌜ FiredFor l (λ c. Masked c l (now (masks .entry))) (λ c. atThing c (e .what) (e .x) (e .y) (e .z) f) (now (est .entry)) (now (est .exit)) r ⌝ }
 {

@@ -8,12 +8,12 @@ use Rattle.table.specs.declared.Link.{Link}
 use Rattle.table.specs.Links.{linkAt, unpack}
 
 -- the sets of followers
-pub matrix : (n f : ℕ) → f % 1024 * (n % 2048 / 32 + 2) ≤ 1023 * 65
+pub matrix : (n f : ℕ) → f % 1024 * (n % 2048 / 32 + 1 + 1) ≤ 1023 * 65
 matrix n f = mul-le-mul {n₂ = 1023} {m₂ = 65} (omega arith) (omega arith)
 
 -- the rows of an estimate
-pub rows : (r w : ℕ) → r < 4096 → r * (w % 64) ≤ 4095 * 63
-rows r w h = mul-le-mul {n₂ = 4095} {m₂ = 63} (omega arith) (omega arith)
+pub rows : (r w : ℕ) → r < 4096 → w < 64 → r * w ≤ 4095 * 63
+rows r w h k = mul-le-mul {n₂ = 4095} {m₂ = 63} (omega arith) (omega arith)
 
 -- the fields of a link
 module _ (l : Link) (ls : List ℕ) (p : ℕ) (e : l ≡ linkAt ls p) where

@@ -1,7 +1,9 @@
 // Choices: clause k of the word p, for the target f of its effect or (0) for all of them, each packed into a word of a list whose first word
 // counts them. A full list takes no more; 3n + 8 words are enough for what an event calls for in a table of n words.
+use crate::memory::LIMIT;
 use crate::memory::get;
 use crate::memory::put;
+use crate::memory::word;
 use crate::sets::waits;
 ghost use mathlib.Core.Path.{_≡_};
 ghost use Prim.Native.Nat.{_+_, _*_, _/_, _%_, _<_};
@@ -42,6 +44,11 @@ pub fn count(out: &[u32]) -> usize
     get(out, 0)
 }
 
+// The choice at a place of a list, from 1 on; clause 0 of word 0 past the end.
+pub fn choice_at(out: &[u32], i: usize) -> u32 {
+    word(out, i)
+}
+
 pub fn clear(out: &mut [u32]) {
     put(out, 0, 0);
 }
@@ -49,7 +56,7 @@ pub fn clear(out: &mut [u32]) {
 pub fn choose(out: &mut [u32], k: usize, p: usize, f: usize) {
     let last = count(out) + 1;
     if last < out.len() {
-        out[0] = (last % 4294967296) as u32;
+        out[0] = (last % LIMIT) as u32;
         out[last] = choice_word(k, p, f);
     }
 }

@@ -14,10 +14,12 @@ use crate::view::binder;
 use crate::view::close;
 use crate::view::end;
 use crate::view::kind_at;
+use crate::view::kind_within;
 use crate::view::past;
 use crate::view::row_at;
 use rows::layout::Layout;
 ghost use Prim.Native.Nat.{_<_, _≤_};
+ghost use lib.ListN.{length};
 
 // The strings among the elements of the first word of a row.
 const STRINGS: u32 = 4294967040;
@@ -25,12 +27,19 @@ const STRINGS: u32 = 4294967040;
 // ---- live words
 
 // The word p, which is live: its value, and its parts.
-fn start(words: &[u32], links: &[u32], h: &[u32], out: &mut [u32], p: usize) {
-    let kind = kind_at(words, p);
+fn start(words: &[u32], links: &[u32], h: &[u32], out: &mut [u32], p: usize)
+    requires { ⌜ p < length (now words) ⌝ }
+{
+    let kind = kind_within(words, p);
     match kind {
         kinds::VARIABLE => choose_unless(h, out, 2 * binder(links, p) + 1, kinds::VALUE, p, 0),
-        kinds::CELL | kinds::SEND | kinds::EXERCISE => choose_some(out, 0, kinds::OWN_END, p),
-        _ => if kinds::TERM <= kind || kind == kinds::BLOCK {
+        kinds::CELL | kinds::SEND | kinds::EXERCISE => choose_some(
+            out,
+            kinds::PARTS,
+            kinds::OWN_END,
+            p,
+        ),
+        _ => if kinds::has_rows(kind) {
             choose(out, kinds::PARTS, p, 0);
         },
     }
@@ -51,10 +60,10 @@ fn is_branch(words: &[u32], h: &[u32], p: usize) -> bool
 
 // The next word after p that may be live with it: past the body of a function.
 fn after(words: &[u32], links: &[u32], p: usize) -> usize
-    requires { ⌜ p < 2048 ⌝ }
+    requires { ⌜ (p < length (now words)) × (p < 2048) ⌝ }
     ensures { λ r. ⌜ p < r ⌝ }
 {
-    if kind_at(words, p) == kinds::FUNCTION {
+    if kind_within(words, p) == kinds::FUNCTION {
         past(links, p)
     } else {
         p + 1
@@ -63,7 +72,7 @@ fn after(words: &[u32], links: &[u32], p: usize) -> usize
 
 // The word p, if it is live with the words before it. Answers the next word that may be.
 fn visit(words: &[u32], links: &[u32], h: &[u32], out: &mut [u32], p: usize) -> usize
-    requires { ⌜ p < 2048 ⌝ }
+    requires { ⌜ (p < length (now words)) × (p < 2048) ⌝ }
     ensures { λ r. ⌜ p < r ⌝ }
 {
     if is_branch(words, h, p) {
@@ -73,11 +82,21 @@ fn visit(words: &[u32], links: &[u32], h: &[u32], out: &mut [u32], p: usize) -> 
     after(words, links, p)
 }
 
+// The lower of two numbers.
+fn lower(a: usize, b: usize) -> usize
+    ensures { λ r. ⌜ (r ≤ a) × (r ≤ b) ⌝ }
+{
+    if a < b { a } else { b }
+}
+
 // The block or the term at q is live, and what is live with it.
 pub fn woke(words: &[u32], links: &[u32], h: &[u32], out: &mut [u32], q: usize)
     requires { ⌜ q < 2048 ⌝ }
 {
-    let e = close(words, links, q);
+    if words.len() <= q {
+        return;
+    }
+    let e = lower(close(words, links, q), words.len());
     start(words, links, h, out, q);
     let mut p = after(words, links, q);
     while p < e {
@@ -87,7 +106,7 @@ pub fn woke(words: &[u32], links: &[u32], h: &[u32], out: &mut [u32], q: usize)
 
 // ---- rows
 
-// C(d) has a string, where d is the second part of p, a get or a set: what it may take from a record that is its first part.
+// A part of p, a get or a set whose second part is at d: nothing, until C(d) has a string.
 fn record_part(
     masks: &[u32],
     est: &[u32],
@@ -118,32 +137,20 @@ fn plain_part(out: &mut [u32], kind: u32, d: usize, p: usize, i: usize)
 {
     let first = i == p + 1;
     match kind {
-        kinds::LET => choose(
-            out,
-            if first {
-                kinds::LET_BIND
-            } else {
-                kinds::LET_RESULT
-            },
-            p,
-            0,
-        ),
+        kinds::LET => if first {
+            choose(out, kinds::LET_BIND, p, 0);
+        } else {
+            choose(out, kinds::LET_RESULT, p, 0);
+        },
         kinds::SEQUENCE => if !first {
             choose(out, kinds::SEQUENCE_RESULT, p, 0);
         },
         kinds::IF => if first {
             choose_some(out, kinds::TESTS, kinds::TESTS_END, p);
+        } else if i == d {
+            choose(out, kinds::IF_THEN, p, 0);
         } else {
-            choose(
-                out,
-                if i == d {
-                    kinds::IF_THEN
-                } else {
-                    kinds::IF_ELSE
-                },
-                p,
-                0,
-            );
+            choose(out, kinds::IF_ELSE, p, 0);
         },
         kinds::WHILE => if first {
             choose_some(out, kinds::TESTS, kinds::TESTS_END, p);

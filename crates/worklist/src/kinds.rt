@@ -39,6 +39,8 @@ pub const SEND: u32 = 35;
 
 pub const EXERCISE: u32 = 36;
 
+pub const VALUE: usize = 0;
+
 pub const PARTS: usize = 0;
 
 pub const APPLY_ENTER: usize = 1;
@@ -88,5 +90,7 @@ pub const SEND_SEND: usize = 2;
 // Where clauses 0 and 1 ask for what a word gives by itself: a cell, a send, an exercise.
 pub const OWN_END: usize = 2;
 
-// Clause 0 of a word without parts.
-pub const VALUE: usize = 0;
+// Whether a word of a kind is a term or a block, and not a word of a block's head.
+pub fn has_rows(kind: u32) -> bool {
+    if kind < TERM { kind == BLOCK } else { true }
+}

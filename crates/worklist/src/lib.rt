@@ -1,6 +1,6 @@
 // The memory of the schedule and its choices: what waits, and which clauses an event calls for. It sees the estimate and never writes it.
-// Nothing is promised of what a memory `h` or a list `out` holds: every read and write of a lent slice is at a checked place, so that any
-// content is safe, and any choice is sound.
+// Nothing is promised of what a memory `h` or a list `out` holds. What any of the lent slices says is never trusted: a word past the end reads 0,
+// a write there does nothing, and every loop ends by its own count; so no caller has anything to show.
 pub mod choices;
 mod events;
 mod kinds;

@@ -13,13 +13,29 @@
 ghost use Prim.Native.Nat.{_+_, _/_, _<_, _≤_};
 ghost use lib.ListN.{length};
 
+// The most words of a table, and the most turns: two rows for each.
+pub const MOST: usize = 1024;
+
+pub const TURNS: usize = 2048;
+
+// The bits of a word; the words that a set of turns and a set of words of the table need; and how many summary words these have.
+pub const BITS: usize = 32;
+
+pub const TURN_WORDS: usize = TURNS / BITS;
+
+pub const WORDS: usize = MOST / BITS;
+
+pub const TURN_TOPS: usize = TURN_WORDS / BITS;
+
+pub const TOPS: usize = WORDS / BITS;
+
 pub const ROWS: usize = 0;
 
-pub const LIVE: usize = ROWS + 2 + 64;
+pub const LIVE: usize = ROWS + TURN_TOPS + TURN_WORDS;
 
-pub const PERMISSIONS: usize = LIVE + 1 + 32;
+pub const PERMISSIONS: usize = LIVE + TOPS + WORDS;
 
-pub const TURN: usize = PERMISSIONS + 1 + 32;
+pub const TURN: usize = PERMISSIONS + TOPS + WORDS;
 
 pub const ROW: usize = TURN + 1;
 
@@ -27,16 +43,14 @@ pub const PARENT: usize = TURN + 2;
 
 pub const USE: usize = TURN + 5;
 
-// The most words of a table, and the most turns: two rows for each.
-pub const MOST: usize = 1024;
-
-pub const TURNS: usize = 2048;
+// One more than the largest number that a word holds.
+pub const LIMIT: usize = 4294967296;
 
 pub fn at_followers(n: usize, f: usize) -> usize
     ensures { λ r. ⌜ r < 131072 ⌝ }
 {
     let size = n % TURNS;
-    TURN + 6 * size + f % MOST * (size / 32 + 2)
+    TURN + 6 * size + f % MOST * (size / BITS + 1 + TOPS)
 }
 
 // The word at a place, 0 past the end.
@@ -59,21 +73,21 @@ pub fn get(h: &[u32], i: usize) -> usize
 }
 
 pub fn put(h: &mut [u32], i: usize, v: usize) {
-    put_word(h, i, (v % 4294967296) as u32);
+    put_word(h, i, (v % LIMIT) as u32);
 }
 
 // Bit i of the words from a place on.
 pub fn set_bit(h: &mut [u32], at: usize, i: usize)
     requires { ⌜ (i < 4294967296) × (at + i / 32 < length (now h)) ⌝ }
 {
-    let k = at + i / 32;
-    h[k] = h[k] | (1u32 << (i % 32) as u32);
+    let k = at + i / BITS;
+    h[k] = h[k] | (1u32 << (i % BITS) as u32);
 }
 
 pub fn has_bit(h: &[u32], at: usize, i: usize) -> bool
     requires { ⌜ (at < 4294967296) × (i < 4294967296) ⌝ }
 {
-    (word(h, at + i / 32) >> (i % 32) as u32) % 2 == 1
+    (word(h, at + i / BITS) >> (i % BITS) as u32) % 2 == 1
 }
 
 // The lowest bit of a word, and the highest; 32 and 0 if there is none.

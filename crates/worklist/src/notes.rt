@@ -3,7 +3,9 @@ use crate::memory::LIVE;
 use crate::memory::MOST;
 use crate::memory::PERMISSIONS;
 use crate::memory::ROWS;
+use crate::memory::TOPS;
 use crate::memory::TURN;
+use crate::memory::TURN_TOPS;
 use crate::memory::TURNS;
 use crate::memory::turn_of;
 use crate::sets::add;
@@ -13,20 +15,20 @@ pub fn note_row(h: &mut [u32], r: usize) {
     let row = r % TURNS;
     if TURN + 3 * row < h.len() {
         let turn = turn_of(h, row);
-        add(h, ROWS, 2, turn);
+        add(h, ROWS, TURN_TOPS, turn);
     }
 }
 
 // The word q is live.
 pub fn note_live(h: &mut [u32], q: usize) {
     if TURN <= h.len() {
-        add(h, LIVE, 1, q % MOST);
+        add(h, LIVE, TOPS, q % MOST);
     }
 }
 
 // The permissions of the word p.
 pub fn note_perms(h: &mut [u32], p: usize) {
     if TURN <= h.len() {
-        add(h, PERMISSIONS, 1, p % MOST);
+        add(h, PERMISSIONS, TOPS, p % MOST);
     }
 }

@@ -12,7 +12,7 @@ use crate::memory::put;
 use crate::memory::use_of;
 use crate::view::binder;
 use crate::view::close;
-use crate::view::kind_at;
+use crate::view::kind_within;
 ghost use Prim.Native.Nat.{_<_, _≤_};
 ghost use lib.ListN.{length};
 
@@ -57,9 +57,9 @@ fn opens(kind: u32) -> bool {
 
 // The word q is done.
 fn leave(words: &[u32], h: &mut [u32], t: usize, q: usize) -> usize
-    requires { ⌜ q < 1024 ⌝ }
+    requires { ⌜ (q < length (now words)) × (length (now words) ≤ 1024) ⌝ }
 {
-    let turn = give_if(h, t, 2 * q + 1, holds(kind_at(words, q)));
+    let turn = give_if(h, t, 2 * q + 1, holds(kind_within(words, q)));
     give(h, turn, 2 * q)
 }
 
@@ -74,8 +74,8 @@ fn outer(h: &[u32], q: usize) -> usize
 
 // Leaves the words that are done before p.
 fn leave_all(words: &[u32], links: &[u32], h: &mut [u32], place: Place, p: usize) -> Place
-    requires { ⌜ place .word < 1024 ⌝ }
-    ensures { λ r. ⌜ r .word < 1024 ⌝ }
+    requires { ⌜ (place .word < length (now words)) × (length (now words) ≤ 1024) ⌝ }
+    ensures { λ r. ⌜ r .word < length (now (words .entry)) ⌝ }
 {
     let mut turn = place.turn;
     let mut q = place.word;
@@ -91,9 +91,9 @@ fn leave_all(words: &[u32], links: &[u32], h: &mut [u32], place: Place, p: usize
 
 // A variable at p is the last use of its binder so far.
 fn add_use(words: &[u32], links: &[u32], h: &mut [u32], p: usize)
-    requires { ⌜ p < 1024 ⌝ }
+    requires { ⌜ (p < length (now words)) × (length (now words) ≤ 1024) ⌝ }
 {
-    if kind_at(words, p) == kinds::VARIABLE {
+    if kind_within(words, p) == kinds::VARIABLE {
         let b = binder(links, p);
         let before = use_of(h, b);
         put(h, USE + 6 * p, before);
@@ -103,9 +103,9 @@ fn add_use(words: &[u32], links: &[u32], h: &mut [u32], p: usize)
 
 // Whether p is the second part of q, a let, which has its value then.
 fn is_body(words: &[u32], q: usize, p: usize) -> bool
-    requires { ⌜ q < 1024 ⌝ }
+    requires { ⌜ q < length (now words) ⌝ }
 {
-    if kind_at(words, q) == kinds::LET {
+    if kind_within(words, q) == kinds::LET {
         p != q + 1
     } else {
         false
@@ -114,28 +114,19 @@ fn is_body(words: &[u32], q: usize, p: usize) -> bool
 
 // The word p, a part of q.
 fn enter(words: &[u32], links: &[u32], h: &mut [u32], t: usize, q: usize, p: usize) -> usize
-    requires { ⌜ (q < 1024) × (p < 1024) ⌝ }
+    requires { ⌜ (q < length (now words)) × (p < length (now words)) × (length (now words) ≤ 1024) ⌝ }
 {
     put(h, PARENT + 6 * p, q);
     add_use(words, links, h, p);
     let turn = give_if(h, t, 2 * q + 1, is_body(words, q, p));
-    give_if(h, turn, 2 * p + 1, opens(kind_at(words, p)))
-}
-
-// Whether a word of a kind is a term or a block, and not a word of a block's head.
-fn has_rows(kind: u32) -> bool {
-    if kind < kinds::TERM {
-        kind == kinds::BLOCK
-    } else {
-        true
-    }
+    give_if(h, turn, 2 * p + 1, opens(kind_within(words, p)))
 }
 
 fn prepare_word(words: &[u32], links: &[u32], h: &mut [u32], place: Place, p: usize) -> Place
-    requires { ⌜ (place .word < 1024) × (p < 1024) ⌝ }
-    ensures { λ r. ⌜ r .word < 1024 ⌝ }
+    requires { ⌜ (place .word < length (now words)) × (p < length (now words)) × (length (now words) ≤ 1024) ⌝ }
+    ensures { λ r. ⌜ r .word < length (now (words .entry)) ⌝ }
 {
-    if has_rows(kind_at(words, p)) {
+    if kinds::has_rows(kind_within(words, p)) {
         let at = leave_all(words, links, h, place, p);
         let turn = enter(words, links, h, at.turn, at.word, p);
         return Place { turn, word: p };
@@ -146,6 +137,9 @@ fn prepare_word(words: &[u32], links: &[u32], h: &mut [u32], place: Place, p: us
 // Fills a memory of zeros; nothing for more than MOST words.
 pub fn prepare(words: &[u32], links: &[u32], h: &mut [u32]) {
     let n = words.len();
+    if n == 0 {
+        return;
+    }
     if MOST < n {
         return;
     }

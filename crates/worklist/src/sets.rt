@@ -1,6 +1,11 @@
-// Sets in the memory: s words that say which of the words after them have a bit, then a bit for each member.
+// Sets in the memory: s summary words, then a bit for each member.
+use crate::memory::BITS;
 use crate::memory::MOST;
 use crate::memory::ROWS;
+use crate::memory::TOPS;
+use crate::memory::TURN_TOPS;
+use crate::memory::TURN_WORDS;
+use crate::memory::WORDS;
 use crate::memory::at_followers;
 use crate::memory::has_bit;
 use crate::memory::highest;
@@ -17,7 +22,7 @@ pub const NONE: usize = 4096;
 pub fn add(h: &mut [u32], base: usize, s: usize, i: usize)
     requires { ⌜ (s ≤ 2) × (i < 2048) × (i / 1024 < s) × (base + s + i / 32 < length (now h)) ⌝ }
 {
-    set_bit(h, base, i / 32);
+    set_bit(h, base, i / BITS);
     set_bit(h, base + s, i);
 }
 
@@ -35,10 +40,10 @@ fn take(h: &mut [u32], base: usize, s: usize, k: usize, d: usize) -> usize
     requires { ⌜ (k < 64) × (base + s + k < length (now h)) ⌝ }
     ensures { λ r. ⌜ r < 2048 ⌝ }
 {
-    let bit = d % 32;
-    let member = 32 * k + bit;
+    let bit = d % BITS;
+    let member = BITS * k + bit;
     if flip(h, base + s + k, bit) == 0 {
-        flip(h, base + k / 32, k % 32);
+        flip(h, base + k / BITS, k % BITS);
     }
     member
 }
@@ -52,9 +57,9 @@ pub fn take_low(h: &mut [u32], base: usize) -> usize
     if top == 0 {
         return NONE;
     }
-    let k = lowest(top) % 32;
-    let bits = h[base + 1 + k];
-    take(h, base, 1, k, lowest(bits))
+    let k = lowest(top) % WORDS;
+    let bits = h[base + TOPS + k];
+    take(h, base, TOPS, k, lowest(bits))
 }
 
 pub fn take_high(h: &mut [u32], base: usize) -> usize
@@ -66,26 +71,26 @@ pub fn take_high(h: &mut [u32], base: usize) -> usize
         return NONE;
     }
     let k = highest(top);
-    let bits = h[base + 1 + k];
-    take(h, base, 1, k, highest(bits))
+    let bits = h[base + TOPS + k];
+    take(h, base, TOPS, k, highest(bits))
 }
 
-// The first word of the turns that wait from k on that has one; 64 or more if there is none.
+// The first word from k on of the set of turns that has one; TURN_WORDS or more if there is none.
 fn word_from(h: &[u32], k: usize) -> usize
     requires { ⌜ 2 ≤ length (now h) ⌝ }
     ensures { λ r. ⌜ r ≤ 96 ⌝ }
 {
-    if k < 32 {
+    if k < BITS {
         let low = lowest(h[ROWS] >> k as u32);
-        if low < 32 {
+        if low < BITS {
             return k + low;
         }
-        return 32 + lowest(h[ROWS + 1]);
+        return BITS + lowest(h[ROWS + 1]);
     }
-    if k < 64 {
-        return k + lowest(h[ROWS + 1] >> (k - 32) as u32);
+    if k < TURN_WORDS {
+        return k + lowest(h[ROWS + 1] >> (k - BITS) as u32);
     }
-    64
+    TURN_WORDS
 }
 
 // The same, going round.
@@ -94,7 +99,11 @@ fn word_round(h: &[u32], k: usize) -> usize
     ensures { λ r. ⌜ r ≤ 96 ⌝ }
 {
     let next = word_from(h, k);
-    if next < 64 { next } else { word_from(h, 0) }
+    if next < TURN_WORDS {
+        next
+    } else {
+        word_from(h, 0)
+    }
 }
 
 // Takes the next turn that waits from t on, going round; NONE if nothing waits.
@@ -102,15 +111,15 @@ pub fn take_turn(h: &mut [u32], t: usize) -> usize
     requires { ⌜ (t < 2048) × (66 ≤ length (now h)) ⌝ }
     ensures { λ r. ⌜ r ≤ 4096 ⌝ }
 {
-    let k = t / 32;
-    let ahead = h[ROWS + 2 + k] >> (t % 32) as u32;
+    let k = t / BITS;
+    let ahead = h[ROWS + TURN_TOPS + k] >> (t % BITS) as u32;
     if ahead != 0 {
-        return take(h, ROWS, 2, k, t % 32 + lowest(ahead));
+        return take(h, ROWS, TURN_TOPS, k, t % BITS + lowest(ahead));
     }
     let next = word_round(h, k + 1);
-    if next < 64 {
-        let bits = h[ROWS + 2 + next];
-        return take(h, ROWS, 2, next, lowest(bits));
+    if next < TURN_WORDS {
+        let bits = h[ROWS + TURN_TOPS + next];
+        return take(h, ROWS, TURN_TOPS, next, lowest(bits));
     }
     NONE
 }
@@ -119,20 +128,20 @@ pub fn take_turn(h: &mut [u32], t: usize) -> usize
 pub fn waits(h: &[u32], r: usize) -> bool
     requires { ⌜ r < 65536 ⌝ }
 {
-    has_bit(h, ROWS + 2, turn_of(h, r))
+    has_bit(h, ROWS + TURN_TOPS, turn_of(h, r))
 }
 
 // The word p follows f, a thing or a block; whether that is new.
 pub fn follow(h: &mut [u32], n: usize, f: usize, p: usize) -> bool {
     let base = at_followers(n, f);
     let i = p % MOST;
-    if h.len() <= base + 1 + i / 32 {
+    if h.len() <= base + TOPS + i / BITS {
         return false;
     }
-    if has_bit(h, base + 1, i) {
+    if has_bit(h, base + TOPS, i) {
         return false;
     }
-    add(h, base, 1, i);
+    add(h, base, TOPS, i);
     true
 }
 
@@ -141,12 +150,12 @@ pub fn next_follower(h: &[u32], base: usize, from: usize) -> usize
     requires { ⌜ (base < 131072) × (from ≤ 1024) ⌝ }
     ensures { λ r. ⌜ from ≤ r ⌝ }
 {
-    let k = from / 32;
-    let bits = word(h, base + 1 + k) >> (from % 32) as u32;
+    let k = from / BITS;
+    let bits = word(h, base + TOPS + k) >> (from % BITS) as u32;
     if bits != 0 {
         return from + lowest(bits);
     }
-    if 31 <= k {
+    if WORDS <= k + 1 {
         return MOST;
     }
     let later = word(h, base) >> (k + 1) as u32;
@@ -154,5 +163,5 @@ pub fn next_follower(h: &[u32], base: usize, from: usize) -> usize
         return MOST;
     }
     let next = k + 1 + lowest(later);
-    32 * next + lowest(word(h, base + 1 + next))
+    BITS * next + lowest(word(h, base + TOPS + next))
 }

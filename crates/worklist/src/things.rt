@@ -2,6 +2,7 @@
 use crate::choices::choose;
 use crate::choices::choose_unless;
 use crate::kinds;
+use crate::memory::BITS;
 use crate::memory::MOST;
 use crate::memory::TURNS;
 use crate::memory::at_followers;
@@ -15,6 +16,7 @@ use crate::view::kind_at;
 use crate::view::lead;
 use crate::view::past;
 use crate::view::row_at;
+use crate::view::width;
 use rows::layout::Layout;
 use table::words::argument_of;
 ghost use Prim.Native.Nat.{_<_, _≤_};
@@ -61,6 +63,7 @@ fn mask_of(kind: u32) -> usize
     }
 }
 
+// The same, if p did not follow f before; it does from then on.
 fn meet_once(h: &mut [u32], out: &mut [u32], n: usize, kind: u32, d: usize, p: usize, f: usize)
     requires { ⌜ (d < 2048) × (f < 4096) ⌝ }
 {
@@ -106,7 +109,7 @@ pub fn meet_new(
     let at = row_at(l, 2 * (p + 1));
     let mask = row_at(l, mask_of(kind));
     let first = lead(l);
-    let end = l.row % 64;
+    let end = width(l);
     if est.len() < at + end {
         return;
     }
@@ -116,7 +119,7 @@ pub fn meet_new(
     let mut k = first;
     while k < end {
         let bits = est[at + k] & masks[mask + k];
-        meet_word(h, out, l.size, kind, d, p, 32 * (k - first), bits);
+        meet_word(h, out, l.size, kind, d, p, BITS * (k - first), bits);
         k += 1;
     }
 }

@@ -6,10 +6,21 @@ use crate::memory::word;
 use rows::layout::Layout;
 use table::words::kind_of;
 use table_links::link_at;
-ghost use Prim.Native.Nat.{_<_, _≤_};
+ghost use Prim.Native.Nat.{_<_};
+ghost use lib.ListN.{length};
 
+const WIDEST: usize = 64;
+
+// The kind of the word p, 0 past the end.
 pub fn kind_at(words: &[u32], p: usize) -> u32 {
     kind_of(word(words, p))
+}
+
+// The same within the table, which spares a test for each word of a walk over it.
+pub fn kind_within(words: &[u32], p: usize) -> u32
+    requires { ⌜ p < length (now words) ⌝ }
+{
+    kind_of(words[p])
 }
 
 pub fn binder(links: &[u32], p: usize) -> usize
@@ -36,10 +47,10 @@ pub fn past(links: &[u32], p: usize) -> usize
 
 // The word after the block or the term at p.
 pub fn close(words: &[u32], links: &[u32], p: usize) -> usize
-    requires { ⌜ p < 2048 ⌝ }
+    requires { ⌜ p < length (now words) ⌝ }
     ensures { λ r. ⌜ r < 2048 ⌝ }
 {
-    if kind_at(words, p) == kinds::BLOCK {
+    if kind_within(words, p) == kinds::BLOCK {
         end(links, p + 3)
     } else {
         end(links, p)
@@ -47,11 +58,15 @@ pub fn close(words: &[u32], links: &[u32], p: usize) -> usize
 }
 
 // How many words of a row the elements of plain data fill; made things come after them.
-pub fn lead(l: Layout) -> usize
+pub fn lead(_l: Layout) -> usize {
+    2
+}
+
+// How many words a row has, which are fewer than WIDEST in every estimate.
+pub fn width(l: Layout) -> usize
     ensures { λ r. ⌜ r < 64 ⌝ }
 {
-    let row = l.row % 64;
-    if row < 2 { row } else { 2 }
+    l.row % WIDEST
 }
 
 // The first word of the row r in an estimate, and of the mask r among the masks.
@@ -59,7 +74,7 @@ pub fn row_at(l: Layout, r: usize) -> usize
     requires { ⌜ r < 4096 ⌝ }
     ensures { λ s. ⌜ s < 262144 ⌝ }
 {
-    r * (l.row % 64)
+    r * width(l)
 }
 
 // The permissions of p and its live flag, in an estimate.

@@ -37,9 +37,13 @@ next-thing-requires c κs =
 
 loop-holds : tie.Need-loop-holds Inv-loop μ-loop
 loop-holds c =
-    let s = c .before .before .before .before .before in let a = s .args in let e = a .e in
-    (refl, refl, c .next-thing .ensures .found,
-    (λ k o m. made-start (a .l) (a .masks .now) (e .z) (s .pre .1 .mask) k o m (e .x + 1) (s .pre .1 .word) (e .what) (e .x) (e .y) refl (a .est .now) _ (c .next-thing .ensures)), omega arith)
+    let s = c .before .before .before .before .before in let a = s .args in let e = a .e in (
+      refl,
+      refl,
+      c .next-thing .ensures .found,
+      (λ k o m. made-start (a .l) (a .masks .now) (e .z) (s .pre .1 .mask) k o m (e .x + 1) (s .pre .1 .word) (e .what) (e .x) (e .y) refl (a .est .now) _ (c .next-thing .ensures)),
+      omega arith,
+    )
 
 for-thing-requires : tie.Need-for-thing-requires Inv-loop μ-loop
 for-thing-requires c κs =

@@ -21,13 +21,15 @@ has-thing-requires c κs =
 
 for-thing-requires : tie.Need-for-thing-requires
 for-thing-requires c κs =
-    let s = c .before .before .before .before .before .before .before .before in let a = s .args in let e = a .e in
-    (s .pre .0, record {
-      word = omega (arith, s .pre .1 .word);
-      row = s .pre .1 .row;
-      thing = s .pre .2;
-      body = λ b. s .pre .1 .bodies b (a .f) (s .pre .2) (both-masked (a .est .now) (a .masks .now) (a .l .lead) (2 * (e .x + 1) * a .l .row) (e .z * a .l .row) (a .f) (sym (c .before .before .before .has-thing .ensures) ∙ c .before .before .if1 .taken));
-    })
+    let s = c .before .before .before .before .before .before .before .before in let a = s .args in let e = a .e in (
+      s .pre .0,
+      record {
+        word = omega (arith, s .pre .1 .word);
+        row = s .pre .1 .row;
+        thing = s .pre .2;
+        body = λ b. s .pre .1 .bodies b (a .f) (s .pre .2) (both-masked (a .est .now) (a .masks .now) (a .l .lead) (2 * (e .x + 1) * a .l .row) (e .z * a .l .row) (a .f) (sym (c .before .before .before .has-thing .ensures) ∙ c .before .before .if1 .taken));
+      },
+    )
 
 same-length : tie.Need-same-length
 same-length c = search needs

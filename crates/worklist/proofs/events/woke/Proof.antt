@@ -12,8 +12,14 @@ Inv-loop words links h out₀ q e p₀ out p = length out ≡ length out₀
 abbrev μ-loop : tie.MeasureT-loop
 μ-loop words links h out₀ q e p₀ out p = e - p
 
+returns : tie.Need-returns Inv-loop μ-loop
+returns c = search needs
+
 close-requires : tie.Need-close-requires Inv-loop μ-loop
 close-requires c κs = search needs
+
+lower-requires : tie.Need-lower-requires Inv-loop μ-loop
+lower-requires c κs = search needs
 
 start-requires : tie.Need-start-requires Inv-loop μ-loop
 start-requires c κs = search needs
@@ -36,8 +42,8 @@ loop-again c = search needs
 same-length : tie.Need-same-length Inv-loop μ-loop
 same-length c = search needs
 
-returns : tie.Need-returns Inv-loop μ-loop
-returns c = search needs
+returns-2 : tie.Need-returns-2 Inv-loop μ-loop
+returns-2 c = search needs
 
 pub woke-spec : {M : Type 1} → statement M
 woke-spec =
@@ -45,7 +51,9 @@ woke-spec =
     (tie.spec
     Inv-loop
     μ-loop
+    returns
     close-requires
+    lower-requires
     start-requires
     after-requires
     loop-holds
@@ -53,4 +61,4 @@ woke-spec =
     loop-less
     loop-again
     same-length
-    returns)
+    returns-2)

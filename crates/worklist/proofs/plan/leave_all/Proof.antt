@@ -7,7 +7,7 @@ use Rattle.worklist.proofs.plan.leave_all.Statement.{statement}
 use Rattle.worklist.proofs.plan.leave_all.Tie as tie
 
 abbrev Inv-loop : tie.InvT-loop
-Inv-loop words links h₀ p turn₀ q₀ h turn q = (length h ≡ length h₀) × (q < 1024)
+Inv-loop words links h₀ p turn₀ q₀ h turn q = (length h ≡ length h₀) × (q < length words)
 
 abbrev μ-loop : tie.MeasureT-loop
 μ-loop words links h₀ p turn₀ q₀ h turn q = q

@@ -7,13 +7,16 @@ use Rattle.worklist.proofs.plan.prepare.Statement.{statement}
 use Rattle.worklist.proofs.plan.prepare.Tie as tie
 
 abbrev Inv-loop : tie.InvT-loop
-Inv-loop words links h₀ n place₀ p₀ h place p = (length h ≡ length h₀) × (place .word < 1024)
+Inv-loop words links h₀ n place₀ p₀ h place p = (length h ≡ length h₀) × (place .word < length words)
 
 abbrev μ-loop : tie.MeasureT-loop
 μ-loop words links h₀ n place₀ p₀ h place p = n - p
 
 returns : tie.Need-returns Inv-loop μ-loop
 returns c = search needs
+
+returns-2 : tie.Need-returns-2 Inv-loop μ-loop
+returns-2 c = search needs
 
 loop-holds : tie.Need-loop-holds Inv-loop μ-loop
 loop-holds c = search needs
@@ -36,8 +39,8 @@ leave-all-requires c κs = search needs
 same-length : tie.Need-same-length Inv-loop μ-loop
 same-length c = search needs
 
-returns-2 : tie.Need-returns-2 Inv-loop μ-loop
-returns-2 c = search needs
+returns-3 : tie.Need-returns-3 Inv-loop μ-loop
+returns-3 c = search needs
 
 pub prepare-spec : {M : Type 1} → statement M
 prepare-spec =
@@ -46,6 +49,7 @@ prepare-spec =
     Inv-loop
     μ-loop
     returns
+    returns-2
     loop-holds
     prepare-word-requires
     add-p
@@ -53,4 +57,4 @@ prepare-spec =
     loop-again
     leave-all-requires
     same-length
-    returns-2)
+    returns-3)

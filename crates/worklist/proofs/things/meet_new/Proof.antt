@@ -30,6 +30,9 @@ row-at-requires-2 c κs = search needs
 lead-requires : tie.Need-lead-requires Inv-loop μ-loop
 lead-requires c κs = search needs
 
+width-requires : tie.Need-width-requires Inv-loop μ-loop
+width-requires c κs = search needs
+
 add-if1 : tie.Need-add-if1 Inv-loop μ-loop
 add-if1 c = search needs
 
@@ -102,6 +105,7 @@ meet-new-spec =
     mask-of-requires
     row-at-requires-2
     lead-requires
+    width-requires
     add-if1
     returns
     add-if2
