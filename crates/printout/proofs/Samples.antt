@@ -14,7 +14,7 @@ use Rattle.calculus.specs.Constraint.{range}
 use Rattle.calculus.specs.Rules.{nameOf, permsOf, guarded, permissions, admits, leafRule, oneRule, twoRule, flow, entry, rule}
 use Rattle.calculus.specs.Layout.{rowWords, estimateWords}
 use Rattle.little_endian.specs.LittleEndian.{wordsOf, bytesOf}
-use Rattle.report.specs.Text.{bytes, decimal, set}
+use Rattle.text.specs.Text.{bytes, decimal, set}
 use Rattle.report.specs.Lines.{refusalLine, verdictLine, handlerLine}
 use Rattle.printout.specs.Program.{printed}
 

@@ -3,7 +3,7 @@ use mathlib.Core.Bool.{true, false}
 use mathlib.Core.Path.{_≡_, refl}
 use mathlib.Core.List.{List, [], _∷_}
 use Prim.Native.Nat.{ℕ}
-use Rattle.report.specs.Text.{bytes, decimal, set}
+use Rattle.text.specs.Text.{bytes, decimal, set}
 use Rattle.report.specs.Lines.{refusalLine, verdictLine, handlerLine}
 
 abbrev lines : List (List ℕ)

@@ -3,12 +3,7 @@ use Prim.Native.Nat.{ℕ}
 use mathlib.Core.Bool.{Bool, true, false}
 use mathlib.Core.List.{List, _++_}
 use Rattle.calculus.specs.Answer.{Verdict}
-use Rattle.report.specs.Text.{bytes, decimal, set}
-
--- one of two words
-abbrev pub choice : Bool → List ℕ → List ℕ → List ℕ
-choice true a b = a
-choice false a b = b
+use Rattle.text.specs.Text.{bytes, decimal, set, choice}
 
 unfoldable pub refusalLine : (number place : ℕ) → List ℕ
 refusalLine number place = (bytes "refused " ++ decimal number) ++ (bytes " at " ++ decimal place) ++ bytes "\n"

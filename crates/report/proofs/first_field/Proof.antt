@@ -4,9 +4,9 @@ use mathlib.Core.Bool.{Bool}
 use mathlib.Core.List.{_++_}
 use native.Mathlib.Omega.{arith}
 use borrow.Author.Needs.{needs}
-use Rattle.report.specs.Text.{bytes}
+use Rattle.text.specs.Text.{bytes}
 use Rattle.report.specs.Lines.{firstOutside}
-use Rattle.report.proofs.Writing.{reworded}
+use Rattle.text.proofs.Writing.{reworded}
 use Rattle.report.proofs.first_field.Statement.{statement}
 use Rattle.report.proofs.first_field.Tie as tie
 
@@ -16,11 +16,11 @@ slice-aggregate-number-field c = search needs
 number-field-requires : tie.Need-number-field-requires
 number-field-requires c κs = search needs
 
-slice-aggregate-text : tie.Need-slice-aggregate-text
-slice-aggregate-text c = search needs
+slice-aggregate-put : tie.Need-slice-aggregate-put
+slice-aggregate-put c = search needs
 
-text-requires : tie.Need-text-requires
-text-requires c κs = search needs
+put-requires : tie.Need-put-requires
+put-requires c κs = search needs
 
 same-length : tie.Need-same-length
 same-length c = search needs
@@ -42,8 +42,8 @@ unfolding firstOutside
 returns-2 c =
     let test = c .before .before .before .before .before in (
       reworded (ap (λ (o : Bool). bytes " first " ++ firstOutside o (test .before .before .args .first)) (sym (test .if1 .left)))
-          (c .before .before .text .ensures),
-      omega (arith, c .before .before .text .ensures .ends),
+          (c .before .before .put .ensures),
+      omega (arith, c .before .before .put .ensures .ends),
     )
 
 pub first-field-spec : {M : Type 1} → statement M
@@ -52,8 +52,8 @@ first-field-spec =
     (tie.spec
     slice-aggregate-number-field
     number-field-requires
-    slice-aggregate-text
-    text-requires
+    slice-aggregate-put
+    put-requires
     same-length
     returns
     same-length-2

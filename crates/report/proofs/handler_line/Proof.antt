@@ -1,7 +1,7 @@
 -- `report::handler_line` meets its contract. Assumes nothing.
 use borrow.Author.Needs.{needs}
 use Rattle.report.specs.Lines.{handlerLine}
-use Rattle.report.proofs.Writing.{then, line}
+use Rattle.text.proofs.Writing.{then, line}
 use Rattle.report.proofs.handler_line.Statement.{statement}
 use Rattle.report.proofs.handler_line.Tie as tie
 
@@ -47,11 +47,11 @@ slice-aggregate-set-field c = search needs
 set-field-requires : tie.Need-set-field-requires
 set-field-requires c κs = search needs
 
-slice-aggregate-text : tie.Need-slice-aggregate-text
-slice-aggregate-text c = search needs
+slice-aggregate-put : tie.Need-slice-aggregate-put
+slice-aggregate-put c = search needs
 
-text-requires : tie.Need-text-requires
-text-requires c κs = search needs
+put-requires : tie.Need-put-requires
+put-requires c κs = search needs
 
 returns : tie.Need-returns
 unfolding handlerLine
@@ -65,7 +65,7 @@ returns c =
     let three = then two (at-word-field .word-field .ensures .0) in
     let four = then three (at-word-field2 .word-field2 .ensures .0) in
     let five = then four (at-set-field .set-field .ensures .0) in
-    line (then five (c .text .ensures))
+    line (then five (c .put .ensures))
 
 pub handler-line-spec : {M : Type 1} → statement M
 handler-line-spec =
@@ -85,6 +85,6 @@ handler-line-spec =
     word-field-requires-2
     slice-aggregate-set-field
     set-field-requires
-    slice-aggregate-text
-    text-requires
+    slice-aggregate-put
+    put-requires
     returns)

@@ -1,7 +1,7 @@
 -- `report::refusal_line` meets its contract. Assumes nothing.
 use borrow.Author.Needs.{needs}
 use Rattle.report.specs.Lines.{refusalLine}
-use Rattle.report.proofs.Writing.{then, line}
+use Rattle.text.proofs.Writing.{then, line}
 use Rattle.report.proofs.refusal_line.Statement.{statement}
 use Rattle.report.proofs.refusal_line.Tie as tie
 
@@ -17,18 +17,18 @@ slice-aggregate-number-field-2 c = search needs
 number-field-requires-2 : tie.Need-number-field-requires-2
 number-field-requires-2 c κs = search needs
 
-slice-aggregate-text : tie.Need-slice-aggregate-text
-slice-aggregate-text c = search needs
+slice-aggregate-put : tie.Need-slice-aggregate-put
+slice-aggregate-put c = search needs
 
-text-requires : tie.Need-text-requires
-text-requires c κs = search needs
+put-requires : tie.Need-put-requires
+put-requires c κs = search needs
 
 returns : tie.Need-returns
 unfolding refusalLine
 returns c =
     let at-number-field2 = c .before .before .before in
     let at-number-field = at-number-field2 .before .before .before in
-    line (then (then (at-number-field .number-field .ensures .0) (at-number-field2 .number-field2 .ensures .0)) (c .text .ensures))
+    line (then (then (at-number-field .number-field .ensures .0) (at-number-field2 .number-field2 .ensures .0)) (c .put .ensures))
 
 pub refusal-line-spec : {M : Type 1} → statement M
 refusal-line-spec =
@@ -38,6 +38,6 @@ refusal-line-spec =
     number-field-requires
     slice-aggregate-number-field-2
     number-field-requires-2
-    slice-aggregate-text
-    text-requires
+    slice-aggregate-put
+    put-requires
     returns)

@@ -1,7 +1,7 @@
 -- `report::verdict_line` meets its contract. Assumes nothing.
 use borrow.Author.Needs.{needs}
 use Rattle.report.specs.Lines.{verdictLine}
-use Rattle.report.proofs.Writing.{then, line}
+use Rattle.text.proofs.Writing.{then, line}
 use Rattle.report.proofs.verdict_line.Statement.{statement}
 use Rattle.report.proofs.verdict_line.Tie as tie
 
@@ -38,11 +38,11 @@ slice-aggregate-number-field c = search needs
 number-field-requires : tie.Need-number-field-requires
 number-field-requires c κs = search needs
 
-slice-aggregate-text : tie.Need-slice-aggregate-text
-slice-aggregate-text c = search needs
+slice-aggregate-put : tie.Need-slice-aggregate-put
+slice-aggregate-put c = search needs
 
-text-requires : tie.Need-text-requires
-text-requires c κs = search needs
+put-requires : tie.Need-put-requires
+put-requires c κs = search needs
 
 returns : tie.Need-returns
 unfolding verdictLine
@@ -56,7 +56,7 @@ returns c =
     let three = then two (at-word-field .word-field .ensures .0) in
     let four = then three (at-first-field .first-field .ensures .0) in
     let five = then four (at-number-field .number-field .ensures .0) in
-    line (then five (c .text .ensures))
+    line (then five (c .put .ensures))
 
 pub verdict-line-spec : {M : Type 1} → statement M
 verdict-line-spec =
@@ -73,6 +73,6 @@ verdict-line-spec =
     first-field-requires
     slice-aggregate-number-field
     number-field-requires
-    slice-aggregate-text
-    text-requires
+    slice-aggregate-put
+    put-requires
     returns)

@@ -1,4 +1,4 @@
--- `report::numeral` meets its contract: the measure is the number of places. Assumes nothing.
+-- `text::numeral` meets its contract: the measure is the number of places. Assumes nothing.
 use mathlib.Core.Path.{sym, ap, _∙_}
 use mathlib.Core.List.{[], _∷_, _++_}
 use Prim.Native.Nat.{ℕ, _-_, _/_, _<_}
@@ -7,16 +7,16 @@ use native.Mathlib.Omega.{arith}
 use borrow.Author.Needs.{needs}
 use borrow.Fn.Kinds.{In}
 use borrow.Fn.PlainCycle.{Measures, is, falls, and}
-use Rattle.report.specs.Text.{numeral as Text·numeral}
-use Rattle.report.proofs.Digits.{numeral-none, numeral-stop, numeral-more}
-use Rattle.report.proofs.Writing.{wrote-nothing, wrote-byte, reworded, then}
-use Rattle.report.proofs.numeral.Reads as numeral
-use Rattle.report.proofs.numeral.Kinds as numeral-kinds
-use Rattle.report.proofs.+numeral.Lts-numeral as numeral-lts
-use Rattle.report.proofs.glyph.Reads as glyph-reads
-use Rattle.report.proofs.left_out.Reads as left-out-reads
-use Rattle.report.proofs.+numeral.{statement}
-use Rattle.report.proofs.+numeral.Tie.{close}
+use Rattle.text.specs.Text.{numeral as Text·numeral}
+use Rattle.text.proofs.Digits.{numeral-none, numeral-stop, numeral-more}
+use Rattle.text.proofs.Writing.{wrote-nothing, wrote-byte, reworded, then}
+use Rattle.text.proofs.numeral.Reads as numeral
+use Rattle.text.proofs.numeral.Kinds as numeral-kinds
+use Rattle.text.proofs.+numeral.Lts-numeral as numeral-lts
+use Rattle.text.proofs.glyph.Reads as glyph-reads
+use Rattle.text.proofs.left_out.Reads as left-out-reads
+use Rattle.text.proofs.+numeral.{statement}
+use Rattle.text.proofs.+numeral.Tie.{close}
 
 abbrev μ-numeral : Measures 1 numeral-kinds.ps ℕ
 μ-numeral κs a = a .1 .1 .1 .1 .0

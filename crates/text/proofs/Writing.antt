@@ -7,7 +7,7 @@ use native.Mathlib.Numerals.{add-one}
 use native.Mathlib.Omega.{arith}
 use lib.ListN.{length, take, drop, set, length-append, length-drop, take-append-drop}
 use lib.Seq.{set-split, append-snoc, take-at, drop-append-add, drop-drop, length-take-le}
-use Rattle.report.specs.Writing.{Wrote, Line}
+use Rattle.text.specs.Writing.{Wrote, Line}
 
 pub wrote-nothing : (l : List ℕ) (at : ℕ) → at ≤ length l → Wrote l at [] l at
 wrote-nothing l at h =

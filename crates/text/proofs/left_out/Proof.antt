@@ -1,7 +1,7 @@
--- `report::left_out` meets its contract. Assumes nothing.
+-- `text::left_out` meets its contract. Assumes nothing.
 use borrow.Author.Tests.{eq-eqb, ne-eqb}
-use Rattle.report.proofs.left_out.Statement.{statement}
-use Rattle.report.proofs.left_out.Tie as tie
+use Rattle.text.proofs.left_out.Statement.{statement}
+use Rattle.text.proofs.left_out.Tie as tie
 
 returns : tie.Need-returns
 returns c = simp (eq-eqb _ _ (c .if1 .taken))

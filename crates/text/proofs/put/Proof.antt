@@ -1,4 +1,4 @@
--- `report::text` meets its contract. The loop's invariant: the first i bytes of the text are written. Assumes nothing.
+-- `text::put` meets its contract. The loop's invariant: the first i bytes of the text are written. Assumes nothing.
 use Prim.Native.Nat.{_+_, _-_, _≤_}
 use mathlib.Core.Path.{_≡_, refl}
 use native.Mathlib.Numerals.{add-one}
@@ -8,10 +8,10 @@ use lib.ListN.{length, getD, take}
 use lib.Seq.{take-suc, take-all}
 use denote.Ref.{now}
 use borrow.Author.Needs.{needs}
-use Rattle.report.specs.Writing.{Wrote}
-use Rattle.report.proofs.Writing.{wrote-nothing, wrote-byte, then}
-use Rattle.report.proofs.text.Statement.{statement}
-use Rattle.report.proofs.text.Tie as tie
+use Rattle.text.specs.Writing.{Wrote}
+use Rattle.text.proofs.Writing.{wrote-nothing, wrote-byte, then}
+use Rattle.text.proofs.put.Statement.{statement}
+use Rattle.text.proofs.put.Tie as tie
 
 abbrev Inv-loop : tie.InvT-loop
 Inv-loop out₀ at s i₀ out i =
@@ -57,8 +57,8 @@ same-length c = search needs
 returns : tie.Need-returns Inv-loop μ-loop
 returns c = rw (take-all (c .before .loop .i) (now (c .before .before .args .s)) (c .loop-test .left)) at (c .before .loop .inv .2)
 
-pub text-spec : {M : Type 1} → statement M
-text-spec =
+pub put-spec : {M : Type 1} → statement M
+put-spec =
     tie.close
     (tie.spec
     Inv-loop

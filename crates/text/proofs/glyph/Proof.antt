@@ -1,9 +1,9 @@
--- `report::glyph` meets its contract. Assumes nothing.
+-- `text::glyph` meets its contract. Assumes nothing.
 use borrow.Author.Needs.{needs}
 use borrow.Author.Tests.{lt-ltb, le-ltb}
-use Rattle.report.specs.Text.{glyph}
-use Rattle.report.proofs.glyph.Statement.{statement}
-use Rattle.report.proofs.glyph.Tie as tie
+use Rattle.text.specs.Text.{glyph}
+use Rattle.text.proofs.glyph.Statement.{statement}
+use Rattle.text.proofs.glyph.Tie as tie
 
 cast-result : tie.Need-cast-result
 cast-result c = search needs

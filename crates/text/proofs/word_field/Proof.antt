@@ -1,23 +1,23 @@
--- `report::word_field` meets its contract. Assumes nothing.
+-- `text::word_field` meets its contract. Assumes nothing.
 use mathlib.Core.Path.{sym, ap}
 use mathlib.Core.Bool.{Bool}
 use mathlib.Core.List.{_++_}
 use denote.Ref.{now}
 use native.Mathlib.Omega.{arith}
 use borrow.Author.Needs.{needs}
-use Rattle.report.specs.Lines.{choice}
-use Rattle.report.proofs.Writing.{reworded, then}
-use Rattle.report.proofs.word_field.Statement.{statement}
-use Rattle.report.proofs.word_field.Tie as tie
+use Rattle.text.specs.Text.{choice}
+use Rattle.text.proofs.Writing.{reworded, then}
+use Rattle.text.proofs.word_field.Statement.{statement}
+use Rattle.text.proofs.word_field.Tie as tie
 
-text-requires : tie.Need-text-requires
-text-requires c κs = search needs
+put-requires : tie.Need-put-requires
+put-requires c κs = search needs
 
-text-requires-2 : tie.Need-text-requires-2
-text-requires-2 c κs = search needs
+put-requires-2 : tie.Need-put-requires-2
+put-requires-2 c κs = search needs
 
-text-requires-3 : tie.Need-text-requires-3
-text-requires-3 c κs = search needs
+put-requires-3 : tie.Need-put-requires-3
+put-requires-3 c κs = search needs
 
 same-length : tie.Need-same-length
 same-length c = search needs
@@ -27,7 +27,7 @@ returns c =
     let test = c .before .before .before .before in
     let a = test .before .before .before .before .before .before .before .before .before .args in (
       reworded (ap (λ (f : Bool). now (a .label) ++ choice f (now (a .a)) (now (a .b))) (sym (test .if1 .taken)))
-          (then (test .before .before .before .text .ensures) (c .before .before .text2 .ensures)),
+          (then (test .before .before .before .put .ensures) (c .before .before .put2 .ensures)),
       omega arith,
     )
 
@@ -39,7 +39,7 @@ returns-2 c =
     let test = c .before .before .before .before in
     let a = test .before .before .before .before .before .before .before .before .before .args in (
       reworded (ap (λ (f : Bool). now (a .label) ++ choice f (now (a .a)) (now (a .b))) (sym (test .if1 .left)))
-          (then (test .before .before .before .text .ensures) (c .before .before .text3 .ensures)),
+          (then (test .before .before .before .put .ensures) (c .before .before .put3 .ensures)),
       omega arith,
     )
 
@@ -47,9 +47,9 @@ pub word-field-spec : {M : Type 1} → statement M
 word-field-spec =
     tie.close
     (tie.spec
-    text-requires
-    text-requires-2
-    text-requires-3
+    put-requires
+    put-requires-2
+    put-requires-3
     same-length
     returns
     same-length-2

@@ -8,7 +8,7 @@ use native.Mathlib.Omega.{arith}
 use lib.Dec.{leb}
 use lib.ListN.{getD}
 use borrow.Author.Tests.{eqb-true, eq-eqb, ne-eqb, le-leb}
-use Rattle.report.specs.Text.{digits, glyph, leftOut, numeral, value}
+use Rattle.text.specs.Text.{digits, glyph, leftOut, numeral, value}
 
 and-first : (a b : Bool) → a && b ≡ true → a ≡ true
 and-first true b e = refl
