@@ -1,0 +1,6 @@
+pub mod Letters
+pub mod Taken
+pub mod Pushed
+pub mod Depths
+pub mod Samples
+pub mod Styles

@@ -1,0 +1,4 @@
+pub mod Keywords
+pub mod Spelling
+pub mod Listing
+pub mod Depths
