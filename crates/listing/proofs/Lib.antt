@@ -1,4 +1,6 @@
+pub mod Answers
 pub mod Letters
+pub mod Lines
 pub mod Taken
 pub mod Pushed
 pub mod Depths

@@ -1,4 +1,5 @@
 pub mod Keywords
 pub mod Spelling
 pub mod Listing
+pub mod Answer
 pub mod Depths

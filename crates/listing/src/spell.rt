@@ -72,6 +72,7 @@ fn keyword_field(letters: &[u8], k: usize, out: &mut [u8]) -> usize
 pub fn spell(letters: &[u8], w: u32, out: &mut [u8; 48]) -> usize
     requires { ⌜ (now letters ≡ Keywords·letters) × (kind w ≤ 36) ⌝ }
     ensures { λ r. ⌜ Line (now (out .entry)) (spelled w) (now (out .exit)) r ⌝ }
+    ensures { λ r. ⌜ r ≤ 48 ⌝ }
 {
     let k = kind_of(w) as usize;
     let a = keyword_field(letters, k, out);

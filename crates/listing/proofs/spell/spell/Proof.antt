@@ -1,6 +1,7 @@
 -- `listing::spell::spell` meets its contract. Assumes nothing.
 use Prim.Native.Nat.{ℕ}
 use mathlib.Core.Path.{ap₂}
+use native.Mathlib.Omega.{arith}
 use Rattle.text.proofs.Writing.{then, line, reworded}
 use Rattle.listing.specs.Keywords.{entryOf}
 use Rattle.listing.specs.Spelling.{spelled, lineOf}
@@ -39,7 +40,7 @@ returns c =
     let k = f .before .before .before .before .before .before in
     let argument = f .argument-field .ensures .0 (entryOf (k .kind-of .result) .style) (f .before .before .style-at .ensures) in
     let all = then (then (f .before .before .before .before .keyword-field .ensures .0) argument) (c .put .ensures) in
-    line (reworded (ap₂ (λ (n a : ℕ). lineOf (entryOf n) a) (k .kind-of .ensures) (f .before .argument-of .ensures)) all)
+    (line (reworded (ap₂ (λ (n a : ℕ). lineOf (entryOf n) a) (k .kind-of .ensures) (f .before .argument-of .ensures)) all), omega (arith, c .put .ensures .ends))
 
 pub spell-spec : {M : Type 1} → statement M
 spell-spec =
