@@ -1,4 +1,5 @@
 pub mod Answers
+pub mod Guessing
 pub mod Letters
 pub mod Lines
 pub mod Taken

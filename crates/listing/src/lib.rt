@@ -1,5 +1,6 @@
 // The listing of a system: a text with one word to a line. `write::write` makes it from the words, `read::read` the words from it.
 mod depth;
+mod guess;
 mod keywords;
 mod spell;
 pub mod write;
