@@ -1,5 +1,6 @@
 pub mod Answers
 pub mod Guessing
+pub mod Cutting
 pub mod Letters
 pub mod Lines
 pub mod Taken

@@ -3,3 +3,4 @@ pub mod Spelling
 pub mod Listing
 pub mod Answer
 pub mod Depths
+pub mod Decoding
