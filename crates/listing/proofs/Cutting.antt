@@ -8,7 +8,7 @@ use native.Mathlib.Numerals.{add-one}
 use native.Mathlib.Omega.{arith}
 use lib.Dec.{eqb}
 use lib.ListN.{length, getD, take, drop, set, length-drop, length-map, drop-of-length-le}
-use lib.Seq.{take-all, drop-cons, drop-drop, getD-drop}
+use lib.Seq.{take-all, drop-cons, drop-drop, getD-drop, getD-take}
 use borrow.Author.Tests.{eq-eqb, ne-eqb}
 use Rattle.listing.specs.Spelling.{space, feed}
 use Rattle.listing.specs.Listing.{onto, cut, indent, wordIn, wordsOf, indents, misspelled}
@@ -212,3 +212,42 @@ size-some (b ∷ bs) h = go (eqb b feed) refl
 
 pub end-after : (text : List ℕ) (at e : ℕ) → at < length text → e ≡ at + lineSize (drop at text) → at < e
 end-after text at e h ends = omega (arith, size-some (drop at text) (omega (arith, length-drop at text)))
+
+-- ---- what is known behind the first n lines
+
+module _ (text : List ℕ) (n at : ℕ) (words spaces : List ℕ) (taken : Taken text n at words spaces) where
+  left-over : misspelled 1 (wordsOf text) ≡ misspelled (n + 1) (map wordIn (cut (drop at text)))
+  unfolding wordsOf
+  left-over = taken .fine ∙ ap (misspelled (n + 1)) (map-drop wordIn (cut text) n ∙ ap (map wordIn) (sym (taken .rest)))
+
+  pub left-bad : (m : ℕ) → m ≡ misspelled (n + 1) (map wordIn (cut (drop at text))) → misspelled 1 (wordsOf text) ≡ m
+  left-bad m e = left-over ∙ sym e
+
+  -- all lines
+  module _ (done : length text ≤ at) where
+    none : drop n (cut text) ≡ []
+    none = sym (taken .rest) ∙ ap cut (drop-of-length-le text done) ∙ cut-none
+
+    all : length (cut text) ≤ n
+    all = omega (arith, ap length none, length-drop n (cut text))
+
+    pub all-fine : misspelled 1 (wordsOf text) ≡ 0
+    all-fine = left-over ∙ rest-none text (n + 1) at done
+
+    pub all-words : take n words ≡ wordsOf text
+    unfolding wordsOf
+    all-words = taken .read ∙ take-all n (wordsOf text) (omega (arith, all, length-map (cut text) wordIn))
+
+    pub all-spaces : take n spaces ≡ indents text
+    unfolding indents
+    all-spaces = taken .indented ∙ take-all n (indents text) (omega (arith, all, length-map (cut text) indent))
+
+  -- more lines than n
+  module _ (more : at < length text) where
+    pub more-words : n < length (wordsOf text)
+    unfolding wordsOf
+    more-words =
+        omega (arith, line-counts text n at (at + lineSize (drop at text)) words spaces taken more refl, length-map (cut text) wordIn)
+
+    pub first-word : 0 < n → getD (wordsOf text) 0 0 ≡ getD words 0 0
+    first-word h = sym (getD-take n (wordsOf text) 0 0 h) ∙ ap (λ (l : List ℕ). getD l 0 0) (sym (taken .read)) ∙ getD-take n words 0 0 h

@@ -125,9 +125,5 @@ pub fn line_word(letters: &[u8], l: &[u8]) -> u32
     if size != l.len() {
         return 0;
     }
-    if starts_with(l, &line[..size]) {
-        w
-    } else {
-        0
-    }
+    if starts_with(l, &line[..size]) { w } else { 0 }
 }

@@ -4,12 +4,16 @@ use crate::Refusal;
 use crate::depth::find_depths;
 use crate::guess::line_word;
 use crate::keywords::LETTERS;
+use crate::write::wide;
 use table::Reading;
 use table::words::kind_of;
 ghost use mathlib.Core.Path.{_≡_};
-ghost use mathlib.Core.List.{_++_, map};
-ghost use Prim.Native.Nat.{_+_, _<_, _≤_};
-ghost use lib.ListN.{length, take, drop};
+ghost use mathlib.Core.List.{List, _++_, map};
+ghost use mathlib.Core.Logic.{_⊎_};
+ghost use Prim.Native.Nat.{ℕ, _+_, _<_, _≤_};
+ghost use lib.ListN.{length, drop, getD};
+ghost use Rattle.table.specs.Scan.{accepted, refused, reading};
+ghost use Rattle.table.specs.Answer.{number, place as Table·place};
 ghost use Rattle.listing.specs.Keywords.{letters as Keywords·letters};
 ghost use Rattle.listing.specs.Listing.{cut, wordIn, wordsOf, indents, tabled, spelt, readAs, left};
 ghost use Rattle.listing.specs.Listing.{indent as Listing·indent};
@@ -105,4 +109,117 @@ fn misspelled(letters: &[u8], text: &[u8], start: usize, before: usize) -> usize
         at = end;
     }
     0
+}
+
+// The number of the first line whose leading spaces are not two for each depth, 0 where there is none.
+fn misplaced(depths: &[u8], spaces: &[usize]) -> usize
+    ensures { λ r. ⌜ r ≡ Listing·misplaced 1 (now (depths .entry)) (now (spaces .entry)) ⌝ }
+{
+    let mut i = 0;
+    while i < depths.len() {
+        if spaces.len() <= i {
+            return 0;
+        }
+        if spaces[i] != 2 * wide(depths[i]) {
+            return i + 1;
+        }
+        i += 1;
+    }
+    0
+}
+
+// All words, at the start of out.
+fn put_words(words: &[u32], out: &mut [u32])
+    requires { ⌜ length (now words) ≤ length (now out) ⌝ }
+    ensures { λ _. ⌜ now (out .exit) ≡ now (words .entry) ++ drop (length (now (words .entry))) (now (out .entry)) ⌝ }
+{
+    let mut i = 0;
+    while i < words.len() {
+        out[i] = words[i];
+        i += 1;
+    }
+}
+
+fn place_accepted(words: &[u32], spaces: &[usize], out: &mut [u32]) -> Answer
+    requires { ⌜ reading (now words) ≡ accepted ⌝ }
+    ensures { λ r. ⌜ answered r ≡ tabled (now (words .entry)) (now (spaces .entry)) (length (now (out .entry))) ⌝ }
+    ensures { λ r. ⌜ now (out .exit) ≡ left (answered r) (now (words .entry)) (now (out .entry)) ⌝ }
+{
+    let n = words.len();
+    let mut depths = [0u8; 1024];
+    find_depths(words, &mut depths);
+    let line = misplaced(&depths[..n], spaces);
+    if line != 0 {
+        return Answer::Refused(Refusal::Line(line));
+    }
+    if out.len() < n {
+        return Answer::Refused(Refusal::NoRoom);
+    }
+    put_words(words, out);
+    Answer::Done(n)
+}
+
+// The words of all lines, with their leading spaces: from the table's numbers on.
+fn place(words: &[u32], spaces: &[usize], out: &mut [u32]) -> Answer
+    ensures { λ r. ⌜ answered r ≡ tabled (now (words .entry)) (now (spaces .entry)) (length (now (out .entry))) ⌝ }
+    ensures { λ r. ⌜ now (out .exit) ≡ left (answered r) (now (words .entry)) (now (out .entry)) ⌝ }
+{
+    if let Reading::Refused(r) = table::read::read(words) {
+        return Answer::Refused(Refusal::Table(r));
+    }
+    place_accepted(words, spaces, out)
+}
+
+// Why a table of more than 1,024 words is refused, by its first word.
+fn too_many(w: u32) -> table::Refusal
+    ensures { λ r. ⌜ ((ws : List ℕ) → 1024 < length ws → getD ws 0 0 ≡ w → reading ws ≡ refused (number r) (Table·place r)) ⌝ }
+{
+    if kind_of(w) == 1 {
+        table::Refusal::TooManyWords
+    } else {
+        table::Refusal::NotTable
+    }
+}
+
+// The text behind its first n lines, which end at a place: all lines are tested, and more than 1,024 are no table.
+fn finish(
+    letters: &[u8],
+    text: &[u8],
+    words: &[u32],
+    spaces: &[usize],
+    n: usize,
+    at: usize,
+    out: &mut [u32],
+) -> Answer
+    requires { ⌜ (now letters ≡ Keywords·letters) × (1024 ≤ length (now words)) × (1024 ≤ length (now spaces)) ⌝ }
+    requires { ⌜ Taken (now text) n at (now words) (now spaces) × (n ≤ 1024) × ((length (now text) ≤ at) ⊎ (n ≡ 1024)) ⌝ }
+    ensures { λ r. ⌜ answered r ≡ spelt (wordsOf (now (text .entry))) (indents (now (text .entry))) (length (now (out .entry))) ⌝ }
+    ensures { λ r. ⌜ now (out .exit) ≡ left (answered r) (wordsOf (now (text .entry))) (now (out .entry)) ⌝ }
+{
+    if at < text.len() {
+        let line = misspelled(letters, text, at, n);
+        if line != 0 {
+            return Answer::Refused(Refusal::Line(line));
+        }
+        let r = too_many(words[0]);
+        return Answer::Refused(Refusal::Table(r));
+    }
+    place(&words[..n], &spaces[..n], out)
+}
+
+// The words of a listing, at the start of out, and how many they are.
+pub fn read(text: &[u8], out: &mut [u32]) -> Answer
+    ensures answer { λ r. ⌜ answered r ≡ readAs (now (text .entry)) (length (now (out .entry))) ⌝ }
+    ensures words { λ _. ⌜ now (out .exit) ≡ left (readAs (now (text .entry)) (length (now (out .entry)))) (wordsOf (now (text .entry))) (now (out .entry)) ⌝ }
+{
+    if 65536 < text.len() {
+        return Answer::Refused(Refusal::TooLong);
+    }
+    let letters = LETTERS;
+    let mut words = [0u32; 1024];
+    let mut spaces = [0usize; 1024];
+    match decode(&letters, text, &mut words, &mut spaces) {
+        Decoded::Misspelled(n) => Answer::Refused(Refusal::Line(n)),
+        Decoded::Lines(n, at) => finish(&letters, text, &words, &spaces, n, at, out),
+    }
 }

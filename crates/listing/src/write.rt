@@ -19,7 +19,7 @@ ghost use Rattle.listing.specs.Listing.{indented, listing, written, left
 ghost use Rattle.listing.specs.Listing.{depths as Listing·depths};
 ghost use Rattle.listing.specs.Answer.{answered};
 
-fn wide(x: u8) -> usize
+pub fn wide(x: u8) -> usize
     ensures { λ r. ⌜ (r ≡ x) × (r < 256) ⌝ }
 {
     x as usize

@@ -29,7 +29,7 @@ returns : tie.Need-returns
 unfolding styleLetter guessedArgument
 returns c =
     let a = c .before .before .args in
-    (λ s e.  ap (λ (t : Style). guessedArgument t (drop (a .at) (a .l .now))) (letter-injective omitted s (sym (c .match .keys1) ∙ e)), omega arith)
+    (λ s e. ap (λ (t : Style). guessedArgument t (drop (a .at) (a .l .now))) (letter-injective omitted s (sym (c .match .keys1) ∙ e)), omega arith)
 
 returns-2 : tie.Need-returns-2
 unfolding styleLetter
