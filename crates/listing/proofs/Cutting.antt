@@ -109,7 +109,7 @@ misspelled-zero : (n : ℕ) (ws : List ℕ) → misspelled n (0 ∷ ws) ≡ n
 unfolding misspelled
 misspelled-zero n ws = refl
 
-misspelled-next : (n w : ℕ) (ws : List ℕ) → (w ≡ 0 → ⊥) → misspelled n (w ∷ ws) ≡ misspelled (suc n) ws
+pub misspelled-next : (n w : ℕ) (ws : List ℕ) → (w ≡ 0 → ⊥) → misspelled n (w ∷ ws) ≡ misspelled (suc n) ws
 unfolding misspelled
 misspelled-next n zero ws h = absurd (h refl)
 misspelled-next n (suc w) ws h = refl

@@ -1,7 +1,7 @@
 -- Guessing the word of a line, one byte or one kind after the other.
 use Prim.Native.Nat.{ℕ, zero, suc, _+_, _-_, _*_, _%_, _^_, _<_, _≤_}
 use mathlib.Core.Path.{_≡_, refl, sym, ap, ap₂, _∙_}
-use mathlib.Core.Bool.{Bool, true, false, not, _&&_}
+use mathlib.Core.Bool.{Bool, true, false, not, _&&_, false≢true}
 use mathlib.Core.List.{List, [], _∷_}
 use native.Mathlib.Nat.{add-zero}
 use native.Mathlib.Numerals.{add-one}
@@ -9,7 +9,7 @@ use native.Mathlib.Omega.{arith}
 use lib.Dec.{eqb, eqb·zero-suc, eqb·suc-suc}
 use lib.ListN.{length, getD, drop, drop-of-length-le, List·getD-eq-default}
 use lib.Seq.{drop-cons, drop-drop, getD-drop}
-use borrow.Author.Tests.{eq-eqb, ne-eqb}
+use borrow.Author.Tests.{eq-eqb, ne-eqb, eqb-true}
 use Rattle.listing.specs.Keywords.{Style, omitted, hex, whole, signed, Entry, unused, entries, entryOf, used}
 use Rattle.listing.specs.Spelling.{prefix, kindFrom, guessedKind, digitOf, folded, guessedArgument, guessed, same, spelled, spells, lineWord}
 
@@ -155,6 +155,14 @@ judged : Bool → ℕ → ℕ
 judged true w = w
 judged false w = 0
 
+judged-true : (w : ℕ) → judged true w ≡ w
+unfolding judged
+judged-true w = refl
+
+judged-false : (w : ℕ) → judged false w ≡ 0
+unfolding judged
+judged-false w = refl
+
 spells-step : (l : List ℕ) (k : ℕ) → (k ≡ 0 → ⊥) → spells l k ≡ judged (same (spelled (guessed k l)) l) (guessed k l)
 unfolding spells judged
 spells-step l zero n = absurd (n refl)
@@ -195,3 +203,29 @@ module _ (l : List ℕ) (k : ℕ) (e : k ≡ guessedKind l) where
       (spells-kind n
       ∙ ap (λ (b : Bool). judged b (guessed k l))
       (same-prefix (spelled (guessed k l)) l ∙ ap (λ (b : Bool). b && eqb (length (spelled (guessed k l))) (length l)) p))
+
+-- ---- a line that spells a word is how that word is spelled
+
+same-true : (xs l : List ℕ) → same xs l ≡ true → xs ≡ l
+unfolding same
+same-true [] [] e = refl
+same-true [] (b ∷ bs) e = absurd (false≢true e)
+same-true (a ∷ xs) [] e = absurd (false≢true e)
+same-true (a ∷ xs) (b ∷ bs) e = go (eqb a b) refl e (same-true xs bs)
+  where
+    go : (t : Bool) → eqb a b ≡ t → t && same xs bs ≡ true → (same xs bs ≡ true → xs ≡ bs) → a ∷ xs ≡ b ∷ bs
+    go true t s rest = ap₂ (λ (x : ℕ) (l : List ℕ). x ∷ l) (eqb-true a b t) (rest s)
+    go false t s rest = absurd (false≢true s)
+
+pub spells-sound : (l : List ℕ) → (lineWord l ≡ 0 → ⊥) → spelled (lineWord l) ≡ l
+unfolding lineWord
+spells-sound l n = kinds (guessedKind l) refl
+  where
+    judge : (k : ℕ) (b : Bool) → spells l (guessedKind l) ≡ judged b (guessed k l) → same (spelled (guessed k l)) l ≡ b → spelled (spells l (guessedKind l)) ≡ l
+    judge k true e s = ap spelled (e ∙ judged-true (guessed k l)) ∙ same-true (spelled (guessed k l)) l s
+    judge k false e s = absurd (n (e ∙ judged-false (guessed k l)))
+
+    kinds : (k : ℕ) → guessedKind l ≡ k → spelled (spells l (guessedKind l)) ≡ l
+    kinds zero e = absurd (n (sym (spells-none l 0 (sym e) refl)))
+    kinds (suc j) e =
+        judge (suc j) (same (spelled (guessed (suc j) l)) l) (ap (spells l) e ∙ spells-step l (suc j) (λ z. omega arith)) refl

@@ -2,6 +2,9 @@ pub mod Answers
 pub mod Guessing
 pub mod Cutting
 pub mod Letters
+pub mod Texts
+pub mod Theorems
+pub mod Undone
 pub mod Lines
 pub mod Taken
 pub mod Pushed

@@ -1,0 +1,95 @@
+-- What writer and reader are for: an accepted system has one text, reading it gives the same words, and the reader accepts no other text.
+use Prim.Native.Nat.{ℕ, zero, suc, _≤_}
+use mathlib.Core.Path.{_≡_, refl, sym, ap, ap₂, _∙_, subst}
+use mathlib.Core.Bool.{Bool, true, false}
+use mathlib.Core.List.{List, [], _∷_}
+use native.Mathlib.Omega.{arith}
+use lib.Dec.{ltb}
+use lib.ListN.{length}
+use borrow.Author.Tests.{ltb-false}
+use Rattle.table.specs.Scan.{Outcome, accepted, refused, firstOf, reading}
+use Rattle.listing.specs.Listing.{Answered, done, refusal, most, tested, depths, lines, listing, wordsOf, indents, misspelled, misplaced, placed, tabled, spelt, readAs}
+use Rattle.listing.proofs.Depths.{depths-length}
+use Rattle.listing.proofs.Answers.{read-spelt, spelt-table, place-done}
+use Rattle.listing.proofs.Texts.{doubled, words-undone, spaces-undone, none-misspelled, none-misplaced, all-known, text-sound}
+
+module _ (ws : List ℕ) (e : reading ws ≡ accepted) where
+  -- the words that are read from the text of an accepted system are its words
+  pub words-of-listing : wordsOf (listing ws) ≡ ws
+  unfolding listing wordsOf
+  words-of-listing = words-undone (depths ws) ws (depths-length ws e) (all-known ws e)
+
+  spaces-of-listing : indents (listing ws) ≡ doubled (depths ws)
+  unfolding listing indents
+  spaces-of-listing = spaces-undone (depths ws) ws (depths-length ws e) (all-known ws e)
+
+  -- an accepted system whose text fits: reading that text gives the same words
+  pub read-listing : (room : ℕ) → length (listing ws) ≤ most → length ws ≤ room → readAs (listing ws) room ≡ done (length ws)
+  read-listing room h r =
+      read-spelt (listing ws) room h
+      ∙ ap₂ (λ (v is : List ℕ). spelt v is room) words-of-listing spaces-of-listing
+      ∙ spelt-table ws (doubled (depths ws)) room (none-misspelled 1 ws (all-known ws e))
+      ∙ place-done ws (doubled (depths ws)) room e (none-misplaced 1 (depths ws)) r
+
+-- ---- what is accepted
+
+not-done : {n p m : ℕ} → refusal n p ≡ done m → ⊥
+not-done q = let z : _≡_ {A = ℕ} 0 1 = cc in omega arith
+
+spelt-done : (text : List ℕ) (room n : ℕ) → readAs text room ≡ done n → spelt (wordsOf text) (indents text) room ≡ done n
+unfolding readAs
+spelt-done text room n q = go (ltb most (length text)) q
+  where
+    go : (t : Bool) → _≡_ {A = Answered} (elim t [ true ↦ refusal 41 0 | false ↦ spelt (wordsOf text) (indents text) room ]) (done n) → spelt (wordsOf text) (indents text) room ≡ done n
+    go true f = absurd (not-done f)
+    go false f = f
+
+module _ (ws is : List ℕ) (room n : ℕ) where
+  spelt-fine : spelt ws is room ≡ done n → (misspelled 1 ws ≡ 0) × (tabled ws is room ≡ done n)
+  unfolding spelt
+  spelt-fine q = go (misspelled 1 ws) refl q
+    where
+      go : (m : ℕ) → misspelled 1 ws ≡ m → _≡_ {A = Answered} (elim m [ zero ↦ tabled ws is room | suc k ↦ refusal 40 (suc k) ]) (done n)
+          → (misspelled 1 ws ≡ 0) × (tabled ws is room ≡ done n)
+      go zero f g = (f, g)
+      go (suc k) f g = absurd (not-done g)
+
+  tabled-fine : tabled ws is room ≡ done n → (reading ws ≡ accepted) × (placed ws is room ≡ done n)
+  unfolding tabled
+  tabled-fine q = go (reading ws) refl q
+    where
+      go : (o : Outcome) → reading ws ≡ o → _≡_ {A = Answered} (elim o [ refused a b ↦ refusal a b | accepted ↦ placed ws is room ]) (done n)
+          → (reading ws ≡ accepted) × (placed ws is room ≡ done n)
+      go accepted f g = (f, g)
+      go (refused a b) f g = absurd (not-done g)
+
+  placed-fine : placed ws is room ≡ done n → misplaced 1 (depths ws) is ≡ 0
+  unfolding placed
+  placed-fine q = go (misplaced 1 (depths ws) is) refl q
+    where
+      go : (m : ℕ) → misplaced 1 (depths ws) is ≡ m → _≡_ {A = Answered} (elim m [ zero ↦ tested ((ltb room (length ws), 42) ∷ []) (length ws) | suc k ↦ refusal 40 (suc k) ]) (done n)
+          → misplaced 1 (depths ws) is ≡ 0
+      go zero f g = f
+      go (suc k) f g = absurd (not-done g)
+
+module _ (text : List ℕ) (room n : ℕ) (q : readAs text room ≡ done n) where
+  fine : (misspelled 1 (wordsOf text) ≡ 0) × (tabled (wordsOf text) (indents text) room ≡ done n)
+  fine = spelt-fine (wordsOf text) (indents text) room n (spelt-done text room n q)
+
+  table : (reading (wordsOf text) ≡ accepted) × (placed (wordsOf text) (indents text) room ≡ done n)
+  table = tabled-fine (wordsOf text) (indents text) room n (fine .1)
+
+  -- the words that are read are an accepted system
+  pub read-accepted : reading (wordsOf text) ≡ accepted
+  read-accepted = table .0
+
+  -- the reader accepts a text only if the writer makes it
+  pub read-written : listing (wordsOf text) ≡ text
+  unfolding listing
+  read-written =
+      text-sound text (depths (wordsOf text)) (depths-length (wordsOf text) read-accepted) (fine .0)
+      (placed-fine (wordsOf text) (indents text) room n (table .1))
+
+-- two accepted texts of one system are the same
+pub one-text : (text other : List ℕ) (room room′ n n′ : ℕ) → readAs text room ≡ done n → readAs other room′ ≡ done n′ → wordsOf text ≡ wordsOf other → text ≡ other
+one-text text other room room′ n n′ q q′ e = sym (read-written text room n q) ∙ ap listing e ∙ read-written other room′ n′ q′
