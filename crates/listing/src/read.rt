@@ -197,9 +197,9 @@ fn finish(
     ensures { λ r. ⌜ now (out .exit) ≡ left (answered r) (wordsOf (now (text .entry))) (now (out .entry)) ⌝ }
 {
     if at < text.len() {
-        let line = misspelled(letters, text, at, n);
-        if line != 0 {
-            return Answer::Refused(Refusal::Line(line));
+        let wrong = misspelled(letters, text, at, n);
+        if wrong != 0 {
+            return Answer::Refused(Refusal::Line(wrong));
         }
         let r = too_many(words[0]);
         return Answer::Refused(Refusal::Table(r));
