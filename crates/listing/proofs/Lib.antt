@@ -2,6 +2,7 @@ pub mod Answers
 pub mod Guessing
 pub mod Cutting
 pub mod Letters
+pub mod Places
 pub mod Texts
 pub mod Theorems
 pub mod Undone

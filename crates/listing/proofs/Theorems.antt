@@ -63,13 +63,18 @@ module _ (ws is : List ℕ) (room n : ℕ) where
       go accepted f g = (f, g)
       go (refused a b) f g = absurd (not-done g)
 
-  placed-fine : placed ws is room ≡ done n → misplaced 1 (depths ws) is ≡ 0
+  tested-count : (b : Bool) → tested ((b, 42) ∷ []) (length ws) ≡ done n → n ≡ length ws
+  unfolding tested firstOf
+  tested-count true q = absurd (not-done q)
+  tested-count false q = cc
+
+  placed-fine : placed ws is room ≡ done n → (misplaced 1 (depths ws) is ≡ 0) × (n ≡ length ws)
   unfolding placed
   placed-fine q = go (misplaced 1 (depths ws) is) refl q
     where
       go : (m : ℕ) → misplaced 1 (depths ws) is ≡ m → _≡_ {A = Answered} (elim m [ zero ↦ tested ((ltb room (length ws), 42) ∷ []) (length ws) | suc k ↦ refusal 40 (suc k) ]) (done n)
-          → misplaced 1 (depths ws) is ≡ 0
-      go zero f g = f
+          → (misplaced 1 (depths ws) is ≡ 0) × (n ≡ length ws)
+      go zero f g = (f, tested-count (ltb room (length ws)) g)
       go (suc k) f g = absurd (not-done g)
 
 module _ (text : List ℕ) (room n : ℕ) (q : readAs text room ≡ done n) where
@@ -88,7 +93,11 @@ module _ (text : List ℕ) (room n : ℕ) (q : readAs text room ≡ done n) wher
   unfolding listing
   read-written =
       text-sound text (depths (wordsOf text)) (depths-length (wordsOf text) read-accepted) (fine .0)
-      (placed-fine (wordsOf text) (indents text) room n (table .1))
+      (placed-fine (wordsOf text) (indents text) room n (table .1) .0)
+
+  -- and as many words are written as it has
+  pub read-count : n ≡ length (wordsOf text)
+  read-count = placed-fine (wordsOf text) (indents text) room n (table .1) .1
 
 -- two accepted texts of one system are the same
 pub one-text : (text other : List ℕ) (room room′ n n′ : ℕ) → readAs text room ≡ done n → readAs other room′ ≡ done n′ → wordsOf text ≡ wordsOf other → text ≡ other

@@ -2,6 +2,7 @@
 mod depth;
 mod guess;
 mod keywords;
+pub mod numbers;
 pub mod read;
 mod spell;
 pub mod write;
