@@ -8,7 +8,7 @@ use lib.Dec.{ltb}
 use lib.ListN.{length}
 use borrow.Author.Tests.{ltb-false}
 use Rattle.table.specs.Scan.{Outcome, accepted, refused, firstOf, reading}
-use Rattle.listing.specs.Listing.{Answered, done, refusal, most, tested, depths, lines, listing, wordsOf, indents, misspelled, misplaced, placed, tabled, spelt, readAs}
+use Rattle.listing.specs.Listing.{Answered, done, refusal, most, tested, depths, lines, listing, written, wordsOf, indents, misspelled, misplaced, placed, tabled, spelt, readAs}
 use Rattle.listing.proofs.Depths.{depths-length}
 use Rattle.listing.proofs.Answers.{read-spelt, spelt-table, place-done}
 use Rattle.listing.proofs.Texts.{doubled, words-undone, spaces-undone, none-misspelled, none-misplaced, all-known, text-sound}
@@ -102,3 +102,49 @@ module _ (text : List ℕ) (room n : ℕ) (q : readAs text room ≡ done n) wher
 -- two accepted texts of one system are the same
 pub one-text : (text other : List ℕ) (room room′ n n′ : ℕ) → readAs text room ≡ done n → readAs other room′ ≡ done n′ → wordsOf text ≡ wordsOf other → text ≡ other
 one-text text other room room′ n n′ q q′ e = sym (read-written text room n q) ∙ ap listing e ∙ read-written other room′ n′ q′
+
+-- ---- an answer that tells a count has room for it
+
+last-refused : (n : ℕ) → tested ((true, 42) ∷ []) n ≡ refusal 42 0
+unfolding tested firstOf
+last-refused n = refl
+
+first-refused : (b : Bool) (n : ℕ) → tested ((true, 41) ∷ (b, 42) ∷ []) n ≡ refusal 41 0
+unfolding tested firstOf
+first-refused b n = refl
+
+second-refused : (n : ℕ) → tested ((false, 41) ∷ (true, 42) ∷ []) n ≡ refusal 42 0
+unfolding tested firstOf
+second-refused n = refl
+
+none-refused : (n m : ℕ) → tested ((false, 41) ∷ (false, 42) ∷ []) n ≡ done m → n ≡ m
+unfolding tested firstOf
+none-refused n m q = cc
+
+pub read-fits : (text : List ℕ) (room n : ℕ) → readAs text room ≡ done n → n ≤ room
+unfolding placed
+read-fits text room n q = go (misplaced 1 (depths (wordsOf text)) (indents text)) (table text room n q .1)
+  where
+    last : (b : Bool) → ltb room (length (wordsOf text)) ≡ b → tested ((b, 42) ∷ []) (length (wordsOf text)) ≡ done n → n ≤ room
+    last true e f = absurd (not-done (sym (last-refused (length (wordsOf text))) ∙ f))
+    last false e f = omega (arith, ltb-false room (length (wordsOf text)) e, read-count text room n q)
+
+    go : (m : ℕ) → _≡_ {A = Answered} (elim m [ zero ↦ tested ((ltb room (length (wordsOf text)), 42) ∷ []) (length (wordsOf text)) | suc k ↦ refusal 40 (suc k) ]) (done n) → n ≤ room
+    go zero f = last (ltb room (length (wordsOf text))) refl f
+    go (suc k) f = absurd (not-done f)
+
+pub write-fits : (ws : List ℕ) (room n : ℕ) → written ws room ≡ done n → n ≤ room
+unfolding written
+write-fits ws room n q = go (reading ws) q
+  where
+    tests : (a b : Bool) → ltb room (length (listing ws)) ≡ b → tested ((a, 41) ∷ (b, 42) ∷ []) (length (listing ws)) ≡ done n → n ≤ room
+    tests true b e f = absurd (not-done (sym (first-refused b (length (listing ws))) ∙ f))
+    tests false true e f = absurd (not-done (sym (second-refused (length (listing ws))) ∙ f))
+    tests false false e f = let m : length (listing ws) ≡ n = none-refused (length (listing ws)) n f in omega (arith, ltb-false room (length (listing ws)) e)
+
+    go : (o : Outcome) → _≡_ {A = Answered} (elim o [
+      | refused a b ↦ refusal a b
+      | accepted ↦ tested ((ltb most (length (listing ws)), 41) ∷ (ltb room (length (listing ws)), 42) ∷ []) (length (listing ws))
+    ]) (done n) → n ≤ room
+    go accepted f = tests (ltb most (length (listing ws))) (ltb room (length (listing ws))) refl f
+    go (refused a b) f = absurd (not-done f)
