@@ -87,3 +87,22 @@ fn explained() {
     assert!(["text", "words", "leak RHO BOUND", "check", "explain NUMBER"].iter().all(|command| help.contains(&format!("wiphosega {command}"))));
     assert_eq!(printed(&["leaks"], b""), help);
 }
+
+/// The leaks of docs/EXAMPLES.md, by the program and by the independent implementation.
+#[test]
+fn examples() {
+    let root = concat!(env!("CARGO_MANIFEST_DIR"), "/../..");
+    let page = include_str!("../../../docs/EXAMPLES.md");
+    let mut count = 0;
+    for line in page.lines().filter(|line| line.matches('|').count() == 4 && line.contains(" 0000")) {
+        let cells: Vec<&str> = line.trim_matches('|').split('|').map(str::trim).collect();
+        let text = std::fs::read(format!("{root}/examples/{}.listing", cells[0])).expect("a listing");
+        let output = printed(&["leak", cells[1]], &text);
+        assert!(output.starts_with(&format!("leak {} bound 000000 ", cells[2])), "{line}: {output}");
+        let rho = u32::from_str_radix(cells[1], 16).unwrap();
+        let words = read(&text, 1024).expect("an accepted listing");
+        assert_eq!(output, program(&bytes_of(&[vec![rho, 0], words].concat())));
+        count += 1;
+    }
+    assert_eq!(count, 21);
+}
