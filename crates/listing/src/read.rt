@@ -65,6 +65,15 @@ fn word_in(letters: &[u8], l: &[u8], spaces: usize) -> u32
     line_word(letters, &l[spaces..])
 }
 
+// The word of one line, leading spaces aside, 0 where it spells none.
+pub fn word_of_line(l: &[u8]) -> u32
+    ensures { λ r. ⌜ r ≡ wordIn (now (l .entry)) ⌝ }
+{
+    let letters = LETTERS;
+    let s = indent(l);
+    word_in(&letters, l, s)
+}
+
 // The words and the leading spaces of the first 1,024 lines.
 fn decode(letters: &[u8], text: &[u8], words: &mut [u32], spaces: &mut [usize]) -> Decoded
     requires { ⌜ (now letters ≡ Keywords·letters) × (1024 ≤ length (now words)) × (1024 ≤ length (now spaces)) ⌝ }

@@ -6,8 +6,11 @@ use listing::Refusal;
 use listing::numbers::refusal_number;
 use listing::numbers::refusal_place;
 use listing::read::read;
+use listing::read::word_of_line;
+use listing::write::write;
 use text::number_field;
 use text::put;
+ghost use mathlib.Core.Path.{_≡_};
 ghost use Prim.Native.Nat.{_≤_};
 ghost use lib.ListN.{length};
 
@@ -49,14 +52,16 @@ fn line_start(text: &[u8], n: usize) -> usize
     at
 }
 
-// Line n as it stands in the text, if there is one.
-fn shown(text: &[u8], n: usize) {
+// Line n as it stands in the text, if there is one, behind a label.
+fn shown(label: &[u8], text: &[u8], n: usize)
+    requires { ⌜ length (now label) ≤ 16 ⌝ }
+{
     let at = line_start(text, n);
     if text.len() <= at {
         return;
     }
     let end = line_end(text, at);
-    numbered(b"line ", n, b": ");
+    numbered(label, n, b": ");
     console::text(&text[at..end]);
     if end == text.len() && text[end - 1] != b'\n' {
         console::text(b"\n");
@@ -77,12 +82,50 @@ fn next(p: usize) -> usize {
     if p < 65536 { p + 1 } else { 0 }
 }
 
+// The words of the first 1,024 lines, and how many lines these are.
+fn line_words(text: &[u8], words: &mut [u32]) -> usize
+    requires { ⌜ length (now words) ≡ 1024 ⌝ }
+    ensures { λ r. ⌜ r ≤ 1024 ⌝ }
+{
+    let mut at = 0;
+    let mut n = 0;
+    while n < 1024 {
+        if text.len() <= at {
+            return n;
+        }
+        let end = line_end(text, at);
+        words[n] = word_of_line(&text[at..end]);
+        at = end;
+        n += 1;
+    }
+    n
+}
+
+// Line n as the writer makes it.
+fn written(words: &[u32], n: usize) {
+    let mut out = io::large_buffer();
+    match write(words, &mut out) {
+        Answer::Done(size) => shown(b"right, line ", &out[..size], n),
+        Answer::Refused(_) => {}
+    }
+}
+
+// If a line is wrong by its leading spaces alone, all lines spell words, and these are an accepted system.
+fn corrected(text: &[u8], n: usize) {
+    let mut words = [0u32; 1024];
+    let count = line_words(text, &mut words);
+    written(&words[..count], n);
+}
+
 fn refused(text: &[u8], r: Refusal) {
     let number = refusal_number(r);
     console::refusal(number, refusal_place(r));
     let n = line_of(r);
     if n != 0 {
-        shown(text, n);
+        shown(b"line ", text, n);
+        if number == 40 {
+            corrected(text, n);
+        }
     }
     sentence(number);
 }

@@ -66,8 +66,8 @@ fn what_is_wrong() {
     let head = "system 1\nhandler 0\npermissions 000003\nguard 000000\n";
     let check = |body: &str| printed(&["check"], format!("{head}{body}").as_bytes());
     assert!(check("  variable 1\n").starts_with("refused 10 at 4\nline 5:   variable 1\n"));
-    assert!(check("variable 0\n").starts_with("refused 40 at 5\nline 5: variable 0\n"));
-    assert!(check("  variable 0").starts_with("refused 40 at 5\nline 5:   variable 0\n"));
+    assert!(check("variable 0\n").starts_with("refused 40 at 5\nline 5: variable 0\nright, line 5:   variable 0\nThe line"));
+    assert!(check("  variable 0").starts_with("refused 40 at 5\nline 5:   variable 0\nThe line"));
     assert!(check("  apply\n    unit\n").starts_with("refused 40 at 6\nline 6:     unit\n"));
     assert!(check("").starts_with("refused 8 at 4\nThe system ends"));
 }
