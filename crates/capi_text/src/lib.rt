@@ -8,14 +8,10 @@ use listing::write::write;
 use little_endian::bytes_of;
 use little_endian::words_of;
 ghost use mathlib.Core.Path.{_≡_};
-ghost use mathlib.Core.List.{List, _++_};
-ghost use Prim.Native.Nat.{ℕ, _+_, _*_, _^_, _≤_};
-ghost use lib.ListN.{length, drop};
-ghost use Rattle.little_endian.specs.LittleEndian.{wordsOf, bytesOf};
-ghost use Rattle.listing.specs.Listing.{left, listing as Listing·listing};
-ghost use Rattle.listing.specs.Listing.{wordsOf as Listing·wordsOf};
-ghost use Rattle.listing.specs.Answer.{number, place, answered};
-ghost use Rattle.capi_text.specs.Interface.{answerNumber, writeAnswer, readAnswer, placed, PutAs};
+ghost use Prim.Native.Nat.{_+_, _*_, _^_, _≤_};
+ghost use lib.ListN.{length};
+ghost use Rattle.listing.specs.Answer.{number, place};
+ghost use Rattle.capi_text.specs.Interface.{answerNumber, writeAnswer, textAfter, readAnswer, systemAfter, PutAs};
 
 // A refusal as one number.
 fn refusal_answer(r: Refusal) -> u64
@@ -29,7 +25,7 @@ fn refusal_answer(r: Refusal) -> u64
 #[no_mangle]
 pub extern "C" fn wiphosega_listing_write(system: &[u8], text: &mut [u8]) -> u64
     ensures answer { λ r. ⌜ r ≡ answerNumber (writeAnswer (now (system .entry)) (length (now (text .entry)))) ⌝ }
-    ensures text { λ _. ⌜ now (text .exit) ≡ left (writeAnswer (now (system .entry)) (length (now (text .entry)))) (Listing·listing (wordsOf (now (system .entry)))) (now (text .entry)) ⌝ }
+    ensures text { λ _. ⌜ now (text .exit) ≡ textAfter (now (system .entry)) (now (text .entry)) ⌝ }
 {
     if system.len() % 4 != 0 {
         return 4296933376;
@@ -59,7 +55,7 @@ fn put_system(words: &[u32], count: usize, system: &mut [u8]) -> u64
 #[no_mangle]
 pub extern "C" fn wiphosega_listing_read(text: &[u8], system: &mut [u8]) -> u64
     ensures answer { λ r. ⌜ r ≡ answerNumber (readAnswer (now (text .entry)) (length (now (system .entry)))) ⌝ }
-    ensures system { λ _. ⌜ now (system .exit) ≡ left (readAnswer (now (text .entry)) (length (now (system .entry)))) (bytesOf (Listing·wordsOf (now (text .entry)))) (now (system .entry)) ⌝ }
+    ensures system { λ _. ⌜ now (system .exit) ≡ systemAfter (now (text .entry)) (now (system .entry)) ⌝ }
 {
     let mut words = [0u32; 1024];
     match read(text, &mut words) {

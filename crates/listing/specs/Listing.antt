@@ -62,6 +62,10 @@ written ws room =
       | accepted ↦ tested ((ltb most (length (listing ws)), 41) ∷ (ltb room (length (listing ws)), 42) ∷ []) (length (listing ws))
     ]
 
+-- the bytes of the output slice after the call, from those before it
+abbrev pub textAfter : List ℕ → List ℕ → List ℕ
+textAfter ws out = left (written ws (length out)) (listing ws) out
+
 -- ---- reading
 
 unfoldable pub onto : ℕ → List (List ℕ) → List (List ℕ)
@@ -124,3 +128,7 @@ spelt ws is room = elim (misspelled 1 ws) [ zero ↦ tabled ws is room | suc n �
 unfoldable pub readAs : List ℕ → ℕ → Answered
 unfolding spelt wordsOf indents
 readAs text room = elim (ltb most (length text)) [ true ↦ refusal 41 0 | false ↦ spelt (wordsOf text) (indents text) room ]
+
+-- the words of the output slice after the call, from those before it
+abbrev pub wordsAfter : List ℕ → List ℕ → List ℕ
+wordsAfter text out = left (readAs text (length out)) (wordsOf text) out

@@ -15,7 +15,7 @@ ghost use lib.ListN.{length, drop, getD};
 ghost use Rattle.table.specs.Scan.{accepted, refused, reading};
 ghost use Rattle.table.specs.Answer.{number, place as Table·place};
 ghost use Rattle.listing.specs.Keywords.{letters as Keywords·letters};
-ghost use Rattle.listing.specs.Listing.{cut, wordIn, wordsOf, indents, tabled, spelt, readAs, left};
+ghost use Rattle.listing.specs.Listing.{cut, wordIn, wordsOf, indents, tabled, spelt, readAs, left, wordsAfter};
 ghost use Rattle.listing.specs.Listing.{indent as Listing·indent};
 ghost use Rattle.listing.specs.Listing.{misspelled as Listing·misspelled};
 ghost use Rattle.listing.specs.Listing.{misplaced as Listing·misplaced};
@@ -219,7 +219,7 @@ fn finish(
 // The words of a listing, at the start of out, and how many they are.
 pub fn read(text: &[u8], out: &mut [u32]) -> Answer
     ensures answer { λ r. ⌜ answered r ≡ readAs (now (text .entry)) (length (now (out .entry))) ⌝ }
-    ensures words { λ _. ⌜ now (out .exit) ≡ left (readAs (now (text .entry)) (length (now (out .entry)))) (wordsOf (now (text .entry))) (now (out .entry)) ⌝ }
+    ensures words { λ _. ⌜ now (out .exit) ≡ wordsAfter (now (text .entry)) (now (out .entry)) ⌝ }
 {
     if 65536 < text.len() {
         return Answer::Refused(Refusal::TooLong);

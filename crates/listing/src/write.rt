@@ -15,7 +15,7 @@ ghost use Rattle.table.specs.Scan.{accepted, reading};
 ghost use Rattle.text.specs.Writing.{Wrote};
 ghost use Rattle.listing.specs.Keywords.{letters as Keywords·letters};
 ghost use Rattle.listing.specs.Spelling.{space, spelled};
-ghost use Rattle.listing.specs.Listing.{indented, listing, written, left};
+ghost use Rattle.listing.specs.Listing.{indented, listing, written, left, textAfter};
 ghost use Rattle.listing.specs.Listing.{depths as Listing·depths};
 ghost use Rattle.listing.specs.Answer.{answered};
 
@@ -102,7 +102,7 @@ fn write_accepted(words: &[u32], out: &mut [u8]) -> Answer
 // The listing of a system, at the start of out, and its length.
 pub fn write(words: &[u32], out: &mut [u8]) -> Answer
     ensures answer { λ r. ⌜ answered r ≡ written (now (words .entry)) (length (now (out .entry))) ⌝ }
-    ensures text { λ _. ⌜ now (out .exit) ≡ left (written (now (words .entry)) (length (now (out .entry)))) (listing (now (words .entry))) (now (out .entry)) ⌝ }
+    ensures text { λ _. ⌜ now (out .exit) ≡ textAfter (now (words .entry)) (now (out .entry)) ⌝ }
 {
     if let Reading::Refused(r) = table::read::read(words) {
         return Answer::Refused(Refusal::Table(r));
