@@ -30,6 +30,23 @@ extern "C" {
 uint64_t wiphosega_verdict(const uint8_t *system, size_t system_bytes, uint32_t rho, uint32_t bound, uint8_t *estimate,
                            size_t estimate_bytes, uint8_t *work, size_t work_bytes);
 
+/* Listings: `rt staticlib capi_text` makes their library, target/staticlib/libcapi_text.a. docs/LISTING.md says what a listing is.
+
+   An answer below 2^32 is how many bytes were written to the output, from its start. Refused: 2^32 + number * 65536 + place, by the numbers
+   1 to 12 of the table, 30 (the system's bytes are no whole words; the writer alone), 40 (a line that is no line of a listing, or has wrong
+   leading spaces; the place is its number, from 1), 41 (a listing over 65,536 bytes), 42 (the output is too short). A refusal leaves all
+   bytes of the output as they were, and any other answer those behind what was written. The reader's output counts whole words: 4,096 bytes
+   are enough for every system, and 65,536 for every listing that is written. For pointers the same holds as above. */
+#define WIPHOSEGA_REFUSED(answer) ((answer) >> 32 != 0)
+#define WIPHOSEGA_NUMBER(answer) ((uint32_t)((answer) >> 16 & 0xffff))
+#define WIPHOSEGA_PLACE(answer) ((uint32_t)((answer) & 0xffff))
+
+/* The listing of a system's words, low byte first. */
+uint64_t wiphosega_listing_write(const uint8_t *system, size_t system_bytes, uint8_t *text, size_t text_bytes);
+
+/* The words of the system that a listing is of, low byte first. */
+uint64_t wiphosega_listing_read(const uint8_t *text, size_t text_bytes, uint8_t *system, size_t system_bytes);
+
 #ifdef __cplusplus
 }
 #endif

@@ -3,7 +3,7 @@ use Prim.Native.Nat.{ℕ, zero, suc, _+_, _-_, _*_, _/_, _%_, _^_, _<_, _≤_}
 use mathlib.Core.Path.{_≡_, refl, sym, ap, ap₂, subst, _∙_}
 use mathlib.Core.Bool.{Bool, true, false, _&&_}
 use mathlib.Core.List.{List, [], _∷_, _++_, map}
-use native.Mathlib.Nat.{pow-zero, pow-suc, div-add-mod', div-lt-iff-lt-mul}
+use native.Mathlib.Nat.{pow-zero, pow-suc, div-add-mod', div-lt-iff-lt-mul, mod-lt}
 use native.Mathlib.Omega.{arith}
 use lib.Dec.{leb}
 use lib.ListN.{getD}
@@ -33,6 +33,15 @@ head-append : (xs ys : List ℕ) → 0 < getD xs 0 0 → getD (xs ++ ys) 0 0 ≡
 head-append [] ys h = absurd (omega arith)
 head-append (x ∷ xs) ys h = refl
 
+-- each of the numbers is below b
+abbrev pub Below : ℕ → List ℕ → Type 0
+Below b [] = Unit {0}
+Below b (d ∷ ds) = (d < b) × Below b ds
+
+below-snoc : (b : ℕ) (ds : List ℕ) (d : ℕ) → Below b ds → d < b → Below b (ds ++ d ∷ [])
+below-snoc b [] d t h = (h, tt)
+below-snoc b (x ∷ xs) d t h = (t .0, below-snoc b xs d (t .1) h)
+
 module _ (base optional : ℕ) where
   digits-stop : (places n : ℕ) → leftOut optional places n ≡ true → digits base optional places n ≡ []
   unfolding digits
@@ -45,6 +54,19 @@ module _ (base optional : ℕ) where
   digits-more zero n h t = absurd (omega arith)
   digits-more (suc p) n h t =
       rw (t, digits, sub-one-suc p) refl
+
+  -- every digit is below the base
+  pub digits-below : (places n : ℕ) → 0 < base → Below base (digits base optional places n)
+  unfolding digits
+  digits-below zero n pos = tt
+  digits-below (suc p) n pos = go (leftOut optional (suc p) n) refl (digits-below p (n / base) pos)
+    where
+      go : (b : Bool) → leftOut optional (suc p) n ≡ b → Below base (digits base optional p (n / base)) → Below base (digits base optional (suc p) n)
+      go true t rest = subst (Below base) (sym (digits-stop (suc p) n t)) tt
+      go false t rest =
+          subst (Below base)
+          (sym (digits-more (suc p) n (omega arith) t ∙ ap (λ (k : ℕ). digits base optional k (n / base) ++ n % base ∷ []) (sub-one-suc p)))
+          (below-snoc base (digits base optional p (n / base)) (n % base) rest (mod-lt n pos))
 
   -- the digits stand for the number, where there are places enough
   pub digits-value : (places n : ℕ) → 0 < base → n < base ^ places → value base 0 (digits base optional places n) ≡ n

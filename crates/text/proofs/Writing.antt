@@ -76,3 +76,7 @@ line {before} {text} {after} {next} w =
       fits = f;
       counts = sym (length-take-le next after f);
     }
+
+-- the line alone
+pub line-taken : {before text after : List ℕ} {size : ℕ} → Line before text after size → take size after ≡ text
+line-taken {before} {text} {after} {size} l = ap (take size) (l .bytes) ∙ take-at text (drop size before) size (sym (l .ends))

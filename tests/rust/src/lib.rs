@@ -6,6 +6,7 @@ pub mod check;
 pub mod estimate;
 pub mod generate;
 pub mod inputs;
+pub mod listing;
 pub mod machine;
 pub mod naive;
 pub mod samples;

@@ -1,0 +1,88 @@
+-- `capi_text::wiphosega_listing_read` meets its contract. Assumes nothing.
+use Prim.Native.Nat.{ℕ, _*_}
+use mathlib.Core.Path.{refl, sym, ap, _∙_}
+use mathlib.Core.List.{List, _++_}
+use native.Mathlib.Omega.{arith}
+use lib.ListN.{length, take, drop}
+use mathlib.Core.Path.{ap₂}
+use Rattle.little_endian.specs.LittleEndian.{bytesOf}
+use Rattle.listing.specs.Listing.{Answered, left}
+use Rattle.listing.specs.Listing.{wordsOf as Listing·wordsOf}
+use Rattle.listing.specs.Answer.{answered}
+use Rattle.listing.proofs.Places.{read-within}
+use Rattle.capi_text.specs.Interface.{answerNumber}
+use Rattle.capi_text.proofs.Bytes.{refused-within, read-done, read-refused, read-few, read-words}
+use borrow.Author.Needs.{needs}
+use Rattle.capi_text.proofs.wiphosega_listing_read.Statement.{statement}
+use Rattle.capi_text.proofs.wiphosega_listing_read.Tie as tie
+
+slice-aggregate-read : tie.Need-slice-aggregate-read
+slice-aggregate-read c = search needs
+
+read-requires : tie.Need-read-requires
+read-requires c κs = search needs
+
+enum-known-count : tie.Need-enum-known-count
+enum-known-count c = search needs
+
+slice-aggregate-put-system : tie.Need-slice-aggregate-put-system
+slice-aggregate-put-system c = search needs
+
+put-system-requires : tie.Need-put-system-requires
+unfolding answered
+put-system-requires c κs =
+    let s = c .before .before .before .before .before .before .before .before .before .before in
+    let r = c .before .before .before .before .before .before .read in
+    let e = sym (r .ensures .0) ∙ ap answered (c .before .before .before .count .given .1) in
+    (omega (arith, read-few (s .args .text .now) _ e, r .kept .1 .0), read-few (s .args .text .now) _ e)
+
+enum-known-r : tie.Need-enum-known-r
+enum-known-r c = search needs
+
+refusal-answer-requires : tie.Need-refusal-answer-requires
+refusal-answer-requires c κs =
+    let s = c .before .before .before .before .before .before .before .before in
+    let r = c .before .before .before .before .read in
+    refused-within _ _ _ 65536 (c .before .r .given .1) (r .ensures .0) (read-within (s .args .text .now) 1024)
+
+same-length : tie.Need-same-length
+same-length c = search needs
+
+returns : tie.Need-returns
+unfolding answered
+returns c =
+    let s = c .before .before .before .before .before .before .before .before .before .before .before .before .before in
+    let text = s .args .text .now in
+    let r = c .before .before .before .before .before .before .before .before .before .read in
+    let e = sym (r .ensures .0) ∙ ap answered (c .before .before .before .before .before .before .count .given .1) in
+    let p = c .before .before .put-system .ensures in
+    let a = read-done text _ (length (s .args .system .now)) e in
+    let ws = read-words text (r .last .1 .0) _ _ e (r .ensures .1) in (
+      p .answer ∙ ap answerNumber a,
+      p .bytes ∙ ap₂ (λ (q : Answered) (l : List ℕ). left q (bytesOf l) (s .args .system .now)) a ws,
+    )
+
+returns-2 : tie.Need-returns-2
+unfolding answered answerNumber left
+returns-2 c =
+    let s = c .before .before .before .before .before .before .before .before .before in
+    let text = s .args .text .now in
+    let r = c .before .before .before .before .before .read in
+    let e = sym (r .ensures .0) ∙ ap answered (c .before .before .r .given .1) in
+    let a = read-refused text _ _ (length (s .args .system .now)) e in
+    (c .refusal-answer .ensures ∙ ap answerNumber a, ap (λ (q : Answered). left q (bytesOf (Listing·wordsOf text)) (s .args .system .now)) a)
+
+pub wiphosega-listing-read-spec : {M : Type 1} → statement M
+wiphosega-listing-read-spec =
+    tie.close
+    (tie.spec
+    slice-aggregate-read
+    read-requires
+    enum-known-count
+    slice-aggregate-put-system
+    put-system-requires
+    enum-known-r
+    refusal-answer-requires
+    same-length
+    returns
+    returns-2)

@@ -1,0 +1,14 @@
+pub mod Answers
+pub mod Guessing
+pub mod Cutting
+pub mod Letters
+pub mod Places
+pub mod Texts
+pub mod Theorems
+pub mod Undone
+pub mod Lines
+pub mod Taken
+pub mod Pushed
+pub mod Depths
+pub mod Samples
+pub mod Styles

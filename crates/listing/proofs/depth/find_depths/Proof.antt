@@ -1,0 +1,112 @@
+-- `listing::depth::find_depths` meets its contract. The loop's invariant: the stack holds the depths that wait, and those before are written.
+-- Assumes nothing.
+use lib.Seq.{take-all}
+use Rattle.listing.proofs.Taken.{taken-more}
+use Prim.Native.Nat.{ℕ, _+_, _-_, _≤_}
+use mathlib.Core.Path.{_≡_, refl, sym, ap, _∙_}
+use mathlib.Core.List.{List}
+use native.Mathlib.Omega.{arith}
+use native.Mathlib.Numerals.{add-one}
+use lib.ListN.{length, getD, take, drop, length-set}
+use borrow.Author.Needs.{needs}
+use Rattle.table.proofs.Limits.{size-le}
+use Rattle.listing.specs.Listing.{depths as Listing·depths}
+use Rattle.listing.proofs.Depths.{Waits, waits-start, depths-length, depth-inside, depth-first, depth-low, depth-room, depth-on}
+use Rattle.listing.proofs.depth.find_depths.Statement.{statement}
+use Rattle.listing.proofs.depth.find_depths.Tie as tie
+
+abbrev Inv-loop : tie.InvT-loop
+Inv-loop words depths₀ stack₀ top₀ i₀ depths stack top i =
+    (i ≤ length words) × (length words ≤ 1024) × (length depths ≡ length depths₀) × (length stack ≡ 1024) × (top ≤ 1024)
+    × Waits words i (drop top stack) × (take i depths ≡ take i (Listing·depths words))
+
+abbrev μ-loop : tie.MeasureT-loop
+μ-loop words depths₀ stack₀ top₀ i₀ depths stack top i = length words - i
+
+loop-holds : tie.Need-loop-holds Inv-loop μ-loop
+loop-holds c =
+    let s = c .before .before in (search needs, size-le (s .args .words .now) (s .pre .0), refl, refl, search needs, waits-start (s .args .words .now) (s .pre .0), refl)
+
+array-read-d : tie.Need-array-read-d Inv-loop μ-loop
+array-read-d c =
+    let l = c .before .loop in
+    omega (arith, l .inv .3, depth-inside (c .before .before .before .before .args .words .now) (l .stack) (l .top) (l .i) (l .inv .5) (c .loop-test .taken))
+
+mul-w : tie.Need-mul-w Inv-loop μ-loop
+mul-w c = search needs
+
+shared-slice-read-w : tie.Need-shared-slice-read-w Inv-loop μ-loop
+shared-slice-read-w c = search needs
+
+slice-write-depths : tie.Need-slice-write-depths Inv-loop μ-loop
+slice-write-depths c = search needs
+
+slice-aggregate-push-left : tie.Need-slice-aggregate-push-left Inv-loop μ-loop
+slice-aggregate-push-left c = search needs
+
+add-push-left : tie.Need-add-push-left Inv-loop μ-loop
+add-push-left c = search needs
+
+push-left-requires : tie.Need-push-left-requires Inv-loop μ-loop
+push-left-requires c κs =
+    let l = c .before .before .before .loop in
+    let ws = c .before .before .before .before .before .before .args .words .now in
+    let t = c .before .before .loop-test .taken in (
+      depth-room ws (l .stack) (l .top) (l .i) (l .inv .5) t (omega arith),
+      omega (arith, depth-inside ws (l .stack) (l .top) (l .i) (l .inv .5) t),
+      depth-low ws (l .stack) (l .top) (l .i) (l .inv .5) t,
+    )
+
+add-i : tie.Need-add-i Inv-loop μ-loop
+add-i c = search needs
+
+loop-less : tie.Need-loop-less Inv-loop μ-loop
+loop-less c = search needs
+
+loop-again : tie.Need-loop-again Inv-loop μ-loop
+loop-again c =
+    let l = c .before .before .before .before .before .loop in
+    let s = c .before .before .before .before .before .before .before .before in
+    let ws = s .args .words .now in
+    let t = c .before .before .before .before .loop-test .taken in
+    let p = c .before .push-left .ensures in
+    let d = depth-first ws (l .stack) (l .top) (l .i) (l .inv .5) t in (
+      omega arith,
+      l .inv .1,
+      simp length-set (l .inv .2),
+      search needs,
+      omega (arith, p .0, depth-inside ws (l .stack) (l .top) (l .i) (l .inv .5) t, l .inv .3),
+      depth-on ws (l .stack) (l .top) (l .i) (l .inv .5) t (c .before .push-left .last .0) (c .before .push-left .result) (p .1),
+      taken-more (l .depths) (Listing·depths ws) (l .i) _ (omega arith) (omega (arith, depths-length ws (s .pre .0))) d (l .inv .6),
+    )
+
+same-length : tie.Need-same-length Inv-loop μ-loop
+same-length c = search needs
+
+returns : tie.Need-returns Inv-loop μ-loop
+returns c =
+    let l = c .before .loop in
+    let s = c .before .before .before .before in
+    let ws = s .args .words .now in
+    let all : l .i ≡ length ws = omega arith in
+    ap (λ (n : ℕ). take n (l .depths)) (sym all) ∙ l .inv .6 ∙ take-all (l .i) (Listing·depths ws) (omega (arith, depths-length ws (s .pre .0)))
+
+pub find-depths-spec : {M : Type 1} → statement M
+find-depths-spec =
+    tie.close
+    (tie.spec
+    Inv-loop
+    μ-loop
+    loop-holds
+    array-read-d
+    mul-w
+    shared-slice-read-w
+    slice-write-depths
+    slice-aggregate-push-left
+    add-push-left
+    push-left-requires
+    add-i
+    loop-less
+    loop-again
+    same-length
+    returns)

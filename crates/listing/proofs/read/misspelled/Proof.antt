@@ -1,0 +1,94 @@
+-- `listing::read::misspelled` meets its contract. Assumes nothing.
+use Rattle.listing.proofs.Cutting.{end-after}
+use Prim.Native.Nat.{ℕ, _+_, _-_, _<_, _≤_}
+use mathlib.Core.Path.{_≡_, refl, sym, ap, _∙_}
+use mathlib.Core.List.{List, map}
+use mathlib.Core.Logic.{inl, inr}
+use native.Mathlib.Omega.{arith}
+use lib.ListN.{length, getD, drop, take}
+use borrow.Author.Needs.{needs}
+use Rattle.listing.specs.Listing.{cut, wordIn}
+use Rattle.listing.specs.Listing.{misspelled as Listing·misspelled}
+use Rattle.listing.proofs.Cutting.{rest-bad, rest-good, rest-none}
+use Rattle.listing.proofs.read.misspelled.Statement.{statement}
+use Rattle.listing.proofs.read.misspelled.Tie as tie
+
+abbrev Inv-loop : tie.InvT-loop
+Inv-loop letters text start before n₀ at₀ n at =
+    (at ≤ length text) × (n ≤ 1024 + at)
+    × (Listing·misspelled (before + 1) (map wordIn (cut (drop start text))) ≡ Listing·misspelled (n + 1) (map wordIn (cut (drop at text))))
+
+abbrev μ-loop : tie.MeasureT-loop
+μ-loop letters text start before n₀ at₀ n at = length text - at
+
+loop-holds : tie.Need-loop-holds Inv-loop μ-loop
+loop-holds c =
+    (search needs, search needs, refl)
+
+line-end-requires : tie.Need-line-end-requires Inv-loop μ-loop
+line-end-requires c κs = search needs
+
+sub-l : tie.Need-sub-l Inv-loop μ-loop
+sub-l c = search needs
+
+part-l-start : tie.Need-part-l-start Inv-loop μ-loop
+part-l-start c = search needs
+
+part-l-end : tie.Need-part-l-end Inv-loop μ-loop
+part-l-end c = search needs
+
+indent-requires : tie.Need-indent-requires Inv-loop μ-loop
+indent-requires c κs = search needs
+
+add-n : tie.Need-add-n Inv-loop μ-loop
+add-n c = search needs
+
+word-in-requires : tie.Need-word-in-requires Inv-loop μ-loop
+word-in-requires c κs = search needs
+
+returns : tie.Need-returns Inv-loop μ-loop
+returns c =
+    let l = c .before .before .before .before .before .before .loop in
+    let text = c .before .before .before .before .before .before .before .before .before .args .text .now in
+    let e = c .before .before .before .before .line-end in
+    sym (l .inv .2 ∙ rest-bad text (l .n + 1) (l .at) (e .result) (c .before .before .before .before .before .loop-test .taken) (e .ensures .0) (sym (c .before .word-in .ensures) ∙ c .if1 .taken))
+
+loop-less : tie.Need-loop-less Inv-loop μ-loop
+loop-less c =
+    let l = c .before .before .before .before .before .before .loop in
+    let e = c .before .before .before .before .line-end in
+    omega (arith, end-after (c .before .before .before .before .before .before .before .before .before .args .text .now) (l .at) (e .result) (c .before .before .before .before .before .loop-test .taken) (e .ensures .0), e .ensures .1)
+
+loop-again : tie.Need-loop-again Inv-loop μ-loop
+loop-again c =
+    let l = c .before .before .before .before .before .before .loop in
+    let text = c .before .before .before .before .before .before .before .before .before .args .text .now in
+    let e = c .before .before .before .before .line-end in (
+      e .ensures .1,
+      omega (arith, l .inv .1, end-after text (l .at) (e .result) (c .before .before .before .before .before .loop-test .taken) (e .ensures .0)),
+      l .inv .2 ∙ rest-good text (l .n + 1) (l .at) (e .result) (c .before .before .before .before .before .loop-test .taken) (e .ensures .0) (λ z. c .if1 .left (c .before .word-in .ensures ∙ z)),
+    )
+
+returns-2 : tie.Need-returns-2 Inv-loop μ-loop
+returns-2 c =
+    let l = c .before .loop in
+    sym (l .inv .2 ∙ rest-none (c .before .before .before .before .args .text .now) (l .n + 1) (l .at) (c .loop-test .left))
+
+pub misspelled-spec : {M : Type 1} → statement M
+misspelled-spec =
+    tie.close
+    (tie.spec
+    Inv-loop
+    μ-loop
+    loop-holds
+    line-end-requires
+    sub-l
+    part-l-start
+    part-l-end
+    indent-requires
+    add-n
+    word-in-requires
+    returns
+    loop-less
+    loop-again
+    returns-2)

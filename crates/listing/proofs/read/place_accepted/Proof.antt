@@ -1,0 +1,80 @@
+-- `listing::read::place_accepted` meets its contract. Assumes nothing.
+use Prim.Native.Nat.{ℕ}
+use mathlib.Core.Path.{refl, sym, ap, ap₂, _∙_}
+use mathlib.Core.List.{List, _++_}
+use native.Mathlib.Omega.{arith}
+use lib.ListN.{length, drop, take}
+use lib.Seq.{length-take-le}
+use Rattle.table.proofs.Limits.{size-le}
+use Rattle.listing.specs.Listing.{misplaced, left}
+use Rattle.listing.specs.Answer.{number, place, answered}
+use Rattle.listing.proofs.Answers.{place-line, place-short, place-done}
+use borrow.Author.Needs.{needs}
+use Rattle.listing.proofs.read.place_accepted.Statement.{statement}
+use Rattle.listing.proofs.read.place_accepted.Tie as tie
+
+slice-aggregate-find-depths : tie.Need-slice-aggregate-find-depths
+slice-aggregate-find-depths c = search needs
+
+find-depths-requires : tie.Need-find-depths-requires
+find-depths-requires c κs =
+    let s = c .before .before .before .before in
+    (s .pre, size-le (s .args .words .now) (s .pre))
+
+array-share-prefix-depths : tie.Need-array-share-prefix-depths
+array-share-prefix-depths c =
+    let s = c .before .before .before .before .before .before in
+    omega (arith, size-le (s .args .words .now) (s .pre), c .before .find-depths .kept .1 .0)
+
+slice-aggregate-misplaced : tie.Need-slice-aggregate-misplaced
+slice-aggregate-misplaced c =
+    let s = c .before .before .before .before .before .before .before in
+    sym (length-take-le _ _ (omega (arith, size-le (s .args .words .now) (s .pre), c .before .before .find-depths .kept .1 .0)))
+
+misplaced-requires : tie.Need-misplaced-requires
+misplaced-requires c κs = search needs
+
+returns : tie.Need-returns
+unfolding answered left number place
+returns c =
+    let s = c .before .before .before .before .before .before .before .before .before in
+    let m = c .before .misplaced in
+    let d = ap (λ (ds : List ℕ). misplaced 1 ds (s .args .spaces .now)) (c .before .before .before .before .find-depths .ensures) in
+    (sym (place-line (s .args .words .now) (s .args .spaces .now) _ (s .pre) (m .result) (sym d ∙ sym (m .ensures)) (c .if1 .taken)), refl)
+
+returns-2 : tie.Need-returns-2
+unfolding answered left number place
+returns-2 c =
+    let s = c .before .before .before .before .before .before .before .before .before .before in
+    let m = c .before .before .misplaced in
+    let d = ap (λ (ds : List ℕ). misplaced 1 ds (s .args .spaces .now)) (c .before .before .before .before .before .find-depths .ensures) in
+    (sym (place-short (s .args .words .now) (s .args .spaces .now) _ (s .pre) (sym d ∙ sym (m .ensures) ∙ c .before .if1 .left) (c .if2 .taken)), refl)
+
+put-words-requires : tie.Need-put-words-requires
+put-words-requires c κs = search needs
+
+same-length : tie.Need-same-length
+same-length c = search needs
+
+returns-3 : tie.Need-returns-3
+unfolding answered left
+returns-3 c =
+    let s = c .before .before .before .before .before .before .before .before .before .before .before .before .before .before in
+    let m = c .before .before .before .before .before .before .misplaced in
+    let d = ap (λ (ds : List ℕ). misplaced 1 ds (s .args .spaces .now)) (c .before .before .before .before .before .before .before .before .before .find-depths .ensures) in
+    (sym (place-done (s .args .words .now) (s .args .spaces .now) _ (s .pre) (sym d ∙ sym (m .ensures) ∙ c .before .before .before .before .before .if1 .left) (c .before .before .before .before .if2 .left)), c .before .before .put-words .ensures)
+
+pub place-accepted-spec : {M : Type 1} → statement M
+place-accepted-spec =
+    tie.close
+    (tie.spec
+    slice-aggregate-find-depths
+    find-depths-requires
+    array-share-prefix-depths
+    slice-aggregate-misplaced
+    misplaced-requires
+    returns
+    returns-2
+    put-words-requires
+    same-length
+    returns-3)

@@ -1,0 +1,63 @@
+-- `listing::spell::keyword_field` meets its contract. Assumes nothing.
+use Rattle.text.proofs.Writing.{reworded}
+use Rattle.listing.proofs.Letters.{keyword-part}
+use mathlib.Core.Path.{sym, ap, _∙_}
+use native.Mathlib.Omega.{arith}
+use lib.ListN.{length}
+use Rattle.listing.proofs.Letters.{letters-length, keyword-short, keyword-at}
+use borrow.Author.Needs.{needs}
+use Rattle.listing.proofs.spell.keyword_field.Statement.{statement}
+use Rattle.listing.proofs.spell.keyword_field.Tie as tie
+
+mul-from : tie.Need-mul-from
+mul-from c = search needs
+
+add-from : tie.Need-add-from
+add-from c = search needs
+
+keyword-size-requires : tie.Need-keyword-size-requires
+keyword-size-requires c κs = search needs
+
+add-to : tie.Need-add-to
+add-to c =
+    omega (arith, c .keyword-size .ensures, keyword-short (c .before .before .before .args .k))
+
+sub-put : tie.Need-sub-put
+sub-put c = search needs
+
+part-put-start : tie.Need-part-put-start
+part-put-start c = search needs
+
+part-put-end : tie.Need-part-put-end
+part-put-end c =
+    omega (arith, c .before .keyword-size .ensures, keyword-short (c .before .before .before .before .args .k), ap length (c .before .before .before .before .pre .0) ∙ letters-length)
+
+put-requires : tie.Need-put-requires
+put-requires c κs =
+    let s = c .before .before .before .before .before in
+    omega (arith, ap length (keyword-part (s .args .k) _ _ (s .pre .1) (s .pre .0) (c .before .before .keyword-size .ensures)), keyword-short (s .args .k))
+
+same-length : tie.Need-same-length
+same-length c = search needs
+
+returns : tie.Need-returns
+returns c =
+    let s = c .before .before .before .before .before .before .before .before in
+    let k = keyword-part (s .args .k) _ _ (s .pre .1) (s .pre .0) (c .before .before .before .before .before .keyword-size .ensures) in
+    let w = reworded k (c .before .before .put .ensures) in
+    (w, omega (arith, w .ends, keyword-short (s .args .k)))
+
+pub keyword-field-spec : {M : Type 1} → statement M
+keyword-field-spec =
+    tie.close
+    (tie.spec
+    mul-from
+    add-from
+    keyword-size-requires
+    add-to
+    sub-put
+    part-put-start
+    part-put-end
+    put-requires
+    same-length
+    returns)

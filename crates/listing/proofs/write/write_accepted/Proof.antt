@@ -1,0 +1,89 @@
+-- `listing::write::write_accepted` meets its contract. Assumes nothing.
+use Prim.Native.Nat.{ℕ}
+use mathlib.Core.Path.{refl, sym, ap, _∙_}
+use mathlib.Core.List.{_++_}
+use native.Mathlib.Omega.{arith}
+use lib.ListN.{length, drop}
+use Rattle.table.proofs.Limits.{size-le}
+use Rattle.listing.specs.Keywords.{styleLetter, entries, packed, packedAll, letters}
+use Rattle.listing.specs.Listing.{done, left, listing}
+use Rattle.listing.specs.Answer.{number, place, answered}
+use Rattle.listing.proofs.Answers.{write-long, write-short, write-done}
+use borrow.Author.Needs.{needs}
+use Rattle.listing.proofs.write.write_accepted.Statement.{statement}
+use Rattle.listing.proofs.write.write_accepted.Tie as tie
+
+slice-aggregate-find-depths : tie.Need-slice-aggregate-find-depths
+slice-aggregate-find-depths c = search needs
+
+find-depths-requires : tie.Need-find-depths-requires
+find-depths-requires c κs =
+    let s = c .before .before .before in
+    (s .pre, size-le (s .args .words .now) (s .pre))
+
+slice-aggregate-text-size : tie.Need-slice-aggregate-text-size
+slice-aggregate-text-size c = search needs
+
+slice-aggregate-text-size-2 : tie.Need-slice-aggregate-text-size-2
+slice-aggregate-text-size-2 c = search needs
+
+text-size-requires : tie.Need-text-size-requires
+unfolding letters entries packedAll packed styleLetter
+text-size-requires c κs =
+    let s = c .before .before .before .before .before .before .before in
+    ((refl, s .pre), c .before .before .before .find-depths .ensures)
+
+returns : tie.Need-returns
+unfolding answered left number place
+returns c =
+    let s = c .before .before .before .before .before .before .before .before .before in
+    (sym (write-long (s .args .words .now) _ (s .pre) (omega (arith, c .before .text-size .ensures))), refl)
+
+returns-2 : tie.Need-returns-2
+unfolding answered left number place
+returns-2 c =
+    let s = c .before .before .before .before .before .before .before .before .before .before in
+    let size = c .before .before .text-size .ensures in
+    (sym (write-short (s .args .words .now) _ (s .pre) (omega (arith, size)) (omega (arith, size))), refl)
+
+slice-aggregate-put-lines : tie.Need-slice-aggregate-put-lines
+slice-aggregate-put-lines c = search needs
+
+slice-aggregate-put-lines-2 : tie.Need-slice-aggregate-put-lines-2
+slice-aggregate-put-lines-2 c = search needs
+
+put-lines-requires : tie.Need-put-lines-requires
+unfolding letters entries packedAll packed styleLetter
+put-lines-requires c κs =
+    let s = c .before .before .before .before .before .before .before .before .before .before .before .before .before in
+    ((refl, s .pre), (c .before .before .before .before .before .before .before .before .before .find-depths .ensures, omega (arith, c .before .before .before .before .before .text-size .ensures)))
+
+same-length : tie.Need-same-length
+same-length c = search needs
+
+returns-3 : tie.Need-returns-3
+unfolding answered left
+returns-3 c =
+    let s = c .before .before .before .before .before .before .before .before .before .before .before .before .before .before .before .before in
+    let ws = s .args .words .now in
+    let size = c .before .before .before .before .before .before .before .before .text-size .ensures in (
+      ap done size ∙ sym (write-done ws _ (s .pre) (omega (arith, size)) (omega (arith, size))),
+      c .before .before .put-lines .ensures ∙ ap (λ (n : ℕ). listing ws ++ drop n (s .args .out .now)) (sym size),
+    )
+
+pub write-accepted-spec : {M : Type 1} → statement M
+write-accepted-spec =
+    tie.close
+    (tie.spec
+    slice-aggregate-find-depths
+    find-depths-requires
+    slice-aggregate-text-size
+    slice-aggregate-text-size-2
+    text-size-requires
+    returns
+    returns-2
+    slice-aggregate-put-lines
+    slice-aggregate-put-lines-2
+    put-lines-requires
+    same-length
+    returns-3)

@@ -1,0 +1,108 @@
+//! The program for listings, run as a user runs it. WIPHOSEGA_LISTINGS names it.
+#![cfg(proved)]
+
+use peer::generate::{table, Random};
+use peer::listing::{read, text, write};
+use peer::samples::samples;
+use peer::verdict::{bytes_of, program};
+use std::io::Write;
+use std::process::{Command, Stdio};
+
+/// What the program prints for these arguments and this standard input.
+fn run(arguments: &[&str], input: &[u8]) -> Vec<u8> {
+    let name = std::env::var("WIPHOSEGA_LISTINGS").expect("WIPHOSEGA_LISTINGS names the program");
+    let mut child = Command::new(name).args(arguments).stdin(Stdio::piped()).stdout(Stdio::piped()).spawn().expect("the program can be started");
+    let _ = child.stdin.take().unwrap().write_all(input);
+    let output = child.wait_with_output().expect("the program ends");
+    assert!(output.status.success());
+    output.stdout
+}
+
+fn printed(arguments: &[&str], input: &[u8]) -> String {
+    String::from_utf8(run(arguments, input)).expect("text")
+}
+
+#[test]
+fn words_and_text() {
+    let mut random = Random(41);
+    let tables = (0..100).map(|_| table(&mut random));
+    for words in samples().into_iter().map(|sample| sample.words).chain(tables) {
+        let output = run(&["text"], &bytes_of(&words));
+        match write(&words, 65_536) {
+            Ok(text) => {
+                assert_eq!(output, text);
+                assert_eq!(run(&["words"], &text), bytes_of(&words));
+                assert_eq!(printed(&["check"], &text), format!("accepted {}\n", words.len()));
+            }
+            Err(refusal) => assert_eq!(output, format!("refused {} at {}\n", refusal.number, refusal.place).into_bytes()),
+        }
+    }
+    assert_eq!(printed(&["text"], &[0; 3]), "refused 30 at 0\n");
+    assert_eq!(printed(&["text"], &[0; 5000]), "refused 1 at 0\n");
+    assert_eq!(printed(&["words"], &[b'\n'; 65_537]), "refused 41 at 0\n");
+    assert_eq!(printed(&["words"], &vec![b'\n'; 200_000]), "refused 41 at 0\n");
+}
+
+#[test]
+fn leak_as_document_01s_program() {
+    for sample in samples() {
+        if read(&text_or_nothing(&sample.words), 1024).is_ok() && sample.words.len() <= 256 {
+            let (rho, bound) = (format!("{:x}", sample.rho), format!("{:x}", sample.bound));
+            let expected = program(&bytes_of(&[vec![sample.rho, sample.bound], sample.words.clone()].concat()));
+            assert_eq!(printed(&["leak", &rho, &bound], &text(&sample.words)), expected);
+            if sample.bound == 0 {
+                assert_eq!(printed(&["leak", &rho], &text(&sample.words)), expected);
+            }
+        }
+    }
+}
+
+fn text_or_nothing(words: &[u32]) -> Vec<u8> {
+    write(words, 65_536).unwrap_or_default()
+}
+
+#[test]
+fn what_is_wrong() {
+    let head = "system 1\nhandler 0\npermissions 000003\nguard 000000\n";
+    let check = |body: &str| printed(&["check"], format!("{head}{body}").as_bytes());
+    assert!(check("  variable 1\n").starts_with("refused 10 at 4\nline 5:   variable 1\n"));
+    assert!(check("variable 0\n").starts_with("refused 40 at 5\nline 5: variable 0\nright, line 5:   variable 0\nThe line"));
+    assert!(check("  variable 0").starts_with("refused 40 at 5\nline 5:   variable 0\nThe line"));
+    assert!(check("  apply\n    unit\n").starts_with("refused 40 at 6\nline 6:     unit\n"));
+    assert!(check("").starts_with("refused 8 at 4\nThe system ends"));
+}
+
+/// The sentences of docs/REFUSALS.md are the program's.
+#[test]
+fn explained() {
+    let page = include_str!("../../../docs/REFUSALS.md");
+    let mut count = 0;
+    for line in page.lines().filter(|line| line.starts_with("| ") && line.as_bytes()[2].is_ascii_digit()) {
+        let cells: Vec<&str> = line.trim_matches('|').split(" | ").map(str::trim).collect();
+        assert_eq!(printed(&["explain", cells[0]], b""), format!("{}\n", cells[1]));
+        count += 1;
+    }
+    assert_eq!(count, 20);
+    let help = printed(&[], b"");
+    assert!(["text", "words", "leak RHO BOUND", "check", "explain NUMBER"].iter().all(|command| help.contains(&format!("wiphosega {command}"))));
+    assert_eq!(printed(&["leaks"], b""), help);
+}
+
+/// The leaks of docs/EXAMPLES.md, by the program and by the independent implementation.
+#[test]
+fn examples() {
+    let root = concat!(env!("CARGO_MANIFEST_DIR"), "/../..");
+    let page = include_str!("../../../docs/EXAMPLES.md");
+    let mut count = 0;
+    for line in page.lines().filter(|line| line.matches('|').count() == 4 && line.contains(" 0000")) {
+        let cells: Vec<&str> = line.trim_matches('|').split('|').map(str::trim).collect();
+        let text = std::fs::read(format!("{root}/examples/{}.listing", cells[0])).expect("a listing");
+        let output = printed(&["leak", cells[1]], &text);
+        assert!(output.starts_with(&format!("leak {} bound 000000 ", cells[2])), "{line}: {output}");
+        let rho = u32::from_str_radix(cells[1], 16).unwrap();
+        let words = read(&text, 1024).expect("an accepted listing");
+        assert_eq!(output, program(&bytes_of(&[vec![rho, 0], words].concat())));
+        count += 1;
+    }
+    assert_eq!(count, 21);
+}
