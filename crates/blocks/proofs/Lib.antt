@@ -1,0 +1,4 @@
+pub mod Terms
+pub mod Block
+pub mod Keys
+pub mod Tables
