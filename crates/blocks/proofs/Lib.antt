@@ -2,3 +2,4 @@ pub mod Terms
 pub mod Block
 pub mod Keys
 pub mod Tables
+pub mod Places
