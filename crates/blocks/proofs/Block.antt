@@ -1,18 +1,17 @@
 -- One block: it is read alike wherever it stands, and the words that are read as a block are a good one.
 use mathlib.Core.Path.{_≡_, refl, sym, ap, _∙_, subst}
-use mathlib.Core.List.{List, [], _∷_, _++_, append-assoc}
-use mathlib.Core.Bool.{Bool, false}
-use Prim.Native.Nat.{ℕ, zero, suc, _+_, _≤_, _<_}
-use native.Mathlib.Nat.{add-zero}
+use mathlib.Core.List.{List, [], _∷_, _++_}
+use mathlib.Core.Bool.{false}
+use Prim.Native.Nat.{ℕ, suc, _+_, _≤_, _<_}
 use native.Mathlib.Omega.{arith}
-use lib.ListN.{length, getD, take, drop, length-drop}
+use lib.ListN.{length, take, drop}
 use Rattle.table.specs.Words.{kind, argument, names}
 use Rattle.table.specs.Scan.{Task, name, perms, guard, term, accepted, has, key, keep, next, scan}
 use Rattle.table.specs.Code.{skip}
 use Rattle.table.proofs.Faults.{stands, faultless}
 use Rattle.table.proofs.Stack.{scan-go, scan-step, scan-missing, refused-not-accepted}
 use Rattle.table.proofs.Parts.{skip-le}
-use Rattle.blocks.specs.Blocks.{blockLength, nameOf, permsOf, keyOf, Good}
+use Rattle.blocks.specs.Blocks.{blockLength, keyOf, Good}
 use Rattle.blocks.proofs.Terms.{Alike, none, also, terms-before, terms-cut, terms-length}
 
 -- what is asked of a block's three words, and the body's task

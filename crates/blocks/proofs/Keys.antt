@@ -1,6 +1,6 @@
 -- Keys that are distinct are those that are new one after the other.
-use mathlib.Core.Path.{_≡_, refl, sym, ap, _∙_, subst}
-use mathlib.Core.List.{List, [], _∷_}
+use mathlib.Core.Path.{_≡_, refl, sym, ap, _∙_}
+use mathlib.Core.List.{List, [], _∷_, _++_}
 use mathlib.Core.Bool.{Bool, true, false, _||_, false≢true}
 use Prim.Native.Nat.{ℕ}
 use borrow.Author.Tests.{eqb-false, ne-eqb, eq-eqb}
@@ -53,3 +53,29 @@ pub apart-none : (ks : List ℕ) → Apart [] ks
 unfolding has
 apart-none [] = tt
 apart-none (k ∷ ks) = (refl, apart-none ks)
+
+-- ---- lists of keys one behind the other
+
+has-append : (ks ls : List ℕ) (k : ℕ) → has ks k ≡ false → has ls k ≡ false → has (ks ++ ls) k ≡ false
+unfolding has
+has-append [] ls k a b = b
+has-append (x ∷ ks) ls k a b = let n = neither (eqb x k) (has ks k) a in rw (n .0) (has-append ks ls k (n .1) b)
+
+apart-lacks : (keys ls : List ℕ) (k : ℕ) → has keys k ≡ true → Apart keys ls → has ls k ≡ false
+unfolding has
+apart-lacks keys [] k h a = refl
+apart-lacks keys (x ∷ ls) k h a =
+    let e : eqb x k ≡ false = ne-eqb x k (λ i. false≢true (sym (a .0) ∙ ap (has keys) i ∙ h)) in
+    rw e (apart-lacks keys ls k h (a .1))
+
+apart-fewer : (k : ℕ) (keys ls : List ℕ) → Apart (k ∷ keys) ls → Apart keys ls
+unfolding has
+apart-fewer k keys [] a = tt
+apart-fewer k keys (x ∷ ls) a = (neither (eqb k x) (has keys x) (a .0) .1, apart-fewer k keys ls (a .1))
+
+pub distinct-append : (ks ls : List ℕ) → Distinct ks → Distinct ls → Apart ks ls → Distinct (ks ++ ls)
+unfolding has
+distinct-append [] ls d e a = e
+distinct-append (k ∷ ks) ls d e a =
+    let here : has (k ∷ ks) k ≡ true = rw (eq-eqb k k refl) in
+    (has-append ks ls k (d .0) (apart-lacks (k ∷ ks) ls k here a), distinct-append ks ls (d .1) e (apart-fewer k ks ls a))

@@ -1,9 +1,9 @@
 -- The blocks of a table (document 01, "The table"): a table is its word 0 and its blocks, and a block is a name, a permission set, a
 -- guard and one body term.
-use Prim.Native.Nat.{ℕ, zero, suc, _+_}
+use Prim.Native.Nat.{ℕ, zero, suc}
 use mathlib.Core.Path.{_≡_}
 use mathlib.Core.Bool.{false}
-use mathlib.Core.List.{List, [], _∷_, map, flatten}
+use mathlib.Core.List.{List, [], _∷_, flatten}
 use lib.ListN.{length, getD, take, drop}
 use Rattle.table.specs.Words.{argument, wordOf}
 use Rattle.table.specs.Scan.{name, accepted, has, key, scan}

@@ -1,8 +1,8 @@
 -- The joined blocks, by what each block of the two tables gives, and the answers of a join.
 use mathlib.Core.Path.{_≡_, refl, sym, ap, ap₂, subst, _∙_}
 use mathlib.Core.List.{List, [], _∷_, _++_, map, flatten, append-assoc}
-use mathlib.Core.Bool.{Bool, true, false}
-use Prim.Native.Nat.{ℕ, zero, suc, _+_, _≤_, _<_}
+use mathlib.Core.Bool.{true, false}
+use Prim.Native.Nat.{ℕ, suc, _+_, _≤_, _<_}
 use native.Mathlib.Omega.{arith}
 use borrow.Author.Tests.{lt-ltb, le-ltb}
 use lib.ListN.{length, take, drop, set, length-append}
@@ -15,7 +15,7 @@ use Rattle.blocks.proofs.Block.{good-long}
 use Rattle.blocks.proofs.Tables.{blocks-good}
 use Rattle.overlay.specs.declared.join.Put.{Put}
 use Rattle.overlay.specs.Lookup.{tablesRead, Sought, nothing, found, seek}
-use Rattle.overlay.specs.Join.{replaced, fresh, joinedBlocks, joined, Answer, written, refusal, joinFault, joinAnswer, outAfter}
+use Rattle.overlay.specs.Join.{replaced, fresh, joinedBlocks, joined, written, refusal, joinFault, joinAnswer, outAfter}
 use Rattle.overlay.specs.Parts.{given, some, AppendedTo, PutTo}
 use Rattle.overlay.proofs.Seek.{seek-good}
 use Rattle.overlay.proofs.Given.{given-own, given-none, given-other}

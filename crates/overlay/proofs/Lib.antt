@@ -6,3 +6,5 @@ pub mod Places
 pub mod Given
 pub mod Appended
 pub mod Joins
+pub mod Picks
+pub mod Theorems

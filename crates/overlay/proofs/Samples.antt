@@ -7,7 +7,7 @@ use Rattle.table.specs.Words.{wordOf, parts, partsByKind, arity, limit, limitsB
 use Rattle.table.specs.Scan.{firstOf, has, tests, fault, missing, keep, under, next, scan, reading}
 use Rattle.table.specs.Code.{skip}
 use Rattle.blocks.specs.Blocks.{blockLength, cut, blocks, tableOf}
-use Rattle.overlay.specs.Lookup.{tablesRead, seek, Place, inBase, inOverlay, refusal, placeOf, lookedUp}
+use Rattle.overlay.specs.Lookup.{tablesRead, seek, inBase, inOverlay, refusal, placeOf, lookedUp}
 use Rattle.overlay.specs.Join.{replaced, fresh, joined, joinFault, joinAnswer, outAfter}
 use Rattle.overlay.specs.Join as join
 

@@ -2,7 +2,7 @@
 use mathlib.Core.Path.{_≡_, refl, sym, ap, ap₂, _∙_, subst}
 use mathlib.Core.List.{List, [], _∷_}
 use mathlib.Core.Bool.{Bool, true, false, _&&_}
-use Prim.Native.Nat.{ℕ, zero, suc, _+_, _-_, _≤_, _<_}
+use Prim.Native.Nat.{ℕ, zero, suc, _+_, _-_, _≤_}
 use native.Mathlib.Nat.{add-zero}
 use native.Mathlib.Numerals.{sub-one}
 use native.Mathlib.Omega.{arith}
@@ -11,10 +11,10 @@ use lib.ListN.{length, getD, take, drop}
 use lib.Seq.{getD-drop, getD-take}
 use Rattle.table.specs.Words.{argument}
 use Rattle.table.specs.Scan.{accepted, reading}
-use Rattle.blocks.specs.Blocks.{cut, blocks, nameOf, permsOf, All}
+use Rattle.blocks.specs.Blocks.{cut, blocks, All}
 use Rattle.blocks.proofs.Tables.{Cuts, table}
 use Rattle.blocks.proofs.Places.{Here, here}
-use Rattle.overlay.specs.Lookup.{keyed, Sought, nothing, found, seek, sought}
+use Rattle.overlay.specs.Lookup.{keyed, nothing, found, seek, sought}
 use Rattle.overlay.specs.Parts.{part}
 
 -- a block's key, from the words at its place

@@ -5,7 +5,7 @@ use mathlib.Core.List.{List, [], _∷_, _++_, map}
 use lib.Dec.{ltb}
 use lib.ListN.{length, drop}
 use Rattle.table.specs.Words.{handlers, size}
-use Rattle.table.specs.Scan.{Outcome, accepted, refused, firstOf}
+use Rattle.table.specs.Scan.{accepted, refused, firstOf}
 use Rattle.blocks.specs.Blocks.{blocks, tableOf, nameOf, permsOf}
 use Rattle.overlay.specs.Lookup.{tablesRead, nothing, found, seek}
 

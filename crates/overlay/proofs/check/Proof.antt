@@ -1,25 +1,19 @@
 -- `overlay::check` meets its contract.
 -- Assumes nothing.
-use mathlib.Core.Path.{_≡_, sym, ap, _∙_}
+use mathlib.Core.Path.{sym, ap, _∙_}
 use borrow.Author.Needs.{needs}
-use Rattle.table.specs.Answer.{number, place, outcome}
+use Rattle.table.specs.Answer.{outcome}
 use Rattle.overlay.specs.Answers.{faultNumber, faultPlace, checkedAs}
 use Rattle.overlay.proofs.Refusals.{base-refused, overlay-refused, both-accepted}
 use Rattle.overlay.proofs.check.Statement.{statement}
 use Rattle.overlay.proofs.check.Tie as tie
-use Rattle.overlay.proofs.check.Reads as reads
-use Rattle.overlay.proofs.check.Lts as lts
-use Rattle.table.proofs.read.read.Reads as read-reads
 
--- src/lib.rt:46:34
 read-requires : tie.Need-read-requires
 read-requires c κs = search needs
 
--- src/lib.rt:46:29
 enum-known-r : tie.Need-enum-known-r
 enum-known-r c = search needs
 
--- src/lib.rt:47:9
 returns : tie.Need-returns
 unfolding outcome checkedAs faultNumber faultPlace
 returns c = sym (base-refused _ _ _ _ (sym (c .before .before .before .read .ensures) ∙ ap outcome (c .before .r .given .1)))
@@ -27,15 +21,12 @@ returns c = sym (base-refused _ _ _ _ (sym (c .before .before .before .read .ens
 enum-told : tie.Need-enum-told
 enum-told c = search needs
 
--- src/lib.rt:49:34
 read-requires-2 : tie.Need-read-requires-2
 read-requires-2 c κs = search needs
 
--- src/lib.rt:49:29
 enum-known-r-2 : tie.Need-enum-known-r-2
 enum-known-r-2 c = search needs
 
--- src/lib.rt:50:9
 returns-2 : tie.Need-returns-2
 unfolding outcome checkedAs faultNumber faultPlace
 returns-2 c =
@@ -47,7 +38,6 @@ returns-2 c =
 enum-told-2 : tie.Need-enum-told-2
 enum-told-2 c = search needs
 
--- src/lib.rt:43:1
 returns-3 : tie.Need-returns-3
 unfolding outcome checkedAs
 returns-3 c =

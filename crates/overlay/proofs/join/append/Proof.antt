@@ -10,8 +10,6 @@ use lib.Seq.{paste, paste-zero, paste-suc, length-paste}
 use borrow.Author.Needs.{needs}
 use Rattle.overlay.proofs.join.append.Statement.{statement}
 use Rattle.overlay.proofs.join.append.Tie as tie
-use Rattle.overlay.proofs.join.append.Reads as reads
-use Rattle.overlay.proofs.join.append.Lts as lts
 
 abbrev Inv-loop : tie.InvT-loop
 Inv-loop out₀ at part end i₀ out i = (i ≤ length part) × (out ≡ paste out₀ at part i)
@@ -19,31 +17,24 @@ Inv-loop out₀ at part end i₀ out i = (i ≤ length part) × (out ≡ paste o
 abbrev μ-loop : tie.MeasureT-loop
 μ-loop out₀ at part end i₀ out i = length part - i
 
--- src/join.rt:31:15
 add-end : tie.Need-add-end Inv-loop μ-loop
 add-end c = search needs
 
--- src/join.rt:33:9
 returns : tie.Need-returns Inv-loop μ-loop
 returns c = record { ends = refl; written = λ h. let n : ⊥ = omega arith in absurd n }
 
--- src/join.rt:36:5
 loop-holds : tie.Need-loop-holds Inv-loop μ-loop
 loop-holds c = (search needs, paste-zero (c .before .args .out .now) (c .before .args .at) (c .before .args .part .now))
 
--- src/join.rt:37:23
 mul-out : tie.Need-mul-out Inv-loop μ-loop
 mul-out c = search needs
 
--- src/join.rt:37:23
 shared-slice-read-out : tie.Need-shared-slice-read-out Inv-loop μ-loop
 shared-slice-read-out c = search needs
 
--- src/join.rt:37:13
 add-out : tie.Need-add-out Inv-loop μ-loop
 add-out c = search needs
 
--- src/join.rt:37:9
 -- the output is as long as it was
 kept : (c : tie.In-loop Inv-loop μ-loop) → length (c .before .loop .out) ≡ length (c .before .before .before .args .out .now)
 kept c =
@@ -54,19 +45,15 @@ kept c =
 mul-out-2 : tie.Need-mul-out-2 Inv-loop μ-loop
 mul-out-2 c = let k = kept (c .before) in search needs
 
--- src/join.rt:37:9
 slice-write-out : tie.Need-slice-write-out Inv-loop μ-loop
 slice-write-out c = let k = kept (c .before) in omega arith
 
--- src/join.rt:38:9
 add-i : tie.Need-add-i Inv-loop μ-loop
 add-i c = search needs
 
--- src/join.rt:36:5
 loop-less : tie.Need-loop-less Inv-loop μ-loop
 loop-less c = search needs
 
--- src/join.rt:36:5
 loop-again : tie.Need-loop-again Inv-loop μ-loop
 loop-again c =
     let a = c .before .before .before .before .args in
@@ -77,14 +64,12 @@ loop-again c =
           ∙ ap (paste (a .out .now) (a .at) (a .part .now)) (sym (add-one (l .i))),
     )
 
--- src/join.rt:27:1
 same-length : tie.Need-same-length Inv-loop μ-loop
 same-length c =
     let a = c .before .before .before .args in
     let l = c .before .loop in
     ap length (l .inv .1) ∙ length-paste (a .out .now) (a .at) (a .part .now) (l .i) (omega arith) (l .inv .0)
 
--- src/join.rt:27:1
 returns-2 : tie.Need-returns-2 Inv-loop μ-loop
 returns-2 c =
     let a = c .before .before .before .args in

@@ -1,14 +1,14 @@
 -- `overlay::join::join` meets its contract.
 -- Assumes nothing.
-use mathlib.Core.Path.{_≡_, refl, sym, ap, ap₂, subst, _∙_}
-use mathlib.Core.List.{List, [], _∷_, _++_}
-use Prim.Native.Nat.{ℕ, _+_, _-_, _≤_, _<_}
+use mathlib.Core.Path.{_≡_, sym, ap, ap₂, _∙_}
+use mathlib.Core.List.{List, _++_}
+use Prim.Native.Nat.{ℕ, _+_, _-_}
 use native.Mathlib.Nat.{zero-add, sub-zero}
 use native.Mathlib.Omega.{arith}
 use lib.ListN.{length, take, drop, set, replicate, length-set, length-replicate}
 use lib.Seq.{take-length}
 use borrow.Author.Needs.{needs}
-use Rattle.table.specs.Scan.{accepted, reading}
+use Rattle.table.specs.Scan.{accepted}
 use Rattle.overlay.specs.Lookup.{tablesRead}
 use Rattle.overlay.specs.Join.{joined}
 use Rattle.overlay.specs.Join as join
@@ -18,21 +18,13 @@ use Rattle.overlay.proofs.Appended.{appended-as}
 use Rattle.overlay.proofs.Joins.{join-refused, out-refused, join-stopped, join-written, fault-48, fault-49, fault-50, no-fault, Ready, ready}
 use Rattle.overlay.proofs.join.join.Statement.{statement}
 use Rattle.overlay.proofs.join.join.Tie as tie
-use Rattle.overlay.proofs.join.join.Reads as reads
-use Rattle.overlay.proofs.join.join.Lts as lts
-use Rattle.overlay.proofs.check.Reads as check-reads
-use Rattle.overlay.proofs.join.append.Reads as append-reads
-use Rattle.overlay.proofs.join.put_blocks.Reads as put-blocks-reads
 
--- src/join.rt:89:34
 check-requires : tie.Need-check-requires
 check-requires c κs = search needs
 
--- src/join.rt:89:29
 enum-known-f : tie.Need-enum-known-f
 enum-known-f c = search needs
 
--- src/join.rt:90:9
 returns : tie.Need-returns
 unfolding joinedAs checkedAs
 returns c =
@@ -43,11 +35,9 @@ returns c =
 enum-told : tie.Need-enum-told
 enum-told c = search needs
 
--- src/join.rt:93:28
 slice-aggregate-put-blocks : tie.Need-slice-aggregate-put-blocks
 slice-aggregate-put-blocks c = search needs
 
--- src/join.rt:93:9
 -- both tables are accepted
 both : (c : tie.After-enum-told) → tablesRead (c .before .before .before .before .before .before .args .base .now) (c .before .before .before .before .before .before .args .overlay .now) ≡ accepted
 unfolding checkedAs
@@ -56,18 +46,15 @@ both c = sym (c .before .before .check .ensures) ∙ ap checkedAs (c .enum-told 
 put-blocks-requires : tie.Need-put-blocks-requires
 put-blocks-requires c κs = let t = tables-accepted _ _ (both (c .before)) in (omega arith, t .0, t .1)
 
--- src/join.rt:95:29
 slice-aggregate-put-blocks-2 : tie.Need-slice-aggregate-put-blocks-2
 slice-aggregate-put-blocks-2 c = search needs
 
--- src/join.rt:95:9
 put-blocks-requires-2 : tie.Need-put-blocks-requires-2
 put-blocks-requires-2 c κs =
     let t = tables-accepted _ _ (both (c .before .before .before .before)) in
     let n = c .before .before .put-blocks .ensures .near in
     (omega arith, t .1, t .0)
 
--- src/join.rt:97:17
 add-count : tie.Need-add-count
 add-count c =
     let m = c .before .before .before .before .before .before .put-blocks .ensures .few in
@@ -90,7 +77,6 @@ written c =
 buffer-long : (c : tie.After-put-blocks2) → length (c .put-blocks2 .last .0) ≡ 1024
 buffer-long c = c .put-blocks2 .kept .0 ∙ c .before .before .before .put-blocks .kept .0 ∙ zeros
 
--- src/join.rt:99:9
 returns-2 : tie.Need-returns-2
 unfolding joinedAs faultNumber faultPlace
 returns-2 c =
@@ -99,7 +85,6 @@ returns-2 c =
     let q = join-stopped _ _ out (both (c .before .before .before .before .before .before .before .before .before)) 47 (fault-48 _ _ (length out) (let k = r .counted in omega arith)) in
     (sym (q .0), sym (q .1))
 
--- src/join.rt:102:9
 returns-3 : tie.Need-returns-3
 unfolding joinedAs faultNumber faultPlace
 returns-3 c =
@@ -108,7 +93,6 @@ returns-3 c =
     let q = join-stopped _ _ out (both (c .before .before .before .before .before .before .before .before .before .before)) 48 (fault-49 _ _ (length out) (let k = r .counted in omega arith) (let k = r .ended in omega arith)) in
     (sym (q .0), sym (q .1))
 
--- src/join.rt:105:9
 returns-4 : tie.Need-returns-4
 unfolding joinedAs faultNumber faultPlace
 returns-4 c =
@@ -117,42 +101,33 @@ returns-4 c =
     let q = join-stopped _ _ out (both (c .before .before .before .before .before .before .before .before .before .before .before)) 49 (fault-50 _ _ (length out) (let k = r .counted in omega arith) (let k = r .ended in omega arith) (let k = r .ended in omega arith)) in
     (sym (q .0), sym (q .1))
 
--- src/join.rt:107:27
 cast-words : tie.Need-cast-words
 cast-words c = search needs
 
--- src/join.rt:107:16
 add-words : tie.Need-add-words
 add-words c = search needs
 
--- src/join.rt:107:5
 array-write-words : tie.Need-array-write-words
 array-write-words c = search needs
 
--- src/join.rt:108:20
 sub-append : tie.Need-sub-append
 sub-append c = search needs
 
--- src/join.rt:108:20
 part-append-start : tie.Need-part-append-start
 part-append-start c = search needs
 
--- src/join.rt:108:20
 part-append-end : tie.Need-part-append-end
 part-append-end c =
     let l = buffer-long (c .before .before .before .before .before .before .before .before) in
     let m = length-set (c .before .before .before .before .before .before .before .before .put-blocks2 .last .0) 0 (16777216 + count (c .before .before .before .before .before .before .before .before)) in
     search needs
 
--- src/join.rt:108:5
 append-requires : tie.Need-append-requires
 append-requires c κs = search needs
 
--- src/join.rt:85:1
 same-length : tie.Need-same-length
 same-length c = search needs
 
--- src/join.rt:85:1
 returns-5 : tie.Need-returns-5
 unfolding joinedAs
 returns-5 c =

@@ -1,61 +1,47 @@
 -- `overlay::join::put_block` meets its contract.
 -- Assumes nothing.
-use mathlib.Core.Path.{_≡_, refl, sym, ap, ap₂, subst, _∙_}
+use mathlib.Core.Path.{_≡_, sym, ap, ap₂, _∙_}
 use mathlib.Core.List.{List, []}
-use mathlib.Core.Bool.{Bool, true, false}
-use Prim.Native.Nat.{ℕ, _+_, _≤_}
+use mathlib.Core.Bool.{Bool}
+use Prim.Native.Nat.{ℕ, _≤_}
 use native.Mathlib.Nat.{add-zero}
 use native.Mathlib.Omega.{arith}
-use lib.ListN.{length, getD, take, drop}
+use lib.ListN.{length, getD}
 use borrow.Author.Needs.{needs}
 use Rattle.table.specs.Words.{argument}
 use Rattle.blocks.specs.Blocks.{blocks, nameOf, permsOf}
 use Rattle.blocks.proofs.Tables.{table}
-use Rattle.overlay.specs.declared.search.Span.{Span}
 use Rattle.overlay.specs.declared.search.Span.the-variants as spans
-use Rattle.overlay.specs.Lookup.{Sought, nothing, found, seek, sought}
-use Rattle.overlay.specs.Parts.{part, spanOf, given, AppendedTo}
+use Rattle.overlay.specs.Lookup.{Sought, found, seek, sought}
+use Rattle.overlay.specs.Parts.{part, spanOf, given}
 use Rattle.overlay.proofs.Seek.{sought-part}
 use Rattle.overlay.proofs.Places.{at-span, no-span}
 use Rattle.overlay.proofs.Given.{part-word, length-part, given-own, given-none, given-other}
 use Rattle.overlay.proofs.Appended.{appended-as, appended-none}
 use Rattle.overlay.proofs.join.put_block.Statement.{statement}
 use Rattle.overlay.proofs.join.put_block.Tie as tie
-use Rattle.overlay.proofs.join.put_block.Reads as reads
-use Rattle.overlay.proofs.join.put_block.Lts as lts
-use Rattle.overlay.proofs.join.append.Reads as append-reads
-use Rattle.overlay.proofs.search.seek.Reads as seek-reads
-use Rattle.table.proofs.words.argument_of.Reads as argument-of-reads
 
--- src/join.rt:48:28
 mul-argument-of : tie.Need-mul-argument-of
 mul-argument-of c = search needs
 
--- src/join.rt:48:28
 shared-slice-read-argument-of : tie.Need-shared-slice-read-argument-of
 shared-slice-read-argument-of c = search needs
 
--- src/join.rt:48:9
 argument-of-requires : tie.Need-argument-of-requires
 argument-of-requires c κs = search needs
 
--- src/join.rt:49:35
 add-argument-of : tie.Need-add-argument-of
 add-argument-of c = search needs
 
--- src/join.rt:49:29
 mul-argument-of-2 : tie.Need-mul-argument-of-2
 mul-argument-of-2 c = search needs
 
--- src/join.rt:49:29
 shared-slice-read-argument-of-2 : tie.Need-shared-slice-read-argument-of-2
 shared-slice-read-argument-of-2 c = search needs
 
--- src/join.rt:49:9
 argument-of-requires-2 : tie.Need-argument-of-requires-2
 argument-of-requires-2 c κs = search needs
 
--- src/join.rt:50:11
 seek-requires : tie.Need-seek-requires
 seek-requires c κs = search needs
 
@@ -97,58 +83,45 @@ there c a e h =
       block-there = q .1 ∙ ap (found a) (sym (ap (λ (i : ℕ). part a i ws) (q .2) ∙ p .1));
     }
 
--- src/join.rt:51:18
 enum-known-a : tie.Need-enum-known-a
 enum-known-a c = search needs
 
--- src/join.rt:55:33
 mul-append : tie.Need-mul-append
 mul-append c = let q = there (c .before .before .before .before .before) _ _ (c .before .before .before .a .given .1) in search needs
 
--- src/join.rt:55:33
 sub-append : tie.Need-sub-append
 sub-append c = let q = there (c .before .before .before .before .before) _ _ (c .before .before .before .a .given .1) in search needs
 
--- src/join.rt:55:33
 part-append-start : tie.Need-part-append-start
 part-append-start c = let q = there (c .before .before .before .before .before) _ _ (c .before .before .before .a .given .1) in search needs
 
--- src/join.rt:55:33
 part-append-end : tie.Need-part-append-end
 part-append-end c = let q = there (c .before .before .before .before .before) _ _ (c .before .before .before .a .given .1) in search needs
 
--- src/join.rt:55:17
 append-requires : tie.Need-append-requires
 append-requires c κs =
     let q = there (c .before .before .before .before .before .before) _ _ (c .before .before .before .before .a .given .1) in
     let l = length-part (c .before .before .before .before .before .before .before .before .before .before .before .before .before .before .args .other .now) (c .before .before .before .before .a .given .0 .0) (c .before .before .before .before .a .given .0 .1 .0) (q .inside) in
     (search needs, omega arith)
 
--- src/join.rt:58:33
 enum-told : tie.Need-enum-told
 enum-told c = search needs
 
--- src/join.rt:58:42
 mul-append-2 : tie.Need-mul-append-2
 mul-append-2 c = search needs
 
--- src/join.rt:58:42
 sub-append-2 : tie.Need-sub-append-2
 sub-append-2 c = search needs
 
--- src/join.rt:58:42
 part-append-start-2 : tie.Need-part-append-start-2
 part-append-start-2 c = search needs
 
--- src/join.rt:58:42
 part-append-end-2 : tie.Need-part-append-end-2
 part-append-end-2 c = search needs
 
--- src/join.rt:58:26
 append-requires-2 : tie.Need-append-requires-2
 append-requires-2 c κs = search needs
 
--- src/join.rt:44:1
 returns : tie.Need-returns
 returns c =
     let a = c .before .before .before .before .before .before .before .before .before .before .before .before .args in
@@ -157,11 +130,9 @@ returns c =
     ap (λ (x : Bool). given x (blocks (a .other .now)) (part (a .start) (a .end) (a .table .now))) (c .if1 .taken) ∙ given-none _ _ _ _ (q .block-there) in
     appended-as none (appended-none (a .at) (a .out .now))
 
--- src/join.rt:44:1
 same-length : tie.Need-same-length
 same-length c = search needs
 
--- src/join.rt:44:1
 returns-2 : tie.Need-returns-2
 returns-2 c =
     let a = c .before .before .before .before .before .before .before .before .before .before .before .before .before .before .before .before .before .args in
@@ -170,11 +141,9 @@ returns-2 c =
     (ap (λ (x : Bool). given x (blocks (a .other .now)) (part (a .start) (a .end) (a .table .now))) (c .before .before .before .before .before .if1 .left)
     ∙ given-other _ _ _ _ (q .block-there)) (c .before .before .append .ensures)
 
--- src/join.rt:44:1
 same-length-2 : tie.Need-same-length-2
 same-length-2 c = search needs
 
--- src/join.rt:44:1
 returns-3 : tie.Need-returns-3
 returns-3 c =
     let a = c .before .before .before .before .before .before .before .before .before .before .before .before .before .before .before .args in

@@ -1,32 +1,26 @@
 -- `overlay::join::put_blocks` meets its contract. The loop's invariant: what is written, and what the blocks that are left give, is what all
 -- blocks give.
 -- Assumes nothing.
-use mathlib.Core.Path.{_≡_, refl, sym, ap, ap₂, subst, _∙_}
+use mathlib.Core.Path.{_≡_, refl, sym, ap, subst, _∙_}
 use mathlib.Core.Logic.{_⊎_, inl, inr, ⊎-elim}
 use mathlib.Core.List.{List, [], _∷_, _++_, map, flatten, append-assoc, append-nil}
 use mathlib.Core.Bool.{Bool}
-use Prim.Native.Nat.{ℕ, suc, _+_, _-_, _*_, _≤_, _<_}
+use Prim.Native.Nat.{ℕ, _+_, _-_, _*_, _≤_, _<_}
 use native.Mathlib.Nat.{add-zero, zero-add}
 use native.Mathlib.Omega.{arith}
 use lib.Arith.{le-zero}
-use lib.ListN.{length, getD, take, drop}
+use lib.ListN.{length, take, drop}
 use borrow.Author.Needs.{needs}
-use Rattle.table.specs.Words.{argument}
 use Rattle.table.specs.Scan.{accepted, reading}
 use Rattle.blocks.specs.Blocks.{blockLength, cut, blocks}
 use Rattle.blocks.proofs.Tables.{Cuts, table as accepted-table}
 use Rattle.blocks.proofs.Places.{Here, here}
-use Rattle.overlay.specs.Parts.{part, given, some, AppendedTo, PutTo}
+use Rattle.overlay.specs.Parts.{part, given, some, AppendedTo}
 use Rattle.overlay.proofs.Seek.{sought-part}
-use Rattle.overlay.proofs.Given.{length-part, given-short}
+use Rattle.overlay.proofs.Given.{given-short}
 use Rattle.overlay.proofs.Appended.{appended-as, appended-none, appended-on, some-more, some-none}
 use Rattle.overlay.proofs.join.put_blocks.Statement.{statement}
 use Rattle.overlay.proofs.join.put_blocks.Tie as tie
-use Rattle.overlay.proofs.join.put_blocks.Reads as reads
-use Rattle.overlay.proofs.join.put_blocks.Lts as lts
-use Rattle.overlay.proofs.join.put_block.Reads as put-block-reads
-use Rattle.overlay.proofs.search.block_end.Reads as block-end-reads
-use Rattle.table.proofs.words.argument_of.Reads as argument-of-reads
 
 -- what blocks give
 abbrev parts : Bool → List ℕ → List (List ℕ) → List (List ℕ)
@@ -111,15 +105,12 @@ Inv-loop out₀ start table other new left₀ at₀ end₀ count₀ out left at 
 abbrev μ-loop : tie.MeasureT-loop
 μ-loop out₀ start table other new left₀ at₀ end₀ count₀ out left at end count = left
 
--- src/join.rt:67:32
 shared-slice-read-argument-of : tie.Need-shared-slice-read-argument-of Inv-loop μ-loop
 shared-slice-read-argument-of c = accepted-table _ (c .before .before .before .before .pre .1) .inside
 
--- src/join.rt:67:9
 argument-of-requires : tie.Need-argument-of-requires Inv-loop μ-loop
 argument-of-requires c κs = search needs
 
--- src/join.rt:71:5
 loop-holds : tie.Need-loop-holds Inv-loop μ-loop
 unfolding blocks
 loop-holds c =
@@ -146,11 +137,9 @@ loop-holds c =
 at-loop : (c : tie.In-loop Inv-loop μ-loop) → Here (c .before .before .before .before .before .before .before .args .table .now) (c .before .loop .left) (c .before .loop .at)
 at-loop c = let l = c .before .loop in here _ (l .left) (l .at) (search needs) (l .inv .inside) (l .inv .cuts)
 
--- src/join.rt:72:13
 block-end-requires : tie.Need-block-end-requires Inv-loop μ-loop
 block-end-requires c κs = (accepted-table _ (c .before .before .before .before .before .before .before .pre .1) .short, c .before .loop .inv .inside)
 
--- src/join.rt:73:13
 put-block-requires : tie.Need-put-block-requires Inv-loop μ-loop
 put-block-requires c κs =
     let g = c .before .before .before .loop .inv in
@@ -163,30 +152,24 @@ put-block-requires c κs =
     let p = c .before .before .before .before .before .before .before .before .before .pre .0 in
     (omega arith, omega arith, omega arith, accepted-table _ (c .before .before .before .before .before .before .before .before .before .pre .1) .short, c .before .before .before .before .before .before .before .before .before .pre .2)
 
--- src/join.rt:75:13
 add-count : tie.Need-add-count Inv-loop μ-loop
 add-count c = search needs
 
--- src/join.rt:79:9
 sub-left : tie.Need-sub-left Inv-loop μ-loop
 sub-left c = search needs
 
--- src/join.rt:71:5
 loop-less : tie.Need-loop-less Inv-loop μ-loop
 loop-less c = search needs
 
--- src/join.rt:71:5
 loop-again : tie.Need-loop-again Inv-loop μ-loop
 loop-again c =
     goes-on (c .before .before .before .before .before .before .before .loop .inv) (c .before .before .before .before .before .before .before .before .before .before .before .before .before .pre .1) (c .before .before .before .before .before .before .before .before .before .before .before .before .before .pre .2) (search needs) (at-loop (c .before .before .before .before .before .before)) (c .before .before .before .before .before .block-end .result)
     (c .before .before .before .before .before .block-end .ensures) (c .before .before .before .put-block .kept .0) (c .before .before .before .put-block .ensures)
     (⊎-elim (λ w. inl (w .1, w .0 .taken)) (λ w. inr (w .1, w .0 .left)) (c .if1 .came))
 
--- src/join.rt:63:1
 same-length : tie.Need-same-length Inv-loop μ-loop
 same-length c = c .before .loop .inv .same
 
--- src/join.rt:63:1
 returns : tie.Need-returns Inv-loop μ-loop
 unfolding cut flatten some
 returns c =

@@ -9,20 +9,13 @@ use Rattle.overlay.proofs.Refusals.{tables-accepted}
 use Rattle.overlay.proofs.Places.{at-span, no-span, place-refused, place-found}
 use Rattle.overlay.proofs.lookup.find.Statement.{statement}
 use Rattle.overlay.proofs.lookup.find.Tie as tie
-use Rattle.overlay.proofs.lookup.find.Reads as reads
-use Rattle.overlay.proofs.lookup.find.Lts as lts
-use Rattle.overlay.proofs.check.Reads as check-reads
-use Rattle.overlay.proofs.search.seek.Reads as seek-reads
 
--- src/lookup.rt:16:34
 check-requires : tie.Need-check-requires
 check-requires c κs = search needs
 
--- src/lookup.rt:16:29
 enum-known-f : tie.Need-enum-known-f
 enum-known-f c = search needs
 
--- src/lookup.rt:17:9
 returns : tie.Need-returns
 unfolding foundAs checkedAs
 returns c = sym (place-refused _ _ _ _ _ _ (sym (c .before .before .before .check .ensures) ∙ ap checkedAs (c .before .f .given .1)))
@@ -30,7 +23,6 @@ returns c = sym (place-refused _ _ _ _ _ _ (sym (c .before .before .before .chec
 enum-told : tie.Need-enum-told
 enum-told c = search needs
 
--- src/lookup.rt:19:35
 -- both tables are accepted where the search begins
 both : (c : tie.After-enum-told)
     → tablesRead (c .before .before .before .before .before .args .base .now) (c .before .before .before .before .before .args .overlay .now) ≡ accepted
@@ -40,11 +32,9 @@ both c = sym (c .before .before .check .ensures) ∙ ap checkedAs (c .enum-told 
 seek-requires : tie.Need-seek-requires
 seek-requires c κs = tables-accepted _ _ (both c) .1
 
--- src/lookup.rt:19:21
 enum-known-start : tie.Need-enum-known-start
 enum-known-start c = search needs
 
--- src/lookup.rt:20:9
 returns-2 : tie.Need-returns-2
 unfolding foundAs
 returns-2 c =
@@ -54,19 +44,15 @@ returns-2 c =
 enum-told-2 : tie.Need-enum-told-2
 enum-told-2 c = search needs
 
--- src/lookup.rt:22:11
 seek-requires-2 : tie.Need-seek-requires-2
 seek-requires-2 c κs = tables-accepted _ _ (both (c .before .before .before)) .0
 
--- src/lookup.rt:23:18
 enum-known-start-2 : tie.Need-enum-known-start-2
 enum-known-start-2 c = search needs
 
--- src/lookup.rt:24:41
 enum-told-3 : tie.Need-enum-told-3
 enum-told-3 c = search needs
 
--- src/lookup.rt:13:1
 returns-3 : tie.Need-returns-3
 unfolding foundAs
 returns-3 c =
@@ -74,7 +60,6 @@ returns-3 c =
     let q = at-span _ _ _ (sym (c .before .before .before .seek2 .ensures) ∙ c .before .start2 .given .1) in
     sym (place-found _ _ _ _ (both (c .before .before .before .before .before .before .before)) (found _ (q .0)) nothing (q .1) o ∙ ap (inBase (c .before .start2 .given .0 .0)) (sym (q .2)))
 
--- src/lookup.rt:13:1
 returns-4 : tie.Need-returns-4
 unfolding foundAs faultNumber faultPlace
 returns-4 c =

@@ -3,20 +3,14 @@
 use mathlib.Core.Path.{_≡_, sym, ap, subst, _∙_}
 use borrow.Author.Needs.{needs}
 use Rattle.overlay.specs.declared.Found.{Found}
-use Rattle.overlay.specs.declared.Found.the-variants as finds
 use Rattle.overlay.specs.Answers.{foundAs}
 use Rattle.overlay.proofs.Places.{Stands, place-stands}
 use Rattle.overlay.proofs.lookup.lookup.Statement.{statement}
 use Rattle.overlay.proofs.lookup.lookup.Tie as tie
-use Rattle.overlay.proofs.lookup.lookup.Reads as reads
-use Rattle.overlay.proofs.lookup.lookup.Lts as lts
-use Rattle.overlay.proofs.lookup.find.Reads as find-reads
 
--- src/lookup.rt:32:11
 find-requires : tie.Need-find-requires
 find-requires c κs = search needs
 
--- src/lookup.rt:33:24
 enum-known-start : tie.Need-enum-known-start
 enum-known-start c = search needs
 
@@ -28,77 +22,61 @@ answered c r e =
     let S = Stands (a .base .now) (a .overlay .now) (a .name) (a .perms) in
     subst S (sym (c .find .ensures) ∙ ap foundAs e) (place-stands (a .base .now) (a .overlay .now) (a .name) (a .perms))
 
--- src/lookup.rt:33:39
 mul-result : tie.Need-mul-result
 unfolding foundAs
 mul-result c = let q = answered (c .before .before .before) _ (c .before .start .given .1) in search needs
 
--- src/lookup.rt:33:39
 sub-result : tie.Need-sub-result
 unfolding foundAs
 sub-result c = let q = answered (c .before .before .before) _ (c .before .start .given .1) in search needs
 
--- src/lookup.rt:33:39
 part-result-start : tie.Need-part-result-start
 unfolding foundAs
 part-result-start c = let q = answered (c .before .before .before) _ (c .before .start .given .1) in search needs
 
--- src/lookup.rt:33:39
 part-result-end : tie.Need-part-result-end
 unfolding foundAs
 part-result-end c = let q = answered (c .before .before .before) _ (c .before .start .given .1) in search needs
 
--- src/lookup.rt:34:21
 enum-known-start-2 : tie.Need-enum-known-start-2
 enum-known-start-2 c = search needs
 
--- src/lookup.rt:34:36
 mul-result-2 : tie.Need-mul-result-2
 unfolding foundAs
 mul-result-2 c = let q = answered (c .before .before .before) _ (c .before .start2 .given .1) in search needs
 
--- src/lookup.rt:34:36
 sub-result-2 : tie.Need-sub-result-2
 unfolding foundAs
 sub-result-2 c = let q = answered (c .before .before .before) _ (c .before .start2 .given .1) in search needs
 
--- src/lookup.rt:34:36
 part-result-start-2 : tie.Need-part-result-start-2
 unfolding foundAs
 part-result-start-2 c = let q = answered (c .before .before .before) _ (c .before .start2 .given .1) in search needs
 
--- src/lookup.rt:34:36
 part-result-end-2 : tie.Need-part-result-end-2
 unfolding foundAs
 part-result-end-2 c = let q = answered (c .before .before .before) _ (c .before .start2 .given .1) in search needs
 
--- src/lookup.rt:35:30
 enum-told : tie.Need-enum-told
 enum-told c = search needs
 
--- src/lookup.rt:35:30
 sub-result-3 : tie.Need-sub-result-3
 sub-result-3 c = search needs
 
--- src/lookup.rt:35:30
 part-result-start-3 : tie.Need-part-result-start-3
 part-result-start-3 c = search needs
 
--- src/lookup.rt:35:30
 part-result-end-3 : tie.Need-part-result-end-3
 part-result-end-3 c = search needs
 
--- src/lookup.rt:29:1
 returns : tie.Need-returns
 unfolding foundAs
 returns c = answered (c .before .before .before .before) _ (c .before .before .start .given .1) .2
 
--- src/lookup.rt:29:1
 returns-2 : tie.Need-returns-2
 unfolding foundAs
 returns-2 c = answered (c .before .before .before .before) _ (c .before .before .start2 .given .1) .2
 
--- src/lookup.rt:29:1
 returns-3 : tie.Need-returns-3
 unfolding foundAs
 returns-3 c = sym (answered (c .before .before .before) _ (c .before .enum-told .given .1))

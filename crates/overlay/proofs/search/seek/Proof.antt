@@ -1,13 +1,11 @@
 -- `overlay::search::seek` meets its contract. The loop's invariant: the search among the blocks that are left finds what the whole finds.
 -- Assumes nothing.
-use mathlib.Core.Path.{_≡_, refl, sym, ap, ap₂, subst, _∙_}
-use mathlib.Core.List.{List}
-use Prim.Native.Nat.{ℕ, _+_, _-_, _≤_, _<_}
+use mathlib.Core.Path.{_≡_, sym, ap, subst, _∙_}
+use Prim.Native.Nat.{ℕ, _+_, _-_, _≤_}
 use native.Mathlib.Omega.{arith}
 use lib.Arith.{le-zero}
-use lib.ListN.{length, getD, take, drop}
+use lib.ListN.{length, take, drop}
 use borrow.Author.Needs.{needs}
-use Rattle.table.specs.Words.{argument}
 use Rattle.blocks.specs.Blocks.{cut, blocks}
 use Rattle.blocks.proofs.Tables.{Cuts, table}
 use Rattle.blocks.proofs.Places.{Here, here}
@@ -17,11 +15,6 @@ use Rattle.overlay.specs.Parts.{spanOf}
 use Rattle.overlay.proofs.Seek.{seek-here, seek-on, seek-none}
 use Rattle.overlay.proofs.search.seek.Statement.{statement}
 use Rattle.overlay.proofs.search.seek.Tie as tie
-use Rattle.overlay.proofs.search.seek.Reads as reads
-use Rattle.overlay.proofs.search.seek.Lts as lts
-use Rattle.overlay.proofs.search.block_end.Reads as block-end-reads
-use Rattle.overlay.proofs.search.has_key.Reads as has-key-reads
-use Rattle.table.proofs.words.argument_of.Reads as argument-of-reads
 
 abbrev Inv-loop : tie.InvT-loop
 Inv-loop words name perms left₀ at₀ left at =
@@ -30,15 +23,12 @@ Inv-loop words name perms left₀ at₀ left at =
 abbrev μ-loop : tie.MeasureT-loop
 μ-loop words name perms left₀ at₀ left at = left
 
--- src/search.rt:61:32
 shared-slice-read-argument-of : tie.Need-shared-slice-read-argument-of Inv-loop μ-loop
 shared-slice-read-argument-of c = table _ (c .before .before .pre) .inside
 
--- src/search.rt:61:9
 argument-of-requires : tie.Need-argument-of-requires Inv-loop μ-loop
 argument-of-requires c κs = search needs
 
--- src/search.rt:63:5
 loop-holds : tie.Need-loop-holds Inv-loop μ-loop
 unfolding blocks
 loop-holds c =
@@ -55,15 +45,12 @@ loop-holds c =
 at-loop : (c : tie.In-loop Inv-loop μ-loop) → Here (c .before .before .before .before .before .args .words .now) (c .before .loop .left) (c .before .loop .at)
 at-loop c = let l = c .before .loop in here _ (l .left) (l .at) (search needs) (l .inv .0) (l .inv .1)
 
--- src/search.rt:64:13
 block-end-requires : tie.Need-block-end-requires Inv-loop μ-loop
 block-end-requires c κs = (table _ (c .before .before .before .before .before .pre) .short, c .before .loop .inv .0)
 
--- src/search.rt:65:12
 has-key-requires : tie.Need-has-key-requires Inv-loop μ-loop
 has-key-requires c κs = let r = at-loop (c .before) in omega arith
 
--- src/search.rt:66:13
 returns : tie.Need-returns Inv-loop μ-loop
 unfolding spanOf
 returns c =
@@ -74,15 +61,12 @@ returns c =
     ap (λ (q : ℕ). spans.At (l .at) q) e
     ∙ sym (ap spanOf (l .inv .2 ∙ seek-here _ _ _ (l .left) (l .at) r (sym (c .before .has-key .ensures) ∙ c .if1 .taken)))
 
--- src/search.rt:69:9
 sub-left : tie.Need-sub-left Inv-loop μ-loop
 sub-left c = search needs
 
--- src/search.rt:63:5
 loop-less : tie.Need-loop-less Inv-loop μ-loop
 loop-less c = search needs
 
--- src/search.rt:63:5
 loop-again : tie.Need-loop-again Inv-loop μ-loop
 loop-again c =
     let l = c .before .before .before .before .loop in
@@ -98,7 +82,6 @@ loop-again c =
           ∙ ap (λ (q : ℕ). seek (a .name) (a .perms) q (cut (l .left - 1) (drop q ws))) e,
     )
 
--- src/search.rt:57:1
 returns-2 : tie.Need-returns-2 Inv-loop μ-loop
 unfolding spanOf cut
 returns-2 c =

@@ -7,16 +7,12 @@ use native.Mathlib.Omega.{arith}
 use lib.ListN.{length, getD, drop}
 use lib.Arith.{le-zero}
 use borrow.Author.Needs.{needs}
-use Rattle.table.specs.Words.{arity}
 use Rattle.table.specs.Code.{skip}
 use Rattle.table.proofs.words.ByKind.{arity-small}
 use Rattle.table.proofs.Parts.{skip-zero}
 use Rattle.overlay.proofs.Ends.{skip-past, skip-on}
 use Rattle.overlay.proofs.search.term_end.Statement.{statement}
 use Rattle.overlay.proofs.search.term_end.Tie as tie
-use Rattle.overlay.proofs.search.term_end.Reads as reads
-use Rattle.overlay.proofs.search.term_end.Lts as lts
-use Rattle.table.proofs.words.arity_of.Reads as arity-of-reads
 
 abbrev Inv-loop : tie.InvT-loop
 Inv-loop words at next₀ left₀ next left =
