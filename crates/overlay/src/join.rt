@@ -17,10 +17,13 @@ ghost use Rattle.overlay.specs.Join.{joinAnswer, outAfter};
 ghost use Rattle.overlay.specs.Answers.{joinedAs};
 ghost use Rattle.overlay.specs.Parts.{part as partOf, given, AppendedTo, PutTo};
 
+// Word 0 of a table without handlers.
+const NO_HANDLERS: u32 = 16777216;
+
 // How far the output is written, and how many blocks were put there.
-pub struct Put {
-    pub end: usize,
-    pub count: usize,
+struct Put {
+    end: usize,
+    count: usize,
 }
 
 // The words of a part, written from a place on where they have room; the place after them.
@@ -112,7 +115,7 @@ pub fn join(base: &[u32], overlay: &[u32], out: &mut [u32]) -> Joined
     if out.len() < end {
         return Joined::Refused(Fault::ShortOutput);
     }
-    words[0] = 16777216 + count as u32;
+    words[0] = NO_HANDLERS + count as u32;
     append(out, 0, &words[0..end]);
     Joined::Words(end)
 }

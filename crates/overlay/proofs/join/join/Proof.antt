@@ -53,7 +53,9 @@ put-blocks-requires-2 : tie.Need-put-blocks-requires-2
 put-blocks-requires-2 c κs =
     let t = tables-accepted _ _ (both (c .before .before .before .before)) in
     let n = c .before .before .put-blocks .ensures .near in
-    (omega arith, t .1, t .0)
+    let b = t .0 in
+    let o = t .1 in
+    (omega arith, cc, cc)
 
 add-count : tie.Need-add-count
 add-count c =
@@ -117,10 +119,7 @@ part-append-start : tie.Need-part-append-start
 part-append-start c = search needs
 
 part-append-end : tie.Need-part-append-end
-part-append-end c =
-    let l = buffer-long (c .before .before .before .before .before .before .before .before) in
-    let m = length-set (c .before .before .before .before .before .before .before .before .put-blocks2 .last .0) 0 (16777216 + count (c .before .before .before .before .before .before .before .before)) in
-    search needs
+part-append-end c = let l = buffer-long (c .before .before .before .before .before .before .before .before) in simp length-set (search needs)
 
 append-requires : tie.Need-append-requires
 append-requires c κs = search needs

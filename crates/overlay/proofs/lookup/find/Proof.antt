@@ -30,7 +30,7 @@ unfolding checkedAs
 both c = sym (c .before .before .check .ensures) ∙ ap checkedAs (c .enum-told .given .1)
 
 seek-requires : tie.Need-seek-requires
-seek-requires c κs = tables-accepted _ _ (both c) .1
+seek-requires c κs = let t = tables-accepted _ _ (both c) in let b = t .0 in let o = t .1 in cc
 
 enum-known-start : tie.Need-enum-known-start
 enum-known-start c = search needs
@@ -45,7 +45,7 @@ enum-told-2 : tie.Need-enum-told-2
 enum-told-2 c = search needs
 
 seek-requires-2 : tie.Need-seek-requires-2
-seek-requires-2 c κs = tables-accepted _ _ (both (c .before .before .before)) .0
+seek-requires-2 c κs = let t = tables-accepted _ _ (both (c .before .before .before)) in let b = t .0 in let o = t .1 in cc
 
 enum-known-start-2 : tie.Need-enum-known-start-2
 enum-known-start-2 c = search needs
