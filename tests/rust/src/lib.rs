@@ -8,6 +8,7 @@ pub mod generate;
 pub mod inputs;
 pub mod machine;
 pub mod naive;
+pub mod overlay;
 pub mod samples;
 pub mod solve;
 pub mod table;
