@@ -3,3 +3,4 @@ pub mod Block
 pub mod Keys
 pub mod Tables
 pub mod Places
+pub mod Rearranged

@@ -1,6 +1,6 @@
 -- The blocks of a table (document 01, "The table"): a table is its word 0 and its blocks, and a block is a name, a permission set, a
 -- guard and one body term.
-use Prim.Native.Nat.{ℕ, zero, suc}
+use Prim.Native.Nat.{ℕ, zero, suc, _+_}
 use mathlib.Core.Path.{_≡_}
 use mathlib.Core.Bool.{false}
 use mathlib.Core.List.{List, [], _∷_, flatten}
@@ -23,6 +23,11 @@ cut (suc n) ws = take (blockLength ws) ws ∷ cut n (drop (blockLength ws) ws)
 unfoldable pub blocks : List ℕ → List (List ℕ)
 unfolding cut
 blocks ws = cut (argument (getD ws 0 0)) (drop 1 ws)
+
+-- where blocks start, the first of them at a place
+unfoldable pub places : ℕ → List (List ℕ) → List ℕ
+places at [] = []
+places at (b ∷ bs) = at ∷ places (at + length b) bs
 
 -- the table that has these blocks
 unfoldable pub tableOf : List (List ℕ) → List ℕ
