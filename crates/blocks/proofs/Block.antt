@@ -11,7 +11,7 @@ use Rattle.table.specs.Code.{skip}
 use Rattle.table.proofs.Faults.{stands, faultless}
 use Rattle.table.proofs.Stack.{scan-go, scan-step, scan-missing, refused-not-accepted}
 use Rattle.table.proofs.Parts.{skip-le}
-use Rattle.blocks.specs.Blocks.{blockLength, keyOf, Good}
+use Rattle.blocks.specs.Blocks.{blockLength, nameOf, keyOf, Good}
 use Rattle.blocks.proofs.Terms.{Alike, none, also, terms-before, terms-cut, terms-length}
 
 -- what is asked of a block's three words, and the body's task
@@ -111,6 +111,9 @@ module _ (b : List ℕ) (good : Good b) where
       ap (λ (v : List ℕ). blockLength (v ++ ws)) (f .whole)
       ∙ ap (λ (m : ℕ). suc (suc (suc m))) (terms-length (f .rest) ws _ 3 (body-task 0 []) (body-task 0 []) (bodies 0 0) (f .after))
       ∙ sym (ap length (f .whole))
+
+  pub good-name : nameOf b < names
+  good-name = subst (λ (n : ℕ). n < names) (sym (ap nameOf (alone .whole))) (alone .fronted .named .1)
 
   pub good-long : 3 ≤ length b
   good-long = let l = ap length (alone .whole) in omega arith

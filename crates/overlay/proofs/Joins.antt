@@ -214,3 +214,36 @@ module _ (base overlay : List ℕ) where
             ∙ headed z (flatten blocks-joined) _ (second .end) some-room (all .ends)
             ∙ ap (λ (i : ℕ). wordOf 1 i ∷ flatten blocks-joined) counted;
       }
+
+  -- what a join answers where the two tables are accepted, by what was written to the buffer
+  module _ {before after : List ℕ} {count end : ℕ} (r : Ready before after count end) (out : List ℕ) (t : tablesRead base overlay ≡ accepted) where
+    abbrev Stopped : ℕ → Type 0
+    Stopped k = (refusal k 0 ≡ joinAnswer base overlay (length out)) × (out ≡ outAfter base overlay out)
+
+    stopped : (n : ℕ) → joinFault base overlay (length out) ≡ suc n → Stopped (suc n)
+    stopped n e = let q = join-stopped base overlay out t n e in (sym (q .0), sym (q .1))
+
+    pub too-many-handlers : handlers < count → Stopped 48
+    too-many-handlers h = stopped 47 (fault-48 base overlay (length out) (subst (λ (n : ℕ). handlers < n) (r .counted) h))
+
+    module _ (few : count ≤ handlers) where
+      few-joined : length (joinedBlocks (blocks base) (blocks overlay)) ≤ handlers
+      few-joined = subst (λ (n : ℕ). n ≤ handlers) (r .counted) few
+
+      pub too-many-words : size < end → Stopped 49
+      too-many-words h = stopped 48 (fault-49 base overlay (length out) few-joined (subst (λ (n : ℕ). size < n) (r .ended) h))
+
+      module _ (short : end ≤ size) where
+        short-joined : length (joined base overlay) ≤ size
+        short-joined = subst (λ (n : ℕ). n ≤ size) (r .ended) short
+
+        pub short-output : length out < end → Stopped 50
+        short-output h = stopped 49 (fault-50 base overlay (length out) few-joined short-joined (subst (λ (n : ℕ). length out < n) (r .ended) h))
+
+        pub all-written : end ≤ length out
+            → (written end ≡ joinAnswer base overlay (length out))
+            × (joined base overlay ++ drop (length (joined base overlay)) out ≡ outAfter base overlay out)
+        all-written h =
+            let fits = subst (λ (n : ℕ). n ≤ length out) (r .ended) h in
+            let q = join-written base overlay out t (no-fault base overlay (length out) few-joined short-joined fits) in
+            (ap written (r .ended) ∙ sym (q .0), sym (q .1))

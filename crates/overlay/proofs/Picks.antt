@@ -3,14 +3,13 @@ use mathlib.Core.Path.{_≡_, refl, sym, ap, ap₂, subst, _∙_}
 use mathlib.Core.List.{List, [], _∷_, _++_, map}
 use mathlib.Core.Bool.{Bool, true, false, _&&_, false≢true}
 use Prim.Native.Nat.{ℕ, _+_}
-use native.Mathlib.Omega.{arith}
 use borrow.Author.Tests.{eqb-true}
 use lib.Dec.{eqb}
 use lib.ListN.{length}
 use Rattle.blocks.specs.Blocks.{nameOf, permsOf}
 use Rattle.overlay.specs.Lookup.{keyed, Sought, nothing, found, seek, wordsIn}
 use Rattle.overlay.specs.Join.{replaced, fresh, joinedBlocks}
-use Rattle.overlay.proofs.Seek.{seek-none, seek-yes, seek-no}
+use Rattle.overlay.proofs.Seek.{nothing-not-found, seek-none, seek-yes, seek-no}
 use Rattle.overlay.proofs.Joins.{replaced-own, replaced-other, fresh-new, fresh-old}
 
 -- a block with a key has that name and that permission set
@@ -24,10 +23,7 @@ keyed-is n s b e = go (eqb (nameOf b) n) (eqb (permsOf b) s) refl refl e
 
 -- what is found has the key
 pub seek-keyed : (n s at : ℕ) (bs : List (List ℕ)) (a : ℕ) (b : List ℕ) → seek n s at bs ≡ found a b → keyed n s b ≡ true
-seek-keyed n s at [] a b e =
-    let z : _≡_ {A = ℕ} 0 1 = cc (seek-none n s at) in
-    let f : ⊥ = omega arith in
-    absurd f
+seek-keyed n s at [] a b e = absurd (nothing-not-found (sym (seek-none n s at) ∙ e))
 seek-keyed n s at (c ∷ bs) a b e = go (keyed n s c) refl (seek-keyed n s (at + length c) bs a b)
   where
     go : (x : Bool) → keyed n s c ≡ x → (seek n s (at + length c) bs ≡ found a b → keyed n s b ≡ true) → keyed n s b ≡ true
@@ -92,10 +88,7 @@ module _ (n s : ℕ) where
 
   bare-nothing : (q : Sought) → bare q ≡ nothing → q ≡ nothing
   bare-nothing nothing e = refl
-  bare-nothing (found a b) e =
-      let z : _≡_ {A = ℕ} 0 1 = cc in
-      let f : ⊥ = omega arith in
-      absurd f
+  bare-nothing (found a b) e = absurd (nothing-not-found (sym e))
 
   -- where the base has the key
   abbrev replacing : Sought → Sought → Sought
@@ -134,11 +127,7 @@ module _ (n s : ℕ) where
       go true k nothing e later = ap pick (fresh-new bs o os e) ∙ pick-yes o (fresh bs os) k ∙ sym (pick-yes o os k)
       go false k nothing e later = ap pick (fresh-new bs o os e) ∙ pick-no o (fresh bs os) k ∙ later ∙ sym (pick-no o os k)
       go true k (found a b) e later =
-          let no = sym (same-search n s o bs k) ∙ e in
-          let none = bare-nothing (seek n s 1 bs) (seek-pick 1 bs ∙ h) in
-          let z : _≡_ {A = ℕ} 0 1 = cc in
-          let f : ⊥ = omega arith in
-          absurd f
+          absurd (nothing-not-found (sym (bare-nothing (seek n s 1 bs) (seek-pick 1 bs ∙ h)) ∙ sym (same-search n s o bs k) ∙ e))
       go false k (found a b) e later = ap pick (fresh-old bs o os a b e) ∙ later ∙ sym (pick-no o os k)
 
   or-nothing : (q : Sought) → q ≡ or q nothing

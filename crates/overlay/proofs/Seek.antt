@@ -24,6 +24,9 @@ keyed-at ws at n s =
     ap₂ (λ (x y : ℕ). eqb (argument x) n && eqb (argument y) s)
     (getD-drop at ws 0 0 ∙ ap (λ (i : ℕ). getD ws i 0) (add-zero at)) (getD-drop at ws 1 0)
 
+pub nothing-not-found : {a : ℕ} {b : List ℕ} → nothing ≡ found a b → ⊥
+nothing-not-found e = let z : _≡_ {A = ℕ} 0 1 = cc in omega arith
+
 module _ (n s : ℕ) where
   pub keyed-take : (k : ℕ) (v : List ℕ) → 3 ≤ k → keyed n s (take k v) ≡ keyed n s v
   keyed-take k v h =
@@ -43,10 +46,7 @@ module _ (n s : ℕ) where
 
   -- what is found is one of the blocks
   pub seek-good : (P : List ℕ → Type 0) (at : ℕ) (bs : List (List ℕ)) → All P bs → (a : ℕ) (b : List ℕ) → seek n s at bs ≡ found a b → P b
-  seek-good P at [] g a b e =
-      let z : _≡_ {A = ℕ} 0 1 = cc (seek-none at) in
-      let f : ⊥ = omega arith in
-      absurd f
+  seek-good P at [] g a b e = absurd (nothing-not-found (sym (seek-none at) ∙ e))
   seek-good P at (c ∷ bs) g a b e = go (keyed n s c) refl (seek-good P (at + length c) bs (g .1) a b)
     where
       go : (x : Bool) → keyed n s c ≡ x → (seek n s (at + length c) bs ≡ found a b → P b) → P b
@@ -72,10 +72,7 @@ module _ (n s : ℕ) where
   seek-part : (ws : List ℕ) (m at a : ℕ) (b : List ℕ) → at ≤ length ws → Cuts m (drop at ws)
       → seek n s at (cut m (drop at ws)) ≡ found a b → Part ws a b
   unfolding cut
-  seek-part ws zero at a b h c e =
-      let z : _≡_ {A = ℕ} 0 1 = cc (seek-none at) in
-      let f : ⊥ = omega arith in
-      absurd f
+  seek-part ws zero at a b h c e = absurd (nothing-not-found (sym (seek-none at) ∙ e))
   seek-part ws (suc m) at a b h c e = go (here ws (suc m) at (omega arith) h c) (keyed n s (drop at ws)) refl (λ q. seek-part ws m q a b)
     where
       go : Here ws (suc m) at → (x : Bool) → keyed n s (drop at ws) ≡ x

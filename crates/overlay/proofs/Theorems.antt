@@ -1,6 +1,7 @@
 -- Theorems of the join: what it writes is accepted, its blocks are the wish's in the wish's order, and looking a key up in it is looking
--- it up in the two tables. An overlay without blocks gives the base.
+-- it up in the two tables. An overlay without blocks gives the base, and a name or a set that no block can have is 47.
 use mathlib.Core.Path.{_≡_, refl, sym, ap, ap₂, subst, _∙_}
+use mathlib.Core.Logic.{_⊎_, ⊎-elim}
 use mathlib.Core.List.{List, [], _∷_, _++_, map, flatten, map-append, append-nil}
 use mathlib.Core.Bool.{Bool, true, false, _||_, _&&_, false≢true}
 use Prim.Native.Nat.{ℕ, suc, _+_, _≤_, _<_, _^_}
@@ -9,18 +10,20 @@ use native.Mathlib.Omega.{arith}
 use borrow.Author.Tests.{eq-eqb, ne-eqb}
 use lib.Dec.{eqb}
 use lib.ListN.{length, drop}
-use Rattle.table.specs.Words.{handlers, size}
+use Rattle.table.specs.Words.{names, handlers, size}
 use Rattle.table.specs.Scan.{Outcome, accepted, refused, has, key, reading}
 use Rattle.table.proofs.Distinct.{key-injective}
 use Rattle.table.proofs.TermWords.{argument-lt}
 use Rattle.blocks.specs.Blocks.{blocks, tableOf, nameOf, permsOf, keyOf, Good, All, Distinct}
+use Rattle.blocks.proofs.Block.{good-name}
 use Rattle.blocks.proofs.Keys.{Apart, neither, distinct-append}
 use Rattle.blocks.proofs.Tables.{blocks-good, blocks-distinct, blocks-whole, table-accepted, blocks-tableOf}
-use Rattle.overlay.specs.Lookup.{tablesRead, keyed, Sought, nothing, found, seek, sought, wordsIn, lookedUp}
+use Rattle.overlay.specs.Lookup.{tablesRead, keyed, Sought, nothing, found, seek, sought, placeOf, wordsIn, lookedUp}
+use Rattle.overlay.specs.Lookup as lookup
 use Rattle.overlay.specs.Join.{replaced, fresh, joinedBlocks, joined, written, refusal, joinFault, joinAnswer, outAfter}
 use Rattle.overlay.proofs.Refusals.{tables-accepted, both-accepted}
-use Rattle.overlay.proofs.Seek.{seek-none, seek-yes, seek-no}
-use Rattle.overlay.proofs.Places.{looked-found}
+use Rattle.overlay.proofs.Seek.{nothing-not-found, seek-none, seek-yes, seek-no}
+use Rattle.overlay.proofs.Places.{looked-found, place-found}
 use Rattle.overlay.proofs.Joins.{replaced-own, all-replaced-good, fresh-new, fresh-old, fresh-good, join-refused, join-stopped}
 use Rattle.overlay.proofs.Joins.{join-written, fault-48, fault-49, fault-50, no-fault}
 use Rattle.overlay.proofs.Picks.{replaced-key, joined-search}
@@ -41,10 +44,7 @@ not-found n s at (b ∷ bs) h e = go (keyed n s b) refl (not-found n s (at + len
   where
     go : (x : Bool) → keyed n s b ≡ x → (seek n s (at + length b) bs ≡ nothing → has (map keyOf bs) (key n s) ≡ false)
         → (eqb (keyOf b) (key n s) || has (map keyOf bs) (key n s)) ≡ false
-    go true k later =
-        let z : _≡_ {A = ℕ} 0 1 = cc (seek-yes n s at b bs k) in
-        let f : ⊥ = omega arith in
-        absurd f
+    go true k later = absurd (nothing-not-found (sym e ∙ seek-yes n s at b bs k))
     go false k later =
         let other : eqb (keyOf b) (key n s) ≡ false =
         ne-eqb (keyOf b) (key n s)
@@ -201,3 +201,37 @@ empty-overlay base e =
     ap (λ (os : List (List ℕ)). tableOf (joinedBlocks (blocks base) os)) no-blocks
     ∙ ap tableOf (append-nil (map (replaced []) (blocks base)) ∙ none-replaced (blocks base))
     ∙ blocks-whole base e
+
+-- ---- a name or a set that no block can have
+
+never : (n s at : ℕ) (bs : List (List ℕ)) → All (λ b. keyed n s b ≡ false) bs → seek n s at bs ≡ nothing
+never n s at [] h = seek-none n s at
+never n s at (b ∷ bs) h = seek-no n s at b bs (h .0) ∙ never n s (at + length b) bs (h .1)
+
+and-false : (a : Bool) → (a && false) ≡ false
+and-false true = refl
+and-false false = refl
+
+abbrev NoBlock : ℕ → ℕ → Type 0
+NoBlock n s = (names ≤ n) ⊎ (2 ^ 24 ≤ s)
+
+not-keyed : (n s : ℕ) → NoBlock n s → (b : List ℕ) → Good b → keyed n s b ≡ false
+not-keyed n s h b g =
+    ⊎-elim
+    (λ k.
+    let l = good-name b g in
+    ap (λ (x : Bool). x && eqb (permsOf b) s) (ne-eqb (nameOf b) n (λ e. omega arith)))
+    (λ k.
+    let l : permsOf b < 2 ^ 24 = argument-lt _ in
+    ap (λ (x : Bool). eqb (nameOf b) n && x) (ne-eqb (permsOf b) s (λ e. omega arith)) ∙ and-false (eqb (nameOf b) n)) h
+
+none-keyed : (n s : ℕ) → NoBlock n s → (bs : List (List ℕ)) → All Good bs → All (λ b. keyed n s b ≡ false) bs
+none-keyed n s h [] g = tt
+none-keyed n s h (b ∷ bs) g = (not-keyed n s h b (g .0), none-keyed n s h bs (g .1))
+
+pub no-such-block : (base overlay : List ℕ) (name perms : ℕ) → tablesRead base overlay ≡ accepted → (names ≤ name) ⊎ (2 ^ 24 ≤ perms)
+    → placeOf base overlay name perms ≡ lookup.refusal 47 0
+no-such-block base overlay n s t h =
+    let r = tables-accepted base overlay t in
+    place-found base overlay n s t nothing nothing (never n s 1 (blocks base) (none-keyed n s h (blocks base) (blocks-good base (r .0))))
+    (never n s 1 (blocks overlay) (none-keyed n s h (blocks overlay) (blocks-good overlay (r .1))))

@@ -1,4 +1,5 @@
--- What the code is made of: where a block ends that was found, and what one block of a table gives to the joined system.
+-- What the code is made of: from where up to where a block stands, what one block of a table gives to the joined system, and words
+-- that are written to a slice.
 use Prim.Native.Nat.{ℕ, suc, _+_, _-_, _≤_}
 use mathlib.Core.Path.{_≡_}
 use mathlib.Core.Bool.{Bool, true, false}
@@ -25,7 +26,7 @@ unfoldable pub given : (new : Bool) (other : List (List ℕ)) → List ℕ → L
 given new os b =
     elim (seek (nameOf b) (permsOf b) 1 os) [ nothing ↦ b | found a o ↦ elim new [ true ↦ [] | false ↦ o ] ]
 
--- how many of them are any
+-- how many lists have words
 unfoldable pub some : List (List ℕ) → ℕ
 some [] = 0
 some ([] ∷ ls) = some ls

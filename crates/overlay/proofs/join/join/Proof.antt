@@ -11,11 +11,10 @@ use borrow.Author.Needs.{needs}
 use Rattle.table.specs.Scan.{accepted}
 use Rattle.overlay.specs.Lookup.{tablesRead}
 use Rattle.overlay.specs.Join.{joined}
-use Rattle.overlay.specs.Join as join
 use Rattle.overlay.specs.Answers.{faultNumber, faultPlace, joinedAs, checkedAs}
 use Rattle.overlay.proofs.Refusals.{tables-accepted}
 use Rattle.overlay.proofs.Appended.{appended-as}
-use Rattle.overlay.proofs.Joins.{join-refused, out-refused, join-stopped, join-written, fault-48, fault-49, fault-50, no-fault, Ready, ready}
+use Rattle.overlay.proofs.Joins.{join-refused, out-refused, Ready, ready, too-many-handlers, too-many-words, short-output, all-written}
 use Rattle.overlay.proofs.join.join.Statement.{statement}
 use Rattle.overlay.proofs.join.join.Tie as tie
 
@@ -81,27 +80,15 @@ buffer-long c = c .put-blocks2 .kept .0 ∙ c .before .before .before .put-block
 
 returns-2 : tie.Need-returns-2
 unfolding joinedAs faultNumber faultPlace
-returns-2 c =
-    let r = written (c .before .before .before .before) in
-    let out = c .before .before .before .before .before .before .before .before .before .before .before .before .before .before .before .args .out .now in
-    let q = join-stopped _ _ out (both (c .before .before .before .before .before .before .before .before .before)) 47 (fault-48 _ _ (length out) (let k = r .counted in omega arith)) in
-    (sym (q .0), sym (q .1))
+returns-2 c = too-many-handlers _ _ (written (c .before .before .before .before)) _ (both (c .before .before .before .before .before .before .before .before .before)) (search needs)
 
 returns-3 : tie.Need-returns-3
 unfolding joinedAs faultNumber faultPlace
-returns-3 c =
-    let r = written (c .before .before .before .before .before) in
-    let out = c .before .before .before .before .before .before .before .before .before .before .before .before .before .before .before .before .args .out .now in
-    let q = join-stopped _ _ out (both (c .before .before .before .before .before .before .before .before .before .before)) 48 (fault-49 _ _ (length out) (let k = r .counted in omega arith) (let k = r .ended in omega arith)) in
-    (sym (q .0), sym (q .1))
+returns-3 c = too-many-words _ _ (written (c .before .before .before .before .before)) _ (both (c .before .before .before .before .before .before .before .before .before .before)) (search needs) (search needs)
 
 returns-4 : tie.Need-returns-4
 unfolding joinedAs faultNumber faultPlace
-returns-4 c =
-    let r = written (c .before .before .before .before .before .before) in
-    let out = c .before .before .before .before .before .before .before .before .before .before .before .before .before .before .before .before .before .args .out .now in
-    let q = join-stopped _ _ out (both (c .before .before .before .before .before .before .before .before .before .before .before)) 49 (fault-50 _ _ (length out) (let k = r .counted in omega arith) (let k = r .ended in omega arith) (let k = r .ended in omega arith)) in
-    (sym (q .0), sym (q .1))
+returns-4 c = short-output _ _ (written (c .before .before .before .before .before .before)) _ (both (c .before .before .before .before .before .before .before .before .before .before .before)) (search needs) (search needs) (search needs)
 
 cast-words : tie.Need-cast-words
 cast-words c = search needs
@@ -135,12 +122,12 @@ returns-5 c =
     let ws = joined (a .base .now) (a .overlay .now) in
     let b = c .before .before .before .before .before .before .before .before .before .before .before .before in
     let r = written b in
-    let q = join-written (a .base .now) (a .overlay .now) out (both (c .before .before .before .before .before .before .before .before .before .before .before .before .before .before .before .before .before)) (no-fault _ _ (length out) (let k = r .counted in omega arith) (let k = r .ended in omega arith) (let k = r .ended in omega arith)) in
+    let q = all-written (a .base .now) (a .overlay .now) r out (both (c .before .before .before .before .before .before .before .before .before .before .before .before .before .before .before .before .before)) (search needs) (search needs) (search needs) in
     let same : ws ≡ take (b .put-blocks2 .result .end - 0) (set (b .put-blocks2 .last .0) 0 (16777216 + count b)) =
     sym (ap (λ (i : ℕ). take i (set (b .put-blocks2 .last .0) 0 (16777216 + count b))) (sub-zero (b .put-blocks2 .result .end)) ∙ r .listed (omega (arith, zeros))) in
     let done = appended-as same (c .before .before .append .ensures) in (
-      ap join.written (r .ended) ∙ sym (q .0),
-      done .written (let k = done .ends in let e = r .ended in omega arith) ∙ ap₂ (λ (x : List ℕ) (i : ℕ). x ++ drop i out) (take-length ws) (zero-add (length ws)) ∙ sym (q .1),
+      q .0,
+      done .written (let k = done .ends in let e = r .ended in omega arith) ∙ ap₂ (λ (x : List ℕ) (i : ℕ). x ++ drop i out) (take-length ws) (zero-add (length ws)) ∙ q .1,
     )
 
 pub join-spec : {M : Type 1} → statement M

@@ -49,8 +49,11 @@ seek-requires c κs = search needs
 abbrev block : tie.After-seek → List ℕ
 block c = let a = c .before .before .before .before .before .before .before .before .args in part (a .start) (a .end) (a .table .now)
 
+abbrev other : tie.After-seek → List ℕ
+other c = c .before .before .before .before .before .before .before .before .args .other .now
+
 abbrev search-of : tie.After-seek → Sought
-search-of c = seek (nameOf (block c)) (permsOf (block c)) 1 (blocks (c .before .before .before .before .before .before .before .before .args .other .now))
+search-of c = seek (nameOf (block c)) (permsOf (block c)) 1 (blocks (other c))
 
 spanned : (c : tie.After-seek) → spanOf (search-of c) ≡ c .seek .result
 spanned c =
@@ -66,13 +69,13 @@ spanned c =
 -- where it is found
 pub record There (c : tie.After-seek) (a e : ℕ) : Type 0 where
   pub order : a ≤ e
-  pub inside : e ≤ length (c .before .before .before .before .before .before .before .before .args .other .now)
-  pub short : length (c .before .before .before .before .before .before .before .before .args .other .now) ≤ 1024
-  pub block-there : search-of c ≡ found a (part a e (c .before .before .before .before .before .before .before .before .args .other .now))
+  pub inside : e ≤ length (other c)
+  pub short : length (other c) ≤ 1024
+  pub block-there : search-of c ≡ found a (part a e (other c))
 
 there : (c : tie.After-seek) (a e : ℕ) → c .seek .result ≡ spans.At a e → There c a e
 there c a e h =
-    let ws = c .before .before .before .before .before .before .before .before .args .other .now in
+    let ws = other c in
     let accepted = c .before .before .before .before .before .before .before .before .pre .4 in
     let q = at-span (search-of c) a e (spanned c ∙ h) in
     let p = sought-part _ _ ws accepted a (q .0) (q .1) in
