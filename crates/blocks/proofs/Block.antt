@@ -20,7 +20,7 @@ pub record Fronted (n p g : ℕ) (keys : List ℕ) : Type 0 where
   pub permitted : (kind p ≡ 3) × (has keys (key (argument n) (argument p)) ≡ false)
   pub guarded : kind g ≡ 4
 
-abbrev body-task : ℕ → List Task → List Task
+abbrev pub body-task : ℕ → List Task → List Task
 body-task at ts = term 1 at (at ∷ []) ∷ ts
 
 module _ (n p g : ℕ) (keys : List ℕ) (at : ℕ) (ts : List Task) where
@@ -74,7 +74,7 @@ front (n ∷ p ∷ g ∷ ws) keys at ts e =
     }
 
 -- bodies in two blocks
-bodies : (at at′ : ℕ) → Alike (body-task at []) (body-task at′ [])
+pub bodies : (at at′ : ℕ) → Alike (body-task at []) (body-task at′ [])
 bodies at at′ = also refl none
 
 -- ---- a good block anywhere

@@ -4,3 +4,4 @@ pub mod Keys
 pub mod Tables
 pub mod Places
 pub mod Rearranged
+pub mod Tasks

@@ -31,7 +31,7 @@ module _ (at at′ h h′ : ℕ) (s s′ : List ℕ) (l : length s ≡ length s�
   alike-parts d [] = none
   alike-parts d (b ∷ bs) = also (alike-under b) (alike-parts d bs)
 
-  alike-next : (w d : ℕ) (ts ts′ : List Task) → Alike ts ts′ → Alike (next at w (term d h s) ++ ts) (next at′ w (term d h′ s′) ++ ts′)
+  pub alike-next : (w d : ℕ) (ts ts′ : List Task) → Alike ts ts′ → Alike (next at w (term d h s) ++ ts) (next at′ w (term d h′ s′) ++ ts′)
   unfolding next
   alike-next w d ts ts′ r =
       alike-append (next at w (term d h s)) (next at′ w (term d h′ s′)) ts ts′ (alike-parts (suc d) (parts w)) r
