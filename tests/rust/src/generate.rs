@@ -2,7 +2,7 @@
 
 use crate::estimate::Layout;
 use crate::machine::{Event, Value, World};
-use crate::table::{arguments, arity, kind::*, Table, LITERALS, MOST_DEPTH, MOST_WORDS, NAMES, STANDING_BOUND};
+use crate::table::{arguments, arity, kind::*, Table, LITERALS, MOST_DEPTH, MOST_HANDLERS, MOST_WORDS, NAMES, STANDING_BOUND};
 use crate::terms::{block, system, word, Term};
 use crate::verdict::bytes_of;
 
@@ -115,6 +115,28 @@ pub fn exact_table(random: &mut Random, words: usize) -> Vec<u32> {
         left -= more;
         let mut body = Vec::new();
         exact_term(random, 1 + more, 1, 1, lean, &mut body);
+        blocks.push(block(name, permissions, random.permissions(1), body));
+    }
+    system(&blocks)
+}
+
+/// A table to lay over this one: some of its keys, in another order and with other bodies, and some new ones.
+pub fn overlay_of(random: &mut Random, base: &Table) -> Vec<u32> {
+    let mut chosen: Vec<(u32, u32)> = Vec::new();
+    let handlers = random.below(MOST_HANDLERS as usize + 1).min(random.below(40));
+    for key in keys(random, handlers) {
+        let block = (!base.blocks.is_empty() && random.once_in(2)).then(|| random.pick(&base.blocks));
+        let key = block.map_or(key, |block| (block.name, block.permissions));
+        if !chosen.contains(&key) {
+            chosen.push(key);
+        }
+    }
+    let most = 1 + random.below(40);
+    let mut blocks = Vec::new();
+    for (name, permissions) in chosen {
+        let mut body = Vec::new();
+        let words = 1 + random.below(most).min(27);
+        exact_term(random, words, 1, 1, false, &mut body);
         blocks.push(block(name, permissions, random.permissions(1), body));
     }
     system(&blocks)

@@ -9,6 +9,7 @@ pub mod inputs;
 pub mod listing;
 pub mod machine;
 pub mod naive;
+pub mod overlay;
 pub mod samples;
 pub mod solve;
 pub mod table;

@@ -1,0 +1,4 @@
+pub mod Lookup
+pub mod Join
+pub mod Answers
+pub mod Parts
