@@ -1,0 +1,5 @@
+pub mod Bytes
+pub mod Numbers
+pub mod Strings
+pub mod Values
+pub mod Answers
