@@ -1,5 +1,6 @@
 pub mod Characters
 pub mod Choice
+pub mod Compared
 pub mod Numerals
 pub mod Places
 pub mod Repetition

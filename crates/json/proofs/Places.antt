@@ -22,6 +22,9 @@ pub head-over : (t : List ℕ) (at : ℕ) → length t ≤ at → head (drop at 
 unfolding head
 head-over t at h = rw (drop-of-length-le t h)
 
+pub drop-at : (t : List ℕ) (at : ℕ) → at < length t → drop at t ≡ getD t at 0 ∷ drop (at + 1) t
+drop-at t at h = rw (add-one, drop-cons t at 0)
+
 pub tail-drop : (t : List ℕ) (at : ℕ) → tail (drop at t) ≡ drop (at + 1) t
 unfolding tail
 tail-drop t at = rw add-one (go t at)

@@ -14,7 +14,7 @@ use borrow.Author.Tests.{eq-eqb, ne-eqb, le-leb, lt-leb}
 use Rattle.json.specs.Bytes.{head, tail, Rest, nothing, rest, then, Step, fails, goes, ends, after, space}
 use Rattle.json.specs.Numbers.{number}
 use Rattle.json.specs.Strings.{string}
-use Rattle.json.specs.Values.{literal, Start, plain, opens, start, closing, mark, name, separated, item, items, value, over, isText}
+use Rattle.json.specs.Values.{literal, Start, plain, opens, start, closing, mark, name, separated, item, items, first, value, over, isText}
 use Rattle.json.proofs.Places.{tail-drop}
 
 -- ---- a word, byte by byte
@@ -120,6 +120,14 @@ module _ (k : Bool) (bs : List ℕ) where
   pub separated-none : eqb (head bs) 0x2c ≡ false → eqb (head bs) (closing k) ≡ false → separated k bs ≡ fails
   unfolding separated
   separated-none n e = rw (n, e, separated)
+
+  pub first-none : eqb (head (space bs)) (closing k) ≡ true → first k bs ≡ nothing
+  unfolding first
+  first-none e = rw (e, first)
+
+  pub first-some : eqb (head (space bs)) (closing k) ≡ false → first k bs ≡ rest (space bs)
+  unfolding first
+  first-some e = rw (e, first)
 
   module _ (f : List ℕ → Rest) where
     pub item-none : name k bs ≡ nothing → item f k bs ≡ fails

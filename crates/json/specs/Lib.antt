@@ -3,3 +3,4 @@ pub mod Numbers
 pub mod Strings
 pub mod Values
 pub mod Answers
+pub mod Units

@@ -91,11 +91,20 @@ unfolding start items
 value zero bs = elim (start bs) [ plain r ↦ r | opens k cs ↦ nothing ]
 value (suc m) bs = elim (start bs) [ plain r ↦ r | opens k cs ↦ items (value m) k cs ]
 
--- where the items start, behind an opening bracket
+-- where the first item starts, behind an opening bracket
+unfoldable pub first : Bool → List ℕ → Rest
+unfolding head space closing
+first k bs = elim (eqb (head (space bs)) (closing k)) [ true ↦ nothing | false ↦ rest (space bs) ]
+
+-- where each item starts
+unfoldable pub startsFrom : (List ℕ → Rest) → Bool → Rest → List (List ℕ)
+unfolding item
+startsFrom f k nothing = []
+startsFrom f k (rest bs) = starts (item f k) bs
+
 unfoldable pub parts : (List ℕ → Rest) → Bool → List ℕ → List (List ℕ)
-unfolding head space closing item
-parts f k bs =
-    elim (eqb (head (space bs)) (closing k)) [ true ↦ [] | false ↦ starts (item f k) (space bs) ]
+unfolding first startsFrom
+parts f k bs = startsFrom f k (first k bs)
 
 abbrev pub over : List ℕ → Bool
 over [] = true

@@ -2,6 +2,7 @@
 pub mod bytes;
 pub mod numbers;
 pub mod strings;
+pub mod units;
 pub mod values;
 
 // Where a production ends, if one starts.

@@ -8,7 +8,7 @@ use crate::strings::string;
 ghost use mathlib.Core.Path.{_≡_};
 ghost use Prim.Native.Nat.{_<_};
 ghost use lib.ListN.{drop};
-ghost use Rattle.json.specs.Values.{literal, start, closing, mark, name, separated, item, items, value, isText};
+ghost use Rattle.json.specs.Values.{literal, start, closing, mark, name, separated, item, items, first, value, isText};
 ghost use Rattle.json.specs.Answers.{ended, started, stepped};
 
 // What starts a value: all of a value without parts, or the bracket that opens an object (true) or an array.
@@ -132,6 +132,18 @@ fn items(text: &[u8], at: usize, keyed: bool, nest: usize) -> Ending
             Item::Goes(q) => p = q,
             Item::Ends(q) => return Ending::At(q),
         }
+    }
+}
+
+// Where the first item starts, behind an opening bracket.
+pub fn first(text: &[u8], at: usize, keyed: bool) -> Ending
+    ensures { λ r. ⌜ ended (now (text .entry)) r ≡ first keyed (drop at (now (text .entry))) ⌝ }
+{
+    let p = space(text, at);
+    if byte(text, p) == closing(keyed) {
+        Ending::Nowhere
+    } else {
+        Ending::At(p)
     }
 }
 
