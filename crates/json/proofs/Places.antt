@@ -91,3 +91,8 @@ pub digits-end : (bs : List ℕ) → isDigit (head bs) ≡ false → digits bs �
 unfolding head digits
 digits-end [] e = refl
 digits-end (b ∷ bs) e = rw (e, digits)
+
+-- past the end nothing follows
+pub tail-over : (t : List ℕ) (at : ℕ) → length t ≤ at → tail (drop at t) ≡ drop at t
+unfolding tail
+tail-over t at h = rw (drop-of-length-le t h)
