@@ -1,14 +1,14 @@
 -- Units compared: a word against the next unit.
 -- Assumes nothing.
-use Prim.Native.Nat.{ℕ, suc, _<_}
+use Prim.Native.Nat.{ℕ, suc, _+_, _*_, _%_, _^_, _<_}
 use native.Mathlib.Omega.{arith}
 use mathlib.Core.Path.{_≡_, refl, sym, ap, ap₂, _∙_}
 use mathlib.Core.Bool.{Bool, true, false, _&&_, _||_}
 use mathlib.Core.List.{List, [], _∷_}
 use lib.Dec.{eqb}
 use lib.ListN.{length}
-use borrow.Author.Tests.{eq-eqb, ne-eqb}
-use Rattle.json.specs.Units.{matches, contains}
+use borrow.Author.Tests.{eq-eqb, ne-eqb, eqb-true}
+use Rattle.json.specs.Units.{matches, contains, spread}
 
 pub shorter : {u : ℕ} {us vs : List ℕ} → us ≡ u ∷ vs → length vs < length us
 shorter {u} {us} {vs} e = let h : length us ≡ suc (length vs) = ap length e in omega arith
@@ -60,3 +60,25 @@ module _ (word us : List ℕ) where
   unfolding contains
   contains-later {u} {vs} q n =
       ap (contains word) q ∙ ap (λ (b : Bool). b || contains word vs) (sym (ap (matches false word) q) ∙ n)
+
+-- ---- the number of a string
+
+pub spread-end : (n : ℕ) (us : List ℕ) → us ≡ [] → spread n us ≡ n
+unfolding spread
+spread-end n us e = ap (spread n) e
+
+pub spread-next : (n : ℕ) (us : List ℕ) {u : ℕ} {vs : List ℕ} → us ≡ u ∷ vs → spread n us ≡ spread ((n * 31337 + u % 2 ^ 16) % 2 ^ 18) vs
+unfolding spread
+spread-next n us e = ap (spread n) e
+
+-- a word that is the whole of some units is those units
+pub matches-same : (a b : List ℕ) → matches true a b ≡ true → a ≡ b
+unfolding matches
+matches-same [] [] e = refl
+matches-same [] (u ∷ us) e = let z : _≡_ {A = ℕ} 0 1 = cc in absurd (omega arith)
+matches-same (x ∷ a) [] e = let z : _≡_ {A = ℕ} 0 1 = cc in absurd (omega arith)
+matches-same (x ∷ a) (u ∷ us) e = by (eqb u x) refl e (matches-same a us)
+  where
+    by : (t : Bool) → eqb u x ≡ t → (t && matches true a us) ≡ true → (matches true a us ≡ true → a ≡ us) → x ∷ a ≡ u ∷ us
+    by true q m f = ap₂ (λ (y : ℕ) (l : List ℕ). y ∷ l) (sym (eqb-true u x q)) (f m)
+    by false q m f = let z : _≡_ {A = ℕ} 0 1 = cc in absurd (omega arith)

@@ -1,5 +1,5 @@
 -- The units of strings, compared.
-use Prim.Native.Nat.{ℕ}
+use Prim.Native.Nat.{ℕ, _+_, _*_, _%_, _^_}
 use mathlib.Core.Bool.{Bool, true, false, _&&_, _||_}
 use mathlib.Core.List.{List, [], _∷_}
 use lib.Dec.{eqb}
@@ -21,6 +21,11 @@ unfoldable pub contains : List ℕ → List ℕ → Bool
 unfolding matches
 contains word [] = matches false word []
 contains word (u ∷ us) = matches false word (u ∷ us) || contains word us
+
+-- a number below 2^18 for some units: the same for the same ones
+unfoldable pub spread : ℕ → List ℕ → ℕ
+spread n [] = n
+spread n (u ∷ us) = spread ((n * 31337 + u % 2 ^ 16) % 2 ^ 18) us
 
 -- the units from a place on, where the second unit of a pair may be held back
 abbrev pub held : Bool → ℕ → List ℕ → List ℕ

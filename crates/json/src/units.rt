@@ -3,9 +3,10 @@ use crate::Character;
 use crate::strings::character;
 ghost use mathlib.Core.Path.{_≡_};
 ghost use mathlib.Core.Bool.{true, false};
+ghost use Prim.Native.Nat.{_<_, _^_};
 ghost use lib.ListN.{drop};
 ghost use Rattle.json.specs.Strings.{units};
-ghost use Rattle.json.specs.Units.{matches, contains, held, uncons};
+ghost use Rattle.json.specs.Units.{matches, contains, spread, held, uncons};
 
 // The next unit, where the ones behind it start, and the second unit of a pair, if one is held back.
 enum Next {
@@ -115,4 +116,21 @@ pub fn same(text: &[u8], at: usize, other: usize) -> bool
         Next::End => true,
         Next::Unit(_, _, _, _) => false,
     }
+}
+
+// A number for the string at a place, the same for the same strings.
+pub fn hash(text: &[u8], at: usize) -> usize
+    ensures { λ r. ⌜ (r ≡ spread 0 (units (drop at (now (text .entry))))) × (r < 2 ^ 18) ⌝ }
+{
+    let mut n = 0;
+    let mut p = at;
+    let mut h = false;
+    let mut l = 0;
+    while let Next::Unit(u, q, g, m) = unit(text, p, h, l) {
+        n = (n * 31337 + (u % 65536) as usize) % 262144;
+        p = q;
+        h = g;
+        l = m;
+    }
+    n
 }

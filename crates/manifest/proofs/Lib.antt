@@ -1,5 +1,6 @@
 pub mod Judged
 pub mod Lists
+pub mod Marks
 pub mod Names
 pub mod Samples
 pub mod Tops

@@ -30,6 +30,10 @@ unfolding tail matches
 has [] key = false
 has (m ∷ ms) key = matches true (keyOf m) key || has ms key
 
+-- a test that is made only where a mark is there
+unfoldable pub unlessZero : ℕ → Bool → Bool
+unlessZero mark t = elim (eqb mark 0) [ true ↦ false | false ↦ t ]
+
 -- some member has a key of one before it
 unfoldable pub repeated : (before members : List (List ℕ)) → Bool
 unfolding tail has

@@ -3,6 +3,7 @@ use crate::strings::set_of;
 use json::Ending;
 use json::Item;
 use json::bytes::byte;
+use json::units::hash;
 use json::units::same;
 use json::units::spells;
 use json::values::first;
@@ -18,7 +19,7 @@ ghost use Rattle.json.specs.Bytes.{tail, starts};
 ghost use Rattle.json.specs.Strings.{units};
 ghost use Rattle.json.specs.Values.{value, item, startsFrom};
 ghost use Rattle.json.specs.Answers.{ended};
-ghost use Rattle.manifest.specs.Members.{has, repeated, find, counted, listed};
+ghost use Rattle.manifest.specs.Members.{has, repeated, unlessZero, find, counted, listed};
 ghost use Rattle.manifest.specs.Answer.{countOf, othersOf};
 
 // The set of some strings, and how many of them set nothing; or that not all are strings.
@@ -74,19 +75,31 @@ fn has(text: &[u8], at: usize, count: usize, key: usize) -> bool
     false
 }
 
-// Whether a member has the key of one before it.
-pub fn repeated(text: &[u8], members: Ending) -> bool
-    ensures { λ r. ⌜ r ≡ repeated [] (startsFrom (value 15) true (ended (now (text .entry)) members)) ⌝ }
+// The same, where a mark says whether there may be one.
+fn has_marked(text: &[u8], at: usize, count: usize, key: usize, mark: u8) -> bool
+    ensures { λ r. ⌜ r ≡ unlessZero mark (has (take count (starts (item (value 15) true) (drop at (now (text .entry))))) (units (drop key (now (text .entry))))) ⌝ }
 {
-    let Ending::At(at) = members else {
+    if mark == 0 {
         return false;
-    };
+    }
+    has(text, at, count, key)
+}
+
+// Whether a member from a place on has the key of one before it. A key that one of them has is marked, by its number; what was
+// marked at first does not matter.
+fn repeated_from(text: &[u8], at: usize, marks: &mut [u8]) -> bool
+    requires { ⌜ 2 ^ 18 ≤ length (now marks) ⌝ }
+    ensures { λ r. ⌜ r ≡ repeated [] (starts (item (value 15) true) (drop at (now (text .entry)))) ⌝ }
+{
     let mut p = at;
     let mut count = 0;
     loop {
-        if has(text, at, count, behind(text, p)) {
+        let key = behind(text, p);
+        let number = hash(text, key);
+        if has_marked(text, at, count, key, marks[number]) {
             return true;
         }
+        marks[number] = 1;
         match item(text, p, true, 15) {
             Item::Fails => return false,
             Item::Goes(q) => p = q,
@@ -94,6 +107,17 @@ pub fn repeated(text: &[u8], members: Ending) -> bool
         }
         count += 1;
     }
+}
+
+// Whether a member has the key of one before it.
+pub fn repeated(text: &[u8], members: Ending) -> bool
+    ensures { λ r. ⌜ r ≡ repeated [] (startsFrom (value 15) true (ended (now (text .entry)) members)) ⌝ }
+{
+    let Ending::At(at) = members else {
+        return false;
+    };
+    let mut marks = [0u8; 262144];
+    repeated_from(text, at, &mut marks)
 }
 
 // With one more element of a list.

@@ -7,6 +7,8 @@ pub mod estimate;
 pub mod generate;
 pub mod inputs;
 pub mod machine;
+pub mod manifest;
+pub mod manifest_inputs;
 pub mod naive;
 pub mod samples;
 pub mod solve;
