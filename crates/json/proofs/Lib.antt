@@ -1,6 +1,7 @@
 pub mod Characters
 pub mod Choice
 pub mod Compared
+pub mod Enough
 pub mod Numerals
 pub mod Places
 pub mod Repetition

@@ -19,6 +19,11 @@ abbrev pub outcome : Reading → Outcome
 outcome (Refused r) = refused (number r) 0
 outcome (Accepted v s n) = accepted v (s .bits) n
 
+-- how many strings an answer says to set nothing
+abbrev pub othersIn : Reading → ℕ
+othersIn (Refused r) = 0
+othersIn (Accepted v s n) = n
+
 abbrev pub countOf : Tally → Count
 countOf tally.NotStrings = notStrings
 countOf (tally.Strings s n) = strings (s .bits) n

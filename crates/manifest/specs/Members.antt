@@ -5,10 +5,10 @@ use mathlib.Core.Bool.{Bool, true, false, _||_}
 use mathlib.Core.List.{List, [], _∷_, _++_}
 use lib.Dec.{eqb}
 use Rattle.permset.specs.Sets.{union}
-use Rattle.json.specs.Bytes.{head, tail, space, Rest, nothing, rest}
+use Rattle.json.specs.Bytes.{head, tail, space, Rest, nothing, rest, starts}
 use Rattle.json.specs.Strings.{units}
 use Rattle.json.specs.Units.{matches}
-use Rattle.json.specs.Values.{name, value, parts}
+use Rattle.json.specs.Values.{name, item, value, parts}
 use Rattle.manifest.specs.Strings.{setOf}
 
 -- how deep arrays and objects may nest, the top object being the first
@@ -19,6 +19,13 @@ deepest = 16
 unfoldable pub members : List ℕ → List (List ℕ)
 unfolding tail space parts
 members text = parts (value 15) true (tail (space text))
+
+-- the members from the start of one on, and the elements of a list that is read
+abbrev pub membersFrom : List ℕ → List (List ℕ)
+membersFrom bs = starts (item (value 15) true) bs
+
+abbrev pub elementsFrom : List ℕ → List (List ℕ)
+elementsFrom bs = starts (item (value 14) false) bs
 
 -- the units of a member's key, behind its first quotation mark
 abbrev pub keyOf : List ℕ → List ℕ

@@ -15,11 +15,11 @@ ghost use mathlib.Core.Bool.{true, false};
 ghost use mathlib.Core.List.{List, [], _∷_};
 ghost use Prim.Native.Nat.{ℕ, _+_, _≤_, _<_, _^_};
 ghost use lib.ListN.{length, drop, take};
-ghost use Rattle.json.specs.Bytes.{tail, starts};
+ghost use Rattle.json.specs.Bytes.{tail};
 ghost use Rattle.json.specs.Strings.{units};
-ghost use Rattle.json.specs.Values.{value, item, startsFrom};
+ghost use Rattle.json.specs.Values.{value, startsFrom};
 ghost use Rattle.json.specs.Answers.{ended};
-ghost use Rattle.manifest.specs.Members.{has, repeated, unlessZero, find, counted, listed};
+ghost use Rattle.manifest.specs.Members.{membersFrom, elementsFrom, has, repeated, unlessZero, find, counted, listed};
 ghost use Rattle.manifest.specs.Answer.{countOf, othersOf};
 
 // The set of some strings, and how many of them set nothing; or that not all are strings.
@@ -57,7 +57,7 @@ pub fn find(text: &[u8], members: Ending, key: &[u8]) -> Ending
 
 // Whether one of the first members from a place on, so many of them, has the key that stands at another place.
 fn has(text: &[u8], at: usize, count: usize, key: usize) -> bool
-    ensures { λ r. ⌜ r ≡ has (take count (starts (item (value 15) true) (drop at (now (text .entry))))) (units (drop key (now (text .entry)))) ⌝ }
+    ensures { λ r. ⌜ r ≡ has (take count (membersFrom (drop at (now (text .entry))))) (units (drop key (now (text .entry)))) ⌝ }
 {
     let mut p = at;
     let mut left = count;
@@ -77,7 +77,7 @@ fn has(text: &[u8], at: usize, count: usize, key: usize) -> bool
 
 // The same, where a mark says whether there may be one.
 fn has_marked(text: &[u8], at: usize, count: usize, key: usize, mark: u8) -> bool
-    ensures { λ r. ⌜ r ≡ unlessZero mark (has (take count (starts (item (value 15) true) (drop at (now (text .entry))))) (units (drop key (now (text .entry))))) ⌝ }
+    ensures { λ r. ⌜ r ≡ unlessZero mark (has (take count (membersFrom (drop at (now (text .entry))))) (units (drop key (now (text .entry))))) ⌝ }
 {
     if mark == 0 {
         return false;
@@ -89,7 +89,7 @@ fn has_marked(text: &[u8], at: usize, count: usize, key: usize, mark: u8) -> boo
 // marked at first does not matter.
 fn repeated_from(text: &[u8], at: usize, marks: &mut [u8]) -> bool
     requires { ⌜ 2 ^ 18 ≤ length (now marks) ⌝ }
-    ensures { λ r. ⌜ r ≡ repeated [] (starts (item (value 15) true) (drop at (now (text .entry)))) ⌝ }
+    ensures { λ r. ⌜ r ≡ repeated [] (membersFrom (drop at (now (text .entry)))) ⌝ }
 {
     let mut p = at;
     let mut count = 0;
@@ -142,7 +142,8 @@ fn element(text: &[u8], at: usize, names: bool, hosts: bool, tally: Tally) -> Ta
 // With the elements of a list from a place on.
 fn elements(text: &[u8], at: usize, names: bool, hosts: bool, tally: Tally) -> Tally
     requires { ⌜ othersOf tally + length (now text) + 1 < 2 ^ 32 ⌝ }
-    ensures { λ r. ⌜ (countOf r ≡ counted names hosts (starts (item (value 14) false) (drop at (now (text .entry)))) (countOf tally)) × (othersOf r ≤ othersOf tally + length (now (text .entry)) + 1) ⌝ }
+    ensures counts { λ r. ⌜ countOf r ≡ counted names hosts (elementsFrom (drop at (now (text .entry)))) (countOf tally) ⌝ }
+    ensures few { λ r. ⌜ othersOf r ≤ othersOf tally + length (now (text .entry)) + 1 ⌝ }
 {
     let mut p = at;
     let mut sum = tally;
@@ -159,7 +160,8 @@ fn elements(text: &[u8], at: usize, names: bool, hosts: bool, tally: Tally) -> T
 // With a list that is read, where it is there.
 pub fn list(text: &[u8], value: Ending, names: bool, hosts: bool, tally: Tally) -> Tally
     requires { ⌜ othersOf tally + length (now text) + 1 < 2 ^ 32 ⌝ }
-    ensures { λ r. ⌜ (countOf r ≡ listed names hosts (ended (now (text .entry)) value) (countOf tally)) × (othersOf r ≤ othersOf tally + length (now (text .entry)) + 1) ⌝ }
+    ensures counts { λ r. ⌜ countOf r ≡ listed names hosts (ended (now (text .entry)) value) (countOf tally) ⌝ }
+    ensures few { λ r. ⌜ othersOf r ≤ othersOf tally + length (now (text .entry)) + 1 ⌝ }
 {
     let Ending::At(at) = value else {
         return tally;

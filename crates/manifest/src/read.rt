@@ -22,7 +22,7 @@ ghost use Rattle.json.specs.Values.{value, startsFrom};
 ghost use Rattle.json.specs.Answers.{ended};
 ghost use Rattle.manifest.specs.Members.{strings};
 ghost use Rattle.manifest.specs.Manifest.{sources, total, goesOn, version, judgedFrom, judged};
-ghost use Rattle.manifest.specs.Answer.{countOf, outcome};
+ghost use Rattle.manifest.specs.Answer.{countOf, othersOf, othersIn, outcome};
 
 // Whether a number goes on with this byte.
 fn goes_on(b: u32) -> bool
@@ -60,7 +60,8 @@ fn version(text: &[u8], value: Ending) -> u32
 // What the lists of a version say.
 fn total(text: &[u8], members: Ending, version: u32) -> Tally
     requires { ⌜ length (now text) ≤ 16384 ⌝ }
-    ensures { λ r. ⌜ countOf r ≡ total (sources version) (startsFrom (value 15) true (ended (now (text .entry)) members)) (strings 0 0) ⌝ }
+    ensures counts { λ r. ⌜ countOf r ≡ total (sources version) (startsFrom (value 15) true (ended (now (text .entry)) members)) (strings 0 0) ⌝ }
+    ensures few { λ r. ⌜ othersOf r ≤ 32770 ⌝ }
 {
     let none = Tally::Strings(PermSet::empty(), 0);
     let names = find(text, members, b"permissions");
@@ -80,7 +81,8 @@ fn total(text: &[u8], members: Ending, version: u32) -> Tally
 // The members of the top object, judged.
 fn judge(text: &[u8], members: Ending) -> Reading
     requires { ⌜ length (now text) ≤ 16384 ⌝ }
-    ensures { λ r. ⌜ outcome r ≡ judgedFrom (startsFrom (value 15) true (ended (now (text .entry)) members)) ⌝ }
+    ensures says { λ r. ⌜ outcome r ≡ judgedFrom (startsFrom (value 15) true (ended (now (text .entry)) members)) ⌝ }
+    ensures few { λ r. ⌜ othersIn r ≤ 32770 ⌝ }
 {
     if repeated(text, members) {
         return Reading::Refused(Refusal::KeyRepeated);
@@ -97,7 +99,8 @@ fn judge(text: &[u8], members: Ending) -> Reading
 
 // The whole manifest.
 pub fn read(text: &[u8]) -> Reading
-    ensures { λ r. ⌜ outcome r ≡ judged (now (text .entry)) ⌝ }
+    ensures says { λ r. ⌜ outcome r ≡ judged (now (text .entry)) ⌝ }
+    ensures few { λ r. ⌜ othersIn r ≤ 32770 ⌝ }
 {
     if 16384 < text.len() {
         return Reading::Refused(Refusal::NotObject);

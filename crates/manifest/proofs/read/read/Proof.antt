@@ -17,14 +17,19 @@ use Rattle.manifest.proofs.read.read.Statement.{statement}
 use Rattle.manifest.proofs.read.read.Tie as tie
 
 returns : tie.Need-returns
-returns c = sym (judged-not _ (too-long _ (lt-leb _ _ (c .if1 .taken))))
+returns c = (
+  sym (judged-not _ (too-long _ (lt-leb _ _ (c .if1 .taken)))),
+  omega arith,
+)
 
 is-text-requires : tie.Need-is-text-requires
 is-text-requires c κs = search needs
 
 returns-2 : tie.Need-returns-2
-returns-2 c =
-    sym (judged-not _ (no-text _ (le-leb _ _ (c .before .before .if1 .left)) (sym (c .before .is-text .ensures) ∙ not-true _ (c .if2 .taken))))
+returns-2 c = (
+  sym (judged-not _ (no-text _ (le-leb _ _ (c .before .before .if1 .left)) (sym (c .before .is-text .ensures) ∙ not-true _ (c .if2 .taken)))),
+  omega arith,
+)
 
 space-requires : tie.Need-space-requires
 space-requires c κs = search needs
@@ -33,8 +38,10 @@ byte-requires : tie.Need-byte-requires
 byte-requires c κs = search needs
 
 returns-3 : tie.Need-returns-3
-returns-3 c =
-    sym (judged-not _ (no-object _ (le-leb _ _ (c .before .before .before .before .before .if1 .left)) (sym (c .before .before .before .before .is-text .ensures) ∙ not-false _ (c .before .before .before .if2 .left)) (is-not (c .before .byte .ensures ∙ ap head (c .before .before .space .ensures)) (c .if3 .taken))))
+returns-3 c = (
+  sym (judged-not _ (no-object _ (le-leb _ _ (c .before .before .before .before .before .if1 .left)) (sym (c .before .before .before .before .is-text .ensures) ∙ not-false _ (c .before .before .before .if2 .left)) (is-not (c .before .byte .ensures ∙ ap head (c .before .before .space .ensures)) (c .if3 .taken)))),
+  omega arith,
+)
 
 add-first : tie.Need-add-first
 add-first c =
@@ -47,12 +54,14 @@ judge-requires : tie.Need-judge-requires
 judge-requires c κs = search needs
 
 returns-4 : tie.Need-returns-4
-returns-4 c =
-    c .judge .ensures
-    ∙ sym
-    (judged-object _ (an-object _ (le-leb _ _ (c .before .before .before .before .before .before .before .if1 .left)) (sym (c .before .before .before .before .before .before .is-text .ensures) ∙ not-false _ (c .before .before .before .before .before .if2 .left)) (is (c .before .before .before .byte .ensures ∙ ap head (c .before .before .before .before .space .ensures)) (c .before .before .if3 .left)))
-    ∙ ap (λ bs. judgedFrom (startsFrom (value 15) true (first true bs))) (ap tail (sym (c .before .before .before .before .space .ensures)) ∙ tail-drop (c .before .before .before .before .before .before .before .before .before .args .text .now) (c .before .before .before .before .space .result))
-    ∙ ap (λ r. judgedFrom (startsFrom (value 15) true r)) (sym (c .before .first .ensures)))
+returns-4 c = (
+  c .judge .ensures .0
+      ∙ sym
+      (judged-object _ (an-object _ (le-leb _ _ (c .before .before .before .before .before .before .before .if1 .left)) (sym (c .before .before .before .before .before .before .is-text .ensures) ∙ not-false _ (c .before .before .before .before .before .if2 .left)) (is (c .before .before .before .byte .ensures ∙ ap head (c .before .before .before .before .space .ensures)) (c .before .before .if3 .left)))
+      ∙ ap (λ bs. judgedFrom (startsFrom (value 15) true (first true bs))) (ap tail (sym (c .before .before .before .before .space .ensures)) ∙ tail-drop (c .before .before .before .before .before .before .before .before .before .args .text .now) (c .before .before .before .before .space .result))
+      ∙ ap (λ r. judgedFrom (startsFrom (value 15) true r)) (sym (c .before .first .ensures))),
+  c .judge .ensures .1,
+)
 
 pub read-spec : {M : Type 1} → statement M
 read-spec =
