@@ -1,4 +1,4 @@
--- An accepted manifest has version 2 or 3 and a set within the 24 permissions.
+-- An accepted manifest has a version below 4 and a set within the 24 permissions.
 -- Assumes nothing.
 use Prim.Native.Nat.{ℕ, zero, suc, _*_, _^_, _<_, _≤_}
 use native.Mathlib.Nat.{le-refl, le-trans}
