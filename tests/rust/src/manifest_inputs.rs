@@ -1,4 +1,6 @@
-//! Texts and manifests to read, with what RFC 8259 and document 02 say of each.
+//! Texts and manifests to read, with what RFC 8259 and document 02 say of each, and random ones.
+
+use crate::generate::Random;
 
 fn texts(list: &[&str]) -> Vec<Vec<u8>> {
     list.iter().map(|text| text.as_bytes().to_vec()).collect()
@@ -279,4 +281,149 @@ pub fn damaged(text: &[u8], mut visit: impl FnMut(&[u8])) {
             changed.remove(at);
         }
     }
+}
+
+const WORDS: [&str; 23] = [
+    "storage",
+    "tabs",
+    "cookies",
+    "history",
+    "downloads",
+    "bookmarks",
+    "notifications",
+    "webRequest",
+    "management",
+    "proxy",
+    "<all_urls>",
+    "http://a/*",
+    "x",
+    "",
+    "://",
+    ":/",
+    "manifest_version",
+    "permissions",
+    "host_permissions",
+    "é",
+    "\u{1f600}",
+    "\u{ffff}",
+    "a\u{10000}b",
+];
+
+/// Random manifests, some of them with escapes, wrong values, repeated keys or white space.
+struct Author<'a> {
+    random: &'a mut Random,
+    text: Vec<u8>,
+}
+
+impl Author<'_> {
+    fn put(&mut self, text: &str) {
+        self.text.extend(text.bytes());
+        if self.random.once_in(12) {
+            self.text.push(*self.random.pick(b" \n\t\r"));
+        }
+    }
+
+    /// A word as a string; a character is now and then escaped, and a lone surrogate put behind it.
+    fn string(&mut self) {
+        self.text.push(b'"');
+        for character in self.random.pick(&WORDS).chars() {
+            if self.random.once_in(8) {
+                for unit in character.encode_utf16(&mut [0; 2]) {
+                    self.text.extend(format!("\\u{unit:04x}").bytes());
+                }
+            } else {
+                self.text.extend(character.encode_utf8(&mut [0; 4]).bytes());
+            }
+        }
+        if self.random.once_in(20) {
+            let surrogate = 0xd800 + self.random.below(0x800);
+            self.text.extend(format!("\\u{surrogate:04X}").bytes());
+        }
+        self.put("\"");
+    }
+
+    fn value(&mut self, nest: usize) {
+        match self.random.below(if nest == 0 { 6 } else { 9 }) {
+            0 => self.put("true"),
+            1 => self.put("null"),
+            2 => {
+                let number = *self.random.pick(&["2", "3", "-0.5e+3", "0", "20", "2.0", "2e0", "123"]);
+                self.put(number);
+            }
+            3..=5 => self.string(),
+            kind => {
+                let keyed = kind == 8;
+                self.put(if keyed { "{" } else { "[" });
+                for item in 0..self.random.below(4) {
+                    if item > 0 {
+                        self.put(",");
+                    }
+                    if keyed {
+                        self.string();
+                        self.put(":");
+                    }
+                    self.value(nest - 1);
+                }
+                self.put(if keyed { "}" } else { "]" });
+            }
+        }
+    }
+
+    fn list(&mut self) {
+        self.put("[");
+        for element in 0..self.random.below(7) {
+            if element > 0 {
+                self.put(",");
+            }
+            if self.random.once_in(40) {
+                self.value(2);
+            } else {
+                self.string();
+            }
+        }
+        self.put("]");
+    }
+
+    fn manifest(&mut self) {
+        self.put("{");
+        let version = *self.random.pick(&["2", "3", "2", "3", "2", "3", "4", "\"2\""]);
+        self.put("\"manifest_version\":");
+        self.put(version);
+        for key in ["\"permissions\"", "\"host_permissions\""] {
+            if !self.random.once_in(3) {
+                self.put(",");
+                self.put(key);
+                self.put(":");
+                self.list();
+            }
+        }
+        for _ in 0..self.random.below(4) {
+            self.put(",");
+            self.string();
+            self.put(":");
+            let nest = self.random.below(6);
+            self.value(nest);
+        }
+        self.put("}");
+    }
+}
+
+pub fn random_manifest(random: &mut Random) -> Vec<u8> {
+    let mut author = Author { random, text: Vec::new() };
+    author.manifest();
+    author.text
+}
+
+/// A text with up to three bytes changed, left out or put in.
+pub fn random_damage(random: &mut Random, mut text: Vec<u8>) -> Vec<u8> {
+    for _ in 0..1 + random.below(3) {
+        let at = random.below(text.len().max(1));
+        let byte = random.below(256) as u8;
+        match random.below(3) {
+            0 if at < text.len() => drop(text.remove(at)),
+            1 if at < text.len() => text[at] = byte,
+            _ => text.insert(at.min(text.len()), byte),
+        }
+    }
+    text
 }

@@ -1,7 +1,9 @@
 //! The independent reading of texts and manifests on inputs whose answers were written down from RFC 8259 and document 02.
 
+use peer::generate::Random;
 use peer::manifest::{answer, parse, read, Manifest};
-use peer::manifest_inputs::{accepted, damaged, manifests, nested, of_depth, of_length, refused};
+use peer::manifest_inputs::{accepted, damaged, manifests, nested, of_depth, of_length, random_damage, random_manifest, refused};
+use std::collections::BTreeMap;
 
 #[test]
 fn texts() {
@@ -44,4 +46,18 @@ fn damage() {
         });
     }
     assert!(all > 100_000 && kept * 2 < all, "{kept} of {all}");
+}
+
+/// Random manifests are judged in every way but 43, and their damaged forms in every way.
+#[test]
+fn random() {
+    let mut random = Random(4);
+    let (mut whole, mut broken) = (BTreeMap::new(), BTreeMap::new());
+    for _ in 0..20_000 {
+        let text = random_manifest(&mut random);
+        *whole.entry(read(&text).err()).or_insert(0) += 1;
+        *broken.entry(read(&random_damage(&mut random, text)).err()).or_insert(0) += 1;
+    }
+    assert_eq!(whole.keys().copied().collect::<Vec<_>>(), [None, Some(44), Some(45), Some(46)]);
+    assert_eq!(broken.keys().copied().collect::<Vec<_>>(), [None, Some(43), Some(44), Some(45), Some(46)]);
 }
