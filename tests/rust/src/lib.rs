@@ -8,6 +8,8 @@ pub mod generate;
 pub mod inputs;
 pub mod listing;
 pub mod machine;
+pub mod manifest;
+pub mod manifest_inputs;
 pub mod naive;
 pub mod overlay;
 pub mod samples;

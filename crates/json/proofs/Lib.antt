@@ -1,0 +1,10 @@
+pub mod Characters
+pub mod Choice
+pub mod Compared
+pub mod Enough
+pub mod Numerals
+pub mod Places
+pub mod Repetition
+pub mod Samples
+pub mod Shorter
+pub mod Texts

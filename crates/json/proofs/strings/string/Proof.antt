@@ -1,0 +1,76 @@
+-- `json::strings::string` meets its contract. The loop's invariant: where the string ends from here is where it ends from the start.
+-- Assumes nothing.
+use mathlib.Core.Path.{_≡_, refl, sym, ap, _∙_}
+use lib.ListN.{length, drop}
+use Rattle.json.specs.Strings.{character, string}
+use Rattle.json.specs.Answers.{read}
+use Rattle.json.proofs.Repetition.{after-fails, after-goes, after-ends}
+use Rattle.json.proofs.Shorter.{character-narrow}
+use borrow.Author.Needs.{needs}
+use Rattle.json.proofs.strings.string.Statement.{statement}
+use Rattle.json.proofs.strings.string.Tie as tie
+
+abbrev Inv-loop : tie.InvT-loop
+Inv-loop text at p₀ p = string (drop at text) ≡ string (drop p text)
+
+abbrev μ-loop : tie.MeasureT-loop
+μ-loop text at p₀ p = length (drop p text)
+
+loop-holds : tie.Need-loop-holds Inv-loop μ-loop
+loop-holds c = refl
+
+character-requires : tie.Need-character-requires Inv-loop μ-loop
+character-requires c κs = tt
+
+enum-told : tie.Need-enum-told Inv-loop μ-loop
+enum-told c = search needs
+
+returns : tie.Need-returns Inv-loop μ-loop
+returns c =
+    sym (c .before .before .before .loop .inv ∙ after-fails character character-narrow (drop (c .before .before .before .loop .p) (c .before .before .before .before .before .args .text .now)) (sym (c .before .before .character .ensures) ∙ ap (read (c .before .before .before .before .before .args .text .now)) (c .enum-told .given .1)))
+
+enum-known-q : tie.Need-enum-known-q Inv-loop μ-loop
+enum-known-q c = search needs
+
+loop-less : tie.Need-loop-less Inv-loop μ-loop
+loop-less c = character-narrow (drop (c .before .before .before .before .loop .p) (c .before .before .before .before .before .before .args .text .now)) _ _ (sym (c .before .before .before .character .ensures) ∙ ap (read (c .before .before .before .before .before .before .args .text .now)) (c .before .q .given .1))
+
+loop-again : tie.Need-loop-again Inv-loop μ-loop
+loop-again c =
+    c .before .before .before .before .loop .inv ∙ after-goes character character-narrow (drop (c .before .before .before .before .loop .p) (c .before .before .before .before .before .before .args .text .now)) _ _ (sym (c .before .before .before .character .ensures) ∙ ap (read (c .before .before .before .before .before .before .args .text .now)) (c .before .q .given .1))
+
+enum-known-q-2 : tie.Need-enum-known-q-2 Inv-loop μ-loop
+enum-known-q-2 c = search needs
+
+loop-less-2 : tie.Need-loop-less-2 Inv-loop μ-loop
+loop-less-2 c = character-narrow (drop (c .before .before .before .before .loop .p) (c .before .before .before .before .before .before .args .text .now)) _ _ (sym (c .before .before .before .character .ensures) ∙ ap (read (c .before .before .before .before .before .before .args .text .now)) (c .before .q2 .given .1))
+
+loop-again-2 : tie.Need-loop-again-2 Inv-loop μ-loop
+loop-again-2 c =
+    c .before .before .before .before .loop .inv ∙ after-goes character character-narrow (drop (c .before .before .before .before .loop .p) (c .before .before .before .before .before .before .args .text .now)) _ _ (sym (c .before .before .before .character .ensures) ∙ ap (read (c .before .before .before .before .before .before .args .text .now)) (c .before .q2 .given .1))
+
+enum-known-q-3 : tie.Need-enum-known-q-3 Inv-loop μ-loop
+enum-known-q-3 c = search needs
+
+returns-2 : tie.Need-returns-2 Inv-loop μ-loop
+returns-2 c =
+    sym (c .before .before .before .before .loop .inv ∙ after-ends character character-narrow (drop (c .before .before .before .before .loop .p) (c .before .before .before .before .before .before .args .text .now)) _ (sym (c .before .before .before .character .ensures) ∙ ap (read (c .before .before .before .before .before .before .args .text .now)) (c .before .q3 .given .1)))
+
+pub string-spec : {M : Type 1} → statement M
+string-spec =
+    tie.close
+    (tie.spec
+    Inv-loop
+    μ-loop
+    loop-holds
+    character-requires
+    enum-told
+    returns
+    enum-known-q
+    loop-less
+    loop-again
+    enum-known-q-2
+    loop-less-2
+    loop-again-2
+    enum-known-q-3
+    returns-2)

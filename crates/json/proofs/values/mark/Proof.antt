@@ -1,0 +1,36 @@
+-- `json::values::mark` meets its contract.
+-- Assumes nothing.
+use mathlib.Core.Path.{sym, ap, ap₂, _∙_}
+use mathlib.Core.List.{List, [], _∷_}
+use Prim.Native.Nat.{ℕ, _<_}
+use native.Mathlib.Omega.{arith}
+use lib.ListN.{length, drop}
+use Rattle.json.specs.Bytes.{rest, space}
+use Rattle.json.specs.Values.{mark}
+use Rattle.json.proofs.Choice.{is, is-not}
+use Rattle.json.proofs.Places.{there, tail-drop}
+use Rattle.json.proofs.Texts.{mark-yes, mark-no}
+use borrow.Author.Needs.{needs}
+use Rattle.json.proofs.values.mark.Statement.{statement}
+use Rattle.json.proofs.values.mark.Tie as tie
+
+byte-requires : tie.Need-byte-requires
+byte-requires c κs = search needs
+
+add-space : tie.Need-add-space
+add-space c =
+    let h : c .before .before .before .args .at < length (c .before .before .before .args .text .now) = there (c .before .before .before .args .text .now) (c .before .before .before .args .at) (c .before .byte .ensures) (omega (arith, c .before .before .before .pre)) in omega arith
+
+space-requires : tie.Need-space-requires
+space-requires c κs = search needs
+
+returns : tie.Need-returns
+returns c =
+    sym (mark-yes _ _ (is (c .before .before .byte .ensures) (c .before .if1 .taken)) ∙ ap rest (ap space (tail-drop (c .before .before .before .before .args .text .now) (c .before .before .before .before .args .at)) ∙ sym (c .space .ensures)))
+
+returns-2 : tie.Need-returns-2
+returns-2 c =
+    sym (mark-no _ _ (is-not (c .before .byte .ensures) (c .if1 .left)))
+
+pub mark-spec : {M : Type 1} → statement M
+mark-spec = tie.close (tie.spec byte-requires add-space space-requires returns returns-2)

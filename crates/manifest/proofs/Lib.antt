@@ -1,0 +1,9 @@
+pub mod Bounds
+pub mod Judged
+pub mod Lists
+pub mod Marks
+pub mod Names
+pub mod Samples
+pub mod Tops
+pub mod Unions
+pub mod Versions

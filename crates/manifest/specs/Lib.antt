@@ -1,0 +1,4 @@
+pub mod Strings
+pub mod Members
+pub mod Manifest
+pub mod Answer
