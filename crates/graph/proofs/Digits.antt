@@ -1,16 +1,18 @@
 -- Laws of tests as types, and of sets as numbers: a single member, the low digits, what two sets have in common.
 use Prim.Native.Nat.{ℕ, zero, suc, _+_, _/_, _%_, _^_, _≤_, _<_}
 use mathlib.Core.Path.{_≡_, refl, sym, ap, _∙_, subst}
-use mathlib.Core.Bool.{Bool, true, false, _&&_}
+use mathlib.Core.Bool.{Bool, true, false, _&&_, _||_}
 use native.Mathlib.Nat.{pow-suc, mul-div-cancel, mul-mod-left}
 use native.Mathlib.Decide.{decLt}
 use native.Mathlib.Numerals.{add-one}
 use native.Mathlib.Omega.{arith}
-use lib.Dec.{T, lit<}
+use lib.Arith.{lt-one}
+use lib.Count.{trailingZeros, under}
+use lib.Dec.{T, eqb, lit<}
 use lib.Bits.{bitAnd}
 use lib.Pow.{field, mod-mod-pow}
-use Rattle.permset.specs.Sets.{member, within}
-use Rattle.permset.proofs.Laws.{member-zero, member-suc, member-empty, member-and, member-beyond, member-within, within-empty}
+use Rattle.permset.specs.Sets.{member, union, within}
+use Rattle.permset.proofs.Laws.{member-zero, member-suc, member-empty, member-and, member-union, member-beyond, member-within, same-members, within-empty}
 
 pub T-and : (a b : Bool) → T a → T b → T (a && b)
 T-and true b h k = k
@@ -23,6 +25,15 @@ T-fst false b h = h
 pub T-snd : (a b : Bool) → T (a && b) → T b
 T-snd true b h = h
 T-snd false b h = absurd h
+
+-- a second test after a first one r of a
+pub both-tests : (a b r : Bool) → r ≡ a → r ≡ true → b ≡ (a && b)
+both-tests true b r e t = refl
+both-tests false b r e t = absurd (subst T (sym t ∙ e) tt)
+
+pub first-test : (a b r : Bool) → r ≡ a → r ≡ false → r ≡ (a && b)
+first-test true b r e f = absurd (subst T (sym e ∙ f) tt)
+first-test false b r e f = f
 
 -- ---- the set of one number
 
@@ -77,3 +88,29 @@ both-right s t i h = T-snd (member s i) (member t i) (rw member-and at h)
 -- a set without members is 0
 pub no-member : (s : ℕ) → ((i : ℕ) → T (member s i) → ⊥) → s ≡ 0
 no-member s h = within-empty s (member-within s 0 (λ i m. absurd (h i m)))
+
+-- ---- the union, one set after the other
+
+or-assoc : (a b c : Bool) → ((a || b) || c) ≡ (a || (b || c))
+or-assoc true b c = refl
+or-assoc false b c = refl
+
+pub union-assoc : (s t u : ℕ) → union (union s t) u ≡ union s (union t u)
+union-assoc s t u =
+    same-members (union (union s t) u) (union s (union t u))
+    (λ i. simp member-union (or-assoc (member s i) (member t i) (member u i)))
+
+-- ---- the zeros below the lowest digit that is 1
+
+trailing-in : (k s : ℕ) → s < 2 ^ k → (s ≡ 0 → ⊥) → T (member s (trailingZeros k s))
+unfolding trailingZeros
+trailing-in zero s h f = absurd (f (lt-one h))
+trailing-in (suc k) s h f = go (s % 2) refl (trailing-in k (s / 2) (let e = pow-suc 2 k in omega arith))
+  where
+    go : (d : ℕ) → s % 2 ≡ d → ((s / 2 ≡ 0 → ⊥) → T (member (s / 2) (trailingZeros k (s / 2)))) → T (member s (under d (trailingZeros k (s / 2))))
+    go zero e ih = rw member-suc (ih (λ z. f (omega arith)))
+    go (suc d) e ih = let o : s % 2 ≡ 1 = omega arith in subst T (sym (member-zero s ∙ ap (λ (x : ℕ). eqb x 1) o)) tt
+
+-- the lowest member of a set
+pub lowest-in : (s : ℕ) → s < 2 ^ 64 → (s ≡ 0 → ⊥) → T (member s (trailingZeros 64 s))
+lowest-in s h f = trailing-in 64 s h f

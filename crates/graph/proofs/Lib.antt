@@ -2,7 +2,10 @@ pub mod Digits
 pub mod Lists
 pub mod Lowest
 pub mod Walks
-pub mod Loops
+pub mod Shortest
+pub mod Fewest
 pub mod Orders
 pub mod Theorem
+pub mod Writing
+pub mod Answers
 pub mod Samples

@@ -9,6 +9,9 @@ use native.Mathlib.Omega.{arith}
 use lib.Dec.{T}
 use Rattle.graph.specs.Search.{lowestFrom}
 
+sub-step : (n i : ℕ) → i < n → n - i ≡ suc (n - suc i)
+sub-step n i l = omega arith
+
 module _ (passes : ℕ → Bool) where
   pub lowest-here : (count i : ℕ) → passes i ≡ true → lowestFrom (suc count) i passes ≡ i
   unfolding lowestFrom
@@ -79,3 +82,18 @@ module _ (passes : ℕ → Bool) where
       go : Dec (lowestFrom count i passes < i + count) → i + count ≤ lowestFrom count i passes
       go (yes s) = absurd (f (lowestFrom count i passes) (lowest-least count i) s (lowest-passes count i s))
       go (no s) = omega arith
+
+  -- ---- as a loop goes, from i up to n
+
+  pub scan-start : (n : ℕ) → lowestFrom (n - 0) 0 passes ≡ lowestFrom n 0 passes
+  scan-start n = let e : n - 0 ≡ n = omega arith in rw e refl
+
+  pub scan-here : (n i : ℕ) → i < n → passes i ≡ true → lowestFrom (n - i) i passes ≡ i
+  scan-here n i l e = rw (sub-step n i l) (lowest-here (n - suc i) i e)
+
+  pub scan-on : (n i : ℕ) → i < n → passes i ≡ false → lowestFrom (n - i) i passes ≡ lowestFrom (n - (i + 1)) (i + 1) passes
+  scan-on n i l e = rw (sub-step n i l, add-one i) (lowest-on (n - suc i) i e)
+
+  pub scan-end : (n i : ℕ) → n ≤ i → lowestFrom (n - i) i passes ≡ i
+  unfolding lowestFrom
+  scan-end n i l = let e : n - i ≡ 0 = omega arith in rw e refl

@@ -20,7 +20,7 @@ use Rattle.graph.proofs.Digits.{T-and, T-fst, T-snd, member-single, mem
 use Rattle.graph.proofs.Lists.{distinct-snoc, distinct-below}
 use Rattle.graph.proofs.Lowest.{lowest-passes, lowest-le}
 use Rattle.graph.proofs.Walks.{walk-live}
-use Rattle.graph.proofs.Loops.{live-below, length-least, walk-distinct}
+use Rattle.graph.proofs.Shortest.{live-below, length-least, walk-distinct}
 
 -- ---- an order said from its start on
 

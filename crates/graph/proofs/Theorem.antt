@@ -17,7 +17,7 @@ use Rattle.graph.specs.Loop.{Walk, Distinct, Loop, NotAfter, Shortest}
 use Rattle.graph.specs.Search.{loopLength, loopOf, orderFrom}
 use Rattle.graph.proofs.Digits.{member-low, member-lt}
 use Rattle.graph.proofs.Walks.{walk-live}
-use Rattle.graph.proofs.Loops.{found-shortest}
+use Rattle.graph.proofs.Shortest.{found-shortest}
 use Rattle.graph.proofs.Orders.{found-order}
 
 -- the live positions as the low digits of a set

@@ -1,20 +1,22 @@
 -- Walks, and from where a position is reached in exactly so many messages. The positions below n that are in `alive` are the live ones.
-use Prim.Native.Nat.{ℕ, zero, suc, _+_, _/_, _^_, _≤_, _<_}
+use Prim.Native.Nat.{ℕ, zero, suc, _+_, _-_, _/_, _^_, _≤_, _<_}
 use mathlib.Core.Path.{_≡_, refl, sym, ap, _∙_, subst}
 use mathlib.Core.Logic.{_⊎_, inl, inr, ⊎-elim, _↔_}
 use mathlib.Core.Bool.{Bool, true, false, _&&_}
 use mathlib.Core.List.{List, [], _∷_, _++_, List·Memᴰ, List·Memᴰ·cases-cons}
 use native.Mathlib.Decide.{ℕ-discrete}
+use native.Mathlib.Nat.{lt-of-le-of-lt}
+use native.Mathlib.Numerals.{add-one}
 use native.Mathlib.Omega.{arith}
 use lib.Dec.{T}
-use lib.Bits.{bitAnd}
+use lib.Bits.{bitAnd, and-le-r}
 use lib.ListN.{length, getD}
-use Rattle.permset.specs.Sets.{member, union}
-use Rattle.permset.proofs.Laws.{member-suc, member-empty, union-cases, in-union-left, in-union-right}
+use Rattle.permset.specs.Sets.{member, union, difference}
+use Rattle.permset.proofs.Laws.{member-suc, member-empty, union-cases, in-union-left, in-union-right, member-within, within-antisym, union-within, difference-first, in-difference}
 use Rattle.graph.specs.Relation.{Live, Sends}
 use Rattle.graph.specs.Loop.{Walk, NotAfter}
-use Rattle.graph.specs.Search.{lowestFrom, senders, reaching, lowestNext, follow}
-use Rattle.graph.proofs.Digits.{T-and, T-fst, T-snd, member-single, member-single-only, member-lt, in-both, both-left, both-right}
+use Rattle.graph.specs.Search.{lowestFrom, senders, reaching, isNext, lowestNext, follow}
+use Rattle.graph.proofs.Digits.{T-and, T-fst, T-snd, member-single, member-single-only, member-lt, in-both, both-left, both-right, no-member}
 use Rattle.graph.proofs.Lowest.{lowest-passes, lowest-le}
 
 -- ---- the senders to a set
@@ -57,6 +59,57 @@ sender-in (row ∷ rows) set x (suc z) l t h =
         → T (member (elim b [ true ↦ union row (senders rows (set / 2)) | false ↦ senders rows (set / 2) ]) x)
     go true k = in-union-right row (senders rows (set / 2)) x k
     go false k = k
+
+pub senders-none : (rows : List ℕ) → senders rows 0 ≡ 0
+senders-none rows = no-member (senders rows 0) (λ x m. subst T (member-empty (senders-only rows 0 x m .to)) (senders-only rows 0 x m .there))
+
+-- a member's row, and the rest
+pub senders-less : (rows : List ℕ) (set p : ℕ) → p < length rows → T (member set p)
+    → union (getD rows p 0) (senders rows (difference set (2 ^ p))) ≡ senders rows set
+senders-less rows set p l h =
+    within-antisym (union (getD rows p 0) (senders rows (difference set (2 ^ p)))) (senders rows set)
+    (union-within (getD rows p 0) (senders rows (difference set (2 ^ p))) (senders rows set)
+    (member-within (getD rows p 0) (senders rows set) (λ x b. sender-in rows set x p l h b))
+    (member-within (senders rows (difference set (2 ^ p))) (senders rows set) more))
+    (member-within (senders rows set) (union (getD rows p 0) (senders rows (difference set (2 ^ p)))) fewer)
+  where
+    more : (x : ℕ) → T (member (senders rows (difference set (2 ^ p))) x) → T (member (senders rows set) x)
+    more x m =
+        let r = senders-only rows (difference set (2 ^ p)) x m in
+        sender-in rows set x (r .to) (r .inside) (difference-first set (2 ^ p) (r .to) (r .there)) (r .bit)
+
+    fewer : (x : ℕ) → T (member (senders rows set) x) → T (member (union (getD rows p 0) (senders rows (difference set (2 ^ p)))) x)
+    fewer x m = go (senders-only rows set x m)
+      where
+        go : Sent rows set x → T (member (union (getD rows p 0) (senders rows (difference set (2 ^ p)))) x)
+        go r = this (ℕ-discrete p (r .to))
+          where
+            this : Dec (p ≡ r .to) → T (member (union (getD rows p 0) (senders rows (difference set (2 ^ p)))) x)
+            this (yes e) =
+                in-union-left (getD rows p 0) (senders rows (difference set (2 ^ p))) x
+                (subst (λ (i : ℕ). T (member (getD rows i 0) x)) (sym e) (r .bit))
+            this (no e) =
+                in-union-right (getD rows p 0) (senders rows (difference set (2 ^ p))) x
+                (sender-in rows (difference set (2 ^ p)) x (r .to) (r .inside)
+                (in-difference set (2 ^ p) (r .to) (r .there) (λ s. e (member-single-only p (r .to) s))) (r .bit))
+
+-- ---- one message further back
+
+pub reaching-on : (rows : List ℕ) (alive t m set found : ℕ) → set ≡ reaching rows alive t m → found ≡ senders rows set
+    → bitAnd found alive ≡ reaching rows alive t (m + 1)
+unfolding reaching
+reaching-on rows alive t m set found e f = rw add-one (ap (λ (s : ℕ). bitAnd s alive) (f ∙ ap (senders rows) e))
+
+-- the same where the messages are counted from 1
+pub reaching-at : (rows : List ℕ) (alive t m set found : ℕ) → 1 ≤ m → set ≡ reaching rows alive t (m - 1) → found ≡ senders rows set
+    → bitAnd found alive ≡ reaching rows alive t m
+reaching-at rows alive t m set found l e f =
+    reaching-on rows alive t (m - 1) set found e f ∙ ap (reaching rows alive t) (let d : m - 1 + 1 ≡ m = omega arith in d)
+
+pub reaching-below : (rows : List ℕ) (alive t k : ℕ) → alive < 2 ^ k → (m : ℕ) → reaching rows alive t m < 2 ^ k
+unfolding reaching
+reaching-below rows alive t k h zero = lt-of-le-of-lt (and-le-r (2 ^ t) alive) h
+reaching-below rows alive t k h (suc m) = lt-of-le-of-lt (and-le-r (senders rows (reaching rows alive t m)) alive) h
 
 -- ---- walks cut and joined
 
@@ -102,18 +155,18 @@ module _ (rows : List ℕ) (live alive n : ℕ) (below : alive < 2 ^ n) (same : 
   abbrev pub onward : ℕ → ℕ → ℕ
   onward m x = lowestNext rows n (reaching rows alive t m) x
 
-  leads : ℕ → ℕ → ℕ → Bool
-  leads m x z = member (reaching rows alive t m) z && member (getD rows z 0) x
+  abbrev leads : ℕ → ℕ → ℕ → Bool
+  leads m x = isNext rows (reaching rows alive t m) x
 
   onward-le : (m x z : ℕ) → Onward m x z → onward m x ≤ z
-  unfolding lowestNext leads
+  unfolding lowestNext isNext
   onward-le m x z o =
       lowest-le (leads m x) n 0 z (omega arith)
       (T-and (member (reaching rows alive t m) z) (member (getD rows z 0) x) (o .reaches) (o .sends .bit))
       (let h = member-lt n alive z below (same z .1 (o .sends .receiver)) in omega arith)
 
   pub onward-on : (m x : ℕ) → T (member (reaching rows alive t (suc m)) x) → Onward m x (onward m x)
-  unfolding reaching lowestNext leads
+  unfolding reaching lowestNext isNext
   onward-on m x h =
       let r = senders-only rows (reaching rows alive t m) x (both-left (senders rows (reaching rows alive t m)) alive x h) in
       let lives = reaching-alive m (r .to) (r .there) in

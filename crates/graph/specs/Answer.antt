@@ -32,11 +32,11 @@ answer rows live room =
     ]
 
 -- the positions that are written
-unfoldable pub positions : List ℕ → ℕ → Arrangement → List ℕ
+unfoldable pub written : List ℕ → ℕ → Arrangement → List ℕ
 unfolding loopOf orderFrom
-positions rows live Short = []
-positions rows live (Ordered count) = orderFrom rows (places rows) (places rows) (alive rows live)
-positions rows live (Looped count) = loopOf rows (alive rows live) (places rows) count
+written rows live Short = []
+written rows live (Ordered count) = orderFrom rows (places rows) (places rows) (alive rows live)
+written rows live (Looped count) = loopOf rows (alive rows live) (places rows) count
 
 -- a list with another in place of its start
 abbrev pub startingWith : List ℕ → List ℕ → List ℕ
@@ -44,6 +44,6 @@ startingWith new old = new ++ drop (length new) old
 
 -- what an answer says of the positions that it counts
 abbrev pub Means : (rows : List ℕ) (live : ℕ) → Arrangement → List ℕ → Type 0
-Means rows live Short written = Unit {0}
-Means rows live (Ordered count) written = Order rows live (take count written)
-Means rows live (Looped count) written = Shortest rows live (take count written)
+Means rows live Short positions = Unit {0}
+Means rows live (Ordered count) positions = Order rows live (take count positions)
+Means rows live (Looped count) positions = Shortest rows live (take count positions)

@@ -62,15 +62,25 @@ unfoldable pub loopStart : List ℕ → (alive n m : ℕ) → ℕ
 unfolding lowestFrom closes
 loopStart rows alive n m = lowestFrom n 0 (closes rows alive m)
 
+-- some position does
+unfoldable pub someCloses : List ℕ → (alive n m : ℕ) → Bool
+unfolding loopStart
+someCloses rows alive n m = ltb (loopStart rows alive n m) n
+
 -- the fewest messages in which one does; n + 1 where none does in n or fewer
 unfoldable pub loopLength : List ℕ → (alive n : ℕ) → ℕ
-unfolding lowestFrom loopStart
-loopLength rows alive n = lowestFrom n 1 (λ m. ltb (loopStart rows alive n m) n)
+unfolding lowestFrom someCloses
+loopLength rows alive n = lowestFrom n 1 (someCloses rows alive n)
 
--- the lowest member of the set that x may send to; n where there is none
+-- a member of the set that x may send to
+unfoldable pub isNext : List ℕ → (set x z : ℕ) → Bool
+unfolding member
+isNext rows set x z = member set z && member (getD rows z 0) x
+
+-- the lowest of them; n where there is none
 unfoldable pub lowestNext : List ℕ → (n set x : ℕ) → ℕ
-unfolding lowestFrom member
-lowestNext rows n set x = lowestFrom n 0 (λ z. member set z && member (getD rows z 0) x)
+unfolding lowestFrom isNext
+lowestNext rows n set x = lowestFrom n 0 (isNext rows set x)
 
 -- m messages from x to t, to the lowest next position each time
 unfoldable pub follow : List ℕ → (alive n t m x : ℕ) → List ℕ

@@ -11,7 +11,7 @@ use lib.ListN.{length}
 use Rattle.permset.specs.Sets.{member}
 use Rattle.graph.specs.Relation.{Live, Sends}
 use Rattle.graph.specs.Loop.{Walk, Distinct, Loop, NotAfter, Shortest}
-use Rattle.graph.specs.Search.{lowestFrom, reaching, closes, loopStart, loopLength, follow, loopOf}
+use Rattle.graph.specs.Search.{lowestFrom, reaching, closes, loopStart, someCloses, loopLength, follow, loopOf}
 use Rattle.graph.proofs.Digits.{member-lt}
 use Rattle.graph.proofs.Lists.{cut-at, length-cut, distinct-below}
 use Rattle.graph.proofs.Lowest.{lowest-least, lowest-most, lowest-passes, lowest-le}
@@ -46,21 +46,18 @@ module _ (rows : List ℕ) (live alive n : ℕ) (below : alive < 2 ^ n) (same : 
       lowest-le (closes rows alive (suc (length xs))) n 0 x (omega arith) (walk-closes x xs w)
       (let h = live-below x (walk-live rows live x xs x w x (List·Memᴰ·head refl)) in omega arith)
 
-  some : ℕ → Bool
-  some m = ltb (loopStart rows alive n m) n
-
   -- no closed walk is shorter than the search says
   pub length-least : (x : ℕ) (xs : List ℕ) → Walk rows live x xs x → loopLength rows alive n ≤ suc (length xs)
-  unfolding loopLength some
+  unfolding loopLength someCloses
   length-least x xs w = go (decLe (suc (length xs)) n)
     where
       go : Dec (suc (length xs) ≤ n) → loopLength rows alive n ≤ suc (length xs)
       go (yes l) =
           let h = start-le x xs w in
           let k = live-below x (walk-live rows live x xs x w x (List·Memᴰ·head refl)) in
-          lowest-le some n 1 (suc (length xs)) (omega arith)
+          lowest-le (someCloses rows alive n) n 1 (suc (length xs)) (omega arith)
           (lt→ltb (loopStart rows alive n (suc (length xs))) n (omega arith)) (omega arith)
-      go (no l) = omega (arith, lowest-most some n 1)
+      go (no l) = omega (arith, lowest-most (someCloses rows alive n) n 1)
 
   -- so where it finds nothing there is no loop
   pub no-loop : n < loopLength rows alive n → (xs : List ℕ) → Loop rows live xs → ⊥
@@ -72,6 +69,10 @@ module _ (rows : List ℕ) (live alive n : ℕ) (below : alive < 2 ^ n) (same : 
 
   -- ---- what it finds
 
+  pub found-start : loopLength rows alive n ≤ n → loopStart rows alive n (loopLength rows alive n) < n
+  unfolding loopLength someCloses
+  found-start l = ltb→lt (loopStart rows alive n (loopLength rows alive n)) n (lowest-passes (someCloses rows alive n) n 1 (omega arith))
+
   module _ (k : ℕ) (found : loopLength rows alive n ≡ suc k) (inside : suc k ≤ n) where
     abbrev start : ℕ
     start = loopStart rows alive n (suc k)
@@ -80,10 +81,7 @@ module _ (rows : List ℕ) (live alive n : ℕ) (below : alive < 2 ^ n) (same : 
     rest = follow rows alive n start k (onward rows live alive n below same start k start)
 
     start-below : start < n
-    unfolding loopLength some
-    start-below =
-        ltb→lt start n
-        (subst (λ (m : ℕ). T (ltb (loopStart rows alive n m) n)) found (lowest-passes some n 1 (omega (arith, found))))
+    start-below = subst (λ (m : ℕ). loopStart rows alive n m < n) found (found-start (omega (arith, found)))
 
     start-walk : Walk rows live start rest start
     unfolding loopStart closes
@@ -142,9 +140,9 @@ module _ (rows : List ℕ) (live alive n : ℕ) (below : alive < 2 ^ n) (same : 
         fewer (y ∷ ys) c = omega (arith, rest-length, found, length-least y ys (c .0))
 
   pub found-shortest : loopLength rows alive n ≤ n → Shortest rows live (loopOf rows alive n (loopLength rows alive n))
-  unfolding loopOf follow loopLength some
-  found-shortest l = go (loopLength rows alive n) refl l (lowest-least some n 1)
+  unfolding loopOf follow loopLength
+  found-shortest l = go (loopLength rows alive n) refl l (lowest-least (someCloses rows alive n) n 1)
     where
-      go : (m : ℕ) → loopLength rows alive n ≡ m → m ≤ n → 1 ≤ lowestFrom n 1 some → Shortest rows live (loopOf rows alive n m)
+      go : (m : ℕ) → loopLength rows alive n ≡ m → m ≤ n → 1 ≤ lowestFrom n 1 (someCloses rows alive n) → Shortest rows live (loopOf rows alive n m)
       go zero e h g = absurd (omega (arith, e))
       go (suc k) e h g = loop-shortest k e h
