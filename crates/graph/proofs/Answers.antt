@@ -1,12 +1,12 @@
 -- What is answered, and that it means what it says.
-use Prim.Native.Nat.{ℕ, _+_, _%_, _^_, _≤_, _<_, min}
+use Prim.Native.Nat.{ℕ, _%_, _^_, _≤_, _<_}
 use mathlib.Core.Path.{_≡_, refl, sym, ap, ap₂, _∙_, subst}
 use mathlib.Core.Bool.{Bool, true, false}
 use mathlib.Core.Logic.{_↔_}
 use mathlib.Core.List.{List}
 use native.Mathlib.Nat.{mod-lt, le-trans}
 use native.Mathlib.Omega.{arith}
-use lib.Dec.{T, ltb, leb}
+use lib.Dec.{T, leb}
 use lib.ListN.{length, take, drop}
 use lib.Pow.{pow-pos, pow-mono}
 use lib.Seq.{take-at}
@@ -23,7 +23,7 @@ use Rattle.graph.proofs.Digits.{member-lt}
 use Rattle.graph.proofs.Shortest.{found-start, found-shortest}
 use Rattle.graph.proofs.Orders.{found-order}
 use Rattle.graph.proofs.Theorem.{low-live}
-use Rattle.graph.proofs.Writing.{follow-size}
+use Rattle.graph.proofs.Walks.{follow-length}
 
 module _ (rows : List ℕ) (live : ℕ) where
   abbrev n : ℕ
@@ -125,7 +125,7 @@ module _ (rows : List ℕ) (live n a m : ℕ) (old : List ℕ) (e-n : n ≡ plac
           w ∙ ap (λ (x : ℕ). startingWith (follow rows a n x m x) old) e ∙ ap₂ (λ (s k : ℕ). startingWith (loopOf rows s k m) old) a-is e-n in
           let found =
           starts-with new (loopOf rows (alive rows live) (places rows) m) old m
-          (follow-size rows (alive rows live) (places rows) (loopStart rows (alive rows live) (places rows) m) m
+          (follow-length rows (alive rows live) (places rows) (loopStart rows (alive rows live) (places rows) m) m
           (loopStart rows (alive rows live) (places rows) m)) content
           ∙ ap (loopOf rows (alive rows live) (places rows)) m-is in (
             ap Looped m-is ∙ sym (answer-loop rows live (length old) (omega (arith, e-n)) some),

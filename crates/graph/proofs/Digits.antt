@@ -1,5 +1,5 @@
 -- Laws of tests as types, and of sets as numbers: a single member, the low digits, what two sets have in common.
-use Prim.Native.Nat.{ℕ, zero, suc, _+_, _/_, _%_, _^_, _≤_, _<_}
+use Prim.Native.Nat.{ℕ, zero, suc, _/_, _%_, _^_, _<_}
 use mathlib.Core.Path.{_≡_, refl, sym, ap, _∙_, subst}
 use mathlib.Core.Bool.{Bool, true, false, _&&_, _||_}
 use native.Mathlib.Nat.{pow-suc, mul-div-cancel, mul-mod-left}
@@ -11,7 +11,7 @@ use lib.Count.{trailingZeros, under}
 use lib.Dec.{T, eqb, lit<}
 use lib.Bits.{bitAnd}
 use lib.Pow.{field, mod-mod-pow}
-use Rattle.permset.specs.Sets.{member, union, within}
+use Rattle.permset.specs.Sets.{member, union}
 use Rattle.permset.proofs.Laws.{member-zero, member-suc, member-empty, member-and, member-union, member-beyond, member-within, same-members, within-empty}
 
 pub T-and : (a b : Bool) → T a → T b → T (a && b)

@@ -1,11 +1,11 @@
 -- The length of the shortest loop, found from one position to the next: each looks for a shorter one than those before it.
-use Prim.Native.Nat.{ℕ, zero, suc, _+_, _-_, _≤_, _<_}
-use mathlib.Core.Path.{_≡_, refl, sym, subst}
+use Prim.Native.Nat.{ℕ, _+_, _-_, _≤_, _<_}
+use mathlib.Core.Path.{_≡_, sym, subst}
 use mathlib.Core.Bool.{Bool}
 use mathlib.Core.List.{List}
 use native.Mathlib.Decide.{ℕ-discrete, decLt}
 use native.Mathlib.Omega.{arith}
-use lib.Dec.{T, ltb, ltb→lt, lt→ltb}
+use lib.Dec.{T, ltb→lt, lt→ltb}
 use Rattle.graph.specs.Search.{lowestFrom, closes, loopStart, someCloses, loopLength}
 use Rattle.graph.proofs.Lowest.{lowest-least, lowest-most, lowest-passes, lowest-le, lowest-is, lowest-end}
 

@@ -1,12 +1,12 @@
 -- Where there is no loop, the lowest free position taken each time gives an order of all live positions.
 use Prim.Native.Nat.{ℕ, zero, suc, _+_, _^_, _≤_, _<_}
-use mathlib.Core.Path.{_≡_, refl, sym, ap, _∙_, subst}
+use mathlib.Core.Path.{_≡_, refl, sym, ap, subst}
 use mathlib.Core.Logic.{_⊎_, inl, inr, ⊎-elim, _↔_}
-use mathlib.Core.Bool.{Bool, true, false, not, _&&_}
-use mathlib.Core.List.{List, [], _∷_, _++_, append-nil, List·Memᴰ, List·Memᴰ·head, List·Memᴰ·tail, List·Memᴰ·not-nil, List·Memᴰ·cases-cons, List·Memᴰ·append-cases, List·Memᴰ·eq-of-singleton, Memᴰ·append-left, Memᴰ·append-right, Memᴰ·cast}
+use mathlib.Core.Bool.{Bool, true, false, not}
+use mathlib.Core.List.{List, [], _∷_, _++_, append-nil, List·Memᴰ, List·Memᴰ·head, List·Memᴰ·not-nil, List·Memᴰ·cases-cons, List·Memᴰ·append-cases, List·Memᴰ·eq-of-singleton, Memᴰ·append-left, Memᴰ·append-right}
 use native.Mathlib.Decide.{ℕ-discrete, decLt}
 use native.Mathlib.Omega.{arith}
-use lib.Dec.{T, eqb, eqb→eq, eqb-refl, ltb, ltb→lt, lt→ltb, nltb→le, T-not, not-T}
+use lib.Dec.{T, eqb, eqb→eq, ltb, ltb→lt, nltb→le}
 use lib.Bits.{bitAnd}
 use lib.ListN.{length, getD, length-append}
 use lib.Seq.{append-snoc}
@@ -16,7 +16,7 @@ use Rattle.graph.specs.Relation.{Live, Sends}
 use Rattle.graph.specs.Order.{Free, Order}
 use Rattle.graph.specs.Loop.{Walk, Distinct}
 use Rattle.graph.specs.Search.{lowestFrom, isFree, lowestFree, orderFrom, loopLength}
-use Rattle.graph.proofs.Digits.{T-and, T-fst, T-snd, member-single, member-single-only, member-lt, in-both, both-left, both-right, no-member}
+use Rattle.graph.proofs.Digits.{T-and, T-fst, T-snd, member-single, member-single-only, in-both, both-left, both-right, no-member}
 use Rattle.graph.proofs.Lists.{distinct-snoc, distinct-below}
 use Rattle.graph.proofs.Lowest.{lowest-passes, lowest-le}
 use Rattle.graph.proofs.Walks.{walk-live}

@@ -1,17 +1,16 @@
 -- The loop that the search finds is the first of the shortest, and where it finds none there is none.
-use Prim.Native.Nat.{ℕ, zero, suc, _+_, _^_, _≤_, _<_}
+use Prim.Native.Nat.{ℕ, zero, suc, _^_, _≤_, _<_}
 use mathlib.Core.Path.{_≡_, refl, sym, ap, _∙_, subst}
-use mathlib.Core.Logic.{_⊎_, inl, inr, ⊎-elim, _↔_}
-use mathlib.Core.Bool.{Bool, true, false}
-use mathlib.Core.List.{List, [], _∷_, _++_, List·Memᴰ, List·Memᴰ·head, List·Memᴰ·tail, List·Memᴰ·not-nil}
+use mathlib.Core.Logic.{inl, inr, _↔_}
+use mathlib.Core.List.{List, [], _∷_, _++_, List·Memᴰ, List·Memᴰ·head, List·Memᴰ·not-nil}
 use native.Mathlib.Decide.{ℕ-discrete, decLe}
 use native.Mathlib.Omega.{arith}
-use lib.Dec.{T, ltb, ltb→lt, lt→ltb}
+use lib.Dec.{T, ltb→lt, lt→ltb}
 use lib.ListN.{length}
 use Rattle.permset.specs.Sets.{member}
-use Rattle.graph.specs.Relation.{Live, Sends}
+use Rattle.graph.specs.Relation.{Live}
 use Rattle.graph.specs.Loop.{Walk, Distinct, Loop, NotAfter, Shortest}
-use Rattle.graph.specs.Search.{lowestFrom, reaching, closes, loopStart, someCloses, loopLength, follow, loopOf}
+use Rattle.graph.specs.Search.{lowestFrom, closes, loopStart, someCloses, loopLength, follow, loopOf}
 use Rattle.graph.proofs.Digits.{member-lt}
 use Rattle.graph.proofs.Lists.{cut-at, length-cut, distinct-below}
 use Rattle.graph.proofs.Lowest.{lowest-least, lowest-most, lowest-passes, lowest-le}
@@ -90,7 +89,7 @@ module _ (rows : List ℕ) (live alive n : ℕ) (below : alive < 2 ^ n) (same : 
         (lowest-passes (closes rows alive (suc k)) n 0 (omega (arith, start-below)))
 
     rest-length : length rest ≡ k
-    rest-length = follow-length rows live alive n below same start k (onward rows live alive n below same start k start)
+    rest-length = follow-length rows alive n start k (onward rows live alive n below same start k start)
 
     -- every position of the loop closes, so none is lower than the start
     start-lowest : (y : ℕ) → List·Memᴰ y rest → start ≤ y

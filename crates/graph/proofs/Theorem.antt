@@ -1,19 +1,19 @@
 -- There is an order exactly if there is no loop; and there is at most one order, and one loop that is the first of the shortest.
 use Prim.Native.Nat.{ℕ, zero, suc, _+_, _%_, _^_, _≤_, _<_}
-use mathlib.Core.Path.{_≡_, refl, sym, ap, ap₂, _∙_, subst}
+use mathlib.Core.Path.{_≡_, refl, sym, ap₂, _∙_, subst}
 use mathlib.Core.Logic.{_⊎_, inl, inr, ⊎-elim, _↔_}
-use mathlib.Core.List.{List, [], _∷_, _++_, List·Memᴰ, List·Memᴰ·head, List·Memᴰ·tail, List·Memᴰ·not-nil, List·Memᴰ·cases-cons, List·Memᴰ·append-cases, List·Memᴰ·eq-of-singleton, Memᴰ·append-left, Memᴰ·append-right, Memᴰ·cast}
+use mathlib.Core.List.{List, [], _∷_, _++_, List·Memᴰ, List·Memᴰ·head, List·Memᴰ·tail, List·Memᴰ·not-nil, List·Memᴰ·cases-cons, List·Memᴰ·append-cases, List·Memᴰ·eq-of-singleton}
 use native.Mathlib.Decide.{decLe, decLt}
 use native.Mathlib.Nat.{mod-lt, le-antisymm}
 use native.Mathlib.Omega.{arith}
 use lib.Dec.{T}
-use lib.ListN.{length, getD, take, drop, drop-of-length-le}
+use lib.ListN.{length, getD, take, drop}
 use lib.Pow.{pow-pos}
 use lib.Seq.{split-at, take-suc, take-all, take-length}
 use Rattle.permset.specs.Sets.{member}
 use Rattle.graph.specs.Relation.{Live, Sends}
 use Rattle.graph.specs.Order.{Free, Order}
-use Rattle.graph.specs.Loop.{Walk, Distinct, Loop, NotAfter, Shortest}
+use Rattle.graph.specs.Loop.{Walk, Loop, NotAfter, Shortest}
 use Rattle.graph.specs.Search.{loopLength, loopOf, orderFrom}
 use Rattle.graph.proofs.Digits.{member-low, member-lt}
 use Rattle.graph.proofs.Walks.{walk-live}

@@ -1,8 +1,8 @@
 -- Walks, and from where a position is reached in exactly so many messages. The positions below n that are in `alive` are the live ones.
 use Prim.Native.Nat.{ℕ, zero, suc, _+_, _-_, _/_, _^_, _≤_, _<_}
 use mathlib.Core.Path.{_≡_, refl, sym, ap, _∙_, subst}
-use mathlib.Core.Logic.{_⊎_, inl, inr, ⊎-elim, _↔_}
-use mathlib.Core.Bool.{Bool, true, false, _&&_}
+use mathlib.Core.Logic.{inl, inr, ⊎-elim, _↔_}
+use mathlib.Core.Bool.{Bool, true, false}
 use mathlib.Core.List.{List, [], _∷_, _++_, List·Memᴰ, List·Memᴰ·cases-cons}
 use native.Mathlib.Decide.{ℕ-discrete}
 use native.Mathlib.Nat.{lt-of-le-of-lt}
@@ -15,7 +15,7 @@ use Rattle.permset.specs.Sets.{member, union, difference}
 use Rattle.permset.proofs.Laws.{member-suc, member-empty, union-cases, in-union-left, in-union-right, member-within, within-antisym, union-within, difference-first, in-difference}
 use Rattle.graph.specs.Relation.{Live, Sends}
 use Rattle.graph.specs.Loop.{Walk, NotAfter}
-use Rattle.graph.specs.Search.{lowestFrom, senders, reaching, isNext, lowestNext, follow}
+use Rattle.graph.specs.Search.{senders, reaching, isNext, lowestNext, follow}
 use Rattle.graph.proofs.Digits.{T-and, T-fst, T-snd, member-single, member-single-only, member-lt, in-both, both-left, both-right, no-member}
 use Rattle.graph.proofs.Lowest.{lowest-passes, lowest-le}
 
@@ -131,6 +131,12 @@ module _ (rows : List ℕ) (live : ℕ) where
   walk-live x (z ∷ zs) t w y m =
       ⊎-elim (λ e. subst (Live rows live) (sym e) (w .0 .sender)) (λ k. walk-live z zs t (w .1) y k) (List·Memᴰ·cases-cons m)
 
+-- a walk that goes on to the lowest has as many positions as messages
+pub follow-length : (rows : List ℕ) (alive n t m x : ℕ) → length (follow rows alive n t m x) ≡ m
+unfolding follow
+follow-length rows alive n t zero x = refl
+follow-length rows alive n t (suc m) x = ap suc (follow-length rows alive n t m (lowestNext rows n (reaching rows alive t m) x))
+
 -- ---- reaching t
 
 module _ (rows : List ℕ) (live alive n : ℕ) (below : alive < 2 ^ n) (same : (p : ℕ) → T (member alive p) ↔ Live rows live p) (t : ℕ) where
@@ -203,11 +209,6 @@ module _ (rows : List ℕ) (live alive n : ℕ) (below : alive < 2 ^ n) (same : 
       subst (λ (z : ℕ). Sends rows live x z) (sym (member-single-only t (onward zero x) (both-left (2 ^ t) alive (onward zero x) (o .reaches))))
       (o .sends)
   follow-walk (suc m) x h = let o = onward-on (suc m) x h in (o .sends, follow-walk m (onward (suc m) x) (o .reaches))
-
-  pub follow-length : (m x : ℕ) → length (follow rows alive n t m x) ≡ m
-  unfolding follow
-  follow-length zero x = refl
-  follow-length (suc m) x = ap suc (follow-length m (onward m x))
 
   -- no walk of its length comes before it
   pub follow-first : (x : ℕ) (ys : List ℕ) → Walk rows live x ys t → NotAfter (follow rows alive n t (length ys) (onward (length ys) x)) ys

@@ -88,8 +88,3 @@ module _ (rows : List ℕ) (alive n t : ℕ) where
   pub follow-none : (m i x : ℕ) → m ≤ i → follow rows alive n t (m - i) x ≡ []
   unfolding follow
   follow-none m i x h = let k : m - i ≡ 0 = omega arith in ap (λ (c : ℕ). follow rows alive n t c x) k
-
-  pub follow-size : (m x : ℕ) → length (follow rows alive n t m x) ≡ m
-  unfolding follow
-  follow-size zero x = refl
-  follow-size (suc m) x = ap suc (follow-size m (lowestNext rows n (reaching rows alive t m) x))

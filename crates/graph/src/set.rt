@@ -2,7 +2,6 @@
 ghost use mathlib.Core.Path.{_≡_};
 ghost use Prim.Native.Nat.{_%_, _^_, _≤_, _<_};
 ghost use lib.Bits.{bitAnd};
-ghost use lib.ListN.{length};
 ghost use Rattle.permset.specs.Sets.{member, difference};
 ghost use Rattle.graph.specs.Answer.{places as Answer·places};
 

@@ -6,7 +6,8 @@ use native.Mathlib.Omega.{arith}
 use borrow.Author.Needs.{needs}
 use Rattle.graph.specs.Search.{reaching, isNext, lowestNext, follow}
 use Rattle.graph.proofs.Lowest.{lowest-most}
-use Rattle.graph.proofs.Writing.{Partly, partly-start, partly-on, partly-end, follow-on, follow-none, follow-size}
+use Rattle.graph.proofs.Walks.{follow-length}
+use Rattle.graph.proofs.Writing.{Partly, partly-start, partly-on, partly-end, follow-on, follow-none}
 use Rattle.graph.proofs.loops.write_loop.Statement.{statement}
 use Rattle.graph.proofs.loops.write_loop.Tie as tie
 
@@ -70,7 +71,7 @@ returns c =
     let a = c .before .before .before .before .args in
     partly-end (a .positions .now) (follow (a .rows .now) (a .alive) (a .n) (a .t) (a .m) (a .t)) (l .positions) (l .i) _
     (follow-none (a .rows .now) (a .alive) (a .n) (a .t) (a .m) (l .i) (l .x) (c .loop-test .left))
-    (omega (arith, follow-size (a .rows .now) (a .alive) (a .n) (a .t) (a .m) (a .t))) (l .inv .2)
+    (omega (arith, follow-length (a .rows .now) (a .alive) (a .n) (a .t) (a .m) (a .t))) (l .inv .2)
 
 pub write-loop-spec : {M : Type 1} → statement M
 write-loop-spec =

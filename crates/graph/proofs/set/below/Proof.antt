@@ -1,8 +1,7 @@
 -- `graph::set::below` meets its contract. Assumes nothing.
-use Prim.Native.Nat.{ℕ, _%_, _^_, _≤_, _<_}
-use mathlib.Core.Path.{_≡_, sym, ap, subst}
+use Prim.Native.Nat.{ℕ, _%_, _^_, _<_}
+use mathlib.Core.Path.{sym, ap, subst}
 use native.Mathlib.Nat.{mod-eq-of-lt, le-trans}
-use native.Mathlib.Omega.{arith}
 use borrow.Author.Needs.{needs}
 use lib.Pow.{pow-pos, pow-mono}
 use Rattle.graph.proofs.set.below.Statement.{statement}

@@ -1,5 +1,5 @@
 -- `graph::set::single` meets its contract. Assumes nothing.
-use Prim.Native.Nat.{_*_, _^_}
+use Prim.Native.Nat.{_^_}
 use mathlib.Core.Path.{_∙_}
 use native.Mathlib.Nat.{one-mul}
 use borrow.Author.Needs.{needs}
