@@ -12,6 +12,7 @@ use lib.Pow.{pow-pos, pow-mono}
 use lib.Seq.{take-at}
 use borrow.Author.Tests.{lt-ltb, le-ltb, le-leb, lt-leb}
 use Rattle.permset.specs.Sets.{member}
+use Rattle.permset.proofs.Digits.{member-lt}
 use Rattle.graph.specs.declared.Arrangement.{Arrangement}
 use Rattle.graph.specs.declared.Arrangement.the-variants.{Short, Ordered, Looped}
 use Rattle.graph.specs.Relation.{Live}
@@ -19,7 +20,6 @@ use Rattle.graph.specs.Order.{Order}
 use Rattle.graph.specs.Loop.{Shortest}
 use Rattle.graph.specs.Search.{orderFrom, loopStart, loopLength, follow, loopOf}
 use Rattle.graph.specs.Answer.{places, alive, answer, written, startingWith, Means}
-use Rattle.graph.proofs.Digits.{member-lt}
 use Rattle.graph.proofs.Shortest.{found-start, found-shortest}
 use Rattle.graph.proofs.Orders.{found-order}
 use Rattle.graph.proofs.Theorem.{low-live}

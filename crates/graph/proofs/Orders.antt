@@ -11,12 +11,13 @@ use lib.Bits.{bitAnd}
 use lib.ListN.{length, getD, length-append}
 use lib.Seq.{append-snoc}
 use Rattle.permset.specs.Sets.{member, difference}
+use Rattle.permset.proofs.Digits.{T-and, T-fst, T-snd, member-single, member-single-only}
 use Rattle.permset.proofs.Laws.{member-empty, difference-first, difference-second, in-difference}
 use Rattle.graph.specs.Relation.{Live, Sends}
 use Rattle.graph.specs.Order.{Free, Order}
 use Rattle.graph.specs.Loop.{Walk, Distinct}
 use Rattle.graph.specs.Search.{lowestFrom, isFree, lowestFree, orderFrom, loopLength}
-use Rattle.graph.proofs.Digits.{T-and, T-fst, T-snd, member-single, member-single-only, in-both, both-left, both-right, no-member}
+use Rattle.graph.proofs.Digits.{in-both, both-left, both-right, no-member}
 use Rattle.graph.proofs.Lists.{distinct-snoc, distinct-below}
 use Rattle.graph.proofs.Lowest.{lowest-passes, lowest-le}
 use Rattle.graph.proofs.Walks.{walk-live}

@@ -8,10 +8,10 @@ use native.Mathlib.Omega.{arith}
 use lib.Dec.{T, ltb→lt, lt→ltb}
 use lib.ListN.{length}
 use Rattle.permset.specs.Sets.{member}
+use Rattle.permset.proofs.Digits.{member-lt}
 use Rattle.graph.specs.Relation.{Live}
 use Rattle.graph.specs.Loop.{Walk, Distinct, Loop, NotAfter, Shortest}
 use Rattle.graph.specs.Search.{lowestFrom, closes, loopStart, someCloses, loopLength, follow, loopOf}
-use Rattle.graph.proofs.Digits.{member-lt}
 use Rattle.graph.proofs.Lists.{cut-at, length-cut, distinct-below}
 use Rattle.graph.proofs.Lowest.{lowest-least, lowest-most, lowest-passes, lowest-le}
 use Rattle.graph.proofs.Walks.{walk-cut, walk-join, walk-live, walk-reaches, onward, follow-walk, follow-length, follow-first}

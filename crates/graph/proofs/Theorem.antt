@@ -11,11 +11,11 @@ use lib.ListN.{length, getD, take, drop}
 use lib.Pow.{pow-pos}
 use lib.Seq.{split-at, take-suc, take-all, take-length}
 use Rattle.permset.specs.Sets.{member}
+use Rattle.permset.proofs.Digits.{member-low, member-lt}
 use Rattle.graph.specs.Relation.{Live, Sends}
 use Rattle.graph.specs.Order.{Free, Order}
 use Rattle.graph.specs.Loop.{Walk, Loop, NotAfter, Shortest}
 use Rattle.graph.specs.Search.{loopLength, loopOf, orderFrom}
-use Rattle.graph.proofs.Digits.{member-low, member-lt}
 use Rattle.graph.proofs.Walks.{walk-live}
 use Rattle.graph.proofs.Shortest.{found-shortest}
 use Rattle.graph.proofs.Orders.{found-order}

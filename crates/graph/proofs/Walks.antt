@@ -12,11 +12,12 @@ use lib.Dec.{T}
 use lib.Bits.{bitAnd, and-le-r}
 use lib.ListN.{length, getD}
 use Rattle.permset.specs.Sets.{member, union, difference}
+use Rattle.permset.proofs.Digits.{T-and, T-fst, T-snd, member-single, member-single-only, member-lt}
 use Rattle.permset.proofs.Laws.{member-suc, member-empty, union-cases, in-union-left, in-union-right, member-within, within-antisym, union-within, difference-first, in-difference}
 use Rattle.graph.specs.Relation.{Live, Sends}
 use Rattle.graph.specs.Loop.{Walk, NotAfter}
 use Rattle.graph.specs.Search.{senders, reaching, isNext, lowestNext, follow}
-use Rattle.graph.proofs.Digits.{T-and, T-fst, T-snd, member-single, member-single-only, member-lt, in-both, both-left, both-right, no-member}
+use Rattle.graph.proofs.Digits.{in-both, both-left, both-right, no-member}
 use Rattle.graph.proofs.Lowest.{lowest-passes, lowest-le}
 
 -- ---- the senders to a set

@@ -10,7 +10,7 @@ pub record Free (rows : List ℕ) (live : ℕ) (before : List ℕ) (p : ℕ) : T
   pub unplaced : List·Memᴰ p before → ⊥
   pub follows : (s : ℕ) → Sends rows live s p → List·Memᴰ s before
 
--- every live position is in the list, and each position of the list is the lowest of those free at its moment
+-- every live position is in the list, and each position of the list is the lowest of those free at its moment (so none is there twice)
 pub record Order (rows : List ℕ) (live : ℕ) (order : List ℕ) : Type 0 where
   pub whole : (p : ℕ) → Live rows live p → List·Memᴰ p order
   pub free : (before : List ℕ) (p : ℕ) (after : List ℕ) → order ≡ before ++ p ∷ after → Free rows live before p

@@ -10,9 +10,10 @@ use lib.Count.{trailingZeros}
 use lib.Dec.{T}
 use lib.ListN.{length, getD}
 use Rattle.permset.specs.Sets.{member, union, difference}
+use Rattle.permset.proofs.Digits.{member-single, member-lt}
 use Rattle.permset.proofs.Laws.{within-le, difference-within, difference-second}
 use Rattle.graph.specs.Search.{senders}
-use Rattle.graph.proofs.Digits.{member-single, member-lt, lowest-in, union-assoc}
+use Rattle.graph.proofs.Digits.{lowest-in, union-assoc}
 use Rattle.graph.proofs.Walks.{senders-none, senders-less}
 use Rattle.graph.proofs.loops.senders.Statement.{statement}
 use Rattle.graph.proofs.loops.senders.Tie as tie
