@@ -277,7 +277,7 @@ within-lt n s t h ht = lt-of-le-of-lt (within-le s t h) ht
 
 -- ---- the lowest member, by the zeros below the lowest digit of k that is 1
 
-trailing-member : (k s : ℕ) → trailingZeros k s < k → T (member s (trailingZeros k s))
+pub trailing-member : (k s : ℕ) → trailingZeros k s < k → T (member s (trailingZeros k s))
 unfolding trailingZeros
 trailing-member zero s h = absurd (not-suc-le-zero h)
 trailing-member (suc k) s h = go (s % 2) refl (trailing-member k (s / 2)) h
@@ -298,7 +298,7 @@ trailing-below (suc k) s i h = go (s % 2) refl i (λ j. trailing-below k (s / 2)
     go zero e (suc j) ih l = member-suc s j ∙ ih j (le-of-suc-le-suc l)
     go (suc d) e j ih l = absurd (not-suc-le-zero l)
 
-trailing-none : (k s : ℕ) → s < 2 ^ k → k ≤ trailingZeros k s → s ≡ 0
+pub trailing-none : (k s : ℕ) → s < 2 ^ k → k ≤ trailingZeros k s → s ≡ 0
 trailing-none k s h l =
     same-below k s 0 h (pow-pos k) (λ i m. trailing-below k s i (le-trans m l) ∙ sym (member-empty i))
 

@@ -1,0 +1,11 @@
+pub mod Digits
+pub mod Lists
+pub mod Lowest
+pub mod Walks
+pub mod Shortest
+pub mod Fewest
+pub mod Orders
+pub mod Theorem
+pub mod Writing
+pub mod Answers
+pub mod Samples

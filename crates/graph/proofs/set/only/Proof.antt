@@ -1,0 +1,16 @@
+-- `graph::set::only` meets its contract. Assumes nothing.
+use Prim.Native.Nat.{ℕ}
+use mathlib.Core.Path.{ap}
+use borrow.Author.Needs.{needs}
+use lib.Bits.{bitAnd}
+use Rattle.graph.proofs.set.only.Statement.{statement}
+use Rattle.graph.proofs.set.only.Tie as tie
+
+single-requires : tie.Need-single-requires
+single-requires c κs = search needs
+
+returns : tie.Need-returns
+returns c = ap (λ (k : ℕ). bitAnd k (c .before .args .set)) (c .single .ensures)
+
+pub only-spec : {M : Type 1} → statement M
+only-spec = tie.close (tie.spec single-requires returns)
