@@ -37,6 +37,21 @@ module _ (e : Sets) where
   pub decided : {k : Rule} {r s : Bool} → r ≡ s → Decides e k s → Decides e k r
   decided q d = subst (Decides e _) (sym q) d
 
+  -- where a branch was taken by its negation
+  pub answered-no : {k : Rule} {r : Bool} → not r ≡ true → Decides e k r → Decides e k false
+  answered-no {k} {r} q d = go r q d
+    where
+      go : (b : Bool) → not b ≡ true → Decides e k b → Decides e k false
+      go true z f = absurd (subst T (sym z) tt)
+      go false z f = f
+
+  pub answered-yes : {k : Rule} {r : Bool} → not r ≡ false → Decides e k r → Decides e k true
+  answered-yes {k} {r} q d = go r q d
+    where
+      go : (b : Bool) → not b ≡ false → Decides e k b → Decides e k true
+      go true z f = f
+      go false z f = absurd (subst T z tt)
+
   pub same-rule : {k l : Rule} {r : Bool} → (Obeys e k → Obeys e l) → (Obeys e l → Obeys e k) → Decides e k r → Decides e l r
   same-rule f g d = record { yes = λ t. f (d .yes t); no = λ o. d .no (g o) }
 

@@ -1,3 +1,4 @@
+pub mod Found
 pub mod Laid
 pub mod Laws
 pub mod Rows
