@@ -1,3 +1,4 @@
+pub mod Blocks
 pub mod Found
 pub mod Laid
 pub mod Laws

@@ -1,3 +1,4 @@
 pub mod Decides
 pub mod Obeyed
+pub mod Sends
 pub mod Things

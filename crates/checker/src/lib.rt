@@ -1,3 +1,4 @@
 // Whether an estimate obeys the flow rules: a test for each kind of word, in the order of the clauses. Nothing is written.
+pub mod sends;
 pub mod tests;
 pub mod things;
