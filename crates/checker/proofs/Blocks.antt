@@ -26,21 +26,13 @@ use Rattle.clauses.proofs.Sorts.{row-C, row-B}
 use Rattle.checker.specs.declared.sends.Sending.{Sending}
 use Rattle.checker.specs.Decides.{Decides}
 use Rattle.checker.specs.Sends.{delivery, toBlock, Sent, LinksOf}
-use Rattle.checker.proofs.Laws.{decided, both, put-decides, only-so, only-not, given-so, given-not}
+use Rattle.checker.proofs.Laws.{decided, both, put-decides, only-so, only-not, given-so, given-not, negated-true, negated-false}
 
 pub delivered-is : (c : Code) (e : Sets) (p d b : ℕ) {r s t : Bool} → r ≡ e (L b) 0
     → Decides e (pass c (rowAt (2 * d)) (sortAt 3 c) (rowAt (2 * b + 1))) s → Decides e (sub (P b) (P p)) t
     → Decides e (delivery c p d b) (r && (s && t))
 unfolding sortAt
 delivered-is c e p d b q x y = both e (decided e q (put-decides e (L b) 0)) (both e (rw (row-C d, row-B b) at x) y)
-
-not-false : (b : Bool) → not b ≡ true → b ≡ false
-not-false true e = sym e
-not-false false e = refl
-
-not-true : (b : Bool) → not b ≡ false → b ≡ true
-not-true true e = refl
-not-true false e = sym e
 
 -- ---- one block
 
@@ -91,16 +83,16 @@ module _ (ws masks est : List ℕ) (l : Layout) (s : Sending) (h : Sent ws masks
 
   pub unheard : {r : Bool} → r ≡ heard → not r ≡ true → Decides e (toBlock c s b) true
   unheard {r} q n =
-      under-only _ (given-not e (C (s .p + 1)) (nameElement (nameOf (c .node b))) (heard-is ∙ sym q ∙ not-false r n))
+      under-only _ (given-not e (C (s .p + 1)) (nameElement (nameOf (c .node b))) (heard-is ∙ sym q ∙ negated-true n))
 
   pub unadmitted : {r : Bool} → r ≡ allowed → not r ≡ true → Decides e (toBlock c s b) true
-  unadmitted {r} q n = only-not e _ (admitted-is ∙ sym q ∙ not-false r n)
+  unadmitted {r} q n = only-not e _ (admitted-is ∙ sym q ∙ negated-true n)
 
   pub started : {r x y : Bool} → r ≡ heard → not r ≡ false → x ≡ allowed → not x ≡ false → Decides e (delivery c (s .p) (s .d) b) y
       → Decides e (toBlock c s b) y
   started {r} {x} q n v m d =
-      only-so e _ (admitted-is ∙ sym v ∙ not-true x m)
-      (given-so e (C (s .p + 1)) (nameElement (nameOf (c .node b))) (heard-is ∙ sym q ∙ not-true r n) d)
+      only-so e _ (admitted-is ∙ sym v ∙ negated-false m)
+      (given-so e (C (s .p + 1)) (nameElement (nameOf (c .node b))) (heard-is ∙ sym q ∙ negated-false n) d)
 
 -- ---- all blocks in turn
 

@@ -31,6 +31,21 @@ pub is-not : (b : Bool) → (T b → ⊥) → T (not b)
 is-not true h = h tt
 is-not false h = tt
 
+-- a test that was negated
+pub negated-true : {b : Bool} → not b ≡ true → b ≡ false
+negated-true {b} q = go b q
+  where
+    go : (x : Bool) → not x ≡ true → x ≡ false
+    go true z = sym z
+    go false z = refl
+
+pub negated-false : {b : Bool} → not b ≡ false → b ≡ true
+negated-false {b} q = go b q
+  where
+    go : (x : Bool) → not x ≡ false → x ≡ true
+    go true z = refl
+    go false z = sym z
+
 module _ (e : Sets) where
   -- ---- one answer
 
@@ -39,18 +54,10 @@ module _ (e : Sets) where
 
   -- where a branch was taken by its negation
   pub answered-no : {k : Rule} {r : Bool} → not r ≡ true → Decides e k r → Decides e k false
-  answered-no {k} {r} q d = go r q d
-    where
-      go : (b : Bool) → not b ≡ true → Decides e k b → Decides e k false
-      go true z f = absurd (subst T (sym z) tt)
-      go false z f = f
+  answered-no q d = subst (Decides e _) (negated-true q) d
 
   pub answered-yes : {k : Rule} {r : Bool} → not r ≡ false → Decides e k r → Decides e k true
-  answered-yes {k} {r} q d = go r q d
-    where
-      go : (b : Bool) → not b ≡ false → Decides e k b → Decides e k true
-      go true z f = f
-      go false z f = absurd (subst T z tt)
+  answered-yes q d = subst (Decides e _) (negated-false q) d
 
   pub same-rule : {k l : Rule} {r : Bool} → (Obeys e k → Obeys e l) → (Obeys e l → Obeys e k) → Decides e k r → Decides e l r
   same-rule f g d = record { yes = λ t. f (d .yes t); no = λ o. d .no (g o) }
@@ -65,11 +72,18 @@ module _ (e : Sets) where
   pub put-decides : (r : Row) (v : ℕ) → Decides e (put r v) (e r v)
   put-decides r v = record { yes = λ t. t; no = λ o. o }
 
+  pub put-is : {r : Bool} (s : Row) (v : ℕ) → r ≡ e s v → Decides e (put s v) r
+  put-is s v q = decided q (put-decides s v)
+
   -- ---- both
 
   pub both : {k l : Rule} {r s : Bool} → Decides e k r → Decides e l s → Decides e (k and l) (r && s)
   both {k} {l} {r} {s} d f =
       record { yes = λ t. (d .yes (T-fst r s t), f .yes (T-snd r s t)); no = λ o. T-and r s (d .no (o .0)) (f .no (o .1)) }
+
+  -- two parts, and what is asked besides
+  pub and-parts : {j k l : Rule} {r s : Bool} → Decides e (j and k) r → Decides e l s → Decides e (j and k and l) (r && s)
+  and-parts d f = same-rule (λ o. (o .0 .0, (o .0 .1, o .1))) (λ o. ((o .0, o .1 .0), o .1 .1)) (both d f)
 
   -- ---- under a test
 

@@ -1,3 +1,4 @@
+pub mod Asking
 pub mod Blocks
 pub mod Found
 pub mod Laid

@@ -7,7 +7,7 @@ use Rattle.table.specs.Scan.{accepted, reading}
 use Rattle.table.specs.Code.{Code, code}
 use Rattle.table.specs.Links.{linked}
 use Rattle.calculus.specs.Elements.{nameElement, sendable}
-use Rattle.calculus.specs.Constraint.{C, B, P, Rule, sub, given, only, _and_}
+use Rattle.calculus.specs.Constraint.{C, B, P, Rule, sub, given, some, only, each, _and_}
 use Rattle.calculus.specs.Rules.{nameOf, admits, live, pass}
 use Rattle.calculus.specs.Layout.{WellFormed}
 use Rattle.rows.specs.declared.layout.Layout.{Layout}
@@ -24,6 +24,10 @@ abbrev pub toBlock : Code → Sending → ℕ → Rule
 toBlock c s b =
     only (admits (nameOf (c .node b)) (s .required .bits) (s .own .bits) (c .node b))
     (given (C (s .p + 1)) (nameElement (nameOf (c .node b))) (delivery c (s .p) (s .d) b))
+
+-- for each block, where there is something to send
+abbrev pub sent : Code → Sending → Rule
+sent c s = some (C (s .d)) (sendable c) (each (c .blocks) (toBlock c s))
 
 -- what the tests of a send are handed
 pub record Sent (ws masks est : List ℕ) (l : Layout) (s : Sending) : Type 0 where

@@ -1,8 +1,14 @@
 -- What a term asks for a thing in the value set of its first part.
-use Prim.Native.Nat.{ℕ, suc, _<_}
+use Prim.Native.Nat.{ℕ, suc, _+_, _<_}
 use mathlib.Core.Path.{_≡_}
-use Rattle.calculus.specs.Constraint.{Row, C, B, P, Rule, sub, _and_}
-use Rattle.calculus.specs.Rules.{live}
+use mathlib.Core.List.{List}
+use lib.ListN.{getD}
+use Rattle.table.specs.declared.Operation.{Operation}
+use Rattle.table.specs.Code.{Code}
+use Rattle.calculus.specs.Elements.{made, isString, anyRecord, isRecord, opponentRecord}
+use Rattle.calculus.specs.Constraint.{Row, C, B, P, Rule, put, sub, given, some, _and_}
+use Rattle.calculus.specs.Rules.{live, fill, eachMade}
+use Rattle.calculus.proofs.OperationResults.{operationMask}
 use Rattle.clauses.specs.Asks.{rowAt}
 use Rattle.checker.specs.declared.things.Action.{Action}
 use Rattle.checker.specs.declared.things.Action.the-variants as actions
@@ -18,3 +24,14 @@ abbrev pub Suits : Action → ℕ → Type 0
 Suits actions.Call m = m ≡ 0
 Suits actions.Take m = m < 3
 Suits actions.Hand m = m < 3
+
+-- what set at p asks besides its parts, the first at p + 1, the second at d and the third at n
+abbrev pub store : Code → (p d n : ℕ) → Rule
+store c p d n =
+    some (C d) isString
+    (some (C (p + 1)) (anyRecord c) (put (C p) (made c p) and sub (C n) (B p)) and eachMade c isRecord (C (p + 1)) (λ q. sub (B q) (B p))
+    and given (C (p + 1)) opponentRecord (fill c (B p)))
+
+-- the results of an operation on the first two words of the rows at x and y
+abbrev pub resultsAt : List ℕ → Operation → (x y : ℕ) → ℕ
+resultsAt est o x y = operationMask o (getD est x 0) (getD est (x + 1) 0) (getD est y 0) (getD est (y + 1) 0)
