@@ -78,10 +78,14 @@ module _ (c : Code) (e : Sets) where
     get-is x y =
         same-rule e
         (λ o. ((λ q m t i. let z = o .1 (made c q) (is-record c k q t) i in (z .1 q m t i, z .0)), o .0))
-        (λ o. (o .1, λ v t i. (
-          ⊎-elim (λ z. o .1 (subst (λ (n : ℕ). T (e (C a) n)) z i) 0 (below-in (omega arith)))
-          (λ b. o .0 (b .word) (below-in (b .inside)) (b .makes-it) (subst (λ (n : ℕ). T (e (C a) n)) (b .element) i) .1) (record-by c k v t),
-          λ q m u j. o .0 q m u j .0)))
+        (λ o. (
+          o .1,
+          λ v t i. (
+            ⊎-elim (λ z. o .1 (subst (λ (n : ℕ). T (e (C a) n)) z i) 0 (below-in (omega arith)))
+                (λ b. o .0 (b .word) (below-in (b .inside)) (b .makes-it) (subst (λ (n : ℕ). T (e (C a) n)) (b .element) i) .1) (record-by c k v t),
+            λ q m u j. o .0 q m u j .0,
+          ),
+        ))
         (both e x y)
 
     -- set: a record that is there is one of those that the mask has
@@ -103,7 +107,8 @@ module _ (c : Code) (e : Sets) where
         (λ o q m t i. (o .0 (made c q) (is-made c k isCell q t) i, o .1 q m t i))
         (λ o. (
           (λ v t i. let b = cell-by c k v t in o (b .word) (below-in (b .inside)) (b .makes-it) (subst (λ (n : ℕ). T (e (C a) n)) (b .element) i) .0),
-          λ q m t i. o q m t i .1))
+          λ q m t i. o q m t i .1,
+        ))
         (both e x y)
 
 -- the element that p makes

@@ -148,7 +148,7 @@ module _ (ws : List ℕ) (e : Sets) (k : ℕ → Rule) where
           subst Left (sym z)
           (record {
             enough = λ o. x .enough (subst At (sym cons)
-            (λ j m. ⊎-elim (λ y. subst (λ (u : ℕ). Obeys e (k u)) (sym y) (d .yes tt)) (λ y. o j y) (List·Memᴰ·cases-cons m)));
+                (λ j m. ⊎-elim (λ y. subst (λ (u : ℕ). Obeys e (k u)) (sym y) (d .yes tt)) (λ y. o j y) (List·Memᴰ·cases-cons m)));
             needed = λ o j m. subst At cons (x .needed o) j (List·Memᴰ·tail m);
           })
 

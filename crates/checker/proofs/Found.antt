@@ -172,8 +172,8 @@ module _ (l : Layout) (est masks : List ℕ) (a m : ℕ) (k : ℕ → Rule) wher
     all-passed f h p =
         record {
           yes = λ t g i x y. let j : g < l .size = omega (arith, in-below i, o .size) in
-          p c o w g (omega arith)
-          (shown g j ∙ T-true (sets c est (C a) (made c g) && thingAt m (makes (c .node g))) (T-and (sets c est (C a) (made c g)) (thingAt m (makes (c .node g))) y x));
+              p c o w g (omega arith)
+              (shown g j ∙ T-true (sets c est (C a) (made c g) && thingAt m (makes (c .node g))) (T-and (sets c est (C a) (made c g)) (thingAt m (makes (c .node g))) y x));
           no = λ z. tt;
         }
 
@@ -183,5 +183,5 @@ module _ (l : Layout) (est masks : List ℕ) (a m : ℕ) (k : ℕ → Rule) wher
         record {
           yes = λ z. absurd z;
           no = λ z. d .no (z f (below-in (omega (arith, o .size))) (T-snd (sets c est (C a) (made c f)) (thingAt m (makes (c .node f))) t)
-          (T-fst (sets c est (C a) (made c f)) (thingAt m (makes (c .node f))) t));
+              (T-fst (sets c est (C a) (made c f)) (thingAt m (makes (c .node f))) t));
         }

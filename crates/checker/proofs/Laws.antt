@@ -81,6 +81,12 @@ module _ (e : Sets) where
   both {k} {l} {r} {s} d f =
       record { yes = λ t. (d .yes (T-fst r s t), f .yes (T-snd r s t)); no = λ o. T-and r s (d .no (o .0)) (f .no (o .1)) }
 
+  pub and-no : {k l : Rule} → Decides e k false → Decides e (k and l) false
+  and-no d = record { yes = λ t. absurd t; no = λ o. d .no (o .0) }
+
+  pub and-rest : {k l : Rule} {r : Bool} → Decides e k true → Decides e l r → Decides e (k and l) r
+  and-rest d f = record { yes = λ t. (d .yes tt, f .yes t); no = λ o. f .no (o .1) }
+
   -- two parts, and what is asked besides
   pub and-parts : {j k l : Rule} {r s : Bool} → Decides e (j and k) r → Decides e l s → Decides e (j and k and l) (r && s)
   and-parts d f = same-rule (λ o. (o .0 .0, (o .0 .1, o .1))) (λ o. ((o .0, o .1 .0), o .1 .1)) (both d f)
@@ -195,6 +201,9 @@ module _ (c : Code) (ws : List ℕ) where
       go : (t : Bool) → Decides e k t → Decides e l (obeys c l ws) → Decides e (k and l) (elim t [ true ↦ obeys c l ws | false ↦ false ])
       go true h r = record { yes = λ t. (h .yes tt, r .yes t); no = λ o. r .no (o .1) }
       go false h r = record { yes = λ t. absurd t; no = λ o. h .no (o .0) }
+
+  pub obeys-is : {k : Rule} {r : Bool} → Decides e k r → obeys c k ws ≡ r
+  obeys-is {k} d = unique e (obeys-decides k) d
 
 -- ---- the lowest word whose rule is not obeyed
 

@@ -2,3 +2,4 @@ pub mod Decides
 pub mod Obeyed
 pub mod Sends
 pub mod Things
+pub mod Words

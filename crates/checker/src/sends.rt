@@ -68,7 +68,14 @@ fn to_block(words: &[u32], masks: &[u32], est: &[u32], l: Layout, s: Sending, b:
 }
 
 // What the send asks for each block.
-pub fn to_blocks(words: &[u32], links: &[u32], masks: &[u32], est: &[u32], l: Layout, s: Sending) -> bool
+pub fn to_blocks(
+    words: &[u32],
+    links: &[u32],
+    masks: &[u32],
+    est: &[u32],
+    l: Layout,
+    s: Sending,
+) -> bool
     requires { ⌜ Sent (now words) (now masks) (now est) l s × LinksOf (now words) (now links) ⌝ }
     ensures { λ r. ⌜ Decides (sets (code (now (words .entry))) (now (est .entry))) (each (code (now (words .entry)) .blocks) (toBlock (code (now (words .entry))) s)) r ⌝ }
 {

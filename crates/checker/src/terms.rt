@@ -73,8 +73,7 @@ pub fn bind(est: &[u32], l: Layout, p: usize, d: usize) -> bool
     requires { ⌜ Term l (now est) p × (d < l .size) ⌝ }
     ensures { λ r. ⌜ Checked l (now (est .entry)) (λ c. flow c p (Bind (p + 1) d)) r ⌝ }
 {
-    parts(est, l, p, d)
-        & (passed(est, l, 2 * (p + 1), 2 * p + 1) & passed(est, l, 2 * d, 2 * p))
+    parts(est, l, p, d) & (passed(est, l, 2 * (p + 1), 2 * p + 1) & passed(est, l, 2 * d, 2 * p))
 }
 
 pub fn sequence(est: &[u32], l: Layout, p: usize, d: usize) -> bool
@@ -108,8 +107,7 @@ pub fn repeat(est: &[u32], l: Layout, p: usize, d: usize) -> bool
     requires { ⌜ Term l (now est) p × (d < l .size) ⌝ }
     ensures { λ r. ⌜ Checked l (now (est .entry)) (λ c. flow c p (while (p + 1) d)) r ⌝ }
 {
-    part(est, l, p, p + 1)
-        & (lifted(est, l, d, p) & (wakes(est, l, p + 1, 2, d) & ends(est, l, p)))
+    part(est, l, p, p + 1) & (lifted(est, l, d, p) & (wakes(est, l, p + 1, 2, d) & ends(est, l, p)))
 }
 
 // The operation of an argument.
@@ -187,7 +185,8 @@ fn stored(est: &[u32], masks: &[u32], l: Layout, p: usize, e: usize) -> bool
         return true;
     }
     in_value(est, l, p, 32 * l.lead + p)
-        & (passed(est, l, 2 * e, 2 * p + 1) & things(est, masks, l, Action::Take, RECORDS, p, 2 * p + 1))
+        & (passed(est, l, 2 * e, 2 * p + 1)
+            & things(est, masks, l, Action::Take, RECORDS, p, 2 * p + 1))
 }
 
 // What set asks besides its parts.
@@ -272,6 +271,5 @@ pub fn send(words: &[u32], links: &[u32], masks: &[u32], est: &[u32], l: Layout,
     requires { ⌜ Sent (now words) (now masks) (now est) l s × LinksOf (now words) (now links) ⌝ }
     ensures { λ r. ⌜ (s .own .bits ≡ permissions (code (now (words .entry))) (s .p) → Decides (sets (code (now (words .entry))) (now (est .entry))) (flow (code (now (words .entry))) (s .p) (two (Send (s .required .bits)) (s .p + 1) (s .d))) r) ⌝ }
 {
-    parts(est, l, s.p, s.d)
-        & (in_value(est, l, s.p, 1) & messages(words, links, masks, est, l, s))
+    parts(est, l, s.p, s.d) & (in_value(est, l, s.p, 1) & messages(words, links, masks, est, l, s))
 }

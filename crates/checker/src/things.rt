@@ -44,7 +44,15 @@ fn thing(est: &[u32], l: Layout, action: Action, p: usize, y: usize, f: usize) -
 }
 
 // What is asked for each thing of the mask m in C(p + 1).
-pub fn things(est: &[u32], masks: &[u32], l: Layout, action: Action, m: usize, p: usize, y: usize) -> bool
+pub fn things(
+    est: &[u32],
+    masks: &[u32],
+    l: Layout,
+    action: Action,
+    m: usize,
+    p: usize,
+    y: usize,
+) -> bool
     requires { ⌜ Term l (now est) p × (y < 2 * l .size) × MasksOf l (now masks) × Suits action m ⌝ }
     ensures { λ r. ⌜ CheckedBy l (now (est .entry)) (now (masks .entry)) (λ c. eachMade c (thingAt m) (C (p + 1)) (asked action p y)) r ⌝ }
 {

@@ -54,9 +54,10 @@ loop-again : tie.Need-loop-again Inv-loop μ-loop
 loop-again c =
     let s = c .before .before .before .before .before .before .before .before .before in let a = s .args in let ws = a .words .now in let i = c .before .before .before .before .loop in let g = c .before .before .before .loop-test .taken in
     let t = named-there ws (s .pre .0 .readable) (i .b) (i .inv .0) g in
-    let z = ap (λ (x : Link). x .end) (c .link-at .ensures) ∙ next-is ws (s .pre .0 .readable) (i .b) g t (a .links .now) (s .pre .1) in
-    (subst (Follows ws) (sym z) (follows-next ws (s .pre .0 .readable) (i .b) g t),
-    left-next ws (sets (code ws) (a .est .now)) (toBlock (code ws) (a .s)) (s .pre .0 .readable) (i .b) g t (i .inv .1) (answered-yes _ (c .before .if1 .left) (c .before .before .to-block .ensures)) _ z)
+    let z = ap (λ (x : Link). x .end) (c .link-at .ensures) ∙ next-is ws (s .pre .0 .readable) (i .b) g t (a .links .now) (s .pre .1) in (
+      subst (Follows ws) (sym z) (follows-next ws (s .pre .0 .readable) (i .b) g t),
+      left-next ws (sets (code ws) (a .est .now)) (toBlock (code ws) (a .s)) (s .pre .0 .readable) (i .b) g t (i .inv .1) (answered-yes _ (c .before .if1 .left) (c .before .before .to-block .ensures)) _ z,
+    )
 
 returns-2 : tie.Need-returns-2 Inv-loop μ-loop
 returns-2 c =

@@ -71,9 +71,11 @@ loop-less c = omega (arith, c .next-thing2 .ensures .later)
 loop-again : tie.Need-loop-again Inv-loop μ-loop
 loop-again c =
     let s = c .before .before .before .before .before .before .before .before in
-    let a = s .args in
-    (passed-more (a .l) (a .est .now) (a .masks .now) (a .p + 1) (a .m) (asked (a .action) (a .p) (a .y)) (c .before .before .before .before .loop .f) (c .next-thing2 .result) (c .before .before .before .before .loop .inv .0)
-      (λ k o w. answered-yes _ (c .before .if1 .left) (c .before .before .thing .ensures k o w)) (c .next-thing2 .ensures), c .next-thing2 .ensures .found)
+    let a = s .args in (
+      passed-more (a .l) (a .est .now) (a .masks .now) (a .p + 1) (a .m) (asked (a .action) (a .p) (a .y)) (c .before .before .before .before .loop .f) (c .next-thing2 .result) (c .before .before .before .before .loop .inv .0)
+          (λ k o w. answered-yes _ (c .before .if1 .left) (c .before .before .thing .ensures k o w)) (c .next-thing2 .ensures),
+      c .next-thing2 .ensures .found,
+    )
 
 returns-2 : tie.Need-returns-2 Inv-loop μ-loop
 returns-2 c =
