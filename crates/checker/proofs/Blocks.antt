@@ -25,7 +25,7 @@ use Rattle.clauses.specs.Asks.{rowAt, sortAt}
 use Rattle.clauses.proofs.Sorts.{row-C, row-B}
 use Rattle.checker.specs.declared.sends.Sending.{Sending}
 use Rattle.checker.specs.Decides.{Decides}
-use Rattle.checker.specs.Sends.{delivery, toBlock, Sent, LinksOf}
+use Rattle.checker.specs.Sends.{delivery, toBlock, mayStart, Sent, LinksOf}
 use Rattle.checker.proofs.Laws.{decided, both, put-decides, only-so, only-not, given-so, given-not, negated-true, negated-false}
 
 pub delivered-is : (c : Code) (e : Sets) (p d b : ℕ) {r s t : Bool} → r ≡ e (L b) 0
@@ -59,10 +59,7 @@ module _ (ws masks est : List ℕ) (l : Layout) (s : Sending) (h : Sent ws masks
   unfolding nameOf
   named-is = ap nameOf node-is
 
-  abbrev allowed : Bool
-  allowed = within (s .required .bits) (argument (getD ws (b + 1) 0)) && within (argument (getD ws (b + 2) 0)) (s .own .bits)
-
-  admitted-is : admits (nameOf (c .node b)) (s .required .bits) (s .own .bits) (c .node b) ≡ allowed
+  admitted-is : admits (nameOf (c .node b)) (s .required .bits) (s .own .bits) (c .node b) ≡ mayStart ws s b
   unfolding admits nameOf permsOf guarded
   admitted-is =
       ap (λ (n : Node). admits (nameOf n) (s .required .bits) (s .own .bits) n) node-is
@@ -85,10 +82,10 @@ module _ (ws masks est : List ℕ) (l : Layout) (s : Sending) (h : Sent ws masks
   unheard {r} q n =
       under-only _ (given-not e (C (s .p + 1)) (nameElement (nameOf (c .node b))) (heard-is ∙ sym q ∙ negated-true n))
 
-  pub unadmitted : {r : Bool} → r ≡ allowed → not r ≡ true → Decides e (toBlock c s b) true
+  pub unadmitted : {r : Bool} → r ≡ mayStart ws s b → not r ≡ true → Decides e (toBlock c s b) true
   unadmitted {r} q n = only-not e _ (admitted-is ∙ sym q ∙ negated-true n)
 
-  pub started : {r x y : Bool} → r ≡ heard → not r ≡ false → x ≡ allowed → not x ≡ false → Decides e (delivery c (s .p) (s .d) b) y
+  pub started : {r x y : Bool} → r ≡ heard → not r ≡ false → x ≡ mayStart ws s b → not x ≡ false → Decides e (delivery c (s .p) (s .d) b) y
       → Decides e (toBlock c s b) y
   started {r} {x} q n v m d =
       only-so e _ (admitted-is ∙ sym v ∙ negated-false m)

@@ -18,6 +18,10 @@ pub record Decides (e : Sets) (k : Rule) (r : Bool) : Type 0 where
 abbrev pub Checked : Layout → List ℕ → (Code → Rule) → Bool → Type 0
 Checked l est k r = (c : Code) → LaidOut c l → WellFormed c est → Decides (sets c est) (k c) r
 
+-- the same, for codes with a property
+abbrev pub CheckedIf : Layout → List ℕ → (Code → Type 0) → (Code → Rule) → Bool → Type 0
+CheckedIf l est q k r = (c : Code) → LaidOut c l → WellFormed c est → q c → Decides (sets c est) (k c) r
+
 -- the masks are those of a code of this layout
 pub record MasksOf (l : Layout) (masks : List ℕ) : Type 0 where
   pub code : Code

@@ -1,8 +1,11 @@
 -- What a send asks for the blocks that it may start.
 use Prim.Native.Nat.{ℕ, _+_, _<_, _≤_}
 use mathlib.Core.Path.{_≡_}
+use mathlib.Core.Bool.{Bool, _&&_}
 use mathlib.Core.List.{List}
-use lib.ListN.{length}
+use lib.ListN.{length, getD}
+use Rattle.permset.specs.Sets.{within}
+use Rattle.table.specs.Words.{argument}
 use Rattle.table.specs.Scan.{accepted, reading}
 use Rattle.table.specs.Code.{Code, code}
 use Rattle.table.specs.Links.{linked}
@@ -24,6 +27,10 @@ abbrev pub toBlock : Code → Sending → ℕ → Rule
 toBlock c s b =
     only (admits (nameOf (c .node b)) (s .required .bits) (s .own .bits) (c .node b))
     (given (C (s .p + 1)) (nameElement (nameOf (c .node b))) (delivery c (s .p) (s .d) b))
+
+-- the send may start the block b, its name aside
+abbrev pub mayStart : List ℕ → Sending → ℕ → Bool
+mayStart ws s b = within (s .required .bits) (argument (getD ws (b + 1) 0)) && within (argument (getD ws (b + 2) 0)) (s .own .bits)
 
 -- for each block, where there is something to send
 abbrev pub sent : Code → Sending → Rule

@@ -8,18 +8,15 @@ use rows::layout::Layout;
 use table::words::argument_of;
 use table_links::link_at;
 ghost use mathlib.Core.Path.{_≡_};
-ghost use mathlib.Core.Bool.{_&&_};
 ghost use Prim.Native.Nat.{_+_, _*_, _<_, _≤_};
-ghost use lib.ListN.{length, getD};
-ghost use Rattle.permset.specs.Sets.{within};
-ghost use Rattle.table.specs.Words.{argument};
+ghost use lib.ListN.{length};
 ghost use Rattle.table.specs.Scan.{name};
-ghost use Rattle.table.specs.Code.{code, taskAt};
+ghost use Rattle.table.specs.Code.{taskAt};
 ghost use Rattle.calculus.specs.Constraint.{each};
-ghost use Rattle.calculus.specs.Layout.{sets};
 ghost use Rattle.rows.specs.Laid.{Sized};
-ghost use Rattle.checker.specs.Decides.{Decides, CheckedBy};
-ghost use Rattle.checker.specs.Sends.{delivery, toBlock, Sent, LinksOf};
+ghost use Rattle.checker.specs.Decides.{CheckedBy};
+ghost use Rattle.checker.specs.Sends.{delivery, toBlock, mayStart, Sent, LinksOf};
+ghost use Rattle.checker.specs.Words.{Obeyed};
 
 // The mask of what may be sent.
 const MESSAGES: usize = 3;
@@ -44,7 +41,7 @@ fn delivered(est: &[u32], masks: &[u32], l: Layout, p: usize, d: usize, b: usize
 // Whether the send may start the block b, its name aside.
 fn admits(words: &[u32], s: Sending, b: usize) -> bool
     requires { ⌜ b + 2 < length (now words) ⌝ }
-    ensures { λ r. ⌜ r ≡ (within (s .required .bits) (argument (getD (now (words .entry)) (b + 1) 0)) && within (argument (getD (now (words .entry)) (b + 2) 0)) (s .own .bits)) ⌝ }
+    ensures { λ r. ⌜ r ≡ mayStart (now (words .entry)) s b ⌝ }
 {
     let perms = PermSet::of(argument_of(words[b + 1]));
     let guard = PermSet::of(argument_of(words[b + 2]));
@@ -55,7 +52,7 @@ fn admits(words: &[u32], s: Sending, b: usize) -> bool
 // What the send asks for the block b.
 fn to_block(words: &[u32], masks: &[u32], est: &[u32], l: Layout, s: Sending, b: usize) -> bool
     requires { ⌜ Sent (now words) (now masks) (now est) l s × (b < length (now words)) × (taskAt (now words) b ≡ name) ⌝ }
-    ensures { λ r. ⌜ Decides (sets (code (now (words .entry))) (now (est .entry))) (toBlock (code (now (words .entry))) s b) r ⌝ }
+    ensures { λ r. ⌜ Obeyed (now (words .entry)) (now (est .entry)) (λ c. toBlock c s b) r ⌝ }
 {
     let name = argument_of(words[b]) as usize;
     if !in_value(est, l, s.p + 1, 32 + name) {
@@ -77,7 +74,7 @@ pub fn to_blocks(
     s: Sending,
 ) -> bool
     requires { ⌜ Sent (now words) (now masks) (now est) l s × LinksOf (now words) (now links) ⌝ }
-    ensures { λ r. ⌜ Decides (sets (code (now (words .entry))) (now (est .entry))) (each (code (now (words .entry)) .blocks) (toBlock (code (now (words .entry))) s)) r ⌝ }
+    ensures { λ r. ⌜ Obeyed (now (words .entry)) (now (est .entry)) (λ c. each (c .blocks) (toBlock c s)) r ⌝ }
 {
     let mut b = 1;
     while b < words.len() {

@@ -18,22 +18,20 @@ use results::operate;
 use rows::layout::Layout;
 use table::Operation;
 ghost use mathlib.Core.Path.{_≡_};
-ghost use mathlib.Core.Bool.{Bool};
 ghost use Prim.Native.Nat.{_+_, _*_, _^_, _<_, _≤_};
 ghost use lib.ListN.{length};
 ghost use Rattle.permset.specs.Sets.{width};
 ghost use Rattle.table.specs.Words.{names, operationOf};
-ghost use Rattle.table.specs.Code.{Code, code, cell as Cell, read as Read, exercise as Exercise, one, two, bind as Bind, while, branch as Branch, update as Update};
-ghost use Rattle.table.specs.Code.{apply as Apply, sequence as Sequence, get as Get, delete as Delete, assign as Assign, operation as Op, send as Send};
-ghost use Rattle.calculus.specs.Elements.{made, anyRecord, isRecord, falsehood, undefined};
-ghost use Rattle.calculus.specs.Constraint.{C, B, Rule, put, sub, given, some as Some, _and_};
-ghost use Rattle.calculus.specs.Rules.{part as Part, eachMade, permissions, leafRule, twoRule, flow};
-ghost use Rattle.calculus.specs.Layout.{sets, WellFormed};
-ghost use Rattle.rows.specs.Laid.{LaidOut, Sized};
-ghost use Rattle.clauses.specs.Asks.{rowAt};
-ghost use Rattle.checker.specs.Decides.{Decides, Checked, CheckedBy, MasksOf, Term};
+ghost use Rattle.table.specs.Code.{cell as Cell, read as Read, exercise as Exercise, one, two, bind as Bind, while, branch as Branch, update as Update};
+ghost use Rattle.table.specs.Code.{apply as Apply, sequence as Sequence, get as Get, delete as Delete, assign as Assign, operation as Op};
+ghost use Rattle.calculus.specs.Elements.{falsehood, undefined};
+ghost use Rattle.calculus.specs.Constraint.{C, put, given, _and_};
+ghost use Rattle.calculus.specs.Rules.{part as Part, permissions, leafRule, twoRule, flow};
+ghost use Rattle.rows.specs.Laid.{Sized};
+ghost use Rattle.checker.specs.Decides.{Checked, CheckedIf, CheckedBy, MasksOf, Term};
 ghost use Rattle.checker.specs.Sends.{Sent, LinksOf, sent};
-ghost use Rattle.checker.specs.Things.{store, resultsAt};
+ghost use Rattle.checker.specs.Things.{taking, making, store, resultsAt};
+ghost use Rattle.checker.specs.Words.{Obeyed, SendObeyed};
 
 // The masks, by their numbers.
 const FUNCTIONS: usize = 0;
@@ -54,7 +52,7 @@ fn parts(est: &[u32], l: Layout, p: usize, d: usize) -> bool
 
 pub fn exercise(est: &[u32], l: Layout, p: usize, set: PermSet, own: PermSet) -> bool
     requires { ⌜ Sized l (now est) × (p < l .size) × (set .bits < 2 ^ width) ⌝ }
-    ensures { λ r. ⌜ ((c : Code) → LaidOut c l → WellFormed c (now (est .entry)) → own .bits ≡ permissions c p → Decides (sets c (now (est .entry))) (leafRule c p (Exercise (set .bits))) r) ⌝ }
+    ensures { λ r. ⌜ CheckedIf l (now (est .entry)) (λ c. own .bits ≡ permissions c p) (λ c. leafRule c p (Exercise (set .bits))) r ⌝ }
 {
     if !set.within(own) {
         return true;
@@ -133,7 +131,7 @@ fn results_at(est: &[u32], o: Operation, x: usize, y: usize) -> u32
 // The results of an operation on C(p + 1) and C(d) are in C(p).
 fn operated(est: &[u32], l: Layout, p: usize, d: usize, a: u32) -> bool
     requires { ⌜ Term l (now est) p × (d < l .size) ⌝ }
-    ensures { λ r. ⌜ ((c : Code) → LaidOut c l → WellFormed c (now (est .entry)) → c .names ≡ names → Decides (sets c (now (est .entry))) (twoRule c p (Op (operationOf a)) (p + 1) d) r) ⌝ }
+    ensures { λ r. ⌜ CheckedIf l (now (est .entry)) (λ c. c .names ≡ names) (λ c. twoRule c p (Op (operationOf a)) (p + 1) d) r ⌝ }
 {
     let to = 2 * p * l.row;
     let results = results_at(est, operation_of(a), 2 * (p + 1) * l.row, 2 * d * l.row);
@@ -142,7 +140,7 @@ fn operated(est: &[u32], l: Layout, p: usize, d: usize, a: u32) -> bool
 
 pub fn operation(est: &[u32], l: Layout, p: usize, d: usize, a: u32) -> bool
     requires { ⌜ Term l (now est) p × (d < l .size) ⌝ }
-    ensures { λ r. ⌜ ((c : Code) → LaidOut c l → WellFormed c (now (est .entry)) → c .names ≡ names → Decides (sets c (now (est .entry))) (flow c p (two (Op (operationOf a)) (p + 1) d)) r) ⌝ }
+    ensures { λ r. ⌜ CheckedIf l (now (est .entry)) (λ c. c .names ≡ names) (λ c. flow c p (two (Op (operationOf a)) (p + 1) d)) r ⌝ }
 {
     parts(est, l, p, d) & operated(est, l, p, d, a)
 }
@@ -150,7 +148,7 @@ pub fn operation(est: &[u32], l: Layout, p: usize, d: usize, a: u32) -> bool
 // Where C(p + 1) has a record, undefined and what each record holds is in C(p).
 fn got(est: &[u32], masks: &[u32], l: Layout, p: usize) -> bool
     requires { ⌜ Term l (now est) p × MasksOf l (now masks) ⌝ }
-    ensures { λ r. ⌜ CheckedBy l (now (est .entry)) (now (masks .entry)) (λ c. Some (C (p + 1)) (anyRecord c) (put (C p) undefined and eachMade c isRecord (C (p + 1)) (λ q. sub (B q) (C p)))) r ⌝ }
+    ensures { λ r. ⌜ CheckedBy l (now (est .entry)) (now (masks .entry)) (λ c. taking c p) r ⌝ }
 {
     if !has_some(est, masks, l, 2 * (p + 1), RECORDS) {
         return true;
@@ -179,7 +177,7 @@ pub fn get(est: &[u32], masks: &[u32], l: Layout, p: usize, d: usize) -> bool
 // Where C(p + 1) has a record or 7: the new record is in C(p), and C(e) and what each record holds is in B(p).
 fn stored(est: &[u32], masks: &[u32], l: Layout, p: usize, e: usize) -> bool
     requires { ⌜ Term l (now est) p × (e < l .size) × MasksOf l (now masks) ⌝ }
-    ensures { λ r. ⌜ CheckedBy l (now (est .entry)) (now (masks .entry)) (λ c. Some (C (p + 1)) (anyRecord c) (put (C p) (made c p) and sub (C e) (B p) and eachMade c isRecord (C (p + 1)) (λ q. sub (B q) (B p)))) r ⌝ }
+    ensures { λ r. ⌜ CheckedBy l (now (est .entry)) (now (masks .entry)) (λ c. making c p e) r ⌝ }
 {
     if !has_some(est, masks, l, 2 * (p + 1), RECORDS) {
         return true;
@@ -259,7 +257,7 @@ pub fn assign(est: &[u32], masks: &[u32], l: Layout, p: usize, d: usize) -> bool
 // Where C(d) has something that may be sent: what is asked for each block.
 fn messages(words: &[u32], links: &[u32], masks: &[u32], est: &[u32], l: Layout, s: Sending) -> bool
     requires { ⌜ Sent (now words) (now masks) (now est) l s × LinksOf (now words) (now links) ⌝ }
-    ensures { λ r. ⌜ Decides (sets (code (now (words .entry))) (now (est .entry))) (sent (code (now (words .entry))) s) r ⌝ }
+    ensures { λ r. ⌜ Obeyed (now (words .entry)) (now (est .entry)) (λ c. sent c s) r ⌝ }
 {
     if !has_some(est, masks, l, 2 * s.d, MESSAGES) {
         return true;
@@ -269,7 +267,7 @@ fn messages(words: &[u32], links: &[u32], masks: &[u32], est: &[u32], l: Layout,
 
 pub fn send(words: &[u32], links: &[u32], masks: &[u32], est: &[u32], l: Layout, s: Sending) -> bool
     requires { ⌜ Sent (now words) (now masks) (now est) l s × LinksOf (now words) (now links) ⌝ }
-    ensures { λ r. ⌜ (s .own .bits ≡ permissions (code (now (words .entry))) (s .p) → Decides (sets (code (now (words .entry))) (now (est .entry))) (flow (code (now (words .entry))) (s .p) (two (Send (s .required .bits)) (s .p + 1) (s .d))) r) ⌝ }
+    ensures { λ r. ⌜ SendObeyed (now (words .entry)) (now (est .entry)) s r ⌝ }
 {
     parts(est, l, s.p, s.d) & (in_value(est, l, s.p, 1) & messages(words, links, masks, est, l, s))
 }
