@@ -317,7 +317,7 @@ fn permitted(p: usize, set: usize, k: usize) -> Clause
 }
 
 // The elements of a constant and of a number, by its argument.
-fn constant_element(a: u32) -> usize
+pub fn constant_element(a: u32) -> usize
     ensures { λ r. ⌜ r ≡ constantElement (constantOf a) ⌝ }
 {
     match a {
@@ -329,7 +329,7 @@ fn constant_element(a: u32) -> usize
     }
 }
 
-fn sign_element(a: u32) -> usize
+pub fn sign_element(a: u32) -> usize
     ensures { λ r. ⌜ r ≡ signElement a ⌝ }
 {
     if a == 0 {

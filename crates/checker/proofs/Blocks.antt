@@ -1,0 +1,162 @@
+-- The blocks that a send may start: what its tests say of one block, and the loop over all.
+use Prim.Native.Nat.{ℕ, suc, _+_, _-_, _*_, _≤_, _<_}
+use mathlib.Core.Path.{_≡_, refl, sym, ap, ap₂, _∙_, subst}
+use mathlib.Core.Logic.{⊎-elim}
+use mathlib.Core.Bool.{Bool, true, false, not, _&&_}
+use mathlib.Core.List.{List, [], _∷_, List·Memᴰ, List·Memᴰ·head, List·Memᴰ·tail, List·Memᴰ·cases-cons, List·Memᴰ·not-nil}
+use native.Mathlib.Omega.{arith}
+use borrow.Author.Tests.{eq-eqb}
+use lib.Dec.{T, eqb}
+use lib.ListN.{length, getD, drop}
+use Rattle.permset.specs.Sets.{within}
+use Rattle.table.specs.Words.{argument, names}
+use Rattle.table.specs.Scan.{name, accepted, reading}
+use Rattle.table.specs.Code.{Code, Node, Linked, block, code, tasks, taskAt, nodeFor, blocksFrom, endOf, part}
+use Rattle.table.specs.Links.{linkAt}
+use Rattle.table.proofs.Linked.{linked as code-linked}
+use Rattle.table.proofs.Blocks.{Follows, Block, block as block-words, head-word, blocks-first, blocks-next, blocks-end}
+use Rattle.table.proofs.LinkMeaning.{link-end}
+use Rattle.calculus.specs.Elements.{plain, nameElement, sendable}
+use Rattle.calculus.specs.Constraint.{C, B, P, L, Sets, Rule, Obeys, put, sub, given, only, each, _and_}
+use Rattle.calculus.specs.Rules.{nameOf, permsOf, guarded, admits, live, pass}
+use Rattle.calculus.specs.Layout.{sets, WellFormed}
+use Rattle.rows.specs.declared.layout.Layout.{Layout}
+use Rattle.clauses.specs.Asks.{rowAt, sortAt}
+use Rattle.clauses.proofs.Sorts.{row-C, row-B}
+use Rattle.checker.specs.declared.sends.Sending.{Sending}
+use Rattle.checker.specs.Decides.{Decides}
+use Rattle.checker.specs.Sends.{delivery, toBlock, mayStart, Sent, LinksOf}
+use Rattle.checker.proofs.Laws.{decided, both, put-decides, only-so, only-not, given-so, given-not, negated-true, negated-false}
+
+pub delivered-is : (c : Code) (e : Sets) (p d b : ℕ) {r s t : Bool} → r ≡ e (L b) 0
+    → Decides e (pass c (rowAt (2 * d)) (sortAt 3 c) (rowAt (2 * b + 1))) s → Decides e (sub (P b) (P p)) t
+    → Decides e (delivery c p d b) (r && (s && t))
+unfolding sortAt
+delivered-is c e p d b q x y = both e (decided e q (put-decides e (L b) 0)) (both e (rw (row-C d, row-B b) at x) y)
+
+-- ---- one block
+
+module _ (ws masks est : List ℕ) (l : Layout) (s : Sending) (h : Sent ws masks est l s) (b : ℕ) (i : b < length ws) (t : taskAt ws b ≡ name) where
+  abbrev c : Code
+  c = code ws
+
+  pub words-of : Block ws b
+  words-of = block-words ws (h .readable) b i t
+
+  pub size-is : length ws ≡ l .size
+  unfolding code
+  size-is = h .laid .size
+
+  pub name-in : nameElement (argument (getD ws b 0)) < 32 * l .lead + l .size
+  unfolding code
+  name-in = omega (arith, words-of .named, h .laid .lead)
+
+  node-is : c .node b ≡ block (argument (getD ws b 0)) (argument (getD ws (b + 1) 0)) (argument (getD ws (b + 2) 0))
+  unfolding code nodeFor
+  node-is = ap (nodeFor ws b) t
+
+  named-is : nameOf (c .node b) ≡ argument (getD ws b 0)
+  unfolding nameOf
+  named-is = ap nameOf node-is
+
+  admitted-is : admits (nameOf (c .node b)) (s .required .bits) (s .own .bits) (c .node b) ≡ mayStart ws s b
+  unfolding admits nameOf permsOf guarded
+  admitted-is =
+      ap (λ (n : Node). admits (nameOf n) (s .required .bits) (s .own .bits) n) node-is
+      ∙ ap (λ (x : Bool). (x && within (s .required .bits) (argument (getD ws (b + 1) 0))) && within (argument (getD ws (b + 2) 0)) (s .own .bits))
+      (eq-eqb (argument (getD ws b 0)) (argument (getD ws b 0)) refl)
+
+  abbrev e : Sets
+  e = sets c est
+
+  abbrev heard : Bool
+  heard = e (C (s .p + 1)) (nameElement (argument (getD ws b 0)))
+
+  heard-is : e (C (s .p + 1)) (nameElement (nameOf (c .node b))) ≡ heard
+  heard-is = ap (λ (n : ℕ). e (C (s .p + 1)) (nameElement n)) named-is
+
+  under-only : {k : Rule} (x : Bool) → Decides e k true → Decides e (only x k) true
+  under-only x d = record { yes = λ z y. d .yes tt; no = λ o. tt }
+
+  pub unheard : {r : Bool} → r ≡ heard → not r ≡ true → Decides e (toBlock c s b) true
+  unheard {r} q n =
+      under-only _ (given-not e (C (s .p + 1)) (nameElement (nameOf (c .node b))) (heard-is ∙ sym q ∙ negated-true n))
+
+  pub unadmitted : {r : Bool} → r ≡ mayStart ws s b → not r ≡ true → Decides e (toBlock c s b) true
+  unadmitted {r} q n = only-not e _ (admitted-is ∙ sym q ∙ negated-true n)
+
+  pub started : {r x y : Bool} → r ≡ heard → not r ≡ false → x ≡ mayStart ws s b → not x ≡ false → Decides e (delivery c (s .p) (s .d) b) y
+      → Decides e (toBlock c s b) y
+  started {r} {x} q n v m d =
+      only-so e _ (admitted-is ∙ sym v ∙ negated-false m)
+      (given-so e (C (s .p + 1)) (nameElement (nameOf (c .node b))) (heard-is ∙ sym q ∙ negated-false n) d)
+
+-- ---- all blocks in turn
+
+module _ (ws : List ℕ) (q : reading ws ≡ accepted) where
+  pub named-there : (b : ℕ) → Follows ws b → b < length ws → taskAt ws b ≡ name
+  named-there b f i = ⊎-elim (λ z. absurd (omega arith)) (λ x. x .1) f
+
+  pub follows-first : Follows ws 1
+  follows-first = head-word ws q .follows
+
+  module _ (b : ℕ) (i : b < length ws) (t : taskAt ws b ≡ name) where
+    pub body-inside : b + 3 < length ws
+    body-inside = block-words ws q b i t .inside
+
+    pub next-is : (links : List ℕ) → LinksOf ws links → linkAt links (b + 3) .end ≡ endOf ws (b + 3)
+    next-is links k =
+        ap (λ (x : List ℕ). linkAt x (b + 3) .end) (k .from) ∙ link-end ws q (k .slice) (k .room) (b + 3) body-inside
+
+    pub follows-next : Follows ws (endOf ws (b + 3))
+    follows-next = block-words ws q b i t .follows
+
+    pub next-later : b < endOf ws (b + 3)
+    unfolding endOf part
+    next-later = omega arith
+
+-- the blocks from the place b on
+abbrev pub blocksOn : List ℕ → ℕ → List ℕ
+blocksOn ws b = blocksFrom (drop b (tasks ws)) b
+
+module _ (ws : List ℕ) (e : Sets) (k : ℕ → Rule) where
+  abbrev all : Rule
+  all = each (code ws .blocks) k
+
+  abbrev At : List ℕ → Type 0
+  At xs = Obeys e (each xs k)
+
+  -- what is left from b on is all that is left of the rule
+  pub record Left (b : ℕ) : Type 0 where
+    pub enough : At (blocksOn ws b) → Obeys e all
+    pub needed : Obeys e all → At (blocksOn ws b)
+
+  module _ (q : reading ws ≡ accepted) where
+    pub left-start : Left 1
+    unfolding code
+    left-start = record { enough = subst At (sym (blocks-first ws q)); needed = subst At (blocks-first ws q) }
+
+    module _ (b : ℕ) (i : b < length ws) (t : taskAt ws b ≡ name) (x : Left b) where
+      cons : blocksOn ws b ≡ b ∷ blocksOn ws (endOf ws (b + 3))
+      cons = blocks-next ws q b i t
+
+      pub left-next : Decides e (k b) true → (n : ℕ) → n ≡ endOf ws (b + 3) → Left n
+      left-next d n z =
+          subst Left (sym z)
+          (record {
+            enough = λ o. x .enough (subst At (sym cons)
+                (λ j m. ⊎-elim (λ y. subst (λ (u : ℕ). Obeys e (k u)) (sym y) (d .yes tt)) (λ y. o j y) (List·Memᴰ·cases-cons m)));
+            needed = λ o j m. subst At cons (x .needed o) j (List·Memᴰ·tail m);
+          })
+
+      pub left-fails : Decides e (k b) false → Decides e all false
+      left-fails d =
+          record { yes = λ z. absurd z; no = λ o. d .no (subst At cons (x .needed o) b (List·Memᴰ·head refl)) }
+
+    pub left-none : (b : ℕ) → Follows ws b → length ws ≤ b → Left b → Decides e all true
+    left-none b f n x =
+        let z : b ≡ length ws = ⊎-elim (λ y. y) (λ y. absurd (omega (arith, y .0))) f in
+        record {
+          yes = λ t. x .enough (subst At (sym (ap (blocksOn ws) z ∙ blocks-end ws q)) (λ j m. absurd (List·Memᴰ·not-nil m)));
+          no = λ o. tt;
+        }

@@ -1,0 +1,83 @@
+-- The entry of a block by its guard: which words have one.
+use Prim.Native.Nat.{ℕ, _+_, _*_, _≤_, _<_}
+use mathlib.Core.Path.{_≡_, refl, sym, ap, _∙_, subst}
+use mathlib.Core.Bool.{Bool, true, false, not, _&&_}
+use mathlib.Core.List.{List, List·Memᴰ}
+use native.Mathlib.Omega.{arith}
+use lib.Dec.{T, eqb}
+use borrow.Author.Tests.{eq-eqb}
+use lib.ListN.{length, getD}
+use Rattle.permset.specs.Sets.{within}
+use Rattle.permset.proofs.Laws.{empty-within}
+use Rattle.table.specs.declared.Item.{Item}
+use Rattle.table.specs.Words.{kind, argument}
+use Rattle.table.specs.Item.{handlerAt, itemAt}
+use Rattle.table.specs.Scan.{Task, name, accepted, reading}
+use Rattle.table.specs.Code.{Code, Node, NodeLinked, Linked, block, code, taskAt}
+use Rattle.table.proofs.Linked.{linked as code-linked}
+use Rattle.table.proofs.Faults.{Stands}
+use Rattle.table.proofs.Stack.{reach}
+use Rattle.table.proofs.Parts.{place-stands}
+use Rattle.table.proofs.Items.{item-block}
+use Rattle.table.proofs.Nodes.{itemNode, nodeAt, node-item}
+use Rattle.table.proofs.Blocks.{listed-block}
+use Rattle.calculus.specs.Constraint.{Row, B, L, Sets, Rule, put, only, _and_}
+use Rattle.calculus.specs.Rules.{nameOf, permsOf, guarded, admits, live, fill, entry}
+use Rattle.calculus.specs.Layout.{sets}
+use Rattle.calculus.proofs.Digits.{T-and}
+use Rattle.calculus.proofs.Masks.{T-false}
+use Rattle.rows.specs.declared.layout.Layout.{Layout}
+use Rattle.clauses.specs.Asks.{rowAt}
+use Rattle.clauses.proofs.Sorts.{row-B}
+use Rattle.clauses.proofs.Asked.{admitted-listed}
+use Rattle.checker.specs.Decides.{Decides}
+use Rattle.checker.specs.Words.{Accepted}
+use Rattle.checker.proofs.Laws.{both, put-is, only-so, only-not, negated-true, negated-false}
+
+pub in-table : (ws : List ℕ) (l : Layout) → Accepted ws l → (p : ℕ) → p < l .size → (p < code ws .size) × (p < length ws) × (code ws .size ≡ length ws)
+unfolding code
+in-table ws l a p h = (omega (arith, a .laid .size), omega (arith, a .laid .size), refl)
+
+module _ (ws : List ℕ) (r : reading ws ≡ accepted) (p : ℕ) (h : p < code ws .size) where
+  abbrev c : Code
+  c = code ws
+
+  -- only a block has a guard
+  guard-kind : (s : ℕ) → T (guarded (c .node p) s) → kind (getD ws p 0) ≡ 2
+  unfolding admits code
+  guard-kind s g =
+      let m : List·Memᴰ p (c .blocks) =
+      admitted-listed c (code-linked ws r) (λ x v. true) (nameOf (c .node p)) 0 s p
+      (T-and (eqb (nameOf (c .node p)) (nameOf (c .node p)) && within 0 (permsOf (c .node p))) (guarded (c .node p) s)
+      (T-and (eqb (nameOf (c .node p)) (nameOf (c .node p))) (within 0 (permsOf (c .node p))) (subst T (sym (eq-eqb (nameOf (c .node p)) (nameOf (c .node p)) refl)) tt) (empty-within (permsOf (c .node p)))) g)
+      in
+      let x = listed-block ws r p m in
+      subst (λ (u : Task). Stands (reach ws r p (x .0) .keys) (getD ws p 0) u) (x .1) (place-stands ws r p (x .0)) .0
+
+  module _ (i : kind (getD ws p 0) ≡ 2) where
+    pub block-node : c .node p ≡ block (argument (getD ws p 0)) (argument (getD ws (p + 1) 0)) (argument (getD ws (p + 2) 0))
+    unfolding itemNode handlerAt
+    block-node = node-item ws r ws (omega arith) p ∙ ap (λ (z : Item). nodeAt ws r ws (omega arith) z p) (item-block ws p i)
+
+    pub body-in : p + 3 < c .size
+    body-in = subst (NodeLinked c p) block-node (code-linked ws r .nodes p h) .3 .inside
+
+    guard-is : (s : ℕ) → guarded (c .node p) s ≡ within (argument (getD ws (p + 2) 0)) s
+    unfolding guarded
+    guard-is s = ap (λ (n : Node). guarded n s) block-node
+
+  module _ (e : Sets) (ρ : ℕ) where
+    pub no-entry : (kind (getD ws p 0) ≡ 2 → ⊥) → Decides e (entry c ρ p) true
+    unfolding entry
+    no-entry n = only-not e (guarded (c .node p) ρ) (T-false (guarded (c .node p) ρ) (λ t. n (guard-kind ρ t)))
+
+    module _ (i : kind (getD ws p 0) ≡ 2) {x : Bool} (q : x ≡ within (argument (getD ws (p + 2) 0)) ρ) where
+      pub closed-entry : not x ≡ true → Decides e (entry c ρ p) true
+      unfolding entry
+      closed-entry n = only-not e (guarded (c .node p) ρ) (guard-is i ρ ∙ sym q ∙ negated-true n)
+
+      pub open-entry : not x ≡ false → {y z : Bool} → y ≡ e (L p) 0 → Decides e (fill c (rowAt (2 * p + 1))) z → Decides e (entry c ρ p) (y && z)
+      unfolding entry
+      open-entry n {y} {z} u v =
+          only-so e (guarded (c .node p) ρ) (guard-is i ρ ∙ sym q ∙ negated-false n)
+          (both e (put-is e (L p) 0 u) (subst (λ (s : Row). Decides e (fill c s) z) (row-B p) v))

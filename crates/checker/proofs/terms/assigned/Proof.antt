@@ -1,0 +1,63 @@
+-- `checker::terms::assigned` meets its contract. Assumes nothing.
+use borrow.Author.Needs.{needs}
+use Prim.Native.Nat.{_+_, _*_}
+use mathlib.Core.Path.{_∙_}
+use native.Mathlib.Omega.{arith}
+use Rattle.calculus.specs.Constraint.{C}
+use Rattle.calculus.specs.Elements.{isCell}
+use Rattle.calculus.specs.Rules.{twoRule}
+use Rattle.clauses.specs.Asks.{sortAt, thingAt}
+use Rattle.queries.proofs.Laws.{row-in, mask-in, C-found}
+use Rattle.checker.proofs.Laws.{some-decides}
+use Rattle.checker.proofs.Laid.{CC}
+use Rattle.checker.proofs.Asking.{hand-C, assign-is}
+use Rattle.checker.proofs.terms.assigned.Statement.{statement}
+use Rattle.checker.proofs.terms.assigned.Tie as tie
+
+add-has-some : tie.Need-add-has-some
+add-has-some c = search needs
+
+mul-has-some : tie.Need-mul-has-some
+mul-has-some c = search needs
+
+has-some-requires : tie.Need-has-some-requires
+has-some-requires c κs = let s = c .before .before in let a = s .args in (row-in (a .l) (a .est .now) (s .pre .0 .sized) (2 * (a .p + 1)) (omega (arith, s .pre .0 .first)), mask-in _ (a .l .row) 2 (s .pre .2 .masked .long) (omega arith))
+
+mul-passed : tie.Need-mul-passed
+mul-passed c = search needs
+
+mul-passed-2 : tie.Need-mul-passed-2
+mul-passed-2 c = search needs
+
+passed-requires : tie.Need-passed-requires
+passed-requires c κs = search needs
+
+mul-things : tie.Need-mul-things
+mul-things c = search needs
+
+things-requires : tie.Need-things-requires
+things-requires c κs = search needs
+
+returns : tie.Need-returns
+unfolding twoRule sortAt thingAt
+returns c =
+    λ k j o w n. let s = c .before .before .before .before .before in let a = s .args in
+    assign-is k _ j (a .p + 1) (a .p) (a .d)
+    (some-decides k (a .est .now) (C (a .p + 1)) (sortAt 2 k) _
+    (c .before .before .has-some .ensures k (sortAt 2 k) o w (n .mask 2 (omega arith)) (omega (arith, s .pre .0 .first)) ∙ C-found k (a .est .now) (a .p + 1) (sortAt 2 k))
+    (CC _ (a .d) (a .p) (c .before .passed .ensures k o w)))
+    (hand-C k _ isCell (a .p + 1) (a .p) (a .d) (c .things .ensures k j o w n))
+
+pub assigned-spec : {M : Type 1} → statement M
+assigned-spec =
+    tie.close
+    (tie.spec
+    add-has-some
+    mul-has-some
+    has-some-requires
+    mul-passed
+    mul-passed-2
+    passed-requires
+    mul-things
+    things-requires
+    returns)

@@ -1,0 +1,59 @@
+-- `checker::terms::gets` meets its contract. Assumes nothing.
+use borrow.Author.Needs.{needs}
+use Prim.Native.Nat.{_+_, _*_}
+use mathlib.Core.Path.{sym, _∙_}
+use native.Mathlib.Omega.{arith}
+use Rattle.calculus.specs.Constraint.{C}
+use Rattle.calculus.specs.Elements.{isString}
+use Rattle.calculus.specs.Rules.{twoRule}
+use Rattle.queries.proofs.Laws.{value-in, some-words, C-found}
+use Rattle.checker.proofs.Laws.{some-so, some-not, negated-true, negated-false}
+use Rattle.checker.proofs.Asking.{fill-C, get-is}
+use Rattle.checker.proofs.terms.gets.Statement.{statement}
+use Rattle.checker.proofs.terms.gets.Tie as tie
+
+mul-has-text : tie.Need-mul-has-text
+mul-has-text c = search needs
+
+has-text-requires : tie.Need-has-text-requires
+has-text-requires c κs = let s = c .before .before in let a = s .args in (value-in (a .l) (a .est .now) (s .pre .0 .sized) (a .d) (s .pre .1), some-words (a .l) (a .est .now) (s .pre .0 .sized))
+
+returns : tie.Need-returns
+unfolding twoRule
+returns c =
+    λ k j o w n. let s = c .before .before .before .before in let a = s .args in
+    some-not k (a .est .now) (C (a .d)) isString
+    (sym (C-found k (a .est .now) (a .d) isString) ∙ sym (c .before .has-text .ensures k o w (omega (arith, s .pre .1))) ∙ negated-true (c .if1 .taken))
+
+add-fills : tie.Need-add-fills
+add-fills c = search needs
+
+mul-fills : tie.Need-mul-fills
+mul-fills c = search needs
+
+fills-requires : tie.Need-fills-requires
+fills-requires c κs = search needs
+
+got-requires : tie.Need-got-requires
+got-requires c κs = search needs
+
+returns-2 : tie.Need-returns-2
+unfolding twoRule
+returns-2 c =
+    λ k j o w n. let s = c .before .before .before .before .before .before in let a = s .args in
+    some-so k (a .est .now) (C (a .d)) isString
+    (sym (C-found k (a .est .now) (a .d) isString) ∙ sym (c .before .before .before .has-text .ensures k o w (omega (arith, s .pre .1))) ∙ negated-false (c .before .before .if1 .left))
+    (get-is k _ j (a .p + 1) (a .p) (fill-C k _ (a .p + 1) 7 (a .p) (c .before .fills .ensures k o w)) (c .got .ensures k j o w n))
+
+pub gets-spec : {M : Type 1} → statement M
+gets-spec =
+    tie.close
+    (tie.spec
+    mul-has-text
+    has-text-requires
+    returns
+    add-fills
+    mul-fills
+    fills-requires
+    got-requires
+    returns-2)

@@ -1,0 +1,19 @@
+-- `checker::terms::operation` meets its contract. Assumes nothing.
+use borrow.Author.Needs.{needs}
+use Rattle.calculus.specs.Rules.{flow}
+use Rattle.checker.proofs.Laws.{and-parts}
+use Rattle.checker.proofs.terms.operation.Statement.{statement}
+use Rattle.checker.proofs.terms.operation.Tie as tie
+
+parts-requires : tie.Need-parts-requires
+parts-requires c κs = search needs
+
+operated-requires : tie.Need-operated-requires
+operated-requires c κs = search needs
+
+returns : tie.Need-returns
+unfolding flow
+returns c = λ k o w m. and-parts _ (c .before .parts .ensures k o w) (c .operated .ensures k o w m)
+
+pub operation-spec : {M : Type 1} → statement M
+operation-spec = tie.close (tie.spec parts-requires operated-requires returns)

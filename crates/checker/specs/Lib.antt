@@ -1,0 +1,5 @@
+pub mod Decides
+pub mod Obeyed
+pub mod Sends
+pub mod Things
+pub mod Words

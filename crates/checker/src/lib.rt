@@ -1,0 +1,191 @@
+// Whether an estimate obeys the flow rules: a test for each kind of word, in the order of the clauses. Nothing is written.
+pub mod sends;
+pub mod terms;
+pub mod tests;
+pub mod things;
+
+use crate::sends::Sending;
+use crate::terms::apply;
+use crate::terms::assign;
+use crate::terms::bind;
+use crate::terms::branch;
+use crate::terms::cell;
+use crate::terms::delete;
+use crate::terms::exercise;
+use crate::terms::get;
+use crate::terms::operation;
+use crate::terms::read;
+use crate::terms::repeat;
+use crate::terms::send;
+use crate::terms::sequence;
+use crate::terms::set;
+use crate::tests::full;
+use crate::tests::in_value;
+use crate::tests::part;
+use crate::tests::passed;
+use clauses::make::constant_element;
+use clauses::make::permissions_of;
+use clauses::make::sign_element;
+use permset::PermSet;
+use queries::is_live;
+use rows::layout::Layout;
+use table::words::argument_of;
+use table::words::kind_of;
+use table_links::link_at;
+ghost use mathlib.Core.Path.{_≡_};
+ghost use Prim.Native.Nat.{_+_, _<_};
+ghost use lib.ListN.{length};
+ghost use Rattle.table.specs.Code.{code};
+ghost use Rattle.table.specs.Links.{linkAt};
+ghost use Rattle.calculus.specs.Rules.{flow as Flow, entry as Entry, rule as Rule};
+ghost use Rattle.calculus.specs.Layout.{WellFormed};
+ghost use Rattle.queries.specs.Ready.{Ready};
+ghost use Rattle.checker.specs.Obeyed.{firstBroken};
+ghost use Rattle.checker.specs.Words.{Accepted, Obeyed, SendingAt, Unknown};
+ghost use Rattle.rows.specs.Laid.{Sized};
+
+// The word after the term at q.
+fn end(links: &[u32], q: usize) -> usize
+    ensures { λ r. ⌜ r ≡ linkAt (now (links .entry)) q .end ⌝ }
+{
+    link_at(links, q).end
+}
+
+// What the send at p, with its message at d and this argument, sends.
+fn sending(words: &[u32], links: &[u32], p: usize, d: usize, a: u32) -> Sending
+    ensures { λ r. ⌜ SendingAt (now (words .entry)) (now (links .entry)) p d a r ⌝ }
+{
+    let required = PermSet { bits: a };
+    let own = permissions_of(words, links, p);
+    Sending {
+        p,
+        d,
+        required,
+        own,
+    }
+}
+
+// A word of no kind of document 01, which no accepted table has: a term counts as a record.
+fn other(est: &[u32], l: Layout, kind: u32, p: usize) -> bool
+    requires { ⌜ Sized l (now est) × (p < l .size) ⌝ }
+    ensures { λ r. ⌜ Unknown l (now (est .entry)) kind p r ⌝ }
+{
+    if kind < 16 {
+        return true;
+    }
+    in_value(est, l, p, 32 * l.lead + p)
+}
+
+// Whether what the word p asks where it is live is obeyed.
+fn flow(words: &[u32], links: &[u32], masks: &[u32], est: &[u32], l: Layout, p: usize) -> bool
+    requires { ⌜ Ready (now words) (now links) (now masks) l × WellFormed (code (now words)) (now est) × (p < l .size) ⌝ }
+    ensures { λ r. ⌜ Obeyed (now (words .entry)) (now (est .entry)) (λ c. Flow c p (c .node p)) r ⌝ }
+{
+    let w = words[p];
+    let a = argument_of(w);
+    let kind = kind_of(w);
+    match kind {
+        2 => part(est, l, p, p + 3),
+        16 => in_value(est, l, p, constant_element(a)),
+        17 => in_value(est, l, p, sign_element(a)),
+        18 => in_value(est, l, p, 9 + a as usize),
+        19 => in_value(est, l, p, 32 + a as usize),
+        20 => passed(est, l, 2 * link_at(links, p).binder + 1, 2 * p),
+        21 => in_value(est, l, p, 32 * l.lead + p),
+        22 => apply(est, masks, l, p, end(links, p + 1)),
+        23 => bind(est, l, p, end(links, p + 1)),
+        24 => sequence(est, l, p, end(links, p + 1)),
+        25 => branch(est, l, p, end(links, p + 1), end(links, end(links, p + 1))),
+        26 => repeat(est, l, p, end(links, p + 1)),
+        27 => operation(est, l, p, end(links, p + 1), a),
+        28 => in_value(est, l, p, 32 * l.lead + p),
+        29 => get(est, masks, l, p, end(links, p + 1)),
+        30 => set(
+            est,
+            masks,
+            l,
+            p,
+            end(links, p + 1),
+            end(links, end(links, p + 1)),
+        ),
+        31 => delete(est, masks, l, p, end(links, p + 1)),
+        32 => cell(est, l, p),
+        33 => read(est, masks, l, p),
+        34 => assign(est, masks, l, p, end(links, p + 1)),
+        35 => send(
+            words,
+            links,
+            masks,
+            est,
+            l,
+            sending(words, links, p, end(links, p + 1), a),
+        ),
+        36 => exercise(
+            est,
+            l,
+            p,
+            PermSet { bits: a },
+            permissions_of(words, links, p),
+        ),
+        _ => other(est, l, kind, p),
+    }
+}
+
+// Whether the entry of a block by its guard is obeyed; there is none at another word.
+fn entry(words: &[u32], est: &[u32], l: Layout, rho: PermSet, p: usize) -> bool
+    requires { ⌜ Accepted (now words) l × Sized l (now est) × WellFormed (code (now words)) (now est) × (p < l .size) ⌝ }
+    ensures { λ r. ⌜ Obeyed (now (words .entry)) (now (est .entry)) (λ c. Entry c (rho .bits) p) r ⌝ }
+{
+    if kind_of(words[p]) != 2 {
+        return true;
+    }
+    let guard = PermSet::of(argument_of(words[p + 2]));
+    if !guard.within(rho) {
+        return true;
+    }
+    is_live(est, l, p) & full(est, l, 2 * p + 1)
+}
+
+// Whether the rule of the word p is obeyed.
+fn word(
+    words: &[u32],
+    links: &[u32],
+    masks: &[u32],
+    est: &[u32],
+    l: Layout,
+    rho: PermSet,
+    p: usize,
+) -> bool
+    requires { ⌜ Ready (now words) (now links) (now masks) l × WellFormed (code (now words)) (now est) × (p < l .size) ⌝ }
+    ensures { λ r. ⌜ Obeyed (now (words .entry)) (now (est .entry)) (λ c. Rule c (rho .bits) p) r ⌝ }
+{
+    if !entry(words, est, l, rho, p) {
+        return false;
+    }
+    if !is_live(est, l, p) {
+        return true;
+    }
+    flow(words, links, masks, est, l, p)
+}
+
+// The lowest word whose rule the estimate does not obey; the size of the table where it obeys all.
+pub fn broken(
+    words: &[u32],
+    links: &[u32],
+    masks: &[u32],
+    est: &[u32],
+    l: Layout,
+    rho: PermSet,
+) -> usize
+    requires { ⌜ Ready (now words) (now links) (now masks) l × WellFormed (code (now words)) (now est) ⌝ }
+    ensures { λ r. ⌜ r ≡ firstBroken (code (now (words .entry))) (rho .bits) (now (est .entry)) ⌝ }
+{
+    let mut p = 0;
+    while p < l.size {
+        if !word(words, links, masks, est, l, rho, p) {
+            return p;
+        }
+        p += 1;
+    }
+    p
+}

@@ -1,0 +1,87 @@
+// What a send asks for each block that it may start.
+use crate::tests::in_value;
+use crate::tests::lifted;
+use crate::tests::passed_by;
+use permset::PermSet;
+use queries::is_live;
+use rows::layout::Layout;
+use table::words::argument_of;
+use table_links::link_at;
+ghost use mathlib.Core.Path.{_≡_};
+ghost use Prim.Native.Nat.{_+_, _*_, _<_, _≤_};
+ghost use lib.ListN.{length};
+ghost use Rattle.table.specs.Scan.{name};
+ghost use Rattle.table.specs.Code.{taskAt};
+ghost use Rattle.calculus.specs.Constraint.{each};
+ghost use Rattle.rows.specs.Laid.{Sized};
+ghost use Rattle.checker.specs.Decides.{CheckedBy};
+ghost use Rattle.checker.specs.Sends.{delivery, toBlock, mayStart, Sent, LinksOf};
+ghost use Rattle.checker.specs.Words.{Obeyed};
+
+// The mask of what may be sent.
+const MESSAGES: usize = 3;
+
+// The send at p with its message at d: what it requires of a receiver, and the permissions of its block.
+pub struct Sending {
+    pub p: usize,
+    pub d: usize,
+    pub required: PermSet,
+    pub own: PermSet,
+}
+
+// The block b is live, what C(d) has of messages is in B(b), and P(b) is in P(p).
+fn delivered(est: &[u32], masks: &[u32], l: Layout, p: usize, d: usize, b: usize) -> bool
+    requires { ⌜ Sized l (now est) × (p < l .size) × (d < l .size) × (b < l .size) × (4 * l .row ≤ length (now masks)) ⌝ }
+    ensures { λ r. ⌜ CheckedBy l (now (est .entry)) (now (masks .entry)) (λ c. delivery c p d b) r ⌝ }
+{
+    is_live(est, l, b)
+        & (passed_by(est, masks, l, MESSAGES, 2 * d, 2 * b + 1) & lifted(est, l, b, p))
+}
+
+// Whether the send may start the block b, its name aside.
+fn admits(words: &[u32], s: Sending, b: usize) -> bool
+    requires { ⌜ b + 2 < length (now words) ⌝ }
+    ensures { λ r. ⌜ r ≡ mayStart (now (words .entry)) s b ⌝ }
+{
+    let perms = PermSet::of(argument_of(words[b + 1]));
+    let guard = PermSet::of(argument_of(words[b + 2]));
+    let required = s.required;
+    required.within(perms) & guard.within(s.own)
+}
+
+// What the send asks for the block b.
+fn to_block(words: &[u32], masks: &[u32], est: &[u32], l: Layout, s: Sending, b: usize) -> bool
+    requires { ⌜ Sent (now words) (now masks) (now est) l s × (b < length (now words)) × (taskAt (now words) b ≡ name) ⌝ }
+    ensures { λ r. ⌜ Obeyed (now (words .entry)) (now (est .entry)) (λ c. toBlock c s b) r ⌝ }
+{
+    let name = argument_of(words[b]) as usize;
+    if !in_value(est, l, s.p + 1, 32 + name) {
+        return true;
+    }
+    if !admits(words, s, b) {
+        return true;
+    }
+    delivered(est, masks, l, s.p, s.d, b)
+}
+
+// What the send asks for each block.
+pub fn to_blocks(
+    words: &[u32],
+    links: &[u32],
+    masks: &[u32],
+    est: &[u32],
+    l: Layout,
+    s: Sending,
+) -> bool
+    requires { ⌜ Sent (now words) (now masks) (now est) l s × LinksOf (now words) (now links) ⌝ }
+    ensures { λ r. ⌜ Obeyed (now (words .entry)) (now (est .entry)) (λ c. each (c .blocks) (toBlock c s)) r ⌝ }
+{
+    let mut b = 1;
+    while b < words.len() {
+        if !to_block(words, masks, est, l, s, b) {
+            return false;
+        }
+        b = link_at(links, b + 3).end;
+    }
+    true
+}

@@ -1,0 +1,273 @@
+// What a term at p asks where it is live, by its kind: its first part is at p + 1, its second at d, its third at e.
+use crate::sends::Sending;
+use crate::sends::to_blocks;
+use crate::tests::fills;
+use crate::tests::in_value;
+use crate::tests::lifted;
+use crate::tests::part;
+use crate::tests::passed;
+use crate::tests::passed_by;
+use crate::tests::permitted;
+use crate::tests::wakes;
+use crate::things::Action;
+use crate::things::things;
+use permset::PermSet;
+use queries::has_some;
+use queries::has_text;
+use results::operate;
+use rows::layout::Layout;
+use table::Operation;
+ghost use mathlib.Core.Path.{_≡_};
+ghost use Prim.Native.Nat.{_+_, _*_, _^_, _<_, _≤_};
+ghost use lib.ListN.{length};
+ghost use Rattle.permset.specs.Sets.{width};
+ghost use Rattle.table.specs.Words.{names, operationOf};
+ghost use Rattle.table.specs.Code.{cell as Cell, read as Read, exercise as Exercise, one, two, bind as Bind, while, branch as Branch, update as Update};
+ghost use Rattle.table.specs.Code.{apply as Apply, sequence as Sequence, get as Get, delete as Delete, assign as Assign, operation as Op};
+ghost use Rattle.calculus.specs.Elements.{falsehood, undefined};
+ghost use Rattle.calculus.specs.Constraint.{C, put, given, _and_};
+ghost use Rattle.calculus.specs.Rules.{part as Part, permissions, leafRule, twoRule, flow};
+ghost use Rattle.rows.specs.Laid.{Sized};
+ghost use Rattle.checker.specs.Decides.{Checked, CheckedIf, CheckedBy, MasksOf, Term};
+ghost use Rattle.checker.specs.Sends.{Sent, LinksOf, sent};
+ghost use Rattle.checker.specs.Things.{taking, making, store, resultsAt};
+ghost use Rattle.checker.specs.Words.{Obeyed, SendObeyed};
+
+// The masks, by their numbers.
+const FUNCTIONS: usize = 0;
+
+const RECORDS: usize = 1;
+
+const CELLS: usize = 2;
+
+const MESSAGES: usize = 3;
+
+// Both parts are live, and their permissions are in P(p).
+fn parts(est: &[u32], l: Layout, p: usize, d: usize) -> bool
+    requires { ⌜ Term l (now est) p × (d < l .size) ⌝ }
+    ensures { λ r. ⌜ Checked l (now (est .entry)) (λ c. Part p (p + 1) and Part p d) r ⌝ }
+{
+    part(est, l, p, p + 1) & part(est, l, p, d)
+}
+
+pub fn exercise(est: &[u32], l: Layout, p: usize, set: PermSet, own: PermSet) -> bool
+    requires { ⌜ Sized l (now est) × (p < l .size) × (set .bits < 2 ^ width) ⌝ }
+    ensures { λ r. ⌜ CheckedIf l (now (est .entry)) (λ c. own .bits ≡ permissions c p) (λ c. leafRule c p (Exercise (set .bits))) r ⌝ }
+{
+    if !set.within(own) {
+        return true;
+    }
+    permitted(est, l, p, set) & in_value(est, l, p, 1)
+}
+
+pub fn apply(est: &[u32], masks: &[u32], l: Layout, p: usize, d: usize) -> bool
+    requires { ⌜ Term l (now est) p × (d < l .size) × MasksOf l (now masks) ⌝ }
+    ensures { λ r. ⌜ CheckedBy l (now (est .entry)) (now (masks .entry)) (λ c. flow c p (two Apply (p + 1) d)) r ⌝ }
+{
+    parts(est, l, p, d) & things(est, masks, l, Action::Call, FUNCTIONS, p, 2 * d)
+}
+
+pub fn bind(est: &[u32], l: Layout, p: usize, d: usize) -> bool
+    requires { ⌜ Term l (now est) p × (d < l .size) ⌝ }
+    ensures { λ r. ⌜ Checked l (now (est .entry)) (λ c. flow c p (Bind (p + 1) d)) r ⌝ }
+{
+    parts(est, l, p, d) & (passed(est, l, 2 * (p + 1), 2 * p + 1) & passed(est, l, 2 * d, 2 * p))
+}
+
+pub fn sequence(est: &[u32], l: Layout, p: usize, d: usize) -> bool
+    requires { ⌜ Term l (now est) p × (d < l .size) ⌝ }
+    ensures { λ r. ⌜ Checked l (now (est .entry)) (λ c. flow c p (two Sequence (p + 1) d)) r ⌝ }
+{
+    parts(est, l, p, d) & passed(est, l, 2 * d, 2 * p)
+}
+
+pub fn branch(est: &[u32], l: Layout, p: usize, d: usize, e: usize) -> bool
+    requires { ⌜ Term l (now est) p × (d < l .size) × (e < l .size) ⌝ }
+    ensures { λ r. ⌜ Checked l (now (est .entry)) (λ c. flow c p (Branch (p + 1) d e)) r ⌝ }
+{
+    part(est, l, p, p + 1)
+        & (lifted(est, l, d, p)
+            & (lifted(est, l, e, p)
+                & (wakes(est, l, p + 1, 2, d)
+                    & (wakes(est, l, p + 1, 3, e)
+                        & (passed(est, l, 2 * d, 2 * p) & passed(est, l, 2 * e, 2 * p))))))
+}
+
+// Where the condition may be false, undefined is in C(p).
+fn ends(est: &[u32], l: Layout, p: usize) -> bool
+    requires { ⌜ Term l (now est) p ⌝ }
+    ensures { λ r. ⌜ Checked l (now (est .entry)) (λ c. given (C (p + 1)) falsehood (put (C p) undefined)) r ⌝ }
+{
+    !in_value(est, l, p + 1, 3) | in_value(est, l, p, 0)
+}
+
+pub fn repeat(est: &[u32], l: Layout, p: usize, d: usize) -> bool
+    requires { ⌜ Term l (now est) p × (d < l .size) ⌝ }
+    ensures { λ r. ⌜ Checked l (now (est .entry)) (λ c. flow c p (while (p + 1) d)) r ⌝ }
+{
+    part(est, l, p, p + 1) & (lifted(est, l, d, p) & (wakes(est, l, p + 1, 2, d) & ends(est, l, p)))
+}
+
+// The operation of an argument.
+fn operation_of(a: u32) -> Operation
+    ensures { λ r. ⌜ r ≡ operationOf a ⌝ }
+{
+    match a {
+        0 => Operation::Add,
+        1 => Operation::Less,
+        2 => Operation::Equal,
+        _ => Operation::Add,
+    }
+}
+
+// The results of an operation on the rows that start at the words x and y.
+fn results_at(est: &[u32], o: Operation, x: usize, y: usize) -> u32
+    requires { ⌜ (x + 1 < length (now est)) × (y + 1 < length (now est)) ⌝ }
+    ensures { λ r. ⌜ r ≡ resultsAt (now (est .entry)) o x y ⌝ }
+{
+    operate(o, est[x], est[x + 1], est[y], est[y + 1])
+}
+
+// The results of an operation on C(p + 1) and C(d) are in C(p).
+fn operated(est: &[u32], l: Layout, p: usize, d: usize, a: u32) -> bool
+    requires { ⌜ Term l (now est) p × (d < l .size) ⌝ }
+    ensures { λ r. ⌜ CheckedIf l (now (est .entry)) (λ c. c .names ≡ names) (λ c. twoRule c p (Op (operationOf a)) (p + 1) d) r ⌝ }
+{
+    let to = 2 * p * l.row;
+    let results = results_at(est, operation_of(a), 2 * (p + 1) * l.row, 2 * d * l.row);
+    PermSet::of(results).within(PermSet::of(est[to]))
+}
+
+pub fn operation(est: &[u32], l: Layout, p: usize, d: usize, a: u32) -> bool
+    requires { ⌜ Term l (now est) p × (d < l .size) ⌝ }
+    ensures { λ r. ⌜ CheckedIf l (now (est .entry)) (λ c. c .names ≡ names) (λ c. flow c p (two (Op (operationOf a)) (p + 1) d)) r ⌝ }
+{
+    parts(est, l, p, d) & operated(est, l, p, d, a)
+}
+
+// Where C(p + 1) has a record, undefined and what each record holds is in C(p).
+fn got(est: &[u32], masks: &[u32], l: Layout, p: usize) -> bool
+    requires { ⌜ Term l (now est) p × MasksOf l (now masks) ⌝ }
+    ensures { λ r. ⌜ CheckedBy l (now (est .entry)) (now (masks .entry)) (λ c. taking c p) r ⌝ }
+{
+    if !has_some(est, masks, l, 2 * (p + 1), RECORDS) {
+        return true;
+    }
+    in_value(est, l, p, 0) & things(est, masks, l, Action::Take, RECORDS, p, 2 * p)
+}
+
+// What get asks besides its parts.
+fn gets(est: &[u32], masks: &[u32], l: Layout, p: usize, d: usize) -> bool
+    requires { ⌜ Term l (now est) p × (d < l .size) × MasksOf l (now masks) ⌝ }
+    ensures { λ r. ⌜ CheckedBy l (now (est .entry)) (now (masks .entry)) (λ c. twoRule c p Get (p + 1) d) r ⌝ }
+{
+    if !has_text(est, l, 2 * d) {
+        return true;
+    }
+    fills(est, l, p + 1, 7, 2 * p) & got(est, masks, l, p)
+}
+
+pub fn get(est: &[u32], masks: &[u32], l: Layout, p: usize, d: usize) -> bool
+    requires { ⌜ Term l (now est) p × (d < l .size) × MasksOf l (now masks) ⌝ }
+    ensures { λ r. ⌜ CheckedBy l (now (est .entry)) (now (masks .entry)) (λ c. flow c p (two Get (p + 1) d)) r ⌝ }
+{
+    parts(est, l, p, d) & gets(est, masks, l, p, d)
+}
+
+// Where C(p + 1) has a record or 7: the new record is in C(p), and C(e) and what each record holds is in B(p).
+fn stored(est: &[u32], masks: &[u32], l: Layout, p: usize, e: usize) -> bool
+    requires { ⌜ Term l (now est) p × (e < l .size) × MasksOf l (now masks) ⌝ }
+    ensures { λ r. ⌜ CheckedBy l (now (est .entry)) (now (masks .entry)) (λ c. making c p e) r ⌝ }
+{
+    if !has_some(est, masks, l, 2 * (p + 1), RECORDS) {
+        return true;
+    }
+    in_value(est, l, p, 32 * l.lead + p)
+        & (passed(est, l, 2 * e, 2 * p + 1)
+            & things(est, masks, l, Action::Take, RECORDS, p, 2 * p + 1))
+}
+
+// What set asks besides its parts.
+fn stores(est: &[u32], masks: &[u32], l: Layout, p: usize, d: usize, e: usize) -> bool
+    requires { ⌜ Term l (now est) p × (d < l .size) × (e < l .size) × MasksOf l (now masks) ⌝ }
+    ensures { λ r. ⌜ CheckedBy l (now (est .entry)) (now (masks .entry)) (λ c. store c p d e) r ⌝ }
+{
+    if !has_text(est, l, 2 * d) {
+        return true;
+    }
+    fills(est, l, p + 1, 7, 2 * p + 1) & stored(est, masks, l, p, e)
+}
+
+pub fn set(est: &[u32], masks: &[u32], l: Layout, p: usize, d: usize, e: usize) -> bool
+    requires { ⌜ Term l (now est) p × (d < l .size) × (e < l .size) × MasksOf l (now masks) ⌝ }
+    ensures { λ r. ⌜ CheckedBy l (now (est .entry)) (now (masks .entry)) (λ c. flow c p (Update (p + 1) d e)) r ⌝ }
+{
+    parts(est, l, p, d) & (part(est, l, p, e) & stores(est, masks, l, p, d, e))
+}
+
+// What delete asks besides its parts.
+fn deletes(est: &[u32], masks: &[u32], l: Layout, p: usize, d: usize) -> bool
+    requires { ⌜ Term l (now est) p × (d < l .size) × MasksOf l (now masks) ⌝ }
+    ensures { λ r. ⌜ CheckedBy l (now (est .entry)) (now (masks .entry)) (λ c. twoRule c p Delete (p + 1) d) r ⌝ }
+{
+    if !has_text(est, l, 2 * d) {
+        return true;
+    }
+    passed_by(est, masks, l, RECORDS, 2 * (p + 1), 2 * p)
+}
+
+pub fn delete(est: &[u32], masks: &[u32], l: Layout, p: usize, d: usize) -> bool
+    requires { ⌜ Term l (now est) p × (d < l .size) × MasksOf l (now masks) ⌝ }
+    ensures { λ r. ⌜ CheckedBy l (now (est .entry)) (now (masks .entry)) (λ c. flow c p (two Delete (p + 1) d)) r ⌝ }
+{
+    parts(est, l, p, d) & deletes(est, masks, l, p, d)
+}
+
+pub fn cell(est: &[u32], l: Layout, p: usize) -> bool
+    requires { ⌜ Term l (now est) p ⌝ }
+    ensures { λ r. ⌜ Checked l (now (est .entry)) (λ c. flow c p (one Cell (p + 1))) r ⌝ }
+{
+    part(est, l, p, p + 1)
+        & (in_value(est, l, p, 32 * l.lead + p) & passed(est, l, 2 * (p + 1), 2 * p + 1))
+}
+
+pub fn read(est: &[u32], masks: &[u32], l: Layout, p: usize) -> bool
+    requires { ⌜ Term l (now est) p × MasksOf l (now masks) ⌝ }
+    ensures { λ r. ⌜ CheckedBy l (now (est .entry)) (now (masks .entry)) (λ c. flow c p (one Read (p + 1))) r ⌝ }
+{
+    part(est, l, p, p + 1) & things(est, masks, l, Action::Take, CELLS, p, 2 * p)
+}
+
+// What assign asks besides its parts.
+fn assigned(est: &[u32], masks: &[u32], l: Layout, p: usize, d: usize) -> bool
+    requires { ⌜ Term l (now est) p × (d < l .size) × MasksOf l (now masks) ⌝ }
+    ensures { λ r. ⌜ CheckedBy l (now (est .entry)) (now (masks .entry)) (λ c. twoRule c p Assign (p + 1) d) r ⌝ }
+{
+    (!has_some(est, masks, l, 2 * (p + 1), CELLS) | passed(est, l, 2 * d, 2 * p))
+        & things(est, masks, l, Action::Hand, CELLS, p, 2 * d)
+}
+
+pub fn assign(est: &[u32], masks: &[u32], l: Layout, p: usize, d: usize) -> bool
+    requires { ⌜ Term l (now est) p × (d < l .size) × MasksOf l (now masks) ⌝ }
+    ensures { λ r. ⌜ CheckedBy l (now (est .entry)) (now (masks .entry)) (λ c. flow c p (two Assign (p + 1) d)) r ⌝ }
+{
+    parts(est, l, p, d) & assigned(est, masks, l, p, d)
+}
+
+// Where C(d) has something that may be sent: what is asked for each block.
+fn messages(words: &[u32], links: &[u32], masks: &[u32], est: &[u32], l: Layout, s: Sending) -> bool
+    requires { ⌜ Sent (now words) (now masks) (now est) l s × LinksOf (now words) (now links) ⌝ }
+    ensures { λ r. ⌜ Obeyed (now (words .entry)) (now (est .entry)) (λ c. sent c s) r ⌝ }
+{
+    if !has_some(est, masks, l, 2 * s.d, MESSAGES) {
+        return true;
+    }
+    to_blocks(words, links, masks, est, l, s)
+}
+
+pub fn send(words: &[u32], links: &[u32], masks: &[u32], est: &[u32], l: Layout, s: Sending) -> bool
+    requires { ⌜ Sent (now words) (now masks) (now est) l s × LinksOf (now words) (now links) ⌝ }
+    ensures { λ r. ⌜ SendObeyed (now (words .entry)) (now (est .entry)) s r ⌝ }
+{
+    parts(est, l, s.p, s.d) & (in_value(est, l, s.p, 1) & messages(words, links, masks, est, l, s))
+}
