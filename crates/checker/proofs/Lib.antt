@@ -6,3 +6,4 @@ pub mod Laid
 pub mod Laws
 pub mod Placed
 pub mod Rows
+pub mod Samples
