@@ -7,5 +7,7 @@ pub mod Full
 pub mod Operated
 pub mod Poured
 pub mod Sender
+pub mod Steps
+pub mod Suited
 pub mod Tags
 pub mod Tests

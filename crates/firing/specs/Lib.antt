@@ -2,3 +2,4 @@ pub mod Fired
 pub mod Placed
 pub mod Sending
 pub mod Suits
+pub mod Step

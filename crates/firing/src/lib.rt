@@ -2,6 +2,7 @@
 // memory of the worklist, of which nothing is promised.
 pub mod fire;
 pub mod sends;
+pub mod step;
 pub mod targets;
 pub mod terms;
 pub mod things;
