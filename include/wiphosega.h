@@ -37,7 +37,7 @@ uint64_t wiphosega_verdict(const uint8_t *system, size_t system_bytes, uint32_t 
    leading spaces; the place is its number, from 1), 41 (a listing over 65,536 bytes), 42 (the output is too short). A refusal leaves all
    bytes of the output as they were, and any other answer those behind what was written. The reader's output counts whole words: 4,096 bytes
    are enough for every system, and 65,536 for every listing that is written. For pointers the same holds as above. */
-#define WIPHOSEGA_REFUSED(answer) ((answer) >> 32 != 0)
+#define WIPHOSEGA_REFUSED(answer) (((answer) >> 32 & 1) != 0)
 #define WIPHOSEGA_NUMBER(answer) ((uint32_t)((answer) >> 16 & 0xffff))
 #define WIPHOSEGA_PLACE(answer) ((uint32_t)((answer) & 0xffff))
 
@@ -46,6 +46,17 @@ uint64_t wiphosega_listing_write(const uint8_t *system, size_t system_bytes, uin
 
 /* The words of the system that a listing is of, low byte first. */
 uint64_t wiphosega_listing_read(const uint8_t *text, size_t text_bytes, uint8_t *system, size_t system_bytes);
+
+/* Manifests, in the library of listings. The answer is set + version * 2^24 + count * 2^40: the permission set of a browser extension's
+   manifest, its version (2 or 3), and how many strings of the lists read set nothing. Refused: 2^32 + number * 65536, by the numbers 43 (no
+   JSON text of at most 16,384 bytes that nests at most 16 deep and is an object), 44 (a key twice), 45 (no version 2 or 3), 46 (a list that
+   is none of strings). A set is below 2^24 and a version below 4, so an answer has bit 32 exactly if the manifest is refused:
+   WIPHOSEGA_REFUSED, WIPHOSEGA_NUMBER and WIPHOSEGA_PLACE take it apart as any other. */
+#define WIPHOSEGA_MANIFEST_SET(answer) ((uint32_t)((answer) & 0xffffff))
+#define WIPHOSEGA_MANIFEST_VERSION(answer) ((uint32_t)((answer) >> 24 & 0xff))
+#define WIPHOSEGA_MANIFEST_COUNT(answer) ((uint32_t)((answer) >> 40))
+
+uint64_t wiphosega_manifest(const uint8_t *json, size_t json_bytes);
 
 #ifdef __cplusplus
 }

@@ -1,4 +1,6 @@
 // Listings for programs in C, over bytes.
+mod manifests;
+
 use listing::Answer;
 use listing::Refusal;
 use listing::numbers::refusal_number;

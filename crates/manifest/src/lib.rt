@@ -1,5 +1,6 @@
 // A browser extension's manifest, versions 2 and 3: its permission set.
 mod members;
+pub mod numbers;
 pub mod read;
 mod strings;
 

@@ -6,6 +6,7 @@ pub enum Command {
     Words,
     Leak,
     Check,
+    Manifest,
     Explain,
     Help,
 }
@@ -30,6 +31,9 @@ fn command_of(word: &[u8]) -> Command {
     }
     if check::same(word, b"check") {
         return Command::Check;
+    }
+    if check::same(word, b"manifest") {
+        return Command::Manifest;
     }
     if check::same(word, b"explain") {
         return Command::Explain;

@@ -35,6 +35,19 @@ fn call_sentence(n: u32) {
         ),
         41 => console::text(b"The listing has more than 65,536 bytes.\n"),
         42 => console::text(b"The output has no room for all of it.\n"),
+        _ => manifest_sentence(n),
+    }
+}
+
+// The meaning of a number of a manifest.
+fn manifest_sentence(n: u32) {
+    match n {
+        43 => console::text(
+            b"The bytes are no JSON text, or more than 16,384, or nested deeper than 16, or the value is not an object.\n",
+        ),
+        44 => console::text(b"A key of the top object stands there twice.\n"),
+        45 => console::text(b"`manifest_version` is missing, or is neither 2 nor 3.\n"),
+        46 => console::text(b"A list that is read is not an array of strings.\n"),
         _ => console::text(b"No refusal has this number.\n"),
     }
 }
@@ -67,5 +80,8 @@ pub fn help() {
         b"wiphosega leak RHO BOUND   a listing in, its leak out; sets in hexadecimal digits, BOUND 0 if left out\n",
     );
     console::text(b"wiphosega check            a listing in, what is wrong with it out\n");
+    console::text(
+        b"wiphosega manifest         a manifest in, its version and permission set out\n",
+    );
     console::text(b"wiphosega explain NUMBER   the meaning of a refusal's number\n");
 }

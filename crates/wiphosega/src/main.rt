@@ -4,6 +4,7 @@ mod checking;
 mod explain;
 mod input;
 mod listings;
+mod manifests;
 
 use crate::arguments::Command;
 use crate::arguments::read_command;
@@ -14,6 +15,7 @@ fn main() {
         Command::Words => listings::words(),
         Command::Leak => listings::leak(),
         Command::Check => checking::check(),
+        Command::Manifest => manifests::manifest(),
         Command::Explain => explain::explain(),
         Command::Help => explain::help(),
     }

@@ -3,6 +3,8 @@
 
 use peer::generate::{table, Random};
 use peer::listing::{read, text, write};
+use peer::manifest::Manifest;
+use peer::manifest_inputs::{manifests, of_length, random_damage, random_manifest};
 use peer::samples::samples;
 use peer::verdict::{bytes_of, program};
 use std::io::Write;
@@ -82,10 +84,29 @@ fn explained() {
         assert_eq!(printed(&["explain", cells[0]], b""), format!("{}\n", cells[1]));
         count += 1;
     }
-    assert_eq!(count, 20);
+    assert_eq!(count, 24);
     let help = printed(&[], b"");
-    assert!(["text", "words", "leak RHO BOUND", "check", "explain NUMBER"].iter().all(|command| help.contains(&format!("wiphosega {command}"))));
+    assert!(["text", "words", "leak RHO BOUND", "check", "manifest", "explain NUMBER"].iter().all(|command| help.contains(&format!("wiphosega {command}"))));
     assert_eq!(printed(&["leaks"], b""), help);
+}
+
+/// Manifests with answers written by hand, random and damaged ones, and texts over the limit.
+#[test]
+fn manifest() {
+    let mut random = Random(44);
+    let random_texts = (0..100).map(|_| random_manifest(&mut random)).collect::<Vec<_>>();
+    let damaged_texts = random_texts.iter().map(|text| random_damage(&mut random, text.clone())).collect::<Vec<_>>();
+    let written = manifests().into_iter().map(|(text, _)| text.as_bytes().to_vec());
+    let limits = [of_length(16_384), of_length(16_385), of_length(100_000), Vec::new()];
+    for text in written.chain(random_texts).chain(damaged_texts).chain(limits) {
+        let expected = match peer::manifest::read(&text) {
+            Ok(Manifest { version, set, others }) => format!("version {version} set {set:06x} other {others}\n"),
+            Err(number) => format!("refused {number} at 0\n"),
+        };
+        assert_eq!(printed(&["manifest"], &text), expected, "{:?}", String::from_utf8_lossy(&text));
+    }
+    let text = br#"{"manifest_version":3,"permissions":["tabs","proxy","scripting"],"host_permissions":["<all_urls>"]}"#;
+    assert_eq!(printed(&["manifest"], text), "version 3 set 800202 other 1\n");
 }
 
 /// The leaks of docs/EXAMPLES.md, by the program and by the independent implementation.
