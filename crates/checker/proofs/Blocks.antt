@@ -12,7 +12,7 @@ use Rattle.permset.specs.Sets.{within}
 use Rattle.table.specs.Words.{argument, names}
 use Rattle.table.specs.Scan.{name, accepted, reading}
 use Rattle.table.specs.Code.{Code, Node, Linked, block, code, tasks, taskAt, nodeFor, blocksFrom, endOf, part}
-use Rattle.table.specs.Links.{linkAt}
+use Rattle.table.specs.Links.{linkAt, LinksOf}
 use Rattle.table.proofs.Linked.{linked as code-linked}
 use Rattle.table.proofs.Blocks.{Follows, Block, block as block-words, head-word, blocks-first, blocks-next, blocks-end}
 use Rattle.table.proofs.LinkMeaning.{link-end}
@@ -25,7 +25,7 @@ use Rattle.clauses.specs.Asks.{rowAt, sortAt}
 use Rattle.clauses.proofs.Sorts.{row-C, row-B}
 use Rattle.checker.specs.declared.sends.Sending.{Sending}
 use Rattle.checker.specs.Decides.{Decides}
-use Rattle.checker.specs.Sends.{delivery, toBlock, mayStart, Sent, LinksOf}
+use Rattle.checker.specs.Sends.{delivery, toBlock, mayStart, Sent}
 use Rattle.checker.proofs.Laws.{decided, both, put-decides, only-so, only-not, given-so, given-not, negated-true, negated-false}
 
 pub delivered-is : (c : Code) (e : Sets) (p d b : ℕ) {r s t : Bool} → r ≡ e (L b) 0
@@ -92,32 +92,6 @@ module _ (ws masks est : List ℕ) (l : Layout) (s : Sending) (h : Sent ws masks
       (given-so e (C (s .p + 1)) (nameElement (nameOf (c .node b))) (heard-is ∙ sym q ∙ negated-false n) d)
 
 -- ---- all blocks in turn
-
-module _ (ws : List ℕ) (q : reading ws ≡ accepted) where
-  pub named-there : (b : ℕ) → Follows ws b → b < length ws → taskAt ws b ≡ name
-  named-there b f i = ⊎-elim (λ z. absurd (omega arith)) (λ x. x .1) f
-
-  pub follows-first : Follows ws 1
-  follows-first = head-word ws q .follows
-
-  module _ (b : ℕ) (i : b < length ws) (t : taskAt ws b ≡ name) where
-    pub body-inside : b + 3 < length ws
-    body-inside = block-words ws q b i t .inside
-
-    pub next-is : (links : List ℕ) → LinksOf ws links → linkAt links (b + 3) .end ≡ endOf ws (b + 3)
-    next-is links k =
-        ap (λ (x : List ℕ). linkAt x (b + 3) .end) (k .from) ∙ link-end ws q (k .slice) (k .room) (b + 3) body-inside
-
-    pub follows-next : Follows ws (endOf ws (b + 3))
-    follows-next = block-words ws q b i t .follows
-
-    pub next-later : b < endOf ws (b + 3)
-    unfolding endOf part
-    next-later = omega arith
-
--- the blocks from the place b on
-abbrev pub blocksOn : List ℕ → ℕ → List ℕ
-blocksOn ws b = blocksFrom (drop b (tasks ws)) b
 
 module _ (ws : List ℕ) (e : Sets) (k : ℕ → Rule) where
   abbrev all : Rule

@@ -12,8 +12,8 @@ use Rattle.table.specs.declared.Item.the-variants as items
 use Rattle.table.specs.declared.Term.{Term as TableTerm}
 use Rattle.table.specs.declared.Term.the-variants as terms
 use Rattle.table.specs.Words.{kind, argument, termOf, termsByKind}
-use Rattle.table.specs.Item.{handlerAt, itemAt}
-use Rattle.table.specs.Links.{linkAt, linked}
+use Rattle.table.specs.Item.{handlerAt, itemAt, itemPerms}
+use Rattle.table.specs.Links.{linkAt, linked, LinksOf}
 use Rattle.table.specs.Code.{Code, Node, NodeLinked, Linked, gap, block, two, send, code, termNode}
 use Rattle.table.proofs.Items.{item-block, item-gap, item-term}
 use Rattle.table.proofs.Nodes.{itemNode, nodeAt, node-item, binder-link}
@@ -24,15 +24,14 @@ use Rattle.calculus.specs.Layout.{sets, WellFormed}
 use Rattle.rows.specs.declared.layout.Layout.{Layout}
 use Rattle.rows.specs.Laid.{LaidOut, Sized}
 use Rattle.clauses.specs.Asks.{rowAt}
-use Rattle.clauses.specs.Clauses.{itemPerms}
-use Rattle.clauses.proofs.Permissions.{permissions-are}
+use Rattle.calculus.proofs.Permissions.{permissions-are}
 use Rattle.clauses.proofs.OfWord.{sited}
 use Rattle.clauses.proofs.ByKind.{byKind, item-by}
 use Rattle.queries.specs.Ready.{Ready}
 use Rattle.queries.proofs.Given.{linked-code, size-is, sized}
 use Rattle.checker.specs.Decides.{Decides, MasksOf, Term}
 use Rattle.checker.specs.declared.sends.Sending.{Sending}
-use Rattle.checker.specs.Sends.{Sent, LinksOf}
+use Rattle.checker.specs.Sends.{Sent}
 use Rattle.checker.specs.Words.{SendingAt, Unknown}
 use Rattle.checker.proofs.Laid.{BC}
 use Rattle.checker.proofs.Guards.{block-node}

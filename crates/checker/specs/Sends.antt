@@ -45,9 +45,3 @@ pub record Sent (ws masks est : List ℕ) (l : Layout) (s : Sending) : Type 0 wh
   pub well : WellFormed (code ws) est
   pub target : s .p + 1 < l .size
   pub message : s .d < l .size
-
--- the links of the words
-pub record LinksOf (ws links : List ℕ) : Type 0 where
-  pub slice : List ℕ
-  pub room : length ws ≤ length slice
-  pub from : links ≡ linked ws slice

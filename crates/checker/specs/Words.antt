@@ -3,7 +3,7 @@ use Prim.Native.Nat.{ℕ, _+_, _<_, _≤_}
 use mathlib.Core.Path.{_≡_}
 use mathlib.Core.Bool.{Bool}
 use mathlib.Core.List.{List}
-use Rattle.table.specs.Item.{itemAt}
+use Rattle.table.specs.Item.{itemAt, itemPerms}
 use Rattle.table.specs.Links.{linkAt}
 use Rattle.table.specs.Scan.{accepted, reading}
 use Rattle.table.specs.Code.{Code, two, send, code}
@@ -13,7 +13,6 @@ use Rattle.calculus.specs.Rules.{permissions, flow}
 use Rattle.calculus.specs.Layout.{sets}
 use Rattle.rows.specs.declared.layout.Layout.{Layout}
 use Rattle.rows.specs.Laid.{LaidOut}
-use Rattle.clauses.specs.Clauses.{itemPerms}
 use Rattle.checker.specs.declared.sends.Sending.{Sending}
 use Rattle.checker.specs.Decides.{Decides}
 

@@ -12,10 +12,11 @@ ghost use Prim.Native.Nat.{_+_, _*_, _<_, _≤_};
 ghost use lib.ListN.{length};
 ghost use Rattle.table.specs.Scan.{name};
 ghost use Rattle.table.specs.Code.{taskAt};
+ghost use Rattle.table.specs.Links.{LinksOf};
 ghost use Rattle.calculus.specs.Constraint.{each};
 ghost use Rattle.rows.specs.Laid.{Sized};
 ghost use Rattle.checker.specs.Decides.{CheckedBy};
-ghost use Rattle.checker.specs.Sends.{delivery, toBlock, mayStart, Sent, LinksOf};
+ghost use Rattle.checker.specs.Sends.{delivery, toBlock, mayStart, Sent};
 ghost use Rattle.checker.specs.Words.{Obeyed};
 
 // The mask of what may be sent.

@@ -24,12 +24,13 @@ ghost use Rattle.permset.specs.Sets.{width};
 ghost use Rattle.table.specs.Words.{names, operationOf};
 ghost use Rattle.table.specs.Code.{cell as Cell, read as Read, exercise as Exercise, one, two, bind as Bind, while, branch as Branch, update as Update};
 ghost use Rattle.table.specs.Code.{apply as Apply, sequence as Sequence, get as Get, delete as Delete, assign as Assign, operation as Op};
+ghost use Rattle.table.specs.Links.{LinksOf};
 ghost use Rattle.calculus.specs.Elements.{falsehood, undefined};
 ghost use Rattle.calculus.specs.Constraint.{C, put, given, _and_};
 ghost use Rattle.calculus.specs.Rules.{part as Part, permissions, leafRule, twoRule, flow};
 ghost use Rattle.rows.specs.Laid.{Sized};
 ghost use Rattle.checker.specs.Decides.{Checked, CheckedIf, CheckedBy, MasksOf, Term};
-ghost use Rattle.checker.specs.Sends.{Sent, LinksOf, sent};
+ghost use Rattle.checker.specs.Sends.{Sent, sent};
 ghost use Rattle.checker.specs.Things.{taking, making, store, resultsAt};
 ghost use Rattle.checker.specs.Words.{Obeyed, SendObeyed};
 

@@ -5,5 +5,4 @@ pub mod Fit
 pub mod Links
 pub mod Numbered
 pub mod OfWord
-pub mod Permissions
 pub mod Sorts

@@ -6,9 +6,8 @@ use native.Mathlib.Omega.{arith}
 use lib.ListN.{getD}
 use Rattle.table.specs.declared.Link.{Link}
 use Rattle.table.specs.declared.Item.{Item}
-use Rattle.table.specs.Item.{itemAt}
+use Rattle.table.specs.Item.{itemAt, itemPerms}
 use Rattle.table.specs.Links.{linkAt, unpack}
-use Rattle.clauses.specs.Clauses.{itemPerms}
 
 module _ (l : Link) (ls : List ℕ) (p : ℕ) (e : l ≡ linkAt ls p) where
   pub end-small : l .end < 2048

@@ -12,7 +12,7 @@ use Rattle.table.specs.declared.Term.{Term}
 use Rattle.table.specs.declared.Term.the-variants as terms
 use Rattle.table.specs.Scan.{accepted, reading}
 use Rattle.table.specs.Code.{Code, Node, code, termNode, NodeLinked, Linked, endOf, part}
-use Rattle.table.specs.Item.{itemAt}
+use Rattle.table.specs.Item.{itemAt, itemPerms}
 use Rattle.table.specs.Links.{linkAt, linked}
 use Rattle.table.proofs.Linked.{linked as code-linked}
 use Rattle.table.proofs.LinkMeaning.{link-end}
@@ -21,9 +21,9 @@ use Rattle.calculus.specs.Elements.{plain, made}
 use Rattle.calculus.specs.Constraint.{Sets, Obeys}
 use Rattle.calculus.specs.Rules.{permsOf, permissions, flow, leafRule}
 use Rattle.clauses.specs.declared.Clause.{Clause}
-use Rattle.clauses.specs.Clauses.{Site, never, ofBlock, ofTerm, siteAt, ofItem, itemPerms, clausesAt, clauseAt}
+use Rattle.clauses.specs.Clauses.{Site, never, ofBlock, ofTerm, siteAt, ofItem, clausesAt, clauseAt}
 use Rattle.clauses.specs.Asks.{under, effect, asks}
-use Rattle.clauses.proofs.Permissions.{permissions-are}
+use Rattle.calculus.proofs.Permissions.{permissions-are}
 use Rattle.clauses.proofs.Asked.{Every, every-at, at-every, Asked, asked-never, asked-narrow}
 use Rattle.clauses.proofs.Asked.{value-asks, value-from, variable-asks, variable-from, exercise-asks, exercise-from}
 use Rattle.clauses.proofs.Asked.{cell-asks, cell-from, read-asks, read-from, apply-asks, apply-from, let-asks, let-from}

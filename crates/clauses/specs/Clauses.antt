@@ -10,7 +10,7 @@ use Rattle.table.specs.declared.Item.the-variants as items
 use Rattle.table.specs.declared.Term.{Term}
 use Rattle.table.specs.declared.Term.the-variants as terms
 use Rattle.table.specs.Words.{operationNumber}
-use Rattle.table.specs.Item.{itemAt}
+use Rattle.table.specs.Item.{itemAt, itemPerms}
 use Rattle.table.specs.Links.{linkAt}
 use Rattle.calculus.specs.Elements.{constantElement, literalElement, nameElement, undefined, unit, truth, falsehood, opponentRecord, sign}
 use Rattle.clauses.specs.declared.Test.{Test}
@@ -225,12 +225,6 @@ ofTerm p (terms.Send r) s = ofSend p (s .second) (r .bits)
 ofTerm p (terms.Exercise r) s = ofExercise p (r .bits) (s .perms)
 
 -- ---- the clauses of a word
-
--- the permissions of a block
-unfoldable pub itemPerms : Item → ℕ
-itemPerms items.Gap = 0
-itemPerms (items.Block h) = h .perms .bits
-itemPerms (items.Term t) = 0
 
 module _ (ws links : List ℕ) (plain p : ℕ) where
   -- where what made things are starts at the element `plain`

@@ -223,58 +223,14 @@ block-kind ws b h e = go (ℕ-discrete (kind (getD ws b 0)) 2) (decLt (kind (get
 block-fits : (c : Code) (k : Linked c) (x y z b : ℕ) → x < c .size → b < c .size → Fits c (atBlock c x y z b)
 block-fits c k x y z b h i = λ t. (may-L c k i, ((λ v l s. may-B c k i (in-below l)), PP c k i h))
 
--- ---- all blocks in turn
+-- a block is the item at its place
+module _ (ws : List ℕ) (e : reading ws ≡ accepted) (b : ℕ) (i : b < length ws) (t : taskAt ws b ≡ name) where
+  stand : Stands (reach ws e b i .keys) (getD ws b 0) name
+  stand = subst (λ (u : Task). Stands (reach ws e b i .keys) (getD ws b 0) u) t (place-stands ws e b i)
 
--- the blocks from the place b on
-abbrev pub blocksOn : List ℕ → ℕ → List ℕ
-blocksOn ws b = blocksFrom (drop b (tasks ws)) b
-
-module _ (ws : List ℕ) (e : reading ws ≡ accepted) where
-  pub named-there : (b : ℕ) → Follows ws b → b < length ws → taskAt ws b ≡ name
-  named-there b f i = ⊎-elim (λ z. absurd (omega arith)) (λ x. x .1) f
-
-  pub follows-first : Follows ws 1
-  follows-first = head-word ws e .follows
-
-  module _ (b : ℕ) (i : b < length ws) (t : taskAt ws b ≡ name) where
-    stand : Stands (reach ws e b i .keys) (getD ws b 0) name
-    stand = subst (λ (u : Task). Stands (reach ws e b i .keys) (getD ws b 0) u) t (place-stands ws e b i)
-
-    pub item-is : itemAt ws b ≡ items.Block (handlerAt ws b)
-    unfolding itemAt
-    item-is = rw (eq-eqb (kind (getD ws b 0)) 2 (stand .0), itemAt)
-
-    pub next-inside : b + 3 < length ws
-    next-inside = block-words ws e b i t .inside
-
-    pub next-is : (links slice : List ℕ) → length ws ≤ length slice → links ≡ linked ws slice → linkAt links (b + 3) .end ≡ endOf ws (b + 3)
-    next-is links slice room k = ap (λ (x : List ℕ). linkAt x (b + 3) .end) k ∙ link-end ws e slice room (b + 3) next-inside
-
-    pub follows-next : Follows ws (endOf ws (b + 3))
-    follows-next = block-words ws e b i t .follows
-
-    pub next-later : b < endOf ws (b + 3)
-    unfolding endOf part
-    next-later = omega arith
-
-  module _ (k : ℕ → Rule) where
-    pub all-start : (est : List ℕ) → fire (code ws) (each (blocksOn ws 1) k) est ≡ fire (code ws) (each (code ws .blocks) k) est
-    unfolding code
-    all-start est = ap (λ (xs : List ℕ). fire (code ws) (each xs k) est) (sym (blocks-first ws e))
-
-    pub all-step : (b : ℕ) → b < length ws → taskAt ws b ≡ name → (est new : List ℕ) → new ≡ fire (code ws) (k b) est
-        → fire (code ws) (each (blocksOn ws (endOf ws (b + 3))) k) new ≡ fire (code ws) (each (blocksOn ws b) k) est
-    all-step b i t est new w =
-        ap (fire (code ws) (each (blocksOn ws (endOf ws (b + 3))) k)) w
-        ∙ sym (each-cons (code ws) b (blocksOn ws (endOf ws (b + 3))) k est)
-        ∙ ap (λ (xs : List ℕ). fire (code ws) (each xs k) est) (sym (blocks-next ws e b i t))
-
-    pub all-end : (b : ℕ) → Follows ws b → length ws ≤ b → (est : List ℕ) → fire (code ws) (each (blocksOn ws b) k) est ≡ est
-    all-end b f n est =
-        let z : b ≡ length ws = ⊎-elim (λ x. x) (λ x. absurd (omega (arith, x .0))) f in
-        ap (λ (x : ℕ). fire (code ws) (each (blocksOn ws x) k) est) z
-        ∙ ap (λ (xs : List ℕ). fire (code ws) (each xs k) est) (blocks-end ws e)
-        ∙ each-nil (code ws) k est
+  pub item-is : itemAt ws b ≡ items.Block (handlerAt ws b)
+  unfolding itemAt
+  item-is = rw (eq-eqb (kind (getD ws b 0)) 2 (stand .0), itemAt)
 
 -- a word of another kind is no block
 pub not-block : (ws : List ℕ) (r : reading ws ≡ accepted) (est : List ℕ) (x y z own : ℕ) → own ≡ permissions (code ws) x → (b : ℕ)

@@ -9,10 +9,10 @@ use Rattle.table.specs.declared.Item.{Item}
 use Rattle.table.specs.declared.Item.the-variants as items
 use Rattle.table.specs.Scan.{accepted, reading}
 use Rattle.table.specs.Code.{code}
+use Rattle.table.specs.Links.{LinksOf}
 use Rattle.calculus.specs.Layout.{estimateWords}
 use Rattle.rows.specs.declared.layout.Layout.{Layout}
 use Rattle.rules.specs.Sized.{LaidOut}
-use Rattle.send_rules.specs.Sending.{LinksOf}
 
 -- the guard of a block is within a set of permissions
 unfoldable pub itemGuarded : Item → ℕ → Bool

@@ -15,7 +15,7 @@ use Rattle.table.specs.Words.{kind, argument}
 use Rattle.table.specs.Scan.{Task, name, accepted, reading}
 use Rattle.table.specs.Item.{handlerAt, itemAt}
 use Rattle.table.specs.Code.{Code, Node, block, code, taskAt, tasks, nodeFor, blocksFrom, endOf, part}
-use Rattle.table.specs.Links.{linkAt}
+use Rattle.table.specs.Links.{linkAt, LinksOf}
 use Rattle.table.proofs.Faults.{Stands}
 use Rattle.table.proofs.Stack.{reach}
 use Rattle.table.proofs.Parts.{place-stands}
@@ -36,7 +36,7 @@ use Rattle.rules.specs.declared.made.Site.{Site}
 use Rattle.send_rules.specs.declared.Message.{Message}
 use Rattle.rules.specs.Made.{Placed}
 use Rattle.rules.specs.Sized.{LaidOut, Sized}
-use Rattle.send_rules.specs.Sending.{startsItem, delivery, sendRule, Sends, LinksOf}
+use Rattle.send_rules.specs.Sending.{startsItem, delivery, sendRule, Sends}
 use Rattle.rules.proofs.Fires.{row-inside, same-sized}
 
 all-first : (x y z : Bool) → x && (y && z) ≡ true → x && y ≡ true
@@ -175,50 +175,3 @@ module _ (ws mask est scratch : List ℕ) (l : Layout) (s : Site) (m : Message) 
         well = w;
         sent = h .sent;
       }
-
--- ---- all blocks in turn
-
--- the blocks from the place b on
-abbrev pub blocksOn : List ℕ → ℕ → List ℕ
-blocksOn ws b = blocksFrom (drop b (tasks ws)) b
-
-module _ (ws : List ℕ) (e : reading ws ≡ accepted) where
-  pub named-there : (b : ℕ) → Follows ws b → b < length ws → taskAt ws b ≡ name
-  named-there b f i = ⊎-elim (λ z. absurd (omega arith)) (λ x. x .1) f
-
-  pub follows-first : Follows ws 1
-  follows-first = head-word ws e .follows
-
-  module _ (b : ℕ) (i : b < length ws) (t : taskAt ws b ≡ name) where
-    pub body-inside : b + 3 < length ws
-    body-inside = block-words ws e b i t .inside
-
-    pub next-is : (links : List ℕ) → LinksOf ws links → linkAt links (b + 3) .end ≡ endOf ws (b + 3)
-    next-is links k =
-        ap (λ (x : List ℕ). linkAt x (b + 3) .end) (k .made) ∙ link-end ws e (k .slice) (k .room) (b + 3) body-inside
-
-    pub follows-next : Follows ws (endOf ws (b + 3))
-    follows-next = block-words ws e b i t .follows
-
-    pub next-later : b < endOf ws (b + 3)
-    unfolding endOf part
-    next-later = omega arith
-
-  module _ (k : ℕ → Rule) where
-    pub all-start : (est : List ℕ) → fire (code ws) (each (blocksOn ws 1) k) est ≡ fire (code ws) (each (code ws .blocks) k) est
-    unfolding code
-    all-start est = ap (λ (xs : List ℕ). fire (code ws) (each xs k) est) (sym (blocks-first ws e))
-
-    pub all-step : (b : ℕ) → b < length ws → taskAt ws b ≡ name → (est new : List ℕ) → new ≡ fire (code ws) (k b) est
-        → fire (code ws) (each (blocksOn ws (endOf ws (b + 3))) k) new ≡ fire (code ws) (each (blocksOn ws b) k) est
-    all-step b i t est new w =
-        ap (fire (code ws) (each (blocksOn ws (endOf ws (b + 3))) k)) w
-        ∙ sym (each-cons (code ws) b (blocksOn ws (endOf ws (b + 3))) k est)
-        ∙ ap (λ (xs : List ℕ). fire (code ws) (each xs k) est) (sym (blocks-next ws e b i t))
-
-    pub all-end : (b : ℕ) → Follows ws b → length ws ≤ b → (est : List ℕ) → fire (code ws) (each (blocksOn ws b) k) est ≡ est
-    all-end b f n est =
-        let z : b ≡ length ws = ⊎-elim (λ x. x) (λ x. absurd (omega (arith, x .0))) f in
-        ap (λ (x : ℕ). fire (code ws) (each (blocksOn ws x) k) est) z
-        ∙ ap (λ (xs : List ℕ). fire (code ws) (each xs k) est) (blocks-end ws e)
-        ∙ each-nil (code ws) k est

@@ -1,4 +1,3 @@
 pub mod Handlers
-pub mod Permissions
 pub mod Sends
 pub mod Spelled

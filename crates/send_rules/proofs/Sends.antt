@@ -13,7 +13,7 @@ use Rattle.table.specs.declared.Item.{Item}
 use Rattle.table.specs.declared.Link.{Link}
 use Rattle.table.specs.declared.Item.the-variants as items
 use Rattle.table.specs.Words.{kind, argument, termOf}
-use Rattle.table.specs.Item.{handlerAt, itemAt}
+use Rattle.table.specs.Item.{handlerAt, itemAt, itemPerms}
 use Rattle.table.proofs.Items.{item-block, item-gap, item-term}
 use Rattle.table.specs.Code.{Code}
 use Rattle.calculus.specs.Elements.{sendable}
@@ -33,7 +33,7 @@ use Rattle.rules.specs.declared.made.Site.{Site}
 use Rattle.send_rules.specs.declared.Message.{Message}
 use Rattle.rows.specs.Mask.{Mask}
 use Rattle.rules.specs.Sized.{LaidOut, FiredIn}
-use Rattle.send_rules.specs.Sending.{itemPerms, startsHandler, startsItem, delivery, Delivered}
+use Rattle.send_rules.specs.Sending.{startsHandler, startsItem, delivery, Delivered}
 use Rattle.rules.proofs.Fires.{in-C, in-B, base-numbered, content-numbered}
 
 -- ---- the tests

@@ -23,12 +23,6 @@ use Rattle.rows.specs.Mask.{Mask}
 use Rattle.rules.specs.Sized.{LaidOut}
 use Rattle.rules.specs.Made.{Placed}
 
--- the permissions of a block
-unfoldable pub itemPerms : Item → ℕ
-itemPerms items.Gap = 0
-itemPerms (items.Block h) = h .perms .bits
-itemPerms (items.Term t) = 0
-
 -- a message may start the handler, where w is the word of the names in the value set of its target
 abbrev pub startsHandler : Handler → Message → ℕ → Bool
 startsHandler h m w = within (m .required .bits) (h .perms .bits) && (within (h .guard .bits) (m .sender .bits) && member w (h .name))
@@ -61,9 +55,3 @@ pub record Sends (ws mask est scratch : List ℕ) (l : Layout) (s : Site) (m : M
   pub first : m .a < l .size
   pub well : WellFormed (code ws) est
   pub sent : Mask (code ws) (sendable (code ws)) mask
-
--- the links of the words
-pub record LinksOf (ws links : List ℕ) : Type 0 where
-  pub slice : List ℕ
-  pub room : length ws ≤ length slice
-  pub made : links ≡ linked ws slice

@@ -13,14 +13,14 @@ ghost use Prim.Native.Nat.{_<_};
 ghost use lib.ListN.{length, getD};
 ghost use Rattle.permset.specs.Sets.{member};
 ghost use Rattle.table.specs.Words.{argument};
-ghost use Rattle.table.specs.Item.{itemAt};
+ghost use Rattle.table.specs.Item.{itemAt, itemPerms};
 ghost use Rattle.table.specs.Scan.{name};
 ghost use Rattle.table.specs.Code.{code, taskAt};
-ghost use Rattle.table.specs.Links.{linkAt};
+ghost use Rattle.table.specs.Links.{linkAt, LinksOf};
 ghost use Rattle.calculus.specs.Constraint.{each};
 ghost use Rattle.rules.specs.Fired.{Fired};
 ghost use Rattle.rules.specs.Made.{Placed};
-ghost use Rattle.send_rules.specs.Sending.{itemPerms, startsHandler, startsItem, sendRule, Delivered, Sends, LinksOf};
+ghost use Rattle.send_rules.specs.Sending.{startsHandler, startsItem, sendRule, Delivered, Sends};
 
 // What is sent where: the word of the target, the permissions that the receiver must have, and those of the sender.
 pub struct Message {

@@ -15,7 +15,7 @@ use Rattle.table.specs.declared.Link.{Link}
 use Rattle.table.specs.declared.Term.the-variants as terms
 use Rattle.table.specs.Words.{kind, termOf}
 use Rattle.table.specs.Scan.{Task, head, name, perms, guard, term, accepted, reading}
-use Rattle.table.specs.Item.{itemAt}
+use Rattle.table.specs.Item.{itemAt, itemPerms}
 use Rattle.table.specs.Links.{linkAt}
 use Rattle.table.specs.Code.{code, taskAt}
 use Rattle.table.proofs.Items.{item-gap, item-term, item-past}
@@ -34,7 +34,7 @@ use Rattle.rows.specs.declared.layout.Layout.{Layout}
 use Rattle.rules.specs.declared.made.Site.{Site}
 use Rattle.send_rules.specs.declared.Message.{Message}
 use Rattle.rules.specs.Fired.{Fired}
-use Rattle.send_rules.specs.Sending.{itemPerms, sendRule, Sends}
+use Rattle.send_rules.specs.Sending.{sendRule, Sends}
 use Rattle.send_rules.proofs.Spelled.{send-is}
 use Rattle.word_laws.proofs.LeafRules.{permissions-at-is}
 use Rattle.word_laws.proofs.SendRules.{parts, send-given, message-found}

@@ -3,6 +3,7 @@ pub mod Faults
 pub mod Items
 pub mod Stack
 pub mod Parts
+pub mod BlockLoop
 pub mod Blocks
 pub mod Scopes
 pub mod Linked

@@ -24,3 +24,9 @@ itemAt ws p =
       | true ↦ items.Block (handlerAt ws p)
       | false ↦ elim (ltb (kind (getD ws p 0)) 16) [ true ↦ items.Gap | false ↦ items.Term (termOf (getD ws p 0)) ]
     ]
+
+-- the permissions of a block
+unfoldable pub itemPerms : Item → ℕ
+itemPerms items.Gap = 0
+itemPerms (items.Block h) = h .perms .bits
+itemPerms (items.Term t) = 0

@@ -1,6 +1,7 @@
 -- The links of a table: for each word the end of its term, its binder and its block, in one word of a lent slice. They are made in
 -- two passes over the words: the ends from the last word to the first, then the binders and blocks from the first to the last.
-use Prim.Native.Nat.{ℕ, zero, suc, _+_, _*_, _/_, _%_, _^_}
+use Prim.Native.Nat.{ℕ, zero, suc, _+_, _*_, _/_, _%_, _^_, _≤_}
+use mathlib.Core.Path.{_≡_}
 use mathlib.Core.Bool.{Bool, true, false, _&&_}
 use mathlib.Core.List.{List, [], _∷_}
 use lib.Dec.{eqb, leb}
@@ -87,3 +88,9 @@ linked ws l =
       | true ↦ binders ws (length ws) 0 0 (ends ws (length ws) l)
       | false ↦ l
     ]
+
+-- the links of the words
+pub record LinksOf (ws links : List ℕ) : Type 0 where
+  pub slice : List ℕ
+  pub room : length ws ≤ length slice
+  pub made : links ≡ linked ws slice

@@ -1,4 +1,5 @@
 // The reading of a system table: the terms and the refusals. What the layers above see of an accepted table is in table_links.
+pub mod numbers;
 mod packing;
 pub mod read;
 pub mod words;

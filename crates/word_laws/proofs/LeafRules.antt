@@ -12,7 +12,7 @@ use Rattle.table.specs.declared.Item.the-variants as items
 use Rattle.table.specs.declared.Link.{Link}
 use Rattle.table.specs.declared.Term.{Term}
 use Rattle.table.specs.declared.Term.the-variants as terms
-use Rattle.table.specs.Item.{itemAt}
+use Rattle.table.specs.Item.{itemAt, itemPerms}
 use Rattle.table.specs.Code.{Code, Node, Leaf, leaf, code, termNode, NodeLinked}
 use Rattle.table.specs.Code.{constant, number, literal, named, variable, function, empty, exercise}
 use Rattle.table.specs.Links.{linkAt}
@@ -27,8 +27,7 @@ use Rattle.rows.specs.declared.layout.Layout.{Layout}
 use Rattle.rules.specs.Fired.{Fired}
 use Rattle.rules.specs.Sized.{FiredIn}
 use Rattle.rules.specs.Well.{FiredWell}
-use Rattle.send_rules.specs.Sending.{itemPerms}
-use Rattle.send_rules.proofs.Permissions.{permissions-are}
+use Rattle.calculus.proofs.Permissions.{permissions-are}
 use Rattle.word_laws.specs.At.{At}
 use Rattle.word_laws.proofs.Given.{laid, node-is, node-linked, fired-in, fired-well}
 

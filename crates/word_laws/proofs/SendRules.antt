@@ -10,8 +10,8 @@ use Rattle.permset.specs.declared.PermSet.{PermSet}
 use Rattle.table.specs.declared.Item.the-variants as items
 use Rattle.table.specs.declared.Link.{Link}
 use Rattle.table.specs.declared.Term.the-variants as terms
-use Rattle.table.specs.Item.{itemAt}
-use Rattle.table.specs.Links.{linkAt}
+use Rattle.table.specs.Item.{itemAt, itemPerms}
+use Rattle.table.specs.Links.{linkAt, LinksOf}
 use Rattle.table.specs.Code.{Code, Node, code, two, send, termNode}
 use Rattle.calculus.specs.Elements.{sendable}
 use Rattle.calculus.specs.Constraint.{C, L, Rule, put, some, each, _and_}
@@ -31,7 +31,7 @@ use Rattle.rules.specs.Fired.{Fired}
 use Rattle.rows.specs.Mask.{Mask}
 use Rattle.rules.specs.Ready.{Ready}
 use Rattle.rules.specs.Sized.{LaidOut, FiredIn}
-use Rattle.send_rules.specs.Sending.{itemPerms, sendRule, Sends, LinksOf}
+use Rattle.send_rules.specs.Sending.{sendRule, Sends}
 use Rattle.rules.proofs.Fires.{in-C, content-numbered}
 use Rattle.send_rules.proofs.Handlers.{sends-again}
 use Rattle.send_rules.proofs.Spelled.{send-is}

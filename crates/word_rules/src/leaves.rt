@@ -8,13 +8,12 @@ use term_rules::flow::held_to_value;
 ghost use Prim.Native.Nat.{_+_, _^_, _<_, _≤_};
 ghost use lib.ListN.{length};
 ghost use Rattle.permset.specs.Sets.{width, member, within};
-ghost use Rattle.table.specs.Item.{itemAt};
+ghost use Rattle.table.specs.Item.{itemAt, itemPerms};
 ghost use Rattle.table.specs.Links.{linkAt};
 ghost use Rattle.calculus.specs.Elements.{literalElement, nameElement};
 ghost use Rattle.calculus.specs.Constraint.{C, B, P, put, sub, only, every, _and_};
 ghost use Rattle.rules.specs.Sized.{Sized, FiredIn};
 ghost use Rattle.rules.specs.Well.{FiredWell};
-ghost use Rattle.send_rules.specs.Sending.{itemPerms};
 
 pub fn at_literal(est: &mut [u32], log: &mut [u32], l: Layout, p: usize, n: u32) -> usize
     requires { ⌜ Sized l (now est) × (p < l .size) × (n < 23) ⌝ }

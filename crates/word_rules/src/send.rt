@@ -16,10 +16,11 @@ ghost use Rattle.calculus.specs.Elements.{sendable};
 ghost use Rattle.calculus.specs.Constraint.{C, put, some, each, _and_};
 ghost use Rattle.calculus.specs.Rules.{part, flow};
 ghost use Rattle.rules.specs.Fired.{Fired};
-ghost use Rattle.send_rules.specs.Sending.{sendRule, Sends, LinksOf};
+ghost use Rattle.send_rules.specs.Sending.{sendRule, Sends};
 ghost use Rattle.word_laws.specs.At.{At};
 ghost use Rattle.table.specs.declared.Item.the-variants as items;
 ghost use Rattle.table.specs.declared.Term.the-variants as terms;
+ghost use Rattle.table.specs.Links.{LinksOf};
 
 // The rule for every block, if there is a message.
 fn send_messages(

@@ -1,10 +1,10 @@
 -- `send_rules::permissions_at` meets its contract: only a block has permissions.
 -- Assumes nothing.
-use Rattle.send_rules.specs.Sending.{itemPerms}
 use Rattle.send_rules.proofs.Sends.{perms-of}
 use borrow.Author.Needs.{needs}
 use Rattle.send_rules.proofs.permissions_at.Statement.{statement}
 use Rattle.send_rules.proofs.permissions_at.Tie as tie
+use Rattle.table.specs.Item.{itemPerms}
 
 link-at-requires : tie.Need-link-at-requires
 link-at-requires c κs = search needs

@@ -1,10 +1,10 @@
 -- `clauses::make::permissions_of` meets its contract: only a block has permissions.
 -- Assumes nothing.
-use Rattle.clauses.specs.Clauses.{itemPerms}
 use Rattle.clauses.proofs.Links.{perms-of}
 use borrow.Author.Needs.{needs}
 use Rattle.clauses.proofs.make.permissions_of.Statement.{statement}
 use Rattle.clauses.proofs.make.permissions_of.Tie as tie
+use Rattle.table.specs.Item.{itemPerms}
 
 link-at-requires : tie.Need-link-at-requires
 link-at-requires c κs = search needs

@@ -1,9 +1,9 @@
--- `listing::numbers::table_number` meets its contract: a case for each refusal. Assumes nothing.
+-- `table::numbers::refusal_number` meets its contract: a case for each refusal. Assumes nothing.
 use mathlib.Core.Path.{sym, ap}
 use Rattle.table.specs.Answer.{number}
 use borrow.Author.Needs.{needs}
-use Rattle.listing.proofs.numbers.table_number.Statement.{statement}
-use Rattle.listing.proofs.numbers.table_number.Tie as tie
+use Rattle.table.proofs.numbers.refusal_number.Statement.{statement}
+use Rattle.table.proofs.numbers.refusal_number.Tie as tie
 
 enum-told : tie.Need-enum-told
 enum-told c = search needs
@@ -89,8 +89,8 @@ returns-12 : tie.Need-returns-12
 unfolding number
 returns-12 c = sym (ap number (c .enum-told12 .given .1))
 
-pub table-number-spec : {M : Type 1} → statement M
-table-number-spec =
+pub refusal-number-spec : {M : Type 1} → statement M
+refusal-number-spec =
     tie.close
     (tie.spec
     enum-told

@@ -1,9 +1,9 @@
--- `listing::numbers::table_place` meets its contract: a case for each refusal. Assumes nothing.
+-- `table::numbers::refusal_place` meets its contract: a case for each refusal. Assumes nothing.
 use mathlib.Core.Path.{sym, ap}
 use Rattle.table.specs.Answer.{place}
 use borrow.Author.Needs.{needs}
-use Rattle.listing.proofs.numbers.table_place.Statement.{statement}
-use Rattle.listing.proofs.numbers.table_place.Tie as tie
+use Rattle.table.proofs.numbers.refusal_place.Statement.{statement}
+use Rattle.table.proofs.numbers.refusal_place.Tie as tie
 
 enum-told : tie.Need-enum-told
 enum-told c = search needs
@@ -89,8 +89,8 @@ returns-12 : tie.Need-returns-12
 unfolding place
 returns-12 c = sym (ap place (c .before .r9 .given .1))
 
-pub table-place-spec : {M : Type 1} → statement M
-table-place-spec =
+pub refusal-place-spec : {M : Type 1} → statement M
+refusal-place-spec =
     tie.close
     (tie.spec
     enum-told

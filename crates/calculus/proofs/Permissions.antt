@@ -8,12 +8,11 @@ use Rattle.table.specs.declared.Item.the-variants as items
 use Rattle.table.specs.declared.Term.{Term}
 use Rattle.table.specs.declared.Term.the-variants as terms
 use Rattle.table.specs.Scan.{accepted, reading}
-use Rattle.table.specs.Item.{itemAt}
+use Rattle.table.specs.Item.{itemAt, itemPerms}
 use Rattle.table.specs.Code.{code, termNode}
 use Rattle.table.specs.Links.{linkAt, linked}
 use Rattle.table.proofs.Nodes.{itemNode, node-item, home-link}
 use Rattle.calculus.specs.Rules.{permsOf, permissions}
-use Rattle.send_rules.specs.Sending.{itemPerms}
 
 term-perms : (t : Term) (a b d : ℕ) → permsOf (termNode t a b d) ≡ 0
 unfolding permsOf termNode
@@ -45,7 +44,7 @@ item-perms items.Gap a b d = refl
 item-perms (items.Block h) a b d = refl
 item-perms (items.Term t) a b d = sym (term-perms t a b d)
 
--- what `permissions_at` answers at a term
+-- of a term
 pub permissions-are : (ws : List ℕ) → reading ws ≡ accepted → (slice : List ℕ) → length ws ≤ length slice → (p : ℕ) (t : Term)
     → itemAt ws p ≡ items.Term t → itemPerms (itemAt ws (linkAt (linked ws slice) p .home)) ≡ permissions (code ws) p
 unfolding permissions
