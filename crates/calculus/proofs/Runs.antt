@@ -14,11 +14,11 @@ use Rattle.calculus.specs.Values.{onAtom, onFunction, onFields, onCell, 
 use Rattle.calculus.specs.Machine.{step, frameStep, secondStep, twoStep, withField, firstStep, choose, oneStep, termStep}
 use Rattle.calculus.specs.Machine.{leafStep, found}
 use Rattle.calculus.specs.Run.{Event, starts, exercised, run, after, act, stepped, moved, effect, sent, joined}
-use Rattle.calculus.specs.Runs.{alone, times, examples, outcome, reached, expected, messages}
+use Rattle.calculus.specs.Runs.{alone, times, stopping, going, opposing, examples, every, outcome, reached, expected, messages}
 
-pub runs : map reached examples ≡ map expected examples
+pub runs : map reached every ≡ map expected every
 unfolding
-    examples reached expected outcome run after act stepped moved effect sent joined step frameStep secondStep twoStep withField firstStep
+    every stopping going opposing examples reached expected outcome run after act stepped moved effect sent joined step frameStep secondStep twoStep withField firstStep
     choose oneStep termStep leafStep found whole look getField deleteField setField plain leftOut kept sentAs known datum sameNumber same operate onAtom
     onFunction onFields onCell onNumber onText onName onTruth nameOf permsOf guarded admits member within code nodeFor scopeFor homeFor
     blocksFrom taskAt tasks trace part skip termNode next under partsByKind parts arity termsByKind termOf constantOf

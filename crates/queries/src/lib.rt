@@ -10,7 +10,7 @@ ghost use Rattle.table.specs.Code.{Code};
 ghost use Rattle.calculus.specs.Elements.{elements, isString};
 ghost use Rattle.calculus.specs.Constraint.{L};
 ghost use Rattle.calculus.specs.Layout.{sets, WellFormed};
-ghost use Rattle.calculus.proofs.Folds.{found};
+ghost use Rattle.calculus.specs.Estimate.{found};
 ghost use Rattle.rows.specs.Laid.{LaidOut, Sized};
 ghost use Rattle.clauses.specs.Asks.{rowAt};
 ghost use Rattle.queries.specs.Passes.{FoundBy, PassedBy, Looks};

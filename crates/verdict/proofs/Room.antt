@@ -1,6 +1,6 @@
--- Local arrays that have room for the largest system of the C interface give the same answer as the caller's slices.
+-- Slices with room for a system give one answer, whatever their length: so do arrays with room for the largest system of the C interface.
 use Prim.Native.Nat.{ℕ, zero, suc, _+_, _*_, _/_, _^_, _≤_, min}
-use mathlib.Core.Path.{_≡_, refl, ap, ap₂}
+use mathlib.Core.Path.{_≡_, refl, sym, ap, ap₂, _∙_}
 use mathlib.Core.Bool.{Bool, true, false, not, _&&_}
 use mathlib.Core.List.{List, [], _∷_}
 use native.Mathlib.Nat.{mul-le-mul}
@@ -70,3 +70,13 @@ estimate-room ws h =
 pub work-room : (ws : List ℕ) → length ws ≤ 256 → workWords (code ws .size) ≤ 1024
 unfolding code
 work-room ws h = omega arith
+
+-- arrays for 256 words answer as slices that are just long enough
+pub answer-exact : (ws : List ℕ) (ρ bound : ℕ) → length ws ≤ 256
+    → answer ws ρ bound 5376 1024 ≡ answer ws ρ bound (estimateWords (code ws)) (workWords (length ws))
+unfolding code
+answer-exact ws ρ bound h =
+    let e : min 5376 (estimateWords (code ws)) ≡ estimateWords (code ws) = omega (arith, estimate-room ws h) in
+    let w : min 1024 (workWords (length ws)) ≡ workWords (length ws) = omega (arith, work-room ws h) in
+    sym (answer-capped ws ρ bound 5376 1024 (estimateWords (code ws)) (workWords (length ws)) (omega arith) (omega arith))
+    ∙ ap₂ (answer ws ρ bound) e w
