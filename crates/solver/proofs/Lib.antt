@@ -2,3 +2,4 @@ pub mod Zeros
 pub mod Least
 pub mod Begun
 pub mod Sound
+pub mod Bound

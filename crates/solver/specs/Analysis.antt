@@ -3,15 +3,15 @@ use Prim.Native.Nat.{ℕ}
 use mathlib.Core.Path.{_≡_}
 use mathlib.Core.List.{List, _++_}
 use lib.ListN.{length, take, drop, replicate}
-use Rattle.permset.specs.declared.PermSet.{PermSet}
 use Rattle.table.specs.Code.{code}
 use Rattle.calculus.specs.Layout.{estimateWords}
-use Rattle.calculus.specs.Estimate.{estimate, leak}
+use Rattle.calculus.specs.Estimate.{estimate, leak, facts}
 use Rattle.calculus.specs.Answer.{Answer, verdict, workWords}
 use Rattle.calculus.specs.Answer as answers
 use Rattle.calculus.specs.Guarantee.{Covers}
 use Rattle.calculus.specs.Correct.{Least}
 use Rattle.calls.specs.Faults.{faultNumber, faultPlace}
+use Rattle.comparison.specs.declared.Findings.{Findings}
 use Rattle.solver.specs.declared.Analysis.{Analysis}
 use Rattle.solver.specs.declared.Analysis.the-variants as analyses
 
@@ -35,8 +35,9 @@ unfoldable pub Sound : List ℕ → ℕ → (est : List ℕ) → Summary → Typ
 Sound ws ρ est (refused number place) = Unit {0}
 Sound ws ρ est (solved s) = Least (code ws) ρ (take (estimateWords (code ws)) est) s × Covers (code ws) ρ s
 
--- the least estimate in the first words of one slice, zeros in those of the other, and the leak
-pub record SolvedIn (ws : List ℕ) (ρ : ℕ) (est work est′ work′ : List ℕ) (r : PermSet) : Type 0 where
+-- the least estimate in the first words of one slice, zeros in those of the other, the leak and the facts
+pub record FoundIn (ws : List ℕ) (ρ : ℕ) (est work est′ work′ : List ℕ) (r : Findings) : Type 0 where
   pub estimates : est′ ≡ estimate (code ws) ρ ++ drop (estimateWords (code ws)) est
   pub works : work′ ≡ replicate (workWords (length ws)) 0 ++ drop (workWords (length ws)) work
-  pub leaks : r .bits ≡ leak (code ws) ρ (estimate (code ws) ρ)
+  pub leaks : r .leak .bits ≡ leak (code ws) ρ (estimate (code ws) ρ)
+  pub counted : r .facts ≡ facts (estimate (code ws) ρ)

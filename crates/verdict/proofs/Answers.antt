@@ -19,7 +19,8 @@ use Rattle.calls.specs.Calls.{Fits}
 use Rattle.calls.proofs.Answers.{after-refused, after-solved}
 use Rattle.comparison.specs.declared.Verdict.{Verdict as Declared·Verdict}
 use Rattle.comparison.specs.Values.{answerOf, compare}
-use Rattle.verdict.specs.Values.{Judged, FoundIn}
+use Rattle.solver.specs.Analysis.{FoundIn}
+use Rattle.verdict.specs.Values.{Judged}
 
 -- ---- a leak compared with a bound
 
@@ -27,14 +28,6 @@ compare-judge : (ws : List ℕ) (ρ bound : ℕ) (us : List ℕ)
     → compare (leak (code ws) ρ us) (boundUsed bound) (facts us) ≡ verdict (judge (code ws) ρ bound us)
 unfolding compare judge
 compare-judge ws ρ bound us = refl
-
--- ---- the first words of a slice
-
--- the estimate, from the slice that a call leaves
-pub first-words : (ws : List ℕ) (ρ : ℕ) → reading ws ≡ accepted → (xs ys : List ℕ) (n : ℕ) → xs ≡ estimate (code ws) ρ ++ ys
-    → n ≡ estimateWords (code ws) → take n xs ≡ estimate (code ws) ρ
-first-words ws ρ r xs ys n e m =
-    ap₂ take (m ∙ sym (estimate-well (code ws) (linked ws r) ρ .long)) e ∙ take-append-seam (estimate (code ws) ρ) ys
 
 -- ---- the whole of a call
 
@@ -46,11 +39,11 @@ module _ (ws : List ℕ) (ρ bound : ℕ) (est work : List ℕ) (r : Declared·V
   judged est′ work′ s b f d a e =
       let after = after-solved ws ρ bound est work (judge (code ws) ρ bound (estimate (code ws) ρ)) (f .judged) in
       let same : compare (s .leak .bits) b (s .facts) ≡ compare (leak (code ws) ρ (estimate (code ws) ρ)) (boundUsed bound) (facts (estimate (code ws) ρ)) =
-      cc (d .solved .leaks, d .counted) in
+      cc (d .leaks, d .counted) in
       record {
         answers = a ∙ same ∙ compare-judge ws ρ bound (estimate (code ws) ρ) ∙ sym (f .judged);
-        estimates = d .solved .estimates ∙ after .0;
-        works = d .solved .works ∙ after .1;
+        estimates = d .estimates ∙ after .0;
+        works = d .works ∙ after .1;
       }
 
   -- it is refused
