@@ -31,7 +31,7 @@ extern "C" {
 uint64_t wiphosega_verdict(const uint8_t *system, size_t system_bytes, uint32_t rho, uint32_t bound, uint8_t *estimate,
                            size_t estimate_bytes, uint8_t *work, size_t work_bytes);
 
-#define WIPHOSEGA_STACK 65536
+#define WIPHOSEGA_STACK 131072
 
 /* The same where a pointer may be null if its length is 0: the call gets another one there, through which nothing is read or written. */
 static inline uint64_t wiphosega_verdict_nullable(const uint8_t *system, size_t system_bytes, uint32_t rho, uint32_t bound, uint8_t *estimate,
