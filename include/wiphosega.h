@@ -25,10 +25,21 @@ extern "C" {
    and every other byte is as it was. After a refusal all bytes of both are as they were.
 
    Each pointer must be to as many bytes as its length says. `estimate` must share no byte with `work`, nor either with `system`, and nobody
-   else may touch the three during the call. A pointer may be anything but null where its length is 0. The call keeps no pointer, takes no
-   memory but its stack, and always returns. */
+   else may touch the three during the call. A pointer may be anything but null where its length is 0; wiphosega_verdict_nullable takes null
+   there. The call keeps no pointer, takes no memory but its stack, and always returns. tests/c/stack.c measures the stack that it needs:
+   WIPHOSEGA_STACK bytes are enough. */
 uint64_t wiphosega_verdict(const uint8_t *system, size_t system_bytes, uint32_t rho, uint32_t bound, uint8_t *estimate,
                            size_t estimate_bytes, uint8_t *work, size_t work_bytes);
+
+#define WIPHOSEGA_STACK 131072
+
+/* The same where a pointer may be null if its length is 0: the call gets another one there, through which nothing is read or written. */
+static inline uint64_t wiphosega_verdict_nullable(const uint8_t *system, size_t system_bytes, uint32_t rho, uint32_t bound, uint8_t *estimate,
+                                                  size_t estimate_bytes, uint8_t *work, size_t work_bytes) {
+    uint8_t none[3];
+    return wiphosega_verdict(system_bytes ? system : &none[0], system_bytes, rho, bound, estimate_bytes ? estimate : &none[1], estimate_bytes,
+                             work_bytes ? work : &none[2], work_bytes);
+}
 
 /* Listings: `rt staticlib capi_text` makes their library, target/staticlib/libcapi_text.a. docs/LISTING.md says what a listing is.
 

@@ -1,4 +1,4 @@
--- `printout::feeder_fault` meets its contract. Assumes nothing.
+-- `printout::program::feeder_fault` meets its contract. Assumes nothing.
 use Prim.Native.Nat.{ℕ, _%_}
 use mathlib.Core.Path.{_≡_, refl, sym}
 use mathlib.Core.Bool.{Bool, not}
@@ -7,8 +7,8 @@ use lib.Dec.{eqb, ltb}
 use borrow.Author.Tests.{lt-ltb, le-ltb, eq-eqb, ne-eqb}
 use Rattle.table.specs.Scan.{firstOf}
 use Rattle.printout.specs.Program.{feederTests}
-use Rattle.printout.proofs.feeder_fault.Statement.{statement}
-use Rattle.printout.proofs.feeder_fault.Tie as tie
+use Rattle.printout.proofs.program.feeder_fault.Statement.{statement}
+use Rattle.printout.proofs.program.feeder_fault.Tie as tie
 
 by-tests : {long short whole : Bool} (size : ℕ) → ltb 1032 size ≡ long → ltb size 8 ≡ short → eqb (size % 4) 0 ≡ whole
     → firstOf (feederTests size) ≡ firstOf ((long, 31) ∷ (short, 30) ∷ (not whole, 30) ∷ [])
