@@ -44,7 +44,7 @@ fn number(digits: &[u8]) -> usize {
 }
 
 // The argument at a place, or another number where it is absent or too long.
-fn argument(at: u64, otherwise: usize) -> usize {
+fn argument(at: usize, otherwise: usize) -> usize {
     if os::arg_count() <= at {
         return otherwise;
     }
