@@ -8,7 +8,6 @@ use lib.Dec.{T, eqb}
 use borrow.Author.Tests.{eq-eqb}
 use lib.ListN.{length, getD}
 use Rattle.permset.specs.Sets.{within}
-use Rattle.permset.proofs.Laws.{empty-within}
 use Rattle.table.specs.declared.Item.{Item}
 use Rattle.table.specs.Words.{kind, argument}
 use Rattle.table.specs.Item.{handlerAt, itemAt}
@@ -20,16 +19,15 @@ use Rattle.table.proofs.Stack.{reach}
 use Rattle.table.proofs.Parts.{place-stands}
 use Rattle.table.proofs.Items.{item-block}
 use Rattle.table.proofs.Nodes.{itemNode, nodeAt, node-item}
-use Rattle.table.proofs.Blocks.{listed-block}
+use Rattle.table.proofs.Blocks.{head-word, listed-block}
 use Rattle.calculus.specs.Constraint.{Row, B, L, Sets, Rule, put, only, _and_}
-use Rattle.calculus.specs.Rules.{nameOf, permsOf, guarded, admits, live, fill, entry}
+use Rattle.calculus.specs.Rules.{guarded, live, fill, entry}
 use Rattle.calculus.specs.Layout.{sets}
-use Rattle.calculus.proofs.Digits.{T-and}
 use Rattle.calculus.proofs.Masks.{T-false}
 use Rattle.rows.specs.declared.layout.Layout.{Layout}
 use Rattle.clauses.specs.Asks.{rowAt}
 use Rattle.clauses.proofs.Sorts.{row-B}
-use Rattle.clauses.proofs.Asked.{admitted-listed}
+use Rattle.clauses.proofs.Asked.{listed-guarded}
 use Rattle.checker.specs.Decides.{Decides}
 use Rattle.checker.specs.Words.{Accepted}
 use Rattle.checker.proofs.Laws.{both, put-is, only-so, only-not, negated-true, negated-false}
@@ -38,19 +36,18 @@ pub in-table : (ws : List ℕ) (l : Layout) → Accepted ws l → (p : ℕ) → 
 unfolding code
 in-table ws l a p h = (omega (arith, a .laid .size), omega (arith, a .laid .size), refl)
 
+pub table-short : (ws : List ℕ) (l : Layout) → Accepted ws l → length ws ≤ 1024
+table-short ws l a = head-word ws (a .readable) .sized
+
 module _ (ws : List ℕ) (r : reading ws ≡ accepted) (p : ℕ) (h : p < code ws .size) where
   abbrev c : Code
   c = code ws
 
   -- only a block has a guard
   guard-kind : (s : ℕ) → T (guarded (c .node p) s) → kind (getD ws p 0) ≡ 2
-  unfolding admits code
+  unfolding code
   guard-kind s g =
-      let m : List·Memᴰ p (c .blocks) =
-      admitted-listed c (code-linked ws r) (λ x v. true) (nameOf (c .node p)) 0 s p
-      (T-and (eqb (nameOf (c .node p)) (nameOf (c .node p)) && within 0 (permsOf (c .node p))) (guarded (c .node p) s)
-      (T-and (eqb (nameOf (c .node p)) (nameOf (c .node p))) (within 0 (permsOf (c .node p))) (subst T (sym (eq-eqb (nameOf (c .node p)) (nameOf (c .node p)) refl)) tt) (empty-within (permsOf (c .node p)))) g)
-      in
+      let m : List·Memᴰ p (c .blocks) = listed-guarded c (code-linked ws r) (λ x v. true) p s g in
       let x = listed-block ws r p m in
       subst (λ (u : Task). Stands (reach ws r p (x .0) .keys) (getD ws p 0) u) (x .1) (place-stands ws r p (x .0)) .0
 
@@ -62,22 +59,21 @@ module _ (ws : List ℕ) (r : reading ws ≡ accepted) (p : ℕ) (h : p < code w
     pub body-in : p + 3 < c .size
     body-in = subst (NodeLinked c p) block-node (code-linked ws r .nodes p h) .3 .inside
 
-    guard-is : (s : ℕ) → guarded (c .node p) s ≡ within (argument (getD ws (p + 2) 0)) s
+    pub guard-is : (s : ℕ) → guarded (c .node p) s ≡ within (argument (getD ws (p + 2) 0)) s
     unfolding guarded
     guard-is s = ap (λ (n : Node). guarded n s) block-node
 
-  module _ (e : Sets) (ρ : ℕ) where
-    pub no-entry : (kind (getD ws p 0) ≡ 2 → ⊥) → Decides e (entry c ρ p) true
+  -- the guard that the words say
+  pub shut : (s : ℕ) → (kind (getD ws p 0) ≡ 2 → ⊥) → false ≡ guarded (c .node p) s
+  shut s n = sym (T-false (guarded (c .node p) s) (λ t. n (guard-kind s t)))
+
+  module _ (e : Sets) (ρ : ℕ) {x : Bool} (q : x ≡ guarded (c .node p) ρ) where
+    pub closed-entry : not x ≡ true → Decides e (entry c ρ p) true
     unfolding entry
-    no-entry n = only-not e (guarded (c .node p) ρ) (T-false (guarded (c .node p) ρ) (λ t. n (guard-kind ρ t)))
+    closed-entry n = only-not e (guarded (c .node p) ρ) (sym q ∙ negated-true n)
 
-    module _ (i : kind (getD ws p 0) ≡ 2) {x : Bool} (q : x ≡ within (argument (getD ws (p + 2) 0)) ρ) where
-      pub closed-entry : not x ≡ true → Decides e (entry c ρ p) true
-      unfolding entry
-      closed-entry n = only-not e (guarded (c .node p) ρ) (guard-is i ρ ∙ sym q ∙ negated-true n)
-
-      pub open-entry : not x ≡ false → {y z : Bool} → y ≡ e (L p) 0 → Decides e (fill c (rowAt (2 * p + 1))) z → Decides e (entry c ρ p) (y && z)
-      unfolding entry
-      open-entry n {y} {z} u v =
-          only-so e (guarded (c .node p) ρ) (guard-is i ρ ∙ sym q ∙ negated-false n)
-          (both e (put-is e (L p) 0 u) (subst (λ (s : Row). Decides e (fill c s) z) (row-B p) v))
+    pub open-entry : not x ≡ false → {y z : Bool} → y ≡ e (L p) 0 → Decides e (fill c (rowAt (2 * p + 1))) z → Decides e (entry c ρ p) (y && z)
+    unfolding entry
+    open-entry n {y} {z} u v =
+        only-so e (guarded (c .node p) ρ) (sym q ∙ negated-false n)
+        (both e (put-is e (L p) 0 u) (subst (λ (s : Row). Decides e (fill c s) z) (row-B p) v))
