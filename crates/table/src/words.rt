@@ -11,120 +11,11 @@ ghost use Rattle.table.specs.Words.{kind, argument, firstKind, parts, ma
 
 const KIND: u32 = 16777216;
 
-const ARITIES: [usize; 21] = [
-    0,
-    0,
-    0,
-    0,
-    0,
-    1,
-    2,
-    2,
-    2,
-    3,
-    2,
-    2,
-    0,
-    2,
-    3,
-    2,
-    1,
-    1,
-    2,
-    2,
-    0,
-];
+// Two bits for each kind of a term: how many parts it has.
+const ARITIES: u64 = 711768056832;
 
-const LIMITS: [u32; 21] = [
-    4,
-    16777216,
-    23,
-    32,
-    16777216,
-    1,
-    1,
-    1,
-    1,
-    1,
-    1,
-    3,
-    1,
-    1,
-    1,
-    1,
-    1,
-    1,
-    1,
-    16777216,
-    16777216,
-];
-
-// Three entries for each kind.
-const BINDS: [usize; 63] = [
-    0,
-    0,
-    0,
-    0,
-    0,
-    0,
-    0,
-    0,
-    0,
-    0,
-    0,
-    0,
-    0,
-    0,
-    0,
-    1,
-    0,
-    0,
-    0,
-    0,
-    0,
-    0,
-    1,
-    0,
-    0,
-    0,
-    0,
-    0,
-    0,
-    0,
-    0,
-    0,
-    0,
-    0,
-    0,
-    0,
-    0,
-    0,
-    0,
-    0,
-    0,
-    0,
-    0,
-    0,
-    0,
-    0,
-    0,
-    0,
-    0,
-    0,
-    0,
-    0,
-    0,
-    0,
-    0,
-    0,
-    0,
-    0,
-    0,
-    0,
-    0,
-    0,
-    0,
-];
+// Three bits for each kind: which part has the term itself as its innermost binder.
+const BINDS: u64 = 4227072;
 
 pub fn kind_of(w: u32) -> u32
     ensures { λ r. ⌜ r ≡ kind w ⌝ }
@@ -151,7 +42,7 @@ pub fn arity_of(w: u32) -> usize
     ensures { λ r. ⌜ r ≡ arity w ⌝ }
 {
     let i = place_of(w);
-    if i < 21 { ARITIES[i] } else { 0 }
+    if i < 21 { (ARITIES >> (2 * i) as u32) as usize % 4 } else { 0 }
 }
 
 // The first argument that is out of range.
@@ -159,7 +50,30 @@ pub fn limit_of(w: u32) -> u32
     ensures { λ r. ⌜ r ≡ limit w ⌝ }
 {
     let i = place_of(w);
-    if i < 21 { LIMITS[i] } else { 0 }
+    match i {
+        0 => 4,
+        1 => KIND,
+        2 => 23,
+        3 => 32,
+        4 => KIND,
+        5 => 1,
+        6 => 1,
+        7 => 1,
+        8 => 1,
+        9 => 1,
+        10 => 1,
+        11 => 3,
+        12 => 1,
+        13 => 1,
+        14 => 1,
+        15 => 1,
+        16 => 1,
+        17 => 1,
+        18 => 1,
+        19 => KIND,
+        20 => KIND,
+        _ => 0,
+    }
 }
 
 // Whether part i has the term itself as its innermost binder: 1 if so, else 0.
@@ -168,7 +82,7 @@ pub fn binds(w: u32, i: usize) -> usize
 {
     let k = place_of(w);
     if k < 21 {
-        if i < 3 { BINDS[k * 3 + i] } else { 0 }
+        if i < 3 { (BINDS >> (k * 3 + i) as u32) as usize % 2 } else { 0 }
     } else {
         0
     }

@@ -114,6 +114,50 @@ fn function_chain(functions: usize) -> Vec<u32> {
     })
 }
 
+/// So many twos of Church applied one to the other, then to the message, in each of some handlers.
+fn numeral_tower(count: usize, twos: usize) -> Vec<u32> {
+    let two = || function(function(apply(variable(1), apply(variable(1), variable(0)))));
+    handlers(&forward(count), |next| {
+        let tower = (0..twos).fold(function(set(variable(0), literal(0), variable(0))), |inner, _| apply(two(), inner));
+        send(0, next, apply(tower, variable(0)))
+    })
+}
+
+/// Functions bound by lets, each calling the one before on what that makes of its argument; three handlers.
+fn call_tower(functions: usize) -> Vec<u32> {
+    handlers(&forward(4), |next| {
+        let twice = || apply(variable(1), apply(variable(1), variable(0)));
+        let first = |i: usize| function(if i == 0 { set(variable(0), literal(0), empty()) } else { twice() });
+        binders(functions, first, send(0, next, apply(variable(0), variable(functions))))
+    })
+}
+
+/// Twelve cells in a ring in each of some handlers, each with a function of its own, given the content of the one before in this order of statements.
+fn function_rings(count: usize, order: Order) -> Vec<u32> {
+    const CELLS: usize = 12;
+    handlers(&forward(count + 1), |next| {
+        let at = |i: usize| variable(CELLS - 1 - i % CELLS);
+        let mut steps: Vec<Term> = order(CELLS).into_iter().map(|i| assign(at(i + 1), content(at(i)))).collect();
+        steps.push(send(0, next, apply(content(at(0)), variable(CELLS))));
+        binders(CELLS, |_| cell(function(variable(0))), sequence(&steps))
+    })
+}
+
+/// One cell that all read, and one statement in eight gives a function of its own.
+fn readers(count: usize) -> Vec<u32> {
+    let read = content(variable(0));
+    let mut statements = vec![assign(variable(0), function(variable(0)))];
+    statements.extend(vec![read; 7]);
+    dense(count, constant(1), &statements)
+}
+
+/// Every handler sends the message with a record of its own to every handler.
+fn all_to_all(count: usize) -> Vec<u32> {
+    let to = |k: usize| send(0, name(k as u32), set(variable(0), literal(0), empty()));
+    let body = |i: usize| sequence(&(0..count).map(to).chain([exercise(1 << (i % 24))]).collect::<Vec<_>>());
+    system(&(0..count).map(|i| block(i as u32, 0xff_ffff, u32::from(i > 0), body(i))).collect::<Vec<_>>())
+}
+
 /// One cell holds all functions, and each of them is applied to each.
 fn dense_functions(count: usize) -> Vec<u32> {
     let put = assign(variable(0), function(variable(0)));
@@ -201,16 +245,23 @@ pub fn inputs() -> Vec<Input> {
             sized("calls", &|functions| call_chain(functions, order));
             if words > 64 {
                 sized("rings", &|count| cell_rings(count, order));
+                sized("function-rings", &|count| function_rings(count, order));
             }
         }
         let mut sized = |name: &str, family: fn(usize) -> Vec<u32>| add(format!("{name}-{words}"), 0, largest(words, family));
         sized("functions", function_chain);
+        sized("towers", call_tower);
+        sized("readers", readers);
+        sized("all-to-all", all_to_all);
         sized("dense-functions", dense_functions);
         sized("dense-records", dense_records);
         sized("dense-mixture", dense_mixture);
         if words > 64 {
             sized("deep", deep);
         }
+    }
+    for (words, handlers) in SIZES.into_iter().zip([2, 3, 5]) {
+        add(format!("numerals-{words}"), 0, largest(words, |twos| numeral_tower(handlers, twos)));
     }
     add("exchange-64".into(), 0, exchange(5, 1));
     add("exchange-256".into(), 0, exchange(14, 2));

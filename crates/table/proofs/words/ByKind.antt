@@ -3,12 +3,12 @@
 use mathlib.Core.Path.{_≡_, sym, ap, ap₂, _∙_, subst}
 use mathlib.Core.Bool.{Bool, false}
 use mathlib.Core.List.{List, [], _∷_, map}
-use Prim.Native.Nat.{ℕ, _+_, _-_, _*_, _/_, _%_, _<_, _≤_}
+use Prim.Native.Nat.{ℕ, _+_, _-_, _*_, _/_, _%_, _^_, _<_, _≤_}
 use native.Mathlib.Decide.{decLt}
 use native.Mathlib.Omega.{arith}
 use lib.Arith.{digits-div, digits-mod}
 use lib.Dec.{eqb, leb, eqb→eq, leb→le}
-use lib.ListN.{length, getD, List·getD-map, List·getD-eq-default}
+use lib.ListN.{length, getD, replicate, List·getD-map, List·getD-eq-default}
 use Rattle.table.specs.Words.{kind, firstKind, partsByKind, parts, mark, arity}
 use Rattle.table.proofs.words.Table.{at}
 
@@ -39,22 +39,25 @@ pub arity-small : (w : ℕ) → arity w ≤ 3
 unfolding arity parts partsAt
 arity-small w = small-at (kind w - firstKind)
 
--- the marks of all kinds, three for each
-unfoldable pub marks : List ℕ
-marks =
-    0 ∷ 0 ∷ 0 ∷ 0 ∷ 0 ∷ 0 ∷ 0 ∷ 0 ∷ 0 ∷ 0 ∷ 0 ∷ 0 ∷ 0 ∷ 0 ∷ 0 ∷ 1 ∷ 0 ∷ 0 ∷ 0 ∷ 0 ∷ 0 ∷ 0 ∷ 1 ∷ 0 ∷ 0 ∷ 0 ∷ 0 ∷ 0 ∷ 0 ∷ 0 ∷ 0 ∷ 0
-    ∷ 0 ∷ 0 ∷ 0 ∷ 0 ∷ 0 ∷ 0 ∷ 0 ∷ 0 ∷ 0 ∷ 0 ∷ 0 ∷ 0 ∷ 0 ∷ 0 ∷ 0 ∷ 0 ∷ 0 ∷ 0 ∷ 0 ∷ 0 ∷ 0 ∷ 0 ∷ 0 ∷ 0 ∷ 0 ∷ 0 ∷ 0 ∷ 0 ∷ 0 ∷ 0 ∷ 0 ∷ []
+-- the code's number holds them, two bits for each kind
+aritiesRight : ℕ → ℕ → Bool
+aritiesRight k x = eqb (711768056832 / 2 ^ (2 * k) % 4) x
+
+pub arity-packed : (k : ℕ) → k < 21 → 711768056832 / 2 ^ (2 * k) % 4 ≡ length (partsAt k)
+unfolding aritiesRight partsByKind
+arity-packed k h = eqb→eq _ (getD (map length partsByKind) k 0) (at aritiesRight (map length partsByKind) tt k h) ∙ arity-at k
 
 markAt : ℕ → ℕ → ℕ
 markAt k i = mark (getD (partsAt k) i false)
 
-right : ℕ → ℕ → Bool
-right j x = eqb x (markAt (j / 3) (j % 3))
+-- the code's number holds the marks of all kinds, three bits for each
+marksRight : ℕ → ℕ → Bool
+marksRight j x = eqb (4227072 / 2 ^ j % 2) (markAt (j / 3) (j % 3))
 
-pub mark-at : (k i : ℕ) → k < 21 → i < 3 → getD marks (k * 3 + i) 0 ≡ mark (getD (partsAt k) i false)
-unfolding marks right markAt partsAt partsByKind
-mark-at k i hk hi =
-    eqb→eq (getD marks (k * 3 + i) 0) (markAt ((k * 3 + i) / 3) ((k * 3 + i) % 3)) (at right marks tt (k * 3 + i) (omega arith))
+pub mark-packed : (k i : ℕ) → k < 21 → i < 3 → 4227072 / 2 ^ (k * 3 + i) % 2 ≡ mark (getD (partsAt k) i false)
+unfolding marksRight markAt partsAt partsByKind
+mark-packed k i hk hi =
+    eqb→eq (4227072 / 2 ^ (k * 3 + i) % 2) (markAt ((k * 3 + i) / 3) ((k * 3 + i) % 3)) (at marksRight (replicate 63 0) tt (k * 3 + i) (omega arith))
     ∙ ap₂ markAt (digits-div k hi) (digits-mod k hi)
 
 pub mark-past : (k i : ℕ) → length (partsAt k) ≤ i → 0 ≡ mark (getD (partsAt k) i false)

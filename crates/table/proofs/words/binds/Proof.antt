@@ -1,4 +1,4 @@
--- `table::words::binds` meets its contract: the code's table holds the marks of every kind, three for each.
+-- `table::words::binds` meets its contract: the code's number holds the marks of every kind, three bits for each.
 -- Assumes nothing.
 use mathlib.Core.Path.{ap, sym, subst, _∙_}
 use mathlib.Core.Bool.{Bool, false}
@@ -9,7 +9,7 @@ use native.Mathlib.Omega.{arith}
 use lib.ListN.{length, getD}
 use borrow.Author.Needs.{needs, zero≤}
 use Rattle.table.specs.Words.{parts, mark}
-use Rattle.table.proofs.words.ByKind.{partsAt, marks, mark-at, mark-past, small-at, parts-past}
+use Rattle.table.proofs.words.ByKind.{partsAt, mark-packed, mark-past, small-at, parts-past}
 use Rattle.table.proofs.words.binds.Statement.{statement}
 use Rattle.table.proofs.words.binds.Tie as tie
 
@@ -26,18 +26,21 @@ mul-result c = search needs
 add-result : tie.Need-add-result
 add-result c = search needs
 
-mul-result-2 : tie.Need-mul-result-2
-mul-result-2 c = search needs
+cast-result : tie.Need-cast-result
+cast-result c = search needs
 
-array-read-result : tie.Need-array-read-result
-array-read-result c = search needs
+cast-result-2 : tie.Need-cast-result-2
+cast-result-2 c = search needs
+
+shr-result : tie.Need-shr-result
+shr-result c = search needs
 
 returns : tie.Need-returns
-unfolding parts partsAt markOf marks
+unfolding parts partsAt markOf
 returns c =
     let k = c .before .before .place-of .result in
     let i = c .before .before .before .args .i in
-    mark-at k i (omega arith) (omega arith) ∙ ap (markOf i) (c .before .before .place-of .ensures)
+    mark-packed k i (omega arith) (omega arith) ∙ ap (markOf i) (c .before .before .place-of .ensures)
 
 returns-2 : tie.Need-returns-2
 unfolding parts partsAt markOf
@@ -55,4 +58,4 @@ returns-3 c =
 
 pub binds-spec : {M : Type 1} → statement M
 binds-spec =
-    tie.close (tie.spec place-of-requires mul-result add-result mul-result-2 array-read-result returns returns-2 returns-3)
+    tie.close (tie.spec place-of-requires mul-result add-result cast-result cast-result-2 shr-result returns returns-2 returns-3)
