@@ -72,23 +72,28 @@ module _ (system zeros words : List ℕ) (n : ℕ) (long : length zeros ≡ 1025
 
 -- ---- reading
 
-module _ (words system : List ℕ) (count : ℕ) where
-  pub put-short : length system / 4 < count → PutAs words count system system 4297719808
-  unfolding placed inBytes answerNumber left tested firstOf
-  put-short h =
-      let e : placed count (length system) ≡ refusal 42 0 = ap (λ (b : Bool). inBytes (tested ((b, 42) ∷ []) count)) (lt-ltb (length system / 4) count h) in
-      record { answer = sym (ap answerNumber e); bytes = sym (ap (λ (a : Answered). left a (bytesOf (take count words)) system) e) }
+module _ (number : ℕ) (words system : List ℕ) (count : ℕ) where
+  pub put-short : (r : ℕ) → r ≡ 4294967296 + number * 65536 → length system / 4 < count → PutAs number words count system system r
+  unfolding placed answerNumber left
+  put-short r q h =
+      let e : placed number count (length system) ≡ refusal number 0 = rw (placed, lt-ltb (length system / 4) count h) in
+      record { answer = q ∙ (omega arith) ∙ sym (ap answerNumber e); bytes = sym (ap (λ (a : Answered). left a (bytesOf (take count words)) system) e) }
 
-  pub put-whole : (after : List ℕ) → count ≤ length system / 4 → after ≡ bytesOf (take count words) ++ drop (4 * count) system → PutAs words count system after (4 * count)
-  unfolding placed inBytes answerNumber left tested firstOf
+  pub put-whole : (after : List ℕ) → count ≤ length system / 4 → after ≡ bytesOf (take count words) ++ drop (4 * count) system
+      → PutAs number words count system after (4 * count)
+  unfolding placed answerNumber left
   put-whole after h q =
-      let e : placed count (length system) ≡ done (4 * count) = ap (λ (b : Bool). inBytes (tested ((b, 42) ∷ []) count)) (le-ltb (length system / 4) count h) in
+      let e : placed number count (length system) ≡ done (4 * count) = rw (placed, le-ltb (length system / 4) count h) in
       record { answer = sym (ap answerNumber e); bytes = q ∙ sym (ap (λ (a : Answered). left a (bytesOf (take count words)) system) e) }
 
 -- where 1,024 words of room gave an answer
-pub read-done : (text : List ℕ) (n size : ℕ) → readAs text 1024 ≡ done n → placed n size ≡ readAnswer text size
-unfolding placed readAnswer inRoom
-read-done text n size e = sym (ap inBytes (read-room text (size / 4) ∙ ap (inRoom (size / 4)) e))
+pub read-done : (text : List ℕ) (n size : ℕ) → readAs text 1024 ≡ done n → placed 42 n size ≡ readAnswer text size
+unfolding placed readAnswer inRoom inBytes tested firstOf
+read-done text n size e = go (ltb (size / 4) n) ∙ sym (ap inBytes (read-room text (size / 4) ∙ ap (inRoom (size / 4)) e))
+  where
+    go : (b : Bool) → _≡_ {A = Answered} (elim b [ true ↦ refusal 42 0 | false ↦ done (4 * n) ]) (inBytes (tested ((b, 42) ∷ []) n))
+    go true = refl
+    go false = refl
 
 pub read-refused : (text : List ℕ) (n p size : ℕ) → readAs text 1024 ≡ refusal n p → refusal n p ≡ readAnswer text size
 unfolding readAnswer inRoom inBytes
