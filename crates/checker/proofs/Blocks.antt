@@ -15,7 +15,7 @@ use Rattle.table.specs.Code.{Code, Node, Linked, block, code, tasks, taskAt, no
 use Rattle.table.specs.Links.{linkAt, LinksOf}
 use Rattle.table.proofs.Linked.{linked as code-linked}
 use Rattle.table.proofs.Blocks.{Follows, Block, block as block-words, head-word, blocks-first, blocks-next, blocks-end}
-use Rattle.table.proofs.LinkMeaning.{link-end}
+use Rattle.table.proofs.BlockLoop.{blocksOn}
 use Rattle.calculus.specs.Elements.{plain, nameElement, sendable}
 use Rattle.calculus.specs.Constraint.{C, B, P, L, Sets, Rule, Obeys, put, sub, given, only, each, _and_}
 use Rattle.calculus.specs.Rules.{nameOf, permsOf, guarded, admits, live, pass}

@@ -20,7 +20,7 @@ use Rattle.table.proofs.Stack.{reach}
 use Rattle.table.proofs.Parts.{place-stands}
 use Rattle.table.proofs.Items.{item-block}
 use Rattle.table.proofs.Nodes.{itemNode, nodeAt, node-item}
-use Rattle.table.proofs.Blocks.{listed-block}
+use Rattle.table.proofs.Blocks.{head-word, listed-block}
 use Rattle.calculus.specs.Constraint.{Row, B, L, Sets, Rule, put, only, _and_}
 use Rattle.calculus.specs.Rules.{nameOf, permsOf, guarded, admits, live, fill, entry}
 use Rattle.calculus.specs.Layout.{sets}
@@ -37,6 +37,9 @@ use Rattle.checker.proofs.Laws.{both, put-is, only-so, only-not, negate
 pub in-table : (ws : List ℕ) (l : Layout) → Accepted ws l → (p : ℕ) → p < l .size → (p < code ws .size) × (p < length ws) × (code ws .size ≡ length ws)
 unfolding code
 in-table ws l a p h = (omega (arith, a .laid .size), omega (arith, a .laid .size), refl)
+
+pub table-short : (ws : List ℕ) (l : Layout) → Accepted ws l → length ws ≤ 1024
+table-short ws l a = head-word ws (a .readable) .sized
 
 module _ (ws : List ℕ) (r : reading ws ≡ accepted) (p : ℕ) (h : p < code ws .size) where
   abbrev c : Code
@@ -62,22 +65,21 @@ module _ (ws : List ℕ) (r : reading ws ≡ accepted) (p : ℕ) (h : p < code w
     pub body-in : p + 3 < c .size
     body-in = subst (NodeLinked c p) block-node (code-linked ws r .nodes p h) .3 .inside
 
-    guard-is : (s : ℕ) → guarded (c .node p) s ≡ within (argument (getD ws (p + 2) 0)) s
+    pub guard-is : (s : ℕ) → guarded (c .node p) s ≡ within (argument (getD ws (p + 2) 0)) s
     unfolding guarded
     guard-is s = ap (λ (n : Node). guarded n s) block-node
 
-  module _ (e : Sets) (ρ : ℕ) where
-    pub no-entry : (kind (getD ws p 0) ≡ 2 → ⊥) → Decides e (entry c ρ p) true
+  -- the guard that the words say
+  pub shut : (s : ℕ) → (kind (getD ws p 0) ≡ 2 → ⊥) → false ≡ guarded (c .node p) s
+  shut s n = sym (T-false (guarded (c .node p) s) (λ t. n (guard-kind s t)))
+
+  module _ (e : Sets) (ρ : ℕ) {x : Bool} (q : x ≡ guarded (c .node p) ρ) where
+    pub closed-entry : not x ≡ true → Decides e (entry c ρ p) true
     unfolding entry
-    no-entry n = only-not e (guarded (c .node p) ρ) (T-false (guarded (c .node p) ρ) (λ t. n (guard-kind ρ t)))
+    closed-entry n = only-not e (guarded (c .node p) ρ) (sym q ∙ negated-true n)
 
-    module _ (i : kind (getD ws p 0) ≡ 2) {x : Bool} (q : x ≡ within (argument (getD ws (p + 2) 0)) ρ) where
-      pub closed-entry : not x ≡ true → Decides e (entry c ρ p) true
-      unfolding entry
-      closed-entry n = only-not e (guarded (c .node p) ρ) (guard-is i ρ ∙ sym q ∙ negated-true n)
-
-      pub open-entry : not x ≡ false → {y z : Bool} → y ≡ e (L p) 0 → Decides e (fill c (rowAt (2 * p + 1))) z → Decides e (entry c ρ p) (y && z)
-      unfolding entry
-      open-entry n {y} {z} u v =
-          only-so e (guarded (c .node p) ρ) (guard-is i ρ ∙ sym q ∙ negated-false n)
-          (both e (put-is e (L p) 0 u) (subst (λ (s : Row). Decides e (fill c s) z) (row-B p) v))
+    pub open-entry : not x ≡ false → {y z : Bool} → y ≡ e (L p) 0 → Decides e (fill c (rowAt (2 * p + 1))) z → Decides e (entry c ρ p) (y && z)
+    unfolding entry
+    open-entry n {y} {z} u v =
+        only-so e (guarded (c .node p) ρ) (sym q ∙ negated-false n)
+        (both e (put-is e (L p) 0 u) (subst (λ (s : Row). Decides e (fill c s) z) (row-B p) v))

@@ -279,6 +279,10 @@ module _ (c : Code) (ρ : ℕ) (ws : List ℕ) where
   pub estimate-unbroken : Estimate c ρ (sets c ws) → firstBroken c ρ ws ≡ c .size
   estimate-unbroken s = sym (broken-none (λ q l. T-true (obeyed q) (obeys-decides c ws (rule c ρ q) .no (s q l))))
 
+  pub broken-most : firstBroken c ρ ws ≤ c .size
+  unfolding firstBroken
+  broken-most = omega (arith, first-most obeyed (c .size) 0)
+
   -- the rule of a broken word is not obeyed, and those below are
   pub broken-disobeys : firstBroken c ρ ws < c .size → Obeys (sets c ws) (rule c ρ (firstBroken c ρ ws)) → ⊥
   unfolding firstBroken

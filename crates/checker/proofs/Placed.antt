@@ -53,7 +53,7 @@ module _ (ws links masks : List ℕ) (l : Layout) (y : Ready ws links masks l) w
   masks-of = record { code = code ws; linked = linked-code ws links masks l y; laid = y .laid; masked = y .masked }
 
   pub links-of : LinksOf ws links
-  links-of = record { slice = y .slice; room = y .room; from = y .from }
+  links-of = record { slice = y .slice; room = y .room; made = y .from }
 
   module _ (est : List ℕ) (w : WellFormed (code ws) est) (p : ℕ) (h : p < l .size) where
     abbrev c : Code

@@ -37,7 +37,7 @@ ghost use Prim.Native.Nat.{_+_, _<_};
 ghost use lib.ListN.{length};
 ghost use Rattle.table.specs.Code.{code};
 ghost use Rattle.table.specs.Links.{linkAt};
-ghost use Rattle.calculus.specs.Rules.{flow as Flow, entry as Entry, rule as Rule};
+ghost use Rattle.calculus.specs.Rules.{guarded, flow as Flow, entry as Entry, rule as Rule};
 ghost use Rattle.calculus.specs.Layout.{WellFormed};
 ghost use Rattle.queries.specs.Ready.{Ready};
 ghost use Rattle.checker.specs.Obeyed.{firstBroken};
@@ -131,16 +131,24 @@ fn flow(words: &[u32], links: &[u32], masks: &[u32], est: &[u32], l: Layout, p: 
     }
 }
 
+// Whether there is a block at p whose guard lets in who has rho.
+pub fn opens(words: &[u32], l: Layout, rho: PermSet, p: usize) -> bool
+    requires { ⌜ Accepted (now words) l × (p < l .size) ⌝ }
+    ensures { λ r. ⌜ r ≡ guarded (code (now (words .entry)) .node p) (rho .bits) ⌝ }
+{
+    if kind_of(words[p]) != 2 {
+        return false;
+    }
+    let guard = PermSet::of(argument_of(words[p + 2]));
+    guard.within(rho)
+}
+
 // Whether the entry of a block by its guard is obeyed; there is none at another word.
 fn entry(words: &[u32], est: &[u32], l: Layout, rho: PermSet, p: usize) -> bool
     requires { ⌜ Accepted (now words) l × Sized l (now est) × WellFormed (code (now words)) (now est) × (p < l .size) ⌝ }
     ensures { λ r. ⌜ Obeyed (now (words .entry)) (now (est .entry)) (λ c. Entry c (rho .bits) p) r ⌝ }
 {
-    if kind_of(words[p]) != 2 {
-        return true;
-    }
-    let guard = PermSet::of(argument_of(words[p + 2]));
-    if !guard.within(rho) {
+    if !opens(words, l, rho, p) {
         return true;
     }
     is_live(est, l, p) & full(est, l, 2 * p + 1)

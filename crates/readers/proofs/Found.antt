@@ -26,7 +26,7 @@ use Rattle.calculus.specs.Rules.{guarded}
 use Rattle.calculus.specs.Layout.{base, content}
 use Rattle.calculus.specs.Estimate.{facts, permissionsAt, leakAmong, leak}
 use Rattle.calculus.proofs.Facts.{ones-word}
-use Rattle.send_rules.proofs.Handlers.{blocksOn}
+use Rattle.table.proofs.BlockLoop.{blocksOn}
 use Rattle.readers.specs.Reading.{itemGuarded}
 
 -- ---- facts

@@ -12,7 +12,7 @@ use Rattle.table.specs.declared.Link.{Link}
 use Rattle.table.specs.Code.{code, endOf}
 use Rattle.table.proofs.Blocks.{Follows}
 use Rattle.calculus.specs.Estimate.{leakAmong, leak}
-use Rattle.send_rules.proofs.Handlers.{blocksOn, named-there, follows-first, next-is, follows-next, next-later}
+use Rattle.table.proofs.BlockLoop.{blocksOn, named-there, follows-first, next-is, follows-next, next-later}
 use Rattle.readers.proofs.Found.{leak-start, leak-step, leak-end}
 use borrow.Author.Needs.{needs}
 use Rattle.readers.proofs.leak.Statement.{statement}

@@ -13,8 +13,9 @@ use Rattle.calculus.specs.Layout.{WellFormed}
 use Rattle.calculus.specs.Estimate.{fire, facts}
 use Rattle.rows.proofs.Laws.{facts-most}
 use Rattle.send_rules.specs.Sending.{sendRule, Sends}
-use Rattle.send_rules.proofs.Handlers.{send-well, sends-again, blocksOn, named-there, follows-first, body-inside, next-is, follows-next}
-use Rattle.send_rules.proofs.Handlers.{next-later, all-start, all-step, all-end}
+use Rattle.send_rules.proofs.Handlers.{send-well, sends-again}
+use Rattle.table.proofs.BlockLoop.{blocksOn, named-there, follows-first, body-inside, next-is, follows-next, next-later}
+use Rattle.calculus.proofs.BlockRules.{all-start, all-step, all-end}
 use Rattle.send_rules.proofs.send_all.Statement.{statement}
 use Rattle.send_rules.proofs.send_all.Tie as tie
 

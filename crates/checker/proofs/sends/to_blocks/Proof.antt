@@ -10,7 +10,8 @@ use Rattle.table.proofs.Blocks.{Follows}
 use Rattle.calculus.specs.Layout.{sets}
 use Rattle.checker.specs.Sends.{toBlock}
 use Rattle.checker.proofs.Laws.{answered-yes, answered-no}
-use Rattle.checker.proofs.Blocks.{named-there, follows-first, body-inside, next-is, follows-next, next-later, Left, left-start, left-next, left-fails, left-none}
+use Rattle.table.proofs.BlockLoop.{named-there, follows-first, body-inside, next-is, follows-next, next-later}
+use Rattle.checker.proofs.Blocks.{Left, left-start, left-next, left-fails, left-none}
 use borrow.Author.Needs.{needs}
 use Rattle.checker.proofs.sends.to_blocks.Statement.{statement}
 use Rattle.checker.proofs.sends.to_blocks.Tie as tie

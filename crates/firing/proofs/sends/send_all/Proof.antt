@@ -12,7 +12,9 @@ use Rattle.calculus.specs.Estimate.{fire, facts}
 use Rattle.rows.proofs.Laws.{facts-most}
 use Rattle.clauses.specs.Asks.{atBlock}
 use Rattle.firing.specs.Sending.{Sends}
-use Rattle.firing.proofs.Deliver.{blocksOn, named-there, follows-first, item-is, next-inside, next-is, follows-next, next-later, all-start, all-step, all-end, sends-again}
+use Rattle.table.proofs.BlockLoop.{blocksOn, named-there, follows-first, body-inside, next-is, follows-next, next-later}
+use Rattle.calculus.proofs.BlockRules.{all-start, all-step, all-end}
+use Rattle.firing.proofs.Deliver.{item-is, sends-again}
 use Rattle.firing.proofs.sends.send_all.Statement.{statement}
 use Rattle.firing.proofs.sends.send_all.Tie as tie
 
@@ -46,7 +48,7 @@ add-link-at : tie.Need-add-link-at Inv-loop μ-loop
 add-link-at c =
     let s = c .before .before .before .before .before .before .before .before .before .before .before .before .before .before in let a = s .args in let e = a .e in let w = a .words .now in
     let i = c .before .before .before .before .before .before .before .before .loop in let g : i .b < length w = c .before .before .before .before .before .before .before .loop-test .taken in let t = named-there w (s .pre .0 .readable) (i .b) (i .inv .3) g in
-    omega (arith, next-inside w (s .pre .0 .readable) (i .b) g t)
+    omega (arith, body-inside w (s .pre .0 .readable) (i .b) g t)
 
 link-at-requires : tie.Need-link-at-requires Inv-loop μ-loop
 link-at-requires c κs =
@@ -56,14 +58,14 @@ loop-less : tie.Need-loop-less Inv-loop μ-loop
 loop-less c =
     let s = c .before .before .before .before .before .before .before .before .before .before .before .before .before .before .before in let a = s .args in let e = a .e in let w = a .words .now in
     let i = c .before .before .before .before .before .before .before .before .before .loop in let g : i .b < length w = c .before .before .before .before .before .before .before .before .loop-test .taken in let t = named-there w (s .pre .0 .readable) (i .b) (i .inv .3) g in
-    omega (arith, ap (λ (k : Link). k .end) (c .link-at .ensures), next-is w (s .pre .0 .readable) (i .b) g t (a .links .now) (s .pre .0 .slice) (s .pre .0 .room) (s .pre .0 .from), next-later w (s .pre .0 .readable) (i .b) g t, g)
+    omega (arith, ap (λ (k : Link). k .end) (c .link-at .ensures), next-is w (s .pre .0 .readable) (i .b) g t (a .links .now) (record { slice = s .pre .0 .slice; room = s .pre .0 .room; made = s .pre .0 .from }), next-later w (s .pre .0 .readable) (i .b) g t, g)
 
 loop-again : tie.Need-loop-again Inv-loop μ-loop
 loop-again c =
     let s = c .before .before .before .before .before .before .before .before .before .before .before .before .before .before .before in let a = s .args in let e = a .e in let w = a .words .now in
     let i = c .before .before .before .before .before .before .before .before .before .loop in let g : i .b < length w = c .before .before .before .before .before .before .before .before .loop-test .taken in let t = named-there w (s .pre .0 .readable) (i .b) (i .inv .3) g in
     let f = c .before .before .before .before .before .send-to .ensures in let new = c .before .before .before .before .before .send-to .last .1 .0 in
-    let n : c .link-at .result .end ≡ endOf w (i .b + 3) = ap (λ (k : Link). k .end) (c .link-at .ensures) ∙ next-is w (s .pre .0 .readable) (i .b) g t (a .links .now) (s .pre .0 .slice) (s .pre .0 .room) (s .pre .0 .from) in (
+    let n : c .link-at .result .end ≡ endOf w (i .b + 3) = ap (λ (k : Link). k .end) (c .link-at .ensures) ∙ next-is w (s .pre .0 .readable) (i .b) g t (a .links .now) (record { slice = s .pre .0 .slice; room = s .pre .0 .room; made = s .pre .0 .from }) in (
       c .before .before .before .before .before .send-to .kept .1 .0 ∙ i .inv .0,
       c .before .before .before .before .before .send-to .kept .1 .1 .1 .0 ∙ i .inv .1,
       sends-again w (a .masks .now) (i .est) new (a .l) e (a .own) (i .inv .2) (i .b) (item-is w (s .pre .0 .readable) (i .b) g t) (c .before .before .before .before .before .send-to .kept .1 .0) (f .words),

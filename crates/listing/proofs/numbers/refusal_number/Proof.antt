@@ -8,8 +8,8 @@ use Rattle.listing.proofs.numbers.refusal_number.Tie as tie
 enum-known-r : tie.Need-enum-known-r
 enum-known-r c = search needs
 
-table-number-requires : tie.Need-table-number-requires
-table-number-requires c κs = search needs
+refusal-number-requires : tie.Need-refusal-number-requires
+refusal-number-requires c κs = search needs
 
 enum-told : tie.Need-enum-told
 enum-told c = search needs
@@ -23,7 +23,7 @@ enum-told-3 c = search needs
 returns : tie.Need-returns
 unfolding number
 returns c =
-    c .table-number .ensures ∙ sym (ap number (c .before .before .r .given .1))
+    c .refusal-number .ensures ∙ sym (ap number (c .before .before .r .given .1))
 
 returns-2 : tie.Need-returns-2
 unfolding number
@@ -45,7 +45,7 @@ refusal-number-spec =
     tie.close
     (tie.spec
     enum-known-r
-    table-number-requires
+    refusal-number-requires
     enum-told
     enum-told-2
     enum-told-3

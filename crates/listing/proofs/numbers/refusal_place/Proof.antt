@@ -8,8 +8,8 @@ use Rattle.listing.proofs.numbers.refusal_place.Tie as tie
 enum-known-r : tie.Need-enum-known-r
 enum-known-r c = search needs
 
-table-place-requires : tie.Need-table-place-requires
-table-place-requires c κs = search needs
+refusal-place-requires : tie.Need-refusal-place-requires
+refusal-place-requires c κs = search needs
 
 enum-known-r-2 : tie.Need-enum-known-r-2
 enum-known-r-2 c = search needs
@@ -23,7 +23,7 @@ enum-told-2 c = search needs
 returns : tie.Need-returns
 unfolding place
 returns c =
-    c .table-place .ensures ∙ sym (ap place (c .before .before .r .given .1))
+    c .refusal-place .ensures ∙ sym (ap place (c .before .before .r .given .1))
 
 returns-2 : tie.Need-returns-2
 unfolding place
@@ -45,7 +45,7 @@ refusal-place-spec =
     tie.close
     (tie.spec
     enum-known-r
-    table-place-requires
+    refusal-place-requires
     enum-known-r-2
     enum-told
     enum-told-2
