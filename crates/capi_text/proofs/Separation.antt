@@ -17,10 +17,11 @@ use Rattle.overlay.specs.Lookup.{Place, inBase, inOverlay}
 use Rattle.overlay.specs.Lookup as lookup
 use Rattle.overlay.specs.Join.{Answer, written, joinAnswer}
 use Rattle.overlay.specs.Join as join
+use Rattle.overlay.proofs.Theorems.{joined-few}
 use Rattle.capi_text.specs.Interface.{answerNumber}
 use Rattle.capi_text.specs.Manifest.{outcomeNumber}
 use Rattle.capi_text.specs.Overlay.{oddNumber, lookupAnswer, placeNumber, joinBytes, joinedAnswer}
-use Rattle.capi_text.proofs.TwoTables.{Inside, place-small, odd-small, lookup-odd, lookup-even, join-odd, join-even, join-few, join-refused-small}
+use Rattle.capi_text.proofs.TwoTables.{Inside, place-small, odd-small, lookup-odd, lookup-even, join-odd, join-even, join-refused-small}
 
 unfoldable pub refusedBit : Outcome → ℕ
 refusedBit (accepted version set others) = 0
@@ -120,7 +121,7 @@ joined-bounded base overlay size = go (ℕ-discrete (oddNumber base overlay) 0)
     room = length-replicate {A = ℕ} (size / 4) 0
 
     by : (a : Answer) → joinAnswer (wordsOf base) (wordsOf overlay) (length words) ≡ a → Bounded (joinBytes a)
-    by (written n) e = let f = join-few (wordsOf base) (wordsOf overlay) words [] n e in omega arith
+    by (written n) e = let f = joined-few (wordsOf base) (wordsOf overlay) words n e in omega arith
     by (join.refusal n p) e =
         let f = join-refused-small (wordsOf base) (wordsOf overlay) words n p e in
         (omega arith, omega arith)

@@ -5,8 +5,8 @@ use mathlib.Core.Bool.{Bool, true, false}
 use mathlib.Core.List.{List, [], _∷_, _++_}
 use native.Mathlib.Omega.{arith}
 use lib.Dec.{ltb}
-use lib.ListN.{length, take, drop, length-take}
-use lib.Seq.{take-all, take-at}
+use lib.ListN.{length, take, length-take}
+use lib.Seq.{take-all}
 use Rattle.table.specs.Words.{handlers, size}
 use Rattle.table.specs.Scan.{Outcome, accepted, refused, firstOf, reading}
 use Rattle.table.proofs.Limits.{size-le}
@@ -23,7 +23,6 @@ use Rattle.overlay.proofs.Refusals.{base-refused, overlay-refused, both-accepte
 use Rattle.overlay.proofs.Seek.{sought-part}
 use Rattle.overlay.proofs.Places.{place-refused, place-found}
 use Rattle.overlay.proofs.Joins.{join-refused, out-refused, join-stopped, join-written}
-use Rattle.overlay.proofs.Theorems.{joined-written, joined-accepted}
 use Rattle.capi_text.specs.Interface.{answerNumber, placed}
 use Rattle.capi_text.specs.Overlay.{oddNumber, lookupAnswer, placeNumber, joinBytes, joinedAnswer}
 
@@ -218,16 +217,6 @@ place-small b o n s = go (tablesRead b o) (sought b n s) (sought o n s) refl ref
         subst Inside (sym (place-found b o n s t (found a w) nothing ex ey)) (omega arith, omega (arith, q .0, size-le b (r .0)))
     go accepted nothing nothing t ex ey =
         subst Inside (sym (place-found b o n s t nothing nothing ex ey)) (omega arith, omega arith)
-
--- a join that is written is an accepted table
-module _ (b o zeros words : List ℕ) (n : ℕ) (e : joinAnswer b o (length zeros) ≡ written n) where
-  pub join-few : n ≤ 1024
-  join-few = omega (arith, joined-written b o zeros n e .0, size-le (joined b o) (joined-accepted b o zeros n e))
-
-  pub join-words : words ≡ join.outAfter b o zeros → take n words ≡ joined b o
-  join-words q =
-      let w = joined-written b o zeros n e in
-      ap (take n) (q ∙ w .1) ∙ take-at (joined b o) (drop n zeros) n (sym (w .0))
 
 fault-small : (b o : List ℕ) (room : ℕ) → joinFault b o room ≤ 50
 unfolding joinFault

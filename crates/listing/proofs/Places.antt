@@ -6,8 +6,8 @@ use mathlib.Core.List.{List, [], _∷_, _++_, map}
 use native.Mathlib.Decide.{decLt}
 use native.Mathlib.Omega.{arith}
 use lib.Dec.{eqb, ltb}
-use lib.ListN.{length, getD, take, length-map}
-use lib.Seq.{length-take-le, getD-take, take-all}
+use lib.ListN.{length, getD, take, drop, length-map}
+use lib.Seq.{length-take-le, getD-take, take-all, take-at}
 use borrow.Author.Tests.{ltb-false, le-ltb}
 use Rattle.table.specs.Scan.{Task, head, name, perms, guard, term, Outcome, accepted, refused, firstOf, tests, fault, missing, keep, next, scan, reading}
 use Rattle.table.specs.Words.{kind}
@@ -17,6 +17,7 @@ use Rattle.listing.specs.Spelling.{feed}
 use Rattle.listing.specs.Listing.{Answered, done, refusal, left, most, tested, depths, listing, written, onto, cut, indent, wordIn, wordsOf, indents, misspelled, misplaced, placed, tabled, spelt, readAs}
 use Rattle.listing.proofs.Answers.{write-refused, long-one, long-other}
 use Rattle.listing.proofs.Cutting.{cut-feed, cut-other}
+use Rattle.listing.proofs.Theorems.{read-count, read-accepted}
 
 -- ---- places
 
@@ -296,3 +297,14 @@ write-first-left ws room out = go (decLt 1024 (length ws))
     go : Dec (1024 < length ws) → left (written (take 1025 ws) room) (listing (take 1025 ws)) out ≡ left (written ws room) (listing ws) out
     go (no n) = ap (λ (v : List ℕ). left (written v room) (listing v) out) (take-all 1025 ws (omega (arith, n)))
     go (yes h) = same ∙ both (reading ws) h refl
+
+-- ---- the words that were read into 1,024 words, and how many they are
+
+pub read-few : (text : List ℕ) (n : ℕ) → readAs text 1024 ≡ done n → n ≤ 1024
+read-few text n e = omega (arith, read-count text 1024 n e, size-le (wordsOf text) (read-accepted text 1024 n e))
+
+pub read-words : (text words zeros : List ℕ) (n : ℕ) → readAs text 1024 ≡ done n → words ≡ left (readAs text 1024) (wordsOf text) zeros
+    → take n words ≡ wordsOf text
+unfolding left
+read-words text words zeros n e q =
+    ap (take n) (q ∙ ap (λ (a : Answered). left a (wordsOf text) zeros) e) ∙ take-at (wordsOf text) (drop n zeros) n (sym (read-count text 1024 n e))

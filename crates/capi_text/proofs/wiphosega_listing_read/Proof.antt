@@ -9,9 +9,9 @@ use Rattle.little_endian.specs.LittleEndian.{bytesOf}
 use Rattle.listing.specs.Listing.{Answered, left}
 use Rattle.listing.specs.Listing.{wordsOf as Listing·wordsOf}
 use Rattle.listing.specs.Answer.{answered}
-use Rattle.listing.proofs.Places.{read-within}
+use Rattle.listing.proofs.Places.{read-within, read-few, read-words}
 use Rattle.capi_text.specs.Interface.{answerNumber}
-use Rattle.capi_text.proofs.Bytes.{refused-within, read-done, read-refused, read-few, read-words}
+use Rattle.capi_text.proofs.Bytes.{refused-within, read-done, read-refused}
 use borrow.Author.Needs.{needs}
 use Rattle.capi_text.proofs.wiphosega_listing_read.Statement.{statement}
 use Rattle.capi_text.proofs.wiphosega_listing_read.Tie as tie

@@ -3,7 +3,7 @@ use mathlib.Core.Path.{refl, sym, ap, ap₂, _∙_}
 use mathlib.Core.List.{List}
 use Prim.Native.Nat.{ℕ}
 use lib.ListN.{replicate, length}
-use Rattle.capi_text.proofs.Bytes.{words-size, words-first}
+use Rattle.little_endian.proofs.First.{words-size, words-first}
 use Rattle.overlay.specs.Lookup.{placeOf}
 use Rattle.capi_text.proofs.TwoTables.{place-first}
 use borrow.Author.Needs.{needs}
@@ -29,7 +29,7 @@ slice-aggregate-find : tie.Need-slice-aggregate-find
 slice-aggregate-find c =
     let s = c .before .before .before .before .before .before .before .before .before in
     let w = c .before .before .before .before .before .words-of in
-    sym (words-size (s .args .base .now) (replicate 1025 0) (w .last .1 .0) (w .result) refl (w .ensures .0) (w .ensures .1))
+    sym (words-size 1025 (s .args .base .now) (replicate 1025 0) (w .last .1 .0) (w .result) refl (w .ensures .0) (w .ensures .1))
 
 array-share-prefix-over : tie.Need-array-share-prefix-over
 array-share-prefix-over c = search needs
@@ -38,7 +38,7 @@ slice-aggregate-find-2 : tie.Need-slice-aggregate-find-2
 slice-aggregate-find-2 c =
     let s = c .before .before .before .before .before .before .before .before .before .before in
     let w = c .before .before .before .words-of2 in
-    sym (words-size (s .args .overlay .now) (replicate 1025 0) (w .last .1 .0) (w .result) refl (w .ensures .0) (w .ensures .1))
+    sym (words-size 1025 (s .args .overlay .now) (replicate 1025 0) (w .last .1 .0) (w .result) refl (w .ensures .0) (w .ensures .1))
 
 find-requires : tie.Need-find-requires
 find-requires c κs = search needs
@@ -49,7 +49,7 @@ returns c =
     let a = c .before .before .before .before .before .before .before .words-of in
     let b = c .before .before .before .before .words-of2 in
     c .find .ensures
-    ∙ ap₂ (λ (x y : List ℕ). placeOf x y (s .args .name) (s .args .perms)) (words-first (s .args .base .now) (replicate 1025 0) (a .last .1 .0) (a .result) refl (a .ensures .0) (a .ensures .1)) (words-first (s .args .overlay .now) (replicate 1025 0) (b .last .1 .0) (b .result) refl (b .ensures .0) (b .ensures .1))
+    ∙ ap₂ (λ (x y : List ℕ). placeOf x y (s .args .name) (s .args .perms)) (words-first 1025 (s .args .base .now) (replicate 1025 0) (a .last .1 .0) (a .result) refl (a .ensures .0) (a .ensures .1)) (words-first 1025 (s .args .overlay .now) (replicate 1025 0) (b .last .1 .0) (b .result) refl (b .ensures .0) (b .ensures .1))
     ∙ place-first _ _ (s .args .name) (s .args .perms)
 
 pub find-in-spec : {M : Type 1} → statement M

@@ -3,7 +3,7 @@ use mathlib.Core.Path.{refl, sym, ap, ap₂, _∙_}
 use mathlib.Core.List.{List}
 use Prim.Native.Nat.{ℕ}
 use lib.ListN.{replicate, length}
-use Rattle.capi_text.proofs.Bytes.{words-size, words-first}
+use Rattle.little_endian.proofs.First.{words-size, words-first}
 use Rattle.overlay.specs.Join.{joinAnswer, outAfter}
 use Rattle.capi_text.proofs.TwoTables.{join-first, out-first}
 use borrow.Author.Needs.{needs}
@@ -29,7 +29,7 @@ slice-aggregate-join : tie.Need-slice-aggregate-join
 slice-aggregate-join c =
     let s = c .before .before .before .before .before .before .before .before .before .before in
     let w = c .before .before .before .before .before .words-of in
-    sym (words-size (s .args .base .now) (replicate 1025 0) (w .last .1 .0) (w .result) refl (w .ensures .0) (w .ensures .1))
+    sym (words-size 1025 (s .args .base .now) (replicate 1025 0) (w .last .1 .0) (w .result) refl (w .ensures .0) (w .ensures .1))
 
 array-share-prefix-over : tie.Need-array-share-prefix-over
 array-share-prefix-over c = search needs
@@ -38,7 +38,7 @@ slice-aggregate-join-2 : tie.Need-slice-aggregate-join-2
 slice-aggregate-join-2 c =
     let s = c .before .before .before .before .before .before .before .before .before .before .before in
     let w = c .before .before .before .words-of2 in
-    sym (words-size (s .args .overlay .now) (replicate 1025 0) (w .last .1 .0) (w .result) refl (w .ensures .0) (w .ensures .1))
+    sym (words-size 1025 (s .args .overlay .now) (replicate 1025 0) (w .last .1 .0) (w .result) refl (w .ensures .0) (w .ensures .1))
 
 join-requires : tie.Need-join-requires
 join-requires c κs = search needs
@@ -53,8 +53,8 @@ returns c =
     let a = c .before .before .before .before .before .before .before .before .before .before .words-of in
     let b = c .before .before .before .before .before .before .before .words-of2 in
     let j = c .before .before .join .ensures in
-    let x = words-first (s .args .base .now) (replicate 1025 0) (a .last .1 .0) (a .result) refl (a .ensures .0) (a .ensures .1) in
-    let y = words-first (s .args .overlay .now) (replicate 1025 0) (b .last .1 .0) (b .result) refl (b .ensures .0) (b .ensures .1) in (
+    let x = words-first 1025 (s .args .base .now) (replicate 1025 0) (a .last .1 .0) (a .result) refl (a .ensures .0) (a .ensures .1) in
+    let y = words-first 1025 (s .args .overlay .now) (replicate 1025 0) (b .last .1 .0) (b .result) refl (b .ensures .0) (b .ensures .1) in (
       j .0 ∙ ap₂ (λ (v w : List ℕ). joinAnswer v w (length out)) x y ∙ join-first _ _ out,
       j .1 ∙ ap₂ (λ (v w : List ℕ). outAfter v w out) x y ∙ out-first _ _ out,
     )

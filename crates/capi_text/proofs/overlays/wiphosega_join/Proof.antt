@@ -1,15 +1,16 @@
 -- `capi_text::overlays::wiphosega_join` meets its contract. Assumes nothing.
 use mathlib.Core.Path.{refl, sym, ap, ap₂, _∙_}
-use mathlib.Core.List.{List, []}
+use mathlib.Core.List.{List}
 use Prim.Native.Nat.{ℕ}
 use native.Mathlib.Omega.{arith}
 use lib.ListN.{length, replicate}
 use Rattle.little_endian.specs.LittleEndian.{bytesOf, wordsOf}
 use Rattle.listing.specs.Listing.{Answered, left}
 use Rattle.overlay.specs.Join.{joined}
+use Rattle.overlay.proofs.Theorems.{joined-few, joined-words}
 use Rattle.overlay.specs.Answers.{joinedAs}
 use Rattle.capi_text.specs.Interface.{answerNumber}
-use Rattle.capi_text.proofs.TwoTables.{odd-small, join-odd, join-odd-number, join-even, join-done, join-not, join-few, join-words, join-refused-small}
+use Rattle.capi_text.proofs.TwoTables.{odd-small, join-odd, join-odd-number, join-even, join-done, join-not, join-refused-small}
 use borrow.Author.Needs.{needs}
 use Rattle.capi_text.proofs.overlays.wiphosega_join.Statement.{statement}
 use Rattle.capi_text.proofs.overlays.wiphosega_join.Tie as tie
@@ -51,7 +52,7 @@ put-words-requires c κs =
     let s = c .before .before .before .before .before .before .before .before .before .before .before .before .before in
     let j = c .before .before .before .before .before .before .join-in in
     let e = sym (j .ensures .0) ∙ ap joinedAs (c .before .before .before .count .given .1) in
-    let few = join-few (wordsOf (s .args .base .now)) (wordsOf (s .args .overlay .now)) (replicate 1024 0) [] _ e in
+    let few = joined-few (wordsOf (s .args .base .now)) (wordsOf (s .args .overlay .now)) (replicate 1024 0) _ e in
     (omega (arith, j .kept .1 .1 .0), few)
 
 enum-known-f : tie.Need-enum-known-f
@@ -78,7 +79,7 @@ returns-2 c =
     let e = sym (j .ensures .0) ∙ ap joinedAs (c .before .before .before .before .before .before .count .given .1) in
     let p = c .before .before .put-words .ensures in
     let a = join-done (wordsOf (s .args .base .now)) (wordsOf (s .args .overlay .now)) (length out) _ e ∙ sym (join-even (s .args .base .now) (s .args .overlay .now) (sym (c .before .before .before .before .before .before .before .before .before .before .before .before .odd-number .ensures) ∙ c .before .before .before .before .before .before .before .before .before .before .before .if1 .left) (length out)) in
-    let ws = join-words (wordsOf (s .args .base .now)) (wordsOf (s .args .overlay .now)) (replicate 1024 0) (j .last .1 .1 .0) _ e (j .ensures .1) in (
+    let ws = joined-words (wordsOf (s .args .base .now)) (wordsOf (s .args .overlay .now)) (replicate 1024 0) _ e (j .last .1 .1 .0) (j .ensures .1) in (
       p .answer ∙ ap answerNumber a,
       p .bytes ∙ ap₂ (λ (q : Answered) (l : List ℕ). left q (bytesOf l) out) a ws,
     )
