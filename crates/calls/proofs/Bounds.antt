@@ -10,14 +10,14 @@ use Rattle.table.proofs.Limits.{size-le}
 use Rattle.calculus.specs.Constraint.{P}
 use Rattle.calculus.specs.Layout.{rowWords, estimateWords, base}
 use Rattle.rows.specs.declared.layout.Layout.{Layout}
-use Rattle.rules.specs.Sized.{LaidOut}
+use Rattle.rows.specs.Laid.{LaidOut}
 use Rattle.rows.proofs.Sizes.{rows-fit}
 
 module _ (ws : List ℕ) where
   -- the layout of a table
-  pub laid-out : (l : Layout) → l .size ≡ length ws → l .row ≡ (length ws + 95) / 32 → LaidOut (code ws) l
+  pub laid-out : (l : Layout) → l .size ≡ length ws → l .row ≡ (length ws + 95) / 32 → l .lead ≡ 2 → LaidOut (code ws) l
   unfolding code rowWords
-  laid-out l s r = record { size = sym s; row = omega arith }
+  laid-out l s r d = record { size = sym s; row = omega arith; lead = omega arith }
 
   module _ (e : reading ws ≡ accepted) where
     pub row-bound : rowWords (code ws) ≤ 36

@@ -1,6 +1,7 @@
 pub mod Arms
 pub mod Asked
 pub mod ByKind
+pub mod Few
 pub mod Fit
 pub mod Links
 pub mod Numbered

@@ -12,7 +12,7 @@ use Rattle.table.specs.Code.{code}
 use Rattle.table.specs.Links.{LinksOf}
 use Rattle.calculus.specs.Layout.{estimateWords}
 use Rattle.rows.specs.declared.layout.Layout.{Layout}
-use Rattle.rules.specs.Sized.{LaidOut}
+use Rattle.rows.specs.Laid.{LaidOut}
 
 -- the guard of a block is within a set of permissions
 unfoldable pub itemGuarded : Item → ℕ → Bool

@@ -10,7 +10,7 @@ use Rattle.calculus.specs.Estimate.{estimate}
 use Rattle.calculus.proofs.Slices.{bit-zero}
 use Rattle.calculus.proofs.Rows.{sets-bit}
 use Rattle.calculus.proofs.Least.{estimate-unique}
-use Rattle.sweeps.specs.Swept.{Closed}
+use Rattle.fixpoint.specs.Grown.{Closed}
 use Rattle.solver.proofs.Zeros.{zeros-at}
 
 module _ (c : Code) where
@@ -26,8 +26,8 @@ module _ (c : Code) where
       }
 
   -- what obeys every rule after sound steps from zeros is the least estimate
-  pub closed-least : Linked c → (ρ : ℕ) (ws : List ℕ) → Closed c ρ zeros ws → ws ≡ estimate c ρ
-  closed-least k ρ ws d =
-      estimate-unique c k ρ ws (d .sound .well zeros-well) (d .obeyed)
-      (λ e o. d .sound .inside zeros-well e o
+  pub closed-least : Linked c → (ρ : ℕ) (ws : List ℕ) (n : ℕ) → Closed c ρ zeros ws n → ws ≡ estimate c ρ
+  closed-least k ρ ws n d =
+      estimate-unique c k ρ ws (d .grown .sound .well zeros-well) (d .obeyed)
+      (λ e o. d .grown .sound .inside zeros-well e o
       (λ r v h. absurd (bit-zero (estimateWords c) (place c r v) (sets-bit c zeros r v h))))

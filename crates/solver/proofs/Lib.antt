@@ -1,3 +1,4 @@
 pub mod Zeros
 pub mod Least
 pub mod Begun
+pub mod Sound

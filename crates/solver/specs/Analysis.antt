@@ -2,13 +2,15 @@
 use Prim.Native.Nat.{ℕ}
 use mathlib.Core.Path.{_≡_}
 use mathlib.Core.List.{List, _++_}
-use lib.ListN.{length, drop, replicate}
+use lib.ListN.{length, take, drop, replicate}
 use Rattle.permset.specs.declared.PermSet.{PermSet}
 use Rattle.table.specs.Code.{code}
 use Rattle.calculus.specs.Layout.{estimateWords}
 use Rattle.calculus.specs.Estimate.{estimate, leak}
 use Rattle.calculus.specs.Answer.{Answer, verdict, workWords}
 use Rattle.calculus.specs.Answer as answers
+use Rattle.calculus.specs.Guarantee.{Covers}
+use Rattle.calculus.specs.Correct.{Least}
 use Rattle.calls.specs.Faults.{faultNumber, faultPlace}
 use Rattle.solver.specs.declared.Analysis.{Analysis}
 use Rattle.solver.specs.declared.Analysis.the-variants as analyses
@@ -26,6 +28,12 @@ unfoldable pub said : Analysis → Summary
 unfolding faultNumber faultPlace
 said (analyses.Refused f) = refused (faultNumber f) (faultPlace f)
 said (analyses.Solved s) = solved (s .bits)
+
+-- Demands 2 and 3 of an analysis of the table ws, where est is the estimate slice after the call: its first words are the least estimate, the leak
+-- is that of this estimate, and it covers every run.
+unfoldable pub Sound : List ℕ → ℕ → (est : List ℕ) → Summary → Type 0
+Sound ws ρ est (refused number place) = Unit {0}
+Sound ws ρ est (solved s) = Least (code ws) ρ (take (estimateWords (code ws)) est) s × Covers (code ws) ρ s
 
 -- the least estimate in the first words of one slice, zeros in those of the other, and the leak
 pub record SolvedIn (ws : List ℕ) (ρ : ℕ) (est work est′ work′ : List ℕ) (r : PermSet) : Type 0 where

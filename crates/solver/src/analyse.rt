@@ -8,7 +8,7 @@ use permset::PermSet;
 ghost use mathlib.Core.Path.{_≡_};
 ghost use lib.ListN.{length};
 ghost use Rattle.calculus.specs.Answer.{standingBound, answer as Answer·answer, estimateAfter, workAfter};
-ghost use Rattle.solver.specs.Analysis.{said, summary, SolvedIn};
+ghost use Rattle.solver.specs.Analysis.{said, summary, Sound, SolvedIn};
 ghost use Rattle.calls.specs.Calls.{Fit};
 
 // The least estimate in the first words of its slice and zeros in those of the work slice, where both are long enough.
@@ -27,6 +27,7 @@ pub fn analyse(words: &[u32], rho: u32, est: &mut [u32], work: &mut [u32]) -> An
     ensures answer { λ r. ⌜ said r ≡ summary (Answer·answer (now (words .entry)) rho standingBound (length (now (est .entry))) (length (now (work .entry)))) ⌝ }
     ensures estimate { λ _. ⌜ now (est .exit) ≡ estimateAfter (now (words .entry)) rho standingBound (now (est .entry)) (now (work .entry)) ⌝ }
     ensures work { λ _. ⌜ now (work .exit) ≡ workAfter (now (words .entry)) rho standingBound (now (est .entry)) (now (work .entry)) ⌝ }
+    ensures sound { λ r. ⌜ Sound (now (words .entry)) rho (now (est .exit)) (said r) ⌝ }
 {
     match check(words, rho, 0x80000000, est.len(), work.len()) {
         Checked::Wrong(f) => Analysis::Refused(f),

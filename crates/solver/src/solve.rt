@@ -1,9 +1,9 @@
 // The least estimate in a lent slice.
 use crate::memory::clear;
+use fixpoint::room::run;
 use masks::fill_masks;
 use permset::PermSet;
 use rows::layout::Layout;
-use sweeps::close;
 use table_links::link;
 ghost use mathlib.Core.Path.{_≡_};
 ghost use Prim.Native.Nat.{_*_, _≤_};
@@ -13,63 +13,18 @@ ghost use Rattle.table.specs.Code.{code};
 ghost use Rattle.table.specs.Links.{LinksOf};
 ghost use Rattle.calculus.specs.Layout.{estimateWords, WellFormed};
 ghost use Rattle.calculus.specs.Estimate.{estimate, leak};
-ghost use Rattle.rules.specs.Ready.{Ready};
-ghost use Rattle.rules.specs.Sized.{LaidOut};
-ghost use Rattle.word_laws.specs.Running.{Running};
+ghost use Rattle.rows.specs.Laid.{LaidOut};
 ghost use Rattle.readers.specs.Reading.{Readable};
-ghost use Rattle.sweeps.specs.Swept.{Closed};
+ghost use Rattle.fixpoint.specs.Grown.{Closed};
 
-// Sweeps, whose notes nobody reads.
-fn sweep_all(
-    words: &[u32],
-    links: &[u32],
-    masks: &[u32],
-    est: &mut [u32],
-    scratch: &mut [u32],
-    l: Layout,
-    rho: PermSet,
-)
-    requires { ⌜ Running (now words) (now links) (now masks) (now est) (now scratch) l ⌝ }
-    ensures { λ _. ⌜ Closed (code (now (words .entry))) (rho .bits) (now (est .entry)) (now (est .exit)) ⌝ }
-{
-    let mut quiet = [0u32; 1];
-    close(words, links, masks, est, scratch, &mut quiet, l, rho);
-}
-
-// The schedule does the work by sound steps; the sweeps after it find nothing to add, and prove that every rule is obeyed.
-fn settle(
-    words: &[u32],
-    links: &[u32],
-    masks: &[u32],
-    est: &mut [u32],
-    scratch: &mut [u32],
-    l: Layout,
-    rho: PermSet,
-)
-    requires { ⌜ Running (now words) (now links) (now masks) (now est) (now scratch) l ⌝ }
-    ensures { λ _. ⌜ Closed (code (now (words .entry))) (rho .bits) (now (est .entry)) (now (est .exit)) ⌝ }
-{
-    schedule::run::run(words, links, masks, est, scratch, l, rho);
-    sweep_all(words, links, masks, est, scratch, l, rho);
-}
-
-// The same with room for a row of its own.
-fn run(words: &[u32], links: &[u32], masks: &[u32], est: &mut [u32], l: Layout, rho: PermSet)
-    requires { ⌜ Ready (now words) (now links) (now masks) l × WellFormed (code (now words)) (now est) ⌝ }
-    ensures { λ _. ⌜ Closed (code (now (words .entry))) (rho .bits) (now (est .entry)) (now (est .exit)) ⌝ }
-{
-    let mut scratch = [0u32; 36];
-    settle(words, links, masks, est, &mut scratch, l, rho);
-}
-
-// The same with masks of its own.
-fn fill(words: &[u32], links: &[u32], est: &mut [u32], l: Layout, rho: PermSet)
+// The rules are obeyed, with masks of its own. It answers how many facts were added.
+fn fill(words: &[u32], links: &[u32], est: &mut [u32], l: Layout, rho: PermSet) -> usize
     requires { ⌜ Readable (now words) (now links) (now est) l × WellFormed (code (now words)) (now est) ⌝ }
-    ensures { λ _. ⌜ Closed (code (now (words .entry))) (rho .bits) (now (est .entry)) (now (est .exit)) ⌝ }
+    ensures { λ r. ⌜ Closed (code (now (words .entry))) (rho .bits) (now (est .entry)) (now (est .exit)) r ⌝ }
 {
     let mut masks = [0u32; 144];
     fill_masks(words, &mut masks, l);
-    run(words, links, &masks, est, l, rho);
+    run(words, links, &masks, est, l, rho)
 }
 
 // The least estimate, and the links of the words.

@@ -12,9 +12,10 @@ use solver::analyse::solve_in;
 ghost use mathlib.Core.Path.{_≡_};
 ghost use lib.ListN.{length};
 ghost use Rattle.calculus.specs.Answer.{answer, estimateAfter, workAfter};
+ghost use Rattle.calculus.specs.Correct.{Correct, Guaranteed};
 ghost use Rattle.calls.specs.Calls.{Fit, Fits};
 ghost use Rattle.comparison.specs.Values.{answerOf};
-ghost use Rattle.verdict.specs.Values.{Guaranteed, Judged, FoundIn};
+ghost use Rattle.verdict.specs.Values.{Judged, FoundIn};
 
 // The least estimate in the first words of its slice, its leak and its facts.
 fn find(words: &[u32], rho: PermSet, est: &mut [u32], work: &mut [u32]) -> Findings
@@ -44,7 +45,8 @@ pub fn verdict(words: &[u32], rho: u32, bound: u32, est: &mut [u32], work: &mut 
     ensures answer { λ r. ⌜ answerOf r ≡ answer (now (words .entry)) rho bound (length (now (est .entry))) (length (now (work .entry))) ⌝ }
     ensures estimate { λ _. ⌜ now (est .exit) ≡ estimateAfter (now (words .entry)) rho bound (now (est .entry)) (now (work .entry)) ⌝ }
     ensures work { λ _. ⌜ now (work .exit) ≡ workAfter (now (words .entry)) rho bound (now (est .entry)) (now (work .entry)) ⌝ }
-    ensures guarantee { λ r. ⌜ Guaranteed (now (words .entry)) rho r ⌝ }
+    ensures correct { λ r. ⌜ Correct (now (words .entry)) rho bound (now (est .exit)) (answerOf r) ⌝ }
+    ensures guarantee { λ r. ⌜ Guaranteed (now (words .entry)) rho (answerOf r) ⌝ }
 {
     match check(words, rho, bound, est.len(), work.len()) {
         Checked::Wrong(f) => Verdict::Refused(f),

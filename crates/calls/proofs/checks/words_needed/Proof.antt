@@ -12,14 +12,14 @@ of-requires c κs = size-le (c .before .args .words .now) (c .before .pre)
 words-requires : tie.Need-words-requires
 words-requires c κs =
     let ws = c .before .before .args .words .now in
-    let o = laid-out ws (c .of .result) (c .of .ensures .0) (c .of .ensures .1) in
+    let o = laid-out ws (c .of .result) (c .of .ensures .0) (c .of .ensures .1) (c .of .ensures .2) in
     (size-small ws (c .before .before .pre) (c .of .result) o, row-small ws (c .before .before .pre) (c .of .result) o)
 
 returns : tie.Need-returns
 returns c =
     let ws = c .before .before .before .args .words .now in
     let l = c .before .of in
-    c .words .ensures ∙ sym (words-are ws (c .before .before .before .pre) (l .result) (laid-out ws (l .result) (l .ensures .0) (l .ensures .1)))
+    c .words .ensures ∙ sym (words-are ws (c .before .before .before .pre) (l .result) (laid-out ws (l .result) (l .ensures .0) (l .ensures .1) (l .ensures .2)))
 
 pub words-needed-spec : {M : Type 1} → statement M
 words-needed-spec = tie.close (tie.spec of-requires words-requires returns)

@@ -4,6 +4,7 @@ use mathlib.Core.Path.{sym, ap, _∙_, subst}
 use lib.ListN.{length}
 use Rattle.calculus.specs.Answer.{standingBound, judge}
 use Rattle.solver.specs.Analysis.{solved, said, summary}
+use Rattle.solver.proofs.Sound.{sound}
 use Rattle.calls.specs.Calls.{CheckedAs}
 use Rattle.calls.proofs.Answers.{after-refused, after-solved}
 use borrow.Author.Needs.{needs}
@@ -30,7 +31,8 @@ returns c =
     let a = c .before .before .before .before .before .before .before .args in
     let e = subst (CheckedAs (a .words .now) (a .rho) standingBound (length (a .est .now)) (length (a .work .now))) (c .before .f .given .1) (c .before .before .before .check .ensures) in
     let k = after-refused (a .words .now) (a .rho) standingBound (a .est .now) (a .work .now) _ _ e in
-    (ap summary (sym e), k)
+    let d = ap summary (sym e) in
+    (d, (k .0, (k .1, sound (a .words .now) (a .rho) (a .est .now) (a .work .now) _ _ d (k .0))))
 
 same-length : tie.Need-same-length
 same-length c = search needs
@@ -45,7 +47,9 @@ returns-2 c =
     let h = subst (CheckedAs (a .words .now) (a .rho) standingBound (length (a .est .now)) (length (a .work .now))) (c .before .before .before .before .before .before .before .enum-told .given .1) (c .before .before .before .before .before .before .before .before .before .check .ensures) in
     let s = c .before .before .before .before .solve-in .ensures in
     let k = after-solved (a .words .now) (a .rho) standingBound (a .est .now) (a .work .now) _ (h .judged) in
-    (ap solved (s .leaks) ∙ ap summary (sym (h .judged)), (s .estimates ∙ k .0, s .works ∙ k .1))
+    let d = ap solved (s .leaks) ∙ ap summary (sym (h .judged)) in
+    let u = s .estimates ∙ k .0 in
+    (d, (u, (s .works ∙ k .1, sound (a .words .now) (a .rho) (a .est .now) (a .work .now) _ _ d u)))
 
 pub analyse-spec : {M : Type 1} → statement M
 analyse-spec =

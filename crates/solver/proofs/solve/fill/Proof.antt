@@ -25,7 +25,7 @@ run-requires : tie.Need-run-requires
 run-requires c κs =
     let a = c .before .before .before .before .before .before .before .before .args in
     let h = c .before .before .before .before .before .before .before .before .pre in
-    (ready-of (a .words .now) (a .links .now) _ (a .est .now) (a .l) (h .0) (c .before .before .before .fill-masks .ensures), h .1)
+    (ready-of (a .words .now) (a .links .now) _ (a .est .now) (a .l) (h .0) (omega (arith, c .before .before .before .fill-masks .kept .1 .0, h .0 .laid .row, row-bound (a .words .now) (h .0 .readable))) (c .before .before .before .fill-masks .ensures), h .1)
 
 same-length : tie.Need-same-length
 same-length c = search needs

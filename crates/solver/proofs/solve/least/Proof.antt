@@ -28,7 +28,7 @@ returns c =
     let a = c .before .before .before .before .before .before .before .before .before .before .before .before .before .before .before .before .args in
     let h = c .before .before .before .before .before .before .before .before .before .before .before .before .before .before .before .before .pre in
     let z = c .before .before .before .before .before .before .before .before .before .before .before .clear .ensures in (
-      ended (a .words .now) (a .est .now) _ (a .l) (h .0 .0) (h .0 .1) (h .1 .0) z (a .rho .bits) _ (c .before .before .fill .ensures),
+      ended (a .words .now) (a .est .now) _ (a .l) (h .0 .0) (h .0 .1) (h .1 .0) z (a .rho .bits) _ _ (c .before .before .fill .ensures),
       record { slice = a .links .now; room = h .1 .1; made = c .before .before .before .before .before .before .before .link .ensures },
     )
 

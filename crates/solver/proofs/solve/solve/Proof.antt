@@ -21,7 +21,7 @@ least-requires c κs =
     let a = c .before .before .before .before .before .before .args in
     let h = c .before .before .before .before .before .before .pre in
     let o = c .before .before .of in
-    ((h .0, laid-out (a .words .now) (o .result) (o .ensures .0) (o .ensures .1)), (h .1 .0, omega (arith, h .1 .1)))
+    ((h .0, laid-out (a .words .now) (o .result) (o .ensures .0) (o .ensures .1) (o .ensures .2)), (h .1 .0, omega (arith, h .1 .1)))
 
 leak-requires : tie.Need-leak-requires
 leak-requires c κs =
@@ -31,7 +31,7 @@ leak-requires c κs =
     let s = c .before .before .before .before .before .before .least in
     record {
       readable = h .0;
-      laid = laid-out (a .words .now) (o .result) (o .ensures .0) (o .ensures .1);
+      laid = laid-out (a .words .now) (o .result) (o .ensures .0) (o .ensures .1) (o .ensures .2);
       linked = s .ensures .1;
       long = s .kept .1 .1 .0 ∙ h .1 .0;
     }

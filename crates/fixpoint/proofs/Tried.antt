@@ -1,0 +1,93 @@
+-- All that the rule of a word asks, tried one after another: where nothing was added, the rule is obeyed.
+use Prim.Native.Nat.{ℕ, _+_, _≤_, _<_}
+use mathlib.Core.Path.{_≡_, refl, sym, ap, _∙_, subst}
+use mathlib.Core.Bool.{Bool, true, false}
+use mathlib.Core.List.{List}
+use native.Mathlib.Decide.{decLt, ℕ-discrete}
+use native.Mathlib.Omega.{arith}
+use borrow.Author.Count.{below-more}
+use Rattle.table.specs.Code.{Code, code}
+use Rattle.calculus.specs.Constraint.{L, Rule, Obeys, given}
+use Rattle.calculus.specs.Elements.{plain}
+use Rattle.calculus.specs.Rules.{entry, rule}
+use Rattle.calculus.specs.Layout.{sets, WellFormed}
+use Rattle.calculus.specs.Estimate.{fire}
+use Rattle.clauses.specs.declared.Clause.{Clause}
+use Rattle.clauses.specs.Asks.{asks, under, effect}
+use Rattle.clauses.specs.Clauses.{never, clauseAt}
+use Rattle.clauses.proofs.Few.{few-clauses}
+use Rattle.rows.specs.declared.layout.Layout.{Layout}
+use Rattle.queries.specs.Ready.{Ready}
+use Rattle.queries.proofs.Given.{linked-code}
+use Rattle.firing.specs.Fired.{Fired}
+use Rattle.firing.specs.Step.{stepAt}
+use Rattle.firing.proofs.Steps.{step-well, steps-rule}
+use Rattle.checker.specs.Obeyed.{firstBroken}
+use Rattle.checker.proofs.Laws.{broken-disobeys}
+use Rattle.fixpoint.specs.Grown.{Grown, Exhausted, Repaired}
+use Rattle.fixpoint.proofs.Grows.{grown-then, entered, entry-obeyed, fired-same}
+
+-- nothing was changed by the clauses below k
+pub record Tried (ws links : List ℕ) (p : ℕ) (old : List ℕ) (k : ℕ) (new : List ℕ) : Type 0 where
+  pub same : new ≡ old
+  pub steps : (j : ℕ) → j < k → fire (code ws) (stepAt ws links p j 0) old ≡ old
+
+pub tried-none : (ws links : List ℕ) (p : ℕ) (old : List ℕ) → Tried ws links p old 0 old
+tried-none ws links p old = record { same = refl; steps = λ j i. absurd (omega arith) }
+
+module _ (ws links masks : List ℕ) (l : Layout) (y : Ready ws links masks l) (p : ℕ) (h : p < l .size) (old : List ℕ) (w : WellFormed (code ws) old) where
+  abbrev c : Code
+  c = code ws
+
+  in-code : p < c .size
+  in-code = omega (arith, y .laid .size)
+
+  module _ (k : ℕ) (mid new : List ℕ) (m n : ℕ) (t : m ≡ 0 → Tried ws links p old k mid) (f : Fired c (stepAt ws links p k 0) mid new n) where
+    pub tried-more : m + n ≡ 0 → Tried ws links p old (k + 1) new
+    tried-more z =
+        let a = t (omega arith) in
+        let g : Fired c (stepAt ws links p k 0) old new n = subst (λ (xs : List ℕ). Fired c (stepAt ws links p k 0) xs new n) (a .same) f in
+        let v : WellFormed c new = subst (WellFormed c) (sym (g .words)) (step-well ws links masks l y p h k 0 old w) in
+        let e : new ≡ old = fired-same c (stepAt ws links p k 0) w v g (omega arith) in
+        record { same = e; steps = below-more _ _ (a .steps) (sym (g .words) ∙ e) }
+
+  never-adds : fire c (given (L p) 0 (asks c never 0)) old ≡ old
+  unfolding fire asks under
+  never-adds = go (sets c old (L p) 0)
+    where
+      go : (b : Bool) → elim b [ true ↦ old | false ↦ old ] ≡ old
+      go true = refl
+      go false = refl
+
+  -- all clauses
+  pub tried-all : (k : ℕ) → 5 ≤ k → (new : List ℕ) → Tried ws links p old k new → (j : ℕ) → fire c (stepAt ws links p j 0) old ≡ old
+  tried-all k i new t j = go (decLt j k)
+    where
+      go : Dec (j < k) → fire c (stepAt ws links p j 0) old ≡ old
+      go (yes b) = t .steps j b
+      go (no b) = ap (λ (x : Clause). fire c (given (L p) 0 (asks c x 0)) old) (few-clauses ws links (plain c) p j (omega arith)) ∙ never-adds
+
+  -- the entry, and then all clauses
+  pub repaired : (ρ : ℕ) (mid new : List ℕ) (m n : ℕ) → Fired c (entry c ρ p) old mid m → Exhausted ws links p mid new n → Repaired c ρ p old new (m + n)
+  unfolding rule
+  repaired ρ mid new m n f x =
+      let g : Grown c ρ old mid m = entered c ρ (linked-code ws links masks l y) p in-code f in
+      record {
+        grown = grown-then c ρ g (x .stepped ρ);
+        obeyed =
+            λ z.
+            let e : mid ≡ old = fired-same c (entry c ρ p) w (g .sound .well w) f (omega arith) in (
+              entry-obeyed c ρ (linked-code ws links masks l y) p in-code old w (sym (f .words) ∙ e),
+              steps-rule ws links masks l y p h old w
+                  (λ k. subst (λ (xs : List ℕ). fire c (stepAt ws links p k 0) xs ≡ xs) e (x .nothing (omega arith) k)),
+            );
+      }
+
+-- a word whose rule is broken has something to add
+pub mended : (c : Code) (ρ : ℕ) (est : List ℕ) (p : ℕ) → p ≡ firstBroken c ρ est → p < c .size → (new : List ℕ) (n : ℕ) → Repaired c ρ p est new n → 0 < n
+mended c ρ est p e h new n r = go (ℕ-discrete n 0)
+  where
+    go : Dec (n ≡ 0) → 0 < n
+    go (yes z) =
+        absurd (broken-disobeys c ρ est (omega (arith, e)) (subst (λ (q : ℕ). Obeys (sets c est) (rule c ρ q)) e (r .obeyed z)))
+    go (no z) = omega arith

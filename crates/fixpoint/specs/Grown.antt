@@ -1,0 +1,39 @@
+-- What the solver does to the words of an estimate: sound steps, and how many facts they add.
+use Prim.Native.Nat.{ℕ, _+_}
+use mathlib.Core.Path.{_≡_}
+use mathlib.Core.List.{List}
+use Rattle.table.specs.Code.{Code, code}
+use Rattle.calculus.specs.Constraint.{Sets, Obeys}
+use Rattle.calculus.specs.Rules.{rule, Estimate}
+use Rattle.calculus.specs.Layout.{WellFormed, LiesIn, sets}
+use Rattle.calculus.specs.Estimate.{fire, facts}
+use Rattle.firing.specs.Step.{stepAt}
+
+-- what any step of any solver keeps: the layout of the estimate, and that it lies inside every estimate that obeys the rules
+pub record Sound (c : Code) (ρ : ℕ) (old new : List ℕ) : Type 0 where
+  pub well : WellFormed c old → WellFormed c new
+  pub inside : WellFormed c old → (e : Sets) → Estimate c ρ e → LiesIn c old e → LiesIn c new e
+
+-- a sound step that added so many facts
+pub record Grown (c : Code) (ρ : ℕ) (old new : List ℕ) (added : ℕ) : Type 0 where
+  pub sound : Sound c ρ old new
+  pub count : facts new ≡ facts old + added
+
+-- steps that ask for no opponent: they are sound for each
+abbrev pub Stepped : (ws old new : List ℕ) → ℕ → Type 0
+Stepped ws old new added = (ρ : ℕ) → Grown (code ws) ρ old new added
+
+-- all clauses of p were fired: where that added nothing, none of them has anything to add
+pub record Exhausted (ws links : List ℕ) (p : ℕ) (old new : List ℕ) (added : ℕ) : Type 0 where
+  pub stepped : Stepped ws old new added
+  pub nothing : added ≡ 0 → (k : ℕ) → fire (code ws) (stepAt ws links p k 0) old ≡ old
+
+-- all that the rule of p asks was tried: where that added nothing, the rule was obeyed
+pub record Repaired (c : Code) (ρ p : ℕ) (old new : List ℕ) (added : ℕ) : Type 0 where
+  pub grown : Grown c ρ old new added
+  pub obeyed : added ≡ 0 → Obeys (sets c old) (rule c ρ p)
+
+-- sound steps to an estimate that obeys every rule
+pub record Closed (c : Code) (ρ : ℕ) (old new : List ℕ) (added : ℕ) : Type 0 where
+  pub grown : Grown c ρ old new added
+  pub obeyed : Estimate c ρ (sets c new)

@@ -1,0 +1,137 @@
+// Steps until every rule is obeyed: where the worklist has missed something, all clauses of the lowest word whose rule is broken add a fact.
+use crate::entry::enter;
+use crate::entry::enter_all;
+use crate::events::follow;
+use checker::broken;
+use firing::step::step;
+use permset::PermSet;
+use rows::layout::Layout;
+use worklist::plan::prepare;
+ghost use Prim.Native.Nat.{_<_};
+ghost use Rattle.table.specs.Code.{code};
+ghost use Rattle.calculus.specs.Layout.{WellFormed};
+ghost use Rattle.queries.specs.Ready.{Ready};
+ghost use Rattle.fixpoint.specs.Grown.{Grown, Exhausted, Repaired, Closed};
+
+// No word has more clauses.
+const CLAUSES: usize = 5;
+
+// All clauses of p.
+fn exhaust(
+    words: &[u32],
+    links: &[u32],
+    masks: &[u32],
+    est: &mut [u32],
+    h: &mut [u32],
+    l: Layout,
+    p: usize,
+) -> usize
+    requires { ⌜ Ready (now words) (now links) (now masks) l × WellFormed (code (now words)) (now est) × (p < l .size) ⌝ }
+    ensures { λ r. ⌜ Exhausted (now (words .entry)) (now (links .entry)) p (now (est .entry)) (now (est .exit)) r ⌝ }
+{
+    let mut added = 0;
+    let mut k = 0;
+    while k < CLAUSES {
+        added += step(words, links, masks, est, h, l, p, k, 0);
+        k += 1;
+    }
+    added
+}
+
+// All that the rule of p asks.
+fn repair(
+    words: &[u32],
+    links: &[u32],
+    masks: &[u32],
+    est: &mut [u32],
+    h: &mut [u32],
+    l: Layout,
+    rho: PermSet,
+    p: usize,
+) -> usize
+    requires { ⌜ Ready (now words) (now links) (now masks) l × WellFormed (code (now words)) (now est) × (p < l .size) ⌝ }
+    ensures { λ r. ⌜ Repaired (code (now (words .entry))) (rho .bits) p (now (est .entry)) (now (est .exit)) r ⌝ }
+{
+    let entered = enter(words, est, h, l, rho, p);
+    entered + exhaust(words, links, masks, est, h, l, p)
+}
+
+// What p lacks, and all that follows from it.
+fn mend(
+    words: &[u32],
+    links: &[u32],
+    masks: &[u32],
+    est: &mut [u32],
+    h: &mut [u32],
+    out: &mut [u32],
+    l: Layout,
+    rho: PermSet,
+    p: usize,
+) -> usize
+    requires { ⌜ Ready (now words) (now links) (now masks) l × WellFormed (code (now words)) (now est) × (p < l .size) ⌝ }
+    ensures { λ r. ⌜ Repaired (code (now (words .entry))) (rho .bits) p (now (est .entry)) (now (est .exit)) r ⌝ }
+{
+    let added = repair(words, links, masks, est, h, l, rho, p);
+    added + follow(words, links, masks, est, h, out, l)
+}
+
+// The checker's rounds. It answers how many facts were added.
+fn close(
+    words: &[u32],
+    links: &[u32],
+    masks: &[u32],
+    est: &mut [u32],
+    h: &mut [u32],
+    out: &mut [u32],
+    l: Layout,
+    rho: PermSet,
+) -> usize
+    requires { ⌜ Ready (now words) (now links) (now masks) l × WellFormed (code (now words)) (now est) ⌝ }
+    ensures { λ r. ⌜ Closed (code (now (words .entry))) (rho .bits) (now (est .entry)) (now (est .exit)) r ⌝ }
+{
+    let mut added = 0;
+    loop {
+        let p = broken(words, links, masks, est, l, rho);
+        if l.size <= p {
+            return added;
+        }
+        added += mend(words, links, masks, est, h, out, l, rho, p);
+    }
+}
+
+// The entries, and all that follows from them.
+fn begin(
+    words: &[u32],
+    links: &[u32],
+    masks: &[u32],
+    est: &mut [u32],
+    h: &mut [u32],
+    out: &mut [u32],
+    l: Layout,
+    rho: PermSet,
+) -> usize
+    requires { ⌜ Ready (now words) (now links) (now masks) l × WellFormed (code (now words)) (now est) ⌝ }
+    ensures { λ r. ⌜ Grown (code (now (words .entry))) (rho .bits) (now (est .entry)) (now (est .exit)) r ⌝ }
+{
+    prepare(words, links, h);
+    let entered = enter_all(words, est, h, l, rho);
+    entered + follow(words, links, masks, est, h, out, l)
+}
+
+// From any estimate to one that obeys every rule, by sound steps, with a memory of zeros. It answers how many facts were added.
+pub fn settle(
+    words: &[u32],
+    links: &[u32],
+    masks: &[u32],
+    est: &mut [u32],
+    h: &mut [u32],
+    out: &mut [u32],
+    l: Layout,
+    rho: PermSet,
+) -> usize
+    requires { ⌜ Ready (now words) (now links) (now masks) l × WellFormed (code (now words)) (now est) ⌝ }
+    ensures { λ r. ⌜ Closed (code (now (words .entry))) (rho .bits) (now (est .entry)) (now (est .exit)) r ⌝ }
+{
+    let begun = begin(words, links, masks, est, h, out, l, rho);
+    begun + close(words, links, masks, est, h, out, l, rho)
+}

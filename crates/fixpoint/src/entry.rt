@@ -1,0 +1,58 @@
+// What the opponent's permissions ask of the blocks whose guards let it in.
+use checker::opens;
+use firing::targets::fill;
+use firing::targets::wake;
+use permset::PermSet;
+use rows::layout::Layout;
+ghost use Prim.Native.Nat.{_+_, _*_, _<_};
+ghost use Rattle.table.specs.Code.{code};
+ghost use Rattle.calculus.specs.Constraint.{_and_};
+ghost use Rattle.calculus.specs.Rules.{live, fill as Fill, entry as Entry};
+ghost use Rattle.calculus.specs.Layout.{WellFormed};
+ghost use Rattle.rows.specs.Laid.{Sized};
+ghost use Rattle.clauses.specs.Asks.{rowAt};
+ghost use Rattle.checker.specs.Words.{Accepted};
+ghost use Rattle.firing.specs.Fired.{Fired, FiredFor};
+ghost use Rattle.fixpoint.specs.Grown.{Grown};
+
+// The block at p is live, and the opponent's data is in B(p).
+fn let_in(est: &mut [u32], h: &mut [u32], l: Layout, p: usize) -> usize
+    requires { ⌜ Sized l (now est) × (p < l .size) ⌝ }
+    ensures { λ r. ⌜ FiredFor l (λ c. WellFormed c (now (est .entry))) (λ c. live p and Fill c (rowAt (2 * p + 1))) (now (est .entry)) (now (est .exit)) r ⌝ }
+{
+    let started = wake(est, h, l, p);
+    started + fill(est, h, l, 2 * p + 1)
+}
+
+// The entry of the word p, if it is a block that lets the opponent in.
+pub fn enter(
+    words: &[u32],
+    est: &mut [u32],
+    h: &mut [u32],
+    l: Layout,
+    rho: PermSet,
+    p: usize,
+) -> usize
+    requires { ⌜ Accepted (now words) l × Sized l (now est) × WellFormed (code (now words)) (now est) × (p < l .size) ⌝ }
+    ensures { λ r. ⌜ Fired (code (now (words .entry))) (Entry (code (now (words .entry))) (rho .bits) p) (now (est .entry)) (now (est .exit)) r ⌝ }
+{
+    if !opens(words, l, rho, p) {
+        return 0;
+    }
+    let_in(est, h, l, p)
+}
+
+// The entries of all blocks.
+pub fn enter_all(words: &[u32], est: &mut [u32], h: &mut [u32], l: Layout, rho: PermSet) -> usize
+    requires { ⌜ Accepted (now words) l × Sized l (now est) × WellFormed (code (now words)) (now est) ⌝ }
+    ensures { λ r. ⌜ Grown (code (now (words .entry))) (rho .bits) (now (est .entry)) (now (est .exit)) r ⌝ }
+{
+    let size = l.size;
+    let mut added = 0;
+    let mut p = 0;
+    while p < size {
+        added += enter(words, est, h, l, rho, p);
+        p += 1;
+    }
+    added
+}

@@ -1,3 +1,0 @@
-pub mod Handlers
-pub mod Sends
-pub mod Spelled

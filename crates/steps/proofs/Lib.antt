@@ -1,4 +1,0 @@
-pub mod Delivery
-pub mod KindLaws
-pub mod PartLaws
-pub mod WordSteps

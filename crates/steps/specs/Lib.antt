@@ -1,3 +1,0 @@
-pub mod Deliverable
-pub mod PartRules
-pub mod HasPart
