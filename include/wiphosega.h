@@ -69,6 +69,26 @@ uint64_t wiphosega_listing_read(const uint8_t *text, size_t text_bytes, uint8_t 
 
 uint64_t wiphosega_manifest(const uint8_t *json, size_t json_bytes);
 
+/* A table laid over another, in the library of listings. Both are words, low byte first; a handler's name and its permission set together
+   are the key. Refused: 2^32 + number * 65536 + place, by 30 (the base's bytes are no whole words), 130 (the overlay's), the base's numbers 1
+   to 12, the overlay's plus 100, and then with place 0 47 (no such block) for the look-up, 48 (over 32 handlers), 49 (over 1,024 words) and 50
+   (the output is too short) for the join. For pointers the same holds as above.
+
+   wiphosega_lookup says where the block with this name and this set is, in the overlay if it is there, otherwise in the base: offset +
+   length * 2^16, both in bytes, and 2^33 added where it is in the overlay. A table has at most 4,096 bytes, so offset and length have 16 bits
+   each with room to spare, and an answer has bit 32 exactly if it is a refusal.
+
+   wiphosega_join writes the base's blocks in its order, each replaced where the overlay has the same key, then the overlay's new ones in
+   theirs, and answers how many bytes these are. The output counts whole words: 4,096 bytes are enough. A refusal leaves all bytes of the
+   output as they were, and any other answer those behind what was written. */
+#define WIPHOSEGA_BLOCK_OFFSET(answer) ((size_t)((answer) & 0xffff))
+#define WIPHOSEGA_BLOCK_BYTES(answer) ((size_t)((answer) >> 16 & 0xffff))
+#define WIPHOSEGA_BLOCK_IN_OVERLAY(answer) (((answer) >> 33 & 1) != 0)
+
+uint64_t wiphosega_lookup(const uint8_t *base, size_t base_bytes, const uint8_t *overlay, size_t overlay_bytes, uint32_t name, uint32_t set);
+
+uint64_t wiphosega_join(const uint8_t *base, size_t base_bytes, const uint8_t *overlay, size_t overlay_bytes, uint8_t *out, size_t out_bytes);
+
 #ifdef __cplusplus
 }
 #endif
