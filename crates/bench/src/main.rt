@@ -79,7 +79,14 @@ fn answer(a: Bounded) {
 }
 
 // Solves once, and so many times more.
-fn solve(words: &[u32], rho: u32, ceiling: usize, est: &mut [u32], work: &mut [u32], more: usize) -> Bounded {
+fn solve(
+    words: &[u32],
+    rho: u32,
+    ceiling: usize,
+    est: &mut [u32],
+    work: &mut [u32],
+    more: usize,
+) -> Bounded {
     let mut a = analyse_within(words, rho, ceiling, est, work);
     let mut i = 0;
     while i < more {
