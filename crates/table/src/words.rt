@@ -42,7 +42,11 @@ pub fn arity_of(w: u32) -> usize
     ensures { λ r. ⌜ r ≡ arity w ⌝ }
 {
     let i = place_of(w);
-    if i < 21 { (ARITIES >> (2 * i) as u32) as usize % 4 } else { 0 }
+    if i < 21 {
+        (ARITIES >> (2 * i) as u32) as usize % 4
+    } else {
+        0
+    }
 }
 
 // The first argument that is out of range.
@@ -82,7 +86,11 @@ pub fn binds(w: u32, i: usize) -> usize
 {
     let k = place_of(w);
     if k < 21 {
-        if i < 3 { (BINDS >> (k * 3 + i) as u32) as usize % 2 } else { 0 }
+        if i < 3 {
+            (BINDS >> (k * 3 + i) as u32) as usize % 2
+        } else {
+            0
+        }
     } else {
         0
     }
