@@ -25,10 +25,21 @@ extern "C" {
    and every other byte is as it was. After a refusal all bytes of both are as they were.
 
    Each pointer must be to as many bytes as its length says. `estimate` must share no byte with `work`, nor either with `system`, and nobody
-   else may touch the three during the call. A pointer may be anything but null where its length is 0. The call keeps no pointer, takes no
-   memory but its stack, and always returns. */
+   else may touch the three during the call. A pointer may be anything but null where its length is 0; wiphosega_verdict_nullable takes null
+   there. The call keeps no pointer, takes no memory but its stack, and always returns. tests/c/stack.c measures the stack that it needs:
+   WIPHOSEGA_STACK bytes are enough. */
 uint64_t wiphosega_verdict(const uint8_t *system, size_t system_bytes, uint32_t rho, uint32_t bound, uint8_t *estimate,
                            size_t estimate_bytes, uint8_t *work, size_t work_bytes);
+
+#define WIPHOSEGA_STACK 131072
+
+/* The same where a pointer may be null if its length is 0: the call gets another one there, through which nothing is read or written. */
+static inline uint64_t wiphosega_verdict_nullable(const uint8_t *system, size_t system_bytes, uint32_t rho, uint32_t bound, uint8_t *estimate,
+                                                  size_t estimate_bytes, uint8_t *work, size_t work_bytes) {
+    uint8_t none[3];
+    return wiphosega_verdict(system_bytes ? system : &none[0], system_bytes, rho, bound, estimate_bytes ? estimate : &none[1], estimate_bytes,
+                             work_bytes ? work : &none[2], work_bytes);
+}
 
 /* Listings: `rt staticlib capi_text` makes their library, target/staticlib/libcapi_text.a. docs/LISTING.md says what a listing is.
 
@@ -57,6 +68,26 @@ uint64_t wiphosega_listing_read(const uint8_t *text, size_t text_bytes, uint8_t 
 #define WIPHOSEGA_MANIFEST_COUNT(answer) ((uint32_t)((answer) >> 40))
 
 uint64_t wiphosega_manifest(const uint8_t *json, size_t json_bytes);
+
+/* A table laid over another, in the library of listings. Both are words, low byte first; a handler's name and its permission set together
+   are the key. Refused: 2^32 + number * 65536 + place, by 30 (the base's bytes are no whole words), 130 (the overlay's), the base's numbers 1
+   to 12, the overlay's plus 100, and then with place 0 47 (no such block) for the look-up, 48 (over 32 handlers), 49 (over 1,024 words) and 50
+   (the output is too short) for the join. For pointers the same holds as above.
+
+   wiphosega_lookup says where the block with this name and this set is, in the overlay if it is there, otherwise in the base: offset +
+   length * 2^16, both in bytes, and 2^33 added where it is in the overlay. A table has at most 4,096 bytes, so offset and length have 16 bits
+   each with room to spare, and an answer has bit 32 exactly if it is a refusal.
+
+   wiphosega_join writes the base's blocks in its order, each replaced where the overlay has the same key, then the overlay's new ones in
+   theirs, and answers how many bytes these are. The output counts whole words: 4,096 bytes are enough. A refusal leaves all bytes of the
+   output as they were, and any other answer those behind what was written. */
+#define WIPHOSEGA_BLOCK_OFFSET(answer) ((size_t)((answer) & 0xffff))
+#define WIPHOSEGA_BLOCK_BYTES(answer) ((size_t)((answer) >> 16 & 0xffff))
+#define WIPHOSEGA_BLOCK_IN_OVERLAY(answer) (((answer) >> 33 & 1) != 0)
+
+uint64_t wiphosega_lookup(const uint8_t *base, size_t base_bytes, const uint8_t *overlay, size_t overlay_bytes, uint32_t name, uint32_t set);
+
+uint64_t wiphosega_join(const uint8_t *base, size_t base_bytes, const uint8_t *overlay, size_t overlay_bytes, uint8_t *out, size_t out_bytes);
 
 #ifdef __cplusplus
 }

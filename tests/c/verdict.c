@@ -145,6 +145,12 @@ static void slices(void) {
     if (wiphosega_verdict(&none, 0, 0, 0, &none, 0, &none, 0) != REFUSED(1, 0)) fail("slices of no length", "another answer");
     if (wiphosega_verdict(system, bytes, 0, 0, &none, 0, &none, 0) != REFUSED(21, 0)) fail("slices of no length", "another answer");
     calls += 2;
+    uint8_t estimate[4 * 35], work[4 * 20];
+    if (wiphosega_verdict_nullable(NULL, 0, 0, 0, NULL, 0, NULL, 0) != REFUSED(1, 0)) fail("null for each slice", "another answer");
+    if (wiphosega_verdict_nullable(system, bytes, 0, 0, NULL, 0, NULL, 0) != REFUSED(21, 0)) fail("null for the estimate", "another answer");
+    if (wiphosega_verdict_nullable(system, bytes, 0, 0, estimate, sizeof estimate, NULL, 0) != REFUSED(22, 0)) fail("null for work", "another answer");
+    if (wiphosega_verdict_nullable(system, bytes, 0, 0, estimate, sizeof estimate, work, sizeof work) != 2 + OVER) fail("no null", "another answer");
+    calls += 4;
 }
 
 /* The estimate of `direct`: the block holds all 64, its body has unit, and both have permission 1 and the flag. */

@@ -1,35 +1,12 @@
 // Reads the opponent's permissions, a bound and a system from standard input, as little-endian words, and prints the verdict.
 use libc::STDIN_FILENO;
-use little_endian::words_of;
-use printout::feeder_fault;
-use verdict::judge::verdict;
-
-// What is printed of a system.
-fn analyse(rho: u32, bound: u32, words: &[u32]) {
-    let mut est = [0u32; 5376];
-    let mut work = [0u32; 1024];
-    let v = verdict(words, rho, bound, &mut est, &mut work);
-    if console::first_line(v) {
-        console::handlers(words, rho, &est);
-    }
-}
-
-// The words are ρ, the bound and the system.
-fn answer_words(words: &[u32]) {
-    if 2 <= words.len() {
-        analyse(words[0], words[1], &words[2..]);
-    }
-}
+use libc::STDOUT_FILENO;
+use printout::program::print;
 
 fn answer(input: &[u8]) {
-    let fault = feeder_fault(input.len());
-    if fault != 0 {
-        console::refusal(fault, 0);
-        return;
-    }
-    let mut words = [0u32; 258];
-    let n = words_of(input, &mut words);
-    answer_words(&words[..n]);
+    let mut out = [0u8; 3168];
+    let n = print(input, &mut out);
+    io::write_all(STDOUT_FILENO, &out[..n]);
 }
 
 // Reads what is left of standard input, up to 16 TiB, into a buffer.

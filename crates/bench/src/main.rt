@@ -1,16 +1,19 @@
-// Solves the system on standard input, of up to 1,024 words, as often as the argument says, and prints its leak and facts.
+// Solves the system on standard input, of up to 1,024 words, as often as the first argument says, under the ceiling on facts that is the second,
+// and prints its leak and facts.
 use calls::Fault;
 use calls::numbers::fault_number;
 use calls::numbers::fault_place;
+use comparison::Findings;
 use libc::STDIN_FILENO;
 use libc::STDOUT_FILENO;
 use little_endian::words_of;
-use permset::PermSet;
-use readers::facts;
-use solver::Analysis;
-use solver::analyse::analyse;
+use solver::Bounded;
+use solver::analyse::analyse_within;
 ghost use Prim.Native.Nat.{_≤_};
 ghost use lib.ListN.{length};
+
+// More than any estimate has.
+const NO_CEILING: usize = 1000000000;
 
 // The number that refuses an input of this many bytes, and 0 where none does.
 fn feeder_fault(size: usize) -> u32 {
@@ -40,59 +43,63 @@ fn number(digits: &[u8]) -> usize {
     n
 }
 
-// How often to solve: the argument, and 1 if it is absent.
-fn repetitions() -> usize {
-    if os::arg_count() < 2 {
-        return 1;
+// The argument at a place, or another number where it is absent or too long.
+fn argument(at: usize, otherwise: usize) -> usize {
+    if os::arg_count() <= at {
+        return otherwise;
     }
     let mut digits = [0u8; 16];
-    let n = os::arg(1, &mut digits);
-    if n < 16 { number(&digits[..n]) } else { 1 }
+    let n = os::arg(at, &mut digits);
+    if n < 16 {
+        number(&digits[..n])
+    } else {
+        otherwise
+    }
 }
 
 fn refusal(f: Fault) {
     console::refusal(fault_number(f), fault_place(f));
 }
 
-// Words of the slice past the estimate are zero, so that all facts are the estimate's.
-fn findings(leak: PermSet, est: &[u32])
-    requires { ⌜ length (now est) ≤ 132096 ⌝ }
-{
-    let count = facts(est);
+fn findings(s: Findings) {
+    let leak = s.leak;
     console::text(b"leak ");
     io::print_hex(STDOUT_FILENO, leak.bits as u64, 6);
     console::text(b" facts ");
-    io::print_decimal(STDOUT_FILENO, count as u64);
+    io::print_decimal(STDOUT_FILENO, s.facts as u64);
     console::text(b"\n");
 }
 
-fn answer(a: Analysis, est: &[u32])
-    requires { ⌜ length (now est) ≤ 132096 ⌝ }
-{
+fn answer(a: Bounded) {
     match a {
-        Analysis::Refused(f) => refusal(f),
-        Analysis::Solved(leak) => findings(leak, est),
+        Bounded::Refused(f) => refusal(f),
+        Bounded::Over(n) => console::refusal(23, n),
+        Bounded::Solved(s) => findings(s),
     }
 }
 
 // Solves once, and so many times more.
-fn solve(words: &[u32], rho: u32, est: &mut [u32], work: &mut [u32], more: usize) -> Analysis {
-    let mut a = analyse(words, rho, est, work);
+fn solve(
+    words: &[u32],
+    rho: u32,
+    ceiling: usize,
+    est: &mut [u32],
+    work: &mut [u32],
+    more: usize,
+) -> Bounded {
+    let mut a = analyse_within(words, rho, ceiling, est, work);
     let mut i = 0;
     while i < more {
-        a = analyse(words, rho, est, work);
+        a = analyse_within(words, rho, ceiling, est, work);
         i += 1;
     }
     a
 }
 
-fn run(words: &[u32], rho: u32, est: &mut [u32], work: &mut [u32])
-    requires { ⌜ length (now est) ≤ 132096 ⌝ }
-{
-    let times = repetitions();
+fn run(words: &[u32], rho: u32, est: &mut [u32], work: &mut [u32]) {
+    let times = argument(1, 1);
     let more = if times == 0 { 0 } else { times - 1 };
-    let a = solve(words, rho, est, work, more);
-    answer(a, est);
+    answer(solve(words, rho, argument(2, NO_CEILING), est, work, more));
 }
 
 fn with_slices(words: &[u32], rho: u32) {

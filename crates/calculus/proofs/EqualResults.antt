@@ -19,6 +19,7 @@ use Rattle.table.specs.Code.{Code}
 use Rattle.calculus.specs.Elements.{plain, comparable, isMany, equalResults, results}
 use Rattle.calculus.specs.Layout.{bit, Words}
 use Rattle.calculus.specs.Estimate.{facts}
+unfoldable pub use Rattle.calculus.specs.ResultWords.{anyDigit, comparables, sameMask, apart, apartMask, equalMask}
 use Rattle.calculus.proofs.Digits.{T-and, T-fst, T-snd, T-true, T-or, T-or-left, T-or-right, member-or, member-single-only}
 use Rattle.calculus.proofs.Slices.{bit-at, bit-short}
 use Rattle.calculus.proofs.Counting.{count, facts-count}
@@ -27,34 +28,6 @@ use Rattle.calculus.proofs.Facts.{ones-word}
 use Rattle.calculus.specs.Layout.{masked}
 use Rattle.calculus.proofs.Masks.{T-false, agree, agree-below, bit-masked, nonzero, digit-nonzero, nonzero-digit, words-two}
 use Rattle.calculus.proofs.OperationMasks.{Gives, resultMask, results-are}
-
--- one of two words has a digit
-unfoldable pub anyDigit : (x y : ℕ) → Bool
-anyDigit x y = not (eqb x 0 && eqb y 0)
-
--- a first word without the opponent's record
-unfoldable pub comparables : ℕ → ℕ
-comparables x = bitAnd x 0xffffff7f
-
--- truth where a digit is shared
-unfoldable pub sameMask : (a0 a1 d0 d1 : ℕ) → ℕ
-unfolding anyDigit
-sameMask a0 a1 d0 d1 = elim (anyDigit (bitAnd a0 d0) (bitAnd a1 d1)) [ true ↦ 4 | false ↦ 0 ]
-
--- two different values: from one shared element that stands for more than one, or from two elements
-unfoldable pub apart : (a0 a1 d0 d1 : ℕ) → Bool
-unfolding ones
-apart a0 a1 d0 d1 = not (eqb (bitAnd (bitAnd a0 d0) 0x150) 0) || (not (eqb a0 d0 && eqb a1 d1) || ltb 1 (ones a0 + ones a1))
-
--- falsehood where there are such
-unfoldable pub apartMask : (a0 a1 d0 d1 : ℕ) → ℕ
-unfolding apart
-apartMask a0 a1 d0 d1 = elim (apart a0 a1 d0 d1) [ true ↦ 8 | false ↦ 0 ]
-
-unfoldable pub equalMask : (a0 a1 d0 d1 : ℕ) → ℕ
-unfolding anyDigit sameMask apartMask
-equalMask a0 a1 d0 d1 =
-    elim (anyDigit a0 a1 && anyDigit d0 d1) [ true ↦ bitOr (sameMask a0 a1 d0 d1) (apartMask a0 a1 d0 d1) | false ↦ 0 ]
 
 -- ---- the digits of two words
 

@@ -12,6 +12,7 @@ use Rattle.table.specs.Code.{Code}
 use Rattle.calculus.specs.Constraint.{Row, Rule, none, given, some, only, each, range, every, _and_}
 use Rattle.calculus.specs.Layout.{span, sets}
 use Rattle.calculus.specs.Estimate.{anyFrom, through, fire}
+unfoldable pub use Rattle.calculus.specs.Estimate.{found}
 use Rattle.calculus.proofs.Firing.{whole-is}
 
 -- ---- a branch whose test is known
@@ -53,16 +54,11 @@ module _ (c : Code) where
   unfolding fire
   fire-given-not r v k ws e = left (sets c ws r v) (fire c k ws) ws e
 
-  -- the test of `some`: the row has an element with the property q
-  unfoldable pub found : List ℕ → Row → (ℕ → Bool) → Bool
-  unfolding anyFrom span sets
-  found ws r q = anyFrom (span c r) 0 (λ v. q v && sets c ws r v)
-
-  pub fire-some : (r : Row) (q : ℕ → Bool) (k : Rule) (ws : List ℕ) → found ws r q ≡ true → fire c (some r q k) ws ≡ fire c k ws
+  pub fire-some : (r : Row) (q : ℕ → Bool) (k : Rule) (ws : List ℕ) → found c ws r q ≡ true → fire c (some r q k) ws ≡ fire c k ws
   unfolding fire found
   fire-some r q k ws e = taken (anyFrom (span c r) 0 (λ v. q v && sets c ws r v)) (fire c k ws) ws e
 
-  pub fire-some-not : (r : Row) (q : ℕ → Bool) (k : Rule) (ws : List ℕ) → found ws r q ≡ false → fire c (some r q k) ws ≡ ws
+  pub fire-some-not : (r : Row) (q : ℕ → Bool) (k : Rule) (ws : List ℕ) → found c ws r q ≡ false → fire c (some r q k) ws ≡ ws
   unfolding fire found
   fire-some-not r q k ws e = left (anyFrom (span c r) 0 (λ v. q v && sets c ws r v)) (fire c k ws) ws e
 

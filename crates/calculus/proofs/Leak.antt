@@ -20,6 +20,7 @@ use Rattle.calculus.specs.Rules.{guarded, Estimate, leakOf}
 use Rattle.calculus.specs.Layout.{base, shift, span, owner, sets, content, WellFormed}
 use Rattle.calculus.specs.Estimate.{permissionsAt, leakAmong, leak, estimate}
 use Rattle.calculus.specs.Answer.{boundUsed, judge}
+use Rattle.calculus.specs.Correct.{Outside}
 use Rattle.calculus.proofs.Digits.{member-lt}
 use Rattle.calculus.proofs.Slices.{bit-word}
 use Rattle.calculus.proofs.Places.{span-lt}
@@ -116,15 +117,10 @@ unfolding leak
 leak-lt c ρ ws = among-lt c ρ ws (c .blocks)
 
 module _ (c : Code) (ρ bound : ℕ) (ws : List ℕ) where
-  -- x leaks and is not in the bound used
-  pub record Outside (x : ℕ) : Type 0 where
-    pub leaks : T (member (leak c ρ ws) x)
-    pub absent : T (member (boundUsed bound) x) → ⊥
-
   abbrev excess : ℕ
   excess = difference (leak c ρ ws) (boundUsed bound)
 
-  outside : (x : ℕ) → T (member excess x) → Outside x
+  outside : (x : ℕ) → T (member excess x) → Outside (leak c ρ ws) (boundUsed bound) x
   outside x t =
       record {
         leaks = difference-first (leak c ρ ws) (boundUsed bound) x t;
@@ -132,7 +128,7 @@ module _ (c : Code) (ρ bound : ℕ) (ws : List ℕ) where
       }
 
   -- a bound fails precisely where the leak has a member outside it, and the first one reported is the lowest of them
-  pub over-first : T (judge c ρ bound ws .over) → Outside (judge c ρ bound ws .first)
+  pub over-first : T (judge c ρ bound ws .over) → Outside (leak c ρ ws) (boundUsed bound) (judge c ρ bound ws .first)
   unfolding judge
   over-first h =
       outside (lowest excess)
@@ -140,13 +136,13 @@ module _ (c : Code) (ρ bound : ℕ) (ws : List ℕ) where
       (lowest-lt 32 excess (lit≤ tt) (difference-lt 32 (leak c ρ ws) (boundUsed bound) (omega (arith, leak-lt c ρ ws)))
       (λ e. T-not (within (leak c ρ ws) (boundUsed bound)) h (empty-difference (leak c ρ ws) (boundUsed bound) e))))
 
-  pub outside-over : (x : ℕ) → Outside x → T (judge c ρ bound ws .over)
+  pub outside-over : (x : ℕ) → Outside (leak c ρ ws) (boundUsed bound) x → T (judge c ρ bound ws .over)
   unfolding judge
   outside-over x o =
       not-T (within (leak c ρ ws) (boundUsed bound))
       (λ h. o .absent (within-member (leak c ρ ws) (boundUsed bound) x h (o .leaks)))
 
-  pub first-lowest : (x : ℕ) → x < judge c ρ bound ws .first → Outside x → ⊥
+  pub first-lowest : (x : ℕ) → x < judge c ρ bound ws .first → Outside (leak c ρ ws) (boundUsed bound) x → ⊥
   unfolding judge
   first-lowest x l o =
       subst T (lowest-below excess x l) (in-difference (leak c ρ ws) (boundUsed bound) x (o .leaks) (o .absent))

@@ -10,16 +10,10 @@ use Rattle.calculus.specs.Constraint.{C}
 use Rattle.calculus.specs.Rules.{twoRule}
 use Rattle.calculus.specs.Layout.{pour, base, WellFormed}
 use Rattle.calculus.specs.Estimate.{fire}
+unfoldable pub use Rattle.calculus.specs.ResultWords.{operationMask}
 use Rattle.calculus.proofs.OperationMasks.{resultMask, fire-operation}
-use Rattle.calculus.proofs.SignResults.{signsBelow, sumMasks, lessMasks, sum-results, less-results}
-use Rattle.calculus.proofs.EqualResults.{comparables, equalMask, equal-results}
-
--- from the first two words of either row
-unfoldable pub operationMask : Operation → (a0 a1 d0 d1 : ℕ) → ℕ
-unfolding signsBelow sumMasks lessMasks comparables equalMask
-operationMask operations.Add a0 a1 d0 d1 = signsBelow sumMasks a0 d0 9
-operationMask operations.Less a0 a1 d0 d1 = signsBelow lessMasks a0 d0 9
-operationMask operations.Equal a0 a1 d0 d1 = equalMask (comparables a0) a1 (comparables d0) d1
+use Rattle.calculus.proofs.SignResults.{sum-results, less-results}
+use Rattle.calculus.proofs.EqualResults.{equal-results}
 
 module _ (c : Code) (n : c .names ≡ 32) where
   pub result-mask : (o : Operation) (a0 a1 d0 d1 : ℕ) → a0 < 2 ^ 32 → a1 < 2 ^ 32 → d0 < 2 ^ 32 → d1 < 2 ^ 32

@@ -2,11 +2,12 @@
 use Prim.Native.Nat.{ℕ}
 use mathlib.Core.Path.{_≡_, refl, sym, subst}
 use mathlib.Core.List.{List, [], _∷_, map, List·Memᴰ, List·Memᴰ·head}
-use Rattle.permset.specs.Sets.{member, within}
+use Rattle.permset.specs.Sets.{member, within, difference}
+use Rattle.delivery.specs.Delivery.{judged, delivered}
 use Rattle.table.specs.Words.{partsByKind, parts, arity, termsByKind, termOf, constantOf, operationOf, constantNumber}
 use Rattle.table.specs.Scan.{next, under}
 use Rattle.table.specs.Code.{code, nodeFor, scopeFor, homeFor, blocksFrom, taskAt, tasks, trace, part, skip, termNode}
-use Rattle.calculus.specs.Rules.{nameOf, permsOf, guarded, admits}
+use Rattle.calculus.specs.Rules.{nameOf, permsOf, guarded, deliveryTo}
 use Rattle.calculus.specs.Guarantee.{Covers}
 use Rattle.calculus.specs.Values.{Value, unit}
 use Rattle.calculus.specs.Values.{whole, look, getField, deleteField, setField, plain, leftOut, kept, sentAs, known, datum, sameNumber, same, operate}
@@ -14,13 +15,13 @@ use Rattle.calculus.specs.Values.{onAtom, onFunction, onFields, onCell, 
 use Rattle.calculus.specs.Machine.{step, frameStep, secondStep, twoStep, withField, firstStep, choose, oneStep, termStep}
 use Rattle.calculus.specs.Machine.{leafStep, found}
 use Rattle.calculus.specs.Run.{Event, starts, exercised, run, after, act, stepped, moved, effect, sent, joined}
-use Rattle.calculus.specs.Runs.{alone, times, examples, outcome, reached, expected, messages}
+use Rattle.calculus.specs.Runs.{alone, times, stopping, going, opposing, examples, every, outcome, reached, expected, messages}
 
-pub runs : map reached examples ≡ map expected examples
+pub runs : map reached every ≡ map expected every
 unfolding
-    examples reached expected outcome run after act stepped moved effect sent joined step frameStep secondStep twoStep withField firstStep
+    every stopping going opposing examples reached expected outcome run after act stepped moved effect sent joined step frameStep secondStep twoStep withField firstStep
     choose oneStep termStep leafStep found whole look getField deleteField setField plain leftOut kept sentAs known datum sameNumber same operate onAtom
-    onFunction onFields onCell onNumber onText onName onTruth nameOf permsOf guarded admits member within code nodeFor scopeFor homeFor
+    onFunction onFields onCell onNumber onText onName onTruth nameOf permsOf guarded deliveryTo judged delivered difference member within code nodeFor scopeFor homeFor
     blocksFrom taskAt tasks trace part skip termNode next under partsByKind parts arity termsByKind termOf constantOf
     operationOf constantNumber
 runs = refl
@@ -40,7 +41,7 @@ ran : exercised (run (code direct) 0 events) ≡ 2 ∷ []
 unfolding
     exercised run after act stepped moved effect sent joined step frameStep secondStep twoStep withField firstStep
     choose oneStep termStep leafStep found whole look getField deleteField setField plain leftOut kept sentAs known datum sameNumber same operate onAtom
-    onFunction onFields onCell onNumber onText onName onTruth nameOf permsOf guarded admits member within code nodeFor scopeFor homeFor
+    onFunction onFields onCell onNumber onText onName onTruth nameOf permsOf guarded deliveryTo judged delivered difference member within code nodeFor scopeFor homeFor
     blocksFrom taskAt tasks trace part skip termNode next under partsByKind parts arity termsByKind termOf constantOf
     operationOf constantNumber
 ran = refl

@@ -16,25 +16,10 @@ use Rattle.table.specs.declared.Operation.the-variants as operations
 use Rattle.table.specs.Code.{Code}
 use Rattle.calculus.specs.Elements.{isSign, signPlace, sumSigns, lessSigns, bySigns, results}
 use Rattle.calculus.specs.Layout.{bit}
+unfoldable pub use Rattle.calculus.specs.ResultWords.{signEntry, signsBelow, sumMasks, lessMasks}
 use Rattle.calculus.proofs.Digits.{T-and, T-fst, T-snd, T-or, T-or-left, T-or-right, member-or}
 use Rattle.calculus.proofs.Slices.{bit-at}
 use Rattle.calculus.proofs.OperationMasks.{Gives, marks, marks-has, marks-only, resultMask, results-are}
-
--- entry k of a table where both rows have its signs: the first sign is that of its row, the second that of its column
-unfoldable pub signEntry : List ℕ → (a d k : ℕ) → ℕ
-signEntry t a d k = elim (member a (4 + k / 3) && member d (4 + k % 3)) [ true ↦ getD t k 0 | false ↦ 0 ]
-
--- the or over the first n entries
-unfoldable pub signsBelow : List ℕ → (a d n : ℕ) → ℕ
-unfolding signEntry
-signsBelow t a d zero = 0
-signsBelow t a d (suc n) = bitOr (signsBelow t a d n) (signEntry t a d n)
-
-unfoldable pub sumMasks : List ℕ
-sumMasks = 16 ∷ 16 ∷ 112 ∷ 16 ∷ 32 ∷ 64 ∷ 112 ∷ 64 ∷ 64 ∷ []
-
-unfoldable pub lessMasks : List ℕ
-lessMasks = 12 ∷ 4 ∷ 4 ∷ 8 ∷ 8 ∷ 4 ∷ 8 ∷ 8 ∷ 12 ∷ []
 
 -- ---- the digits of the or
 

@@ -8,7 +8,7 @@ use lib.Count.{onesIn}
 use Rattle.permset.specs.Sets.{width, union}
 use Rattle.table.specs.Code.{Code}
 use Rattle.calculus.specs.Elements.{elements}
-use Rattle.calculus.specs.Constraint.{P, Rule, none, put, sub, given, some, only, each, every, _and_}
+use Rattle.calculus.specs.Constraint.{Row, P, Rule, none, put, sub, given, some, only, each, every, _and_}
 use Rattle.calculus.specs.Rules.{rule, guarded}
 use Rattle.calculus.specs.Layout.{mark, pour, estimateWords, base, span, place, sets, content}
 
@@ -37,6 +37,11 @@ through [] f ws = ws
 through (x ∷ xs) f ws = whole (f x ws) (through xs f)
 
 module _ (c : Code) where
+  -- the test of `some`: the row has an element with the property q
+  unfoldable pub found : List ℕ → Row → (ℕ → Bool) → Bool
+  unfolding anyFrom span sets
+  found ws r q = anyFrom (span c r) 0 (λ v. q v && sets c ws r v)
+
   unfoldable pub fire : Rule → List ℕ → List ℕ
   unfolding mark pour place sets content base span anyFrom through whole
   fire none ws = ws

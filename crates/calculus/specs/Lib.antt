@@ -10,3 +10,5 @@ pub mod Machine
 pub mod Run
 pub mod Runs
 pub mod Guarantee
+pub mod Correct
+pub mod ResultWords

@@ -1,10 +1,13 @@
 -- The flow rules: the constraint of each word, in the order and the words of document 01, "Flow rules".
 use Prim.Native.Nat.{ℕ, suc, _+_, _<_}
 use mathlib.Core.List.{List·Memᴰ}
-use mathlib.Core.Bool.{Bool, false, _&&_}
+use mathlib.Core.Bool.{Bool, false}
 use lib.ListN.{getD}
-use lib.Dec.{T, eqb}
+use lib.Dec.{T}
 use Rattle.permset.specs.Sets.{width, member, within}
+use Rattle.delivery.specs.declared.Delivery.{Delivery}
+use Rattle.delivery.specs.declared.Delivery.the-variants as deliveries
+use Rattle.delivery.specs.Delivery.{judged, delivered}
 use Rattle.table.specs.Code.{Code, Node, Leaf, One, Two, gap, block, leaf, one, two, bind, while, branch, update}
 use Rattle.table.specs.Code.{constant, number, literal, named, variable, function, empty, exercise, cell, read}
 use Rattle.table.specs.Code.{apply, sequence, get, delete, assign, operation, send}
@@ -55,10 +58,18 @@ guarded (update a b d) s = false
 unfoldable pub permissions : Code → ℕ → ℕ
 permissions c p = permsOf (c .node (c .home p))
 
--- A send may start a handler, the message aside: to the name n, with r required of the receiver, from a sender with the permissions s.
--- Rule and machine go by this one test.
-unfoldable pub admits : ℕ → ℕ → ℕ → Node → Bool
-admits n r s h = eqb (nameOf h) n && within r (permsOf h) && guarded h s
+-- What becomes of a send, the message aside: to the name n, with r required of the receiver, from a sender with the permissions s. What
+-- is no block is another name. Rule and machine go by this one answer.
+unfoldable pub deliveryTo : (n r s : ℕ) → Node → Delivery
+deliveryTo n r s gap = deliveries.OtherName
+deliveryTo n r s (block m t g) = judged n r s (record { name = m; perms = record { bits = t }; guard = record { bits = g } })
+deliveryTo n r s (leaf l) = deliveries.OtherName
+deliveryTo n r s (one o a) = deliveries.OtherName
+deliveryTo n r s (two t a b) = deliveries.OtherName
+deliveryTo n r s (bind a b) = deliveries.OtherName
+deliveryTo n r s (while a b) = deliveries.OtherName
+deliveryTo n r s (branch a b d) = deliveries.OtherName
+deliveryTo n r s (update a b d) = deliveries.OtherName
 
 -- ---- shapes of rules
 
@@ -134,7 +145,7 @@ module _ (c : Code) (p : ℕ) where
       put (C p) unit
       and some (C d) (sendable c)
       (each (c .blocks)
-      (λ h. only (admits (nameOf (c .node h)) r (permissions c p) (c .node h))
+      (λ h. only (delivered (deliveryTo (nameOf (c .node h)) r (permissions c p) (c .node h)))
       (given (C a) (nameElement (nameOf (c .node h))) (live h and pass c (C d) (sendable c) (B h) and sub (P h) (P p)))))
 
   -- what holds where p is live

@@ -5,7 +5,8 @@ use mathlib.Core.Option.{Option, none, some}
 use mathlib.Core.List.{List, [], _∷_, _++_}
 use lib.ListN.{set, getElem?}
 use Rattle.table.specs.Code.{Code}
-use Rattle.calculus.specs.Rules.{permsOf, guarded, admits}
+use Rattle.delivery.specs.Delivery.{delivered}
+use Rattle.calculus.specs.Rules.{permsOf, guarded, deliveryTo}
 use Rattle.calculus.specs.Values.{Value, Environment, plain, sentAs, datum}
 use Rattle.calculus.specs.Machine.{Control, Frame, Effect, Move, step}
 
@@ -41,7 +42,7 @@ joined false x is rs before = before
 unfoldable pub sent : Code → (held required target : ℕ) → Value → Option ℕ → List Instance → List ℕ → (before : World) → World
 sent c held r n v none is rs before = world is rs
 sent c held r n v (some b) is rs before =
-    joined (plain (sentAs v) && admits n r held (c .node b)) (started (permsOf (c .node b)) b (sentAs v)) is rs before
+    joined (plain (sentAs v) && delivered (deliveryTo n r held (c .node b))) (started (permsOf (c .node b)) b (sentAs v)) is rs before
 
 unfoldable pub effect : Code → (held : ℕ) → Effect → Option ℕ → List Instance → List ℕ → World → World
 effect c held Effect.silent choice is rs before = world is rs

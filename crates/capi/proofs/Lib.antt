@@ -1,5 +1,5 @@
-pub mod Room
 pub mod Samples
 pub mod Written
 pub mod Refusals
 pub mod Systems
+pub mod Demands

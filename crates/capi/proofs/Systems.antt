@@ -1,26 +1,24 @@
 -- The answer to the bytes of a system: refused before the reading, or the answer to its words.
 use Prim.Native.Nat.{ℕ, zero, suc, _+_, _*_, _/_, _^_, _≤_, min}
-use mathlib.Core.Path.{_≡_, refl, sym, ap, _∙_}
+use mathlib.Core.Path.{_≡_, refl, sym, ap, _∙_, subst, subst₂}
 use mathlib.Core.Bool.{Bool, true, false}
 use mathlib.Core.List.{List, [], _∷_, _++_}
 use native.Mathlib.Omega.{arith}
 use lib.Dec.{ltb}
 use lib.ListN.{length, take, drop}
-use lib.Seq.{take-all}
 use borrow.Author.Tests.{ltb-false}
 use Rattle.table.specs.Scan.{firstOf}
 use Rattle.calculus.specs.Answer.{Answer, refused, answer}
 use Rattle.little_endian.specs.LittleEndian.{wordsOf}
-use Rattle.little_endian.proofs.Laws.{length-wordsOf}
-use Rattle.capi.specs.Interface.{bytesAnswer, estimateBytes, workBytes, Answered}
+use Rattle.little_endian.proofs.Laws.{words-read}
+use Rattle.capi.specs.Interface.{bytesAnswer, estimateBytes, workBytes, Answered, CorrectNumber, GuaranteedNumber}
 use Rattle.interface.specs.Numbers.{systemTests, answerNumber}
-use Rattle.capi.proofs.Written.{read-first}
+use Rattle.capi.proofs.Demands.{demands}
 
 -- all words of a system of at most 1,024 bytes
 pub system-read : (bs own now : List ℕ) (n : ℕ) → n ≡ min (length bs / 4) (length own) → now ≡ take n (wordsOf bs) ++ drop n own
     → length own ≡ 256 → length bs ≤ 1024 → take n now ≡ wordsOf bs
-system-read bs own now n count content room most =
-    read-first bs own now n count content ∙ take-all n (wordsOf bs) (omega (arith, length-wordsOf bs))
+system-read bs own now n count content room most = words-read bs own now n count content (omega arith)
 
 first-left : (a b : Bool) → firstOf ((a, 31) ∷ (b, 30) ∷ []) ≡ 0 → a ≡ false
 unfolding firstOf
@@ -51,10 +49,24 @@ pub refused-answered : (ws : List ℕ) (ρ f : ℕ) (est work : List ℕ) → An
 unfolding answerNumber estimateBytes workBytes
 refused-answered ws ρ f est work = record { number = omega arith; estimates = refl; works = refl }
 
--- the three equations of a call, where its answer has another name
-pub answered-as : (ws : List ℕ) (ρ : ℕ) (a b : Answer) (est work : List ℕ) (r : ℕ) (est′ work′ : List ℕ) → Answered ws ρ a est work r est′ work′
-    → a ≡ b → (r ≡ answerNumber b) × ((est′ ≡ estimateBytes ws ρ b est) × (work′ ≡ workBytes ws b work))
-answered-as ws ρ a b est work r est′ work′ d e = (
-  d .number ∙ ap answerNumber e,
-  (d .estimates ∙ ap (λ (x : Answer). estimateBytes ws ρ x est) e, d .works ∙ ap (λ (x : Answer). workBytes ws x work) e),
-)
+-- the equations of a call and the demands, where its answer has another name
+pub answered-as : (system : List ℕ) (ρ bound : ℕ) (est work : List ℕ) (a : Answer) (r : ℕ) (est′ work′ : List ℕ)
+    → Answered (wordsOf system) ρ a est work r est′ work′ → a ≡ bytesAnswer system ρ bound (length est) (length work)
+    → (r ≡ answerNumber (bytesAnswer system ρ bound (length est) (length work)))
+    × ((est′ ≡ estimateBytes (wordsOf system) ρ (bytesAnswer system ρ bound (length est) (length work)) est)
+    × ((work′ ≡ workBytes (wordsOf system) (bytesAnswer system ρ bound (length est) (length work)) work)
+    × (CorrectNumber (wordsOf system) ρ bound est′ r × GuaranteedNumber (wordsOf system) ρ r)))
+answered-as system ρ bound est work a r est′ work′ d e =
+    let p = demands system ρ bound (length est) (length work) est a e in (
+      d .number ∙ ap answerNumber e,
+      (
+        d .estimates ∙ ap (λ (x : Answer). estimateBytes (wordsOf system) ρ x est) e,
+        (
+          d .works ∙ ap (λ (x : Answer). workBytes (wordsOf system) x work) e,
+          (
+            subst₂ (λ (us : List ℕ) (n : ℕ). CorrectNumber (wordsOf system) ρ bound us n) (sym (d .estimates)) (sym (d .number)) (p .0),
+            subst (GuaranteedNumber (wordsOf system) ρ) (sym (d .number)) (p .1),
+          ),
+        ),
+      ),
+    )

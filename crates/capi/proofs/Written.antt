@@ -16,7 +16,7 @@ use Rattle.little_endian.specs.LittleEndian.{wordsOf, bytesOf}
 use Rattle.little_endian.proofs.Laws.{Below, length-wordsOf, written-back, replaced-words}
 use Rattle.capi.specs.Interface.{estimateLeft, estimateBytes, workLeft, workBytes}
 use Rattle.capi.proofs.Refusals.{verdict-fit}
-use Rattle.capi.proofs.Room.{estimate-capped, work-capped, estimate-room, work-room}
+use Rattle.verdict.proofs.Room.{estimate-capped, work-capped, estimate-room, work-room}
 
 -- ---- what a call leaves, by its answer
 

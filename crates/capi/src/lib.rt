@@ -11,7 +11,7 @@ ghost use lib.ListN.{length};
 ghost use Rattle.little_endian.specs.LittleEndian.{wordsOf};
 ghost use Rattle.calculus.specs.Answer.{answer};
 ghost use Rattle.interface.specs.Numbers.{answerNumber};
-ghost use Rattle.capi.specs.Interface.{bytesAnswer, estimateBytes, workBytes, Answered};
+ghost use Rattle.capi.specs.Interface.{bytesAnswer, estimateBytes, workBytes, Answered, CorrectNumber, GuaranteedNumber};
 
 fn of_words(words: &[u32], rho: u32, bound: u32, estimate: &mut [u8], work: &mut [u8]) -> u64
     requires { ⌜ length (now words) ≤ 256 ⌝ }
@@ -50,6 +50,8 @@ pub extern "C" fn wiphosega_verdict(
     ensures answer { λ r. ⌜ r ≡ answerNumber (bytesAnswer (now (system .entry)) rho bound (length (now (estimate .entry))) (length (now (work .entry)))) ⌝ }
     ensures estimate { λ _. ⌜ now (estimate .exit) ≡ estimateBytes (wordsOf (now (system .entry))) rho (bytesAnswer (now (system .entry)) rho bound (length (now (estimate .entry))) (length (now (work .entry)))) (now (estimate .entry)) ⌝ }
     ensures work { λ _. ⌜ now (work .exit) ≡ workBytes (wordsOf (now (system .entry))) (bytesAnswer (now (system .entry)) rho bound (length (now (estimate .entry))) (length (now (work .entry)))) (now (work .entry)) ⌝ }
+    ensures correct { λ r. ⌜ CorrectNumber (wordsOf (now (system .entry))) rho bound (now (estimate .exit)) r ⌝ }
+    ensures guarantee { λ r. ⌜ GuaranteedNumber (wordsOf (now (system .entry))) rho r ⌝ }
 {
     let fault = system_fault(system.len());
     if fault != 0 {

@@ -11,7 +11,7 @@ use lib.Seq.{take-at, take-all, length-take-le}
 use borrow.Author.Tests.{lt-ltb, le-ltb}
 use Rattle.table.specs.Scan.{firstOf}
 use Rattle.little_endian.specs.LittleEndian.{wordsOf, bytesOf, wholeWords}
-use Rattle.little_endian.proofs.Laws.{length-wordsOf}
+use Rattle.little_endian.proofs.First.{words-first}
 use Rattle.listing.specs.declared.Answer.{Answer}
 use Rattle.listing.specs.declared.Answer.the-variants.{Done, Refused}
 use Rattle.listing.specs.declared.Refusal.{Refusal}
@@ -43,62 +43,44 @@ unfolding writeAnswer
 write-even system room e = rw (e, writeAnswer)
 
 -- the words that the code has: at most 1,025 of them
-module _ (system zeros words : List ℕ) (n : ℕ) (long : length zeros ≡ 1025) (count : n ≡ wholeWords system zeros) (content : words ≡ take n (wordsOf system) ++ drop n zeros) where
-  few : n ≤ length (wordsOf system)
-  few = omega (arith, length-wordsOf system)
+module _ (system zeros words : List ℕ) (n : ℕ) (long : length zeros ≡ 1025) (count : n ≡ wholeWords system zeros) (content : words ≡ take n (wordsOf system) ++ drop n zeros) (room : ℕ) (out : List ℕ) (even : length system % 4 ≡ 0) where
+  first : take n words ≡ take 1025 (wordsOf system)
+  first = words-first 1025 system zeros words n long count content
 
-  pub words-size : length (take n words) ≡ n
-  words-size = ap length (ap (take n) content ∙ take-at (take n (wordsOf system)) (drop n zeros) n (length-take-le n (wordsOf system) few)) ∙ length-take-le n (wordsOf system) few
+  pub write-answer : written (take n words) room ≡ writeAnswer system room
+  write-answer = ap (λ (v : List ℕ). written v room) first ∙ write-first (wordsOf system) room ∙ sym (write-even system room even)
 
-  pub words-few : n ≤ 1025
-  words-few = omega arith
-
-  pub words-first : take n words ≡ take 1025 (wordsOf system)
-  words-first = ap (take n) content ∙ take-at (take n (wordsOf system)) (drop n zeros) n (length-take-le n (wordsOf system) few) ∙ go (decLt 1025 (length (wordsOf system)))
-    where
-      go : Dec (1025 < length (wordsOf system)) → take n (wordsOf system) ≡ take 1025 (wordsOf system)
-      go (yes h) = let e : n ≡ 1025 = omega (arith, length-wordsOf system) in ap (λ (k : ℕ). take k (wordsOf system)) e
-      go (no h) = take-all n (wordsOf system) (omega (arith, h, length-wordsOf system)) ∙ sym (take-all 1025 (wordsOf system) (omega (arith, h)))
-
-  module _ (room : ℕ) (out : List ℕ) (even : length system % 4 ≡ 0) where
-    pub write-answer : written (take n words) room ≡ writeAnswer system room
-    write-answer = ap (λ (v : List ℕ). written v room) words-first ∙ write-first (wordsOf system) room ∙ sym (write-even system room even)
-
-    pub write-left : left (written (take n words) room) (listing (take n words)) out ≡ left (writeAnswer system room) (listing (wordsOf system)) out
-    write-left =
-        ap (λ (v : List ℕ). left (written v room) (listing v) out) words-first
-        ∙ write-first-left (wordsOf system) room out
-        ∙ ap (λ (a : Answered). left a (listing (wordsOf system)) out) (sym (write-even system room even))
+  pub write-left : left (written (take n words) room) (listing (take n words)) out ≡ left (writeAnswer system room) (listing (wordsOf system)) out
+  write-left =
+      ap (λ (v : List ℕ). left (written v room) (listing v) out) first
+      ∙ write-first-left (wordsOf system) room out
+      ∙ ap (λ (a : Answered). left a (listing (wordsOf system)) out) (sym (write-even system room even))
 
 -- ---- reading
 
-module _ (words system : List ℕ) (count : ℕ) where
-  pub put-short : length system / 4 < count → PutAs words count system system 4297719808
-  unfolding placed inBytes answerNumber left tested firstOf
-  put-short h =
-      let e : placed count (length system) ≡ refusal 42 0 = ap (λ (b : Bool). inBytes (tested ((b, 42) ∷ []) count)) (lt-ltb (length system / 4) count h) in
-      record { answer = sym (ap answerNumber e); bytes = sym (ap (λ (a : Answered). left a (bytesOf (take count words)) system) e) }
+module _ (number : ℕ) (words system : List ℕ) (count : ℕ) where
+  pub put-short : (r : ℕ) → r ≡ 4294967296 + number * 65536 → length system / 4 < count → PutAs number words count system system r
+  unfolding placed answerNumber left
+  put-short r q h =
+      let e : placed number count (length system) ≡ refusal number 0 = rw (placed, lt-ltb (length system / 4) count h) in
+      record { answer = q ∙ (omega arith) ∙ sym (ap answerNumber e); bytes = sym (ap (λ (a : Answered). left a (bytesOf (take count words)) system) e) }
 
-  pub put-whole : (after : List ℕ) → count ≤ length system / 4 → after ≡ bytesOf (take count words) ++ drop (4 * count) system → PutAs words count system after (4 * count)
-  unfolding placed inBytes answerNumber left tested firstOf
+  pub put-whole : (after : List ℕ) → count ≤ length system / 4 → after ≡ bytesOf (take count words) ++ drop (4 * count) system
+      → PutAs number words count system after (4 * count)
+  unfolding placed answerNumber left
   put-whole after h q =
-      let e : placed count (length system) ≡ done (4 * count) = ap (λ (b : Bool). inBytes (tested ((b, 42) ∷ []) count)) (le-ltb (length system / 4) count h) in
+      let e : placed number count (length system) ≡ done (4 * count) = rw (placed, le-ltb (length system / 4) count h) in
       record { answer = sym (ap answerNumber e); bytes = q ∙ sym (ap (λ (a : Answered). left a (bytesOf (take count words)) system) e) }
 
 -- where 1,024 words of room gave an answer
-pub read-done : (text : List ℕ) (n size : ℕ) → readAs text 1024 ≡ done n → placed n size ≡ readAnswer text size
-unfolding placed readAnswer inRoom
-read-done text n size e = sym (ap inBytes (read-room text (size / 4) ∙ ap (inRoom (size / 4)) e))
+pub read-done : (text : List ℕ) (n size : ℕ) → readAs text 1024 ≡ done n → placed 42 n size ≡ readAnswer text size
+unfolding placed readAnswer inRoom inBytes tested firstOf
+read-done text n size e = go (ltb (size / 4) n) ∙ sym (ap inBytes (read-room text (size / 4) ∙ ap (inRoom (size / 4)) e))
+  where
+    go : (b : Bool) → _≡_ {A = Answered} (elim b [ true ↦ refusal 42 0 | false ↦ done (4 * n) ]) (inBytes (tested ((b, 42) ∷ []) n))
+    go true = refl
+    go false = refl
 
 pub read-refused : (text : List ℕ) (n p size : ℕ) → readAs text 1024 ≡ refusal n p → refusal n p ≡ readAnswer text size
 unfolding readAnswer inRoom inBytes
 read-refused text n p size e = sym (ap inBytes (read-room text (size / 4) ∙ ap (inRoom (size / 4)) e))
-
--- the words that were read, and how many they are
-pub read-few : (text : List ℕ) (n : ℕ) → readAs text 1024 ≡ done n → n ≤ 1024
-read-few text n e = omega (arith, read-count text 1024 n e, size-le (Listing·wordsOf text) (read-accepted text 1024 n e))
-
-pub read-words : (text words zeros : List ℕ) (n : ℕ) → readAs text 1024 ≡ done n → words ≡ left (readAs text 1024) (Listing·wordsOf text) zeros → take n words ≡ Listing·wordsOf text
-unfolding left
-read-words text words zeros n e q =
-    ap (take n) (q ∙ ap (λ (a : Answered). left a (Listing·wordsOf text) zeros) e) ∙ take-at (Listing·wordsOf text) (drop n zeros) n (sym (read-count text 1024 n e))

@@ -1,15 +1,27 @@
--- Bit 32 of the answer says whether a manifest is refused, for all bytes. Assumes nothing.
-use Prim.Native.Nat.{ℕ, zero, suc, _+_, _*_, _/_, _%_, _^_, _<_}
-use mathlib.Core.Path.{_≡_, refl, sym, subst}
+-- Bit 32 of an answer says whether it is a refusal, for all bytes: of a manifest, of a look-up and of a join. Assumes nothing.
+use Prim.Native.Nat.{ℕ, zero, suc, _+_, _-_, _*_, _/_, _%_, _^_, _<_, _≤_}
+use mathlib.Core.Path.{_≡_, refl, sym, ap, subst, _∙_}
 use mathlib.Core.Bool.{Bool, true, false}
 use mathlib.Core.List.{List, []}
 use native.Mathlib.Omega.{arith}
+use native.Mathlib.Decide.{ℕ-discrete}
+use lib.ListN.{length, replicate, length-replicate}
 use Rattle.manifest.specs.Strings.{ascii}
 use Rattle.manifest.specs.Members.{Count, notStrings, strings, repeated, find}
 use Rattle.manifest.specs.Manifest.{Outcome, refused, accepted, isObject, sources, total, version, counts, judgedFrom, judged}
 use Rattle.manifest.proofs.Judged.{judged-not, judged-object, judged-repeated, judged-unversioned, judged-versioned}
 use Rattle.manifest.proofs.Bounds.{Small, judged-small}
+use Rattle.little_endian.specs.LittleEndian.{wordsOf}
+use Rattle.listing.specs.Listing.{Answered, done, refusal}
+use Rattle.overlay.specs.Lookup.{Place, inBase, inOverlay}
+use Rattle.overlay.specs.Lookup as lookup
+use Rattle.overlay.specs.Join.{Answer, written, joinAnswer}
+use Rattle.overlay.specs.Join as join
+use Rattle.overlay.proofs.Theorems.{joined-few}
+use Rattle.capi_text.specs.Interface.{answerNumber}
 use Rattle.capi_text.specs.Manifest.{outcomeNumber}
+use Rattle.capi_text.specs.Overlay.{oddNumber, lookupAnswer, placeNumber, joinBytes, joinedAnswer}
+use Rattle.capi_text.proofs.TwoTables.{Inside, place-small, odd-small, lookup-odd, lookup-even, join-odd, join-even, join-refused-small}
 
 unfoldable pub refusedBit : Outcome → ℕ
 refusedBit (accepted version set others) = 0
@@ -54,3 +66,73 @@ bit-32 text = bit (judged text) (judged-fit text)
 pub refused-number : (r number : ℕ) → r ≡ 2 ^ 32 + number * 65536 → r ≡ outcomeNumber (refused number 0)
 unfolding outcomeNumber
 refused-number r number e = omega arith
+
+-- ---- a table laid over another
+
+lookup-small : (base overlay : List ℕ) (n s : ℕ) → Inside (lookupAnswer base overlay n s)
+lookup-small base overlay n s = go (ℕ-discrete (oddNumber base overlay) 0)
+  where
+    go : Dec (oddNumber base overlay ≡ 0) → Inside (lookupAnswer base overlay n s)
+    go (yes e) = subst Inside (sym (lookup-even base overlay e n s)) (place-small _ _ n s)
+    go (no h) = subst Inside (sym (lookup-odd base overlay h n s)) (odd-small base overlay, omega arith)
+
+-- the fields of an answer: bits 0 to 15, bits 16 to 31, and the bits from 32 on, of which bit 32 is that of a refusal
+abbrev Fields : Place → ℕ → Type 0
+Fields (inBase a e) k = (k % 65536 ≡ 4 * a) × (k / 65536 % 65536 ≡ 4 * (e - a)) × (k / 2 ^ 32 ≡ 0)
+Fields (inOverlay a e) k = (k % 65536 ≡ 4 * a) × (k / 65536 % 65536 ≡ 4 * (e - a)) × (k / 2 ^ 32 ≡ 2)
+Fields (lookup.refusal n p) k = (k % 65536 ≡ p) × (k / 65536 % 65536 ≡ n) × (k / 2 ^ 32 ≡ 1)
+
+split : (k x y z : ℕ) → x < 65536 → y < 65536 → k ≡ x + y * 65536 + z * 2 ^ 32
+    → (k % 65536 ≡ x) × (k / 65536 % 65536 ≡ y) × (k / 2 ^ 32 ≡ z)
+split k x y z h g e =
+    let q : k / 65536 ≡ y + z * 65536 = omega arith in
+    (omega arith, ap (λ (n : ℕ). n % 65536) q ∙ omega arith, omega arith)
+
+fields : (p : Place) → Inside p → Fields p (placeNumber p)
+unfolding placeNumber
+fields (inBase a e) h = split _ (4 * a) (4 * (e - a)) 0 (omega (arith, h .0, h .1)) (omega (arith, h .1)) (omega arith)
+fields (inOverlay a e) h = split _ (4 * a) (4 * (e - a)) 2 (omega (arith, h .0, h .1)) (omega (arith, h .1)) (omega arith)
+fields (lookup.refusal n p) h = split _ p n 1 (omega (arith, h .1)) (omega (arith, h .0)) (omega arith)
+
+pub lookup-fields : (base overlay : List ℕ) (n s : ℕ) → Fields (lookupAnswer base overlay n s) (placeNumber (lookupAnswer base overlay n s))
+lookup-fields base overlay n s = fields (lookupAnswer base overlay n s) (lookup-small base overlay n s)
+
+unfoldable pub answeredBit : Answered → ℕ
+answeredBit (done n) = 0
+answeredBit (refusal n p) = 1
+
+abbrev Bounded : Answered → Type 0
+Bounded (done n) = n ≤ 4096
+Bounded (refusal n p) = (n ≤ 130) × (p ≤ 1025)
+
+answered-bit : (a : Answered) → Bounded a → answerNumber a / 2 ^ 32 % 2 ≡ answeredBit a
+unfolding answerNumber answeredBit
+answered-bit (done n) h = omega (arith, h)
+answered-bit (refusal n p) h = omega (arith, h .0, h .1)
+
+joined-bounded : (base overlay : List ℕ) (size : ℕ) → Bounded (joinedAnswer base overlay size)
+unfolding joinBytes
+joined-bounded base overlay size = go (ℕ-discrete (oddNumber base overlay) 0)
+  where
+    words : List ℕ
+    words = replicate (size / 4) 0
+
+    room : length words ≡ size / 4
+    room = length-replicate {A = ℕ} (size / 4) 0
+
+    by : (a : Answer) → joinAnswer (wordsOf base) (wordsOf overlay) (length words) ≡ a → Bounded (joinBytes a)
+    by (written n) e = let f = joined-few (wordsOf base) (wordsOf overlay) words n e in omega arith
+    by (join.refusal n p) e =
+        let f = join-refused-small (wordsOf base) (wordsOf overlay) words n p e in
+        (omega arith, omega arith)
+
+    go : Dec (oddNumber base overlay ≡ 0) → Bounded (joinedAnswer base overlay size)
+    go (yes e) =
+        subst Bounded
+        (sym (join-even base overlay e size ∙ ap (λ (k : ℕ). joinBytes (joinAnswer (wordsOf base) (wordsOf overlay) k)) (sym room)))
+        (by (joinAnswer (wordsOf base) (wordsOf overlay) (length words)) refl)
+    go (no h) = subst Bounded (sym (join-odd base overlay h size)) (odd-small base overlay, omega arith)
+
+pub join-bit-32 : (base overlay : List ℕ) (size : ℕ)
+    → answerNumber (joinedAnswer base overlay size) / 2 ^ 32 % 2 ≡ answeredBit (joinedAnswer base overlay size)
+join-bit-32 base overlay size = answered-bit (joinedAnswer base overlay size) (joined-bounded base overlay size)

@@ -1,11 +1,12 @@
 -- The C interface of listings: the system and the text as bytes.
 use Prim.Native.Nat.{ℕ, zero, suc, _+_, _*_, _/_, _%_, _^_}
 use mathlib.Core.Path.{_≡_}
-use mathlib.Core.List.{List, [], _∷_}
+use mathlib.Core.Bool.{true, false}
+use mathlib.Core.List.{List}
 use lib.Dec.{ltb}
 use lib.ListN.{length, take}
 use Rattle.little_endian.specs.LittleEndian.{wordsOf, bytesOf}
-use Rattle.listing.specs.Listing.{Answered, done, refusal, left, tested, listing, written, readAs}
+use Rattle.listing.specs.Listing.{Answered, done, refusal, left, listing, written, readAs}
 use Rattle.listing.specs.Listing.{wordsOf as Listing·wordsOf}
 
 -- how many bytes are written; refused, 2^32 + number × 65,536 + place
@@ -35,12 +36,11 @@ readAnswer text size = inBytes (readAs text (size / 4))
 abbrev pub systemAfter : List ℕ → List ℕ → List ℕ
 systemAfter text system = left (readAnswer text (length system)) (bytesOf (Listing·wordsOf text)) system
 
--- the answer where so many words are read and the slice has `size` bytes
-unfoldable pub placed : ℕ → ℕ → Answered
-unfolding inBytes
-placed count size = inBytes (tested ((ltb (size / 4) count, 42) ∷ []) count)
+-- the answer where so many words are put into a slice of `size` bytes, which is refused with this number if it is too short
+unfoldable pub placed : (number count size : ℕ) → Answered
+placed number count size = elim (ltb (size / 4) count) [ true ↦ refusal number 0 | false ↦ done (4 * count) ]
 
 -- so many of the words are put into the slice, or it is too short
-pub record PutAs (words : List ℕ) (count : ℕ) (before after : List ℕ) (r : ℕ) : Type 0 where
-  pub answer : r ≡ answerNumber (placed count (length before))
-  pub bytes : after ≡ left (placed count (length before)) (bytesOf (take count words)) before
+pub record PutAs (number : ℕ) (words : List ℕ) (count : ℕ) (before after : List ℕ) (r : ℕ) : Type 0 where
+  pub answer : r ≡ answerNumber (placed number count (length before))
+  pub bytes : after ≡ left (placed number count (length before)) (bytesOf (take count words)) before

@@ -1,5 +1,6 @@
-// Listings for programs in C, over bytes.
+// Listings for programs in C, over bytes. Manifests and overlays stand in files of their own.
 mod manifests;
+mod overlays;
 
 use listing::Answer;
 use listing::Refusal;
@@ -40,15 +41,15 @@ pub extern "C" fn wiphosega_listing_write(system: &[u8], text: &mut [u8]) -> u64
     }
 }
 
-// The first words, as bytes, where the slice has room for them.
-fn put_system(words: &[u32], count: usize, system: &mut [u8]) -> u64
+// The first words, as bytes, where the slice has room for them; where it has not, a refusal with this number.
+fn put_words(words: &[u32], count: usize, bytes: &mut [u8], number: u32) -> u64
     requires { ⌜ (count ≤ length (now words)) × (count ≤ 1024) ⌝ }
-    ensures { λ r. ⌜ PutAs (now (words .entry)) count (now (system .entry)) (now (system .exit)) r ⌝ }
+    ensures { λ r. ⌜ PutAs number (now (words .entry)) count (now (bytes .entry)) (now (bytes .exit)) r ⌝ }
 {
-    if system.len() / 4 < count {
-        return 4297719808;
+    if bytes.len() / 4 < count {
+        return 4294967296 + number as u64 * 65536;
     }
-    bytes_of(&words[..count], system);
+    bytes_of(&words[..count], bytes);
     4 * count as u64
 }
 
@@ -61,7 +62,7 @@ pub extern "C" fn wiphosega_listing_read(text: &[u8], system: &mut [u8]) -> u64
 {
     let mut words = [0u32; 1024];
     match read(text, &mut words) {
-        Answer::Done(count) => put_system(&words, count, system),
+        Answer::Done(count) => put_words(&words, count, system, 42),
         Answer::Refused(r) => refusal_answer(r),
     }
 }

@@ -9,9 +9,10 @@ use lib.Dec.{T}
 use lib.ListN.{length}
 use Rattle.permset.specs.Sets.{width, member, within}
 use Rattle.table.specs.Code.{Code, Linked, exercise, two, send}
+use Rattle.delivery.specs.Delivery.{delivered}
 use Rattle.calculus.specs.Elements.{plain, made, nameElement, sendable, undefined, unit, opponentRecord, Making, isFunction, isRecord, isCell, makes, anyRecord}
 use Rattle.calculus.specs.Constraint.{Row, C, B, P, L, Sets, Rule, Obeys, put, sub, given, some, only, each, every, _and_}
-use Rattle.calculus.specs.Rules.{nameOf, admits, live, part, fill, pass, eachMade, permissions, leafRule, twoRule, flow}
+use Rattle.calculus.specs.Rules.{nameOf, deliveryTo, live, part, fill, pass, eachMade, permissions, leafRule, twoRule, flow}
 use Rattle.calculus.specs.Layout.{sets, WellFormed}
 use Rattle.calculus.proofs.Ranges.{below-in}
 use Rattle.rows.specs.declared.layout.Layout.{Layout}
@@ -131,5 +132,5 @@ send-is c e s q {x} {y} {z} d u v =
     and-parts e d (both e (put-is e (C (s .p)) unit u) (subst (λ (n : ℕ). Decides e
     (some (C (s .d)) (sendable c)
     (each (c .blocks)
-    (λ h. only (admits (nameOf (c .node h)) (s .required .bits) n (c .node h))
+    (λ h. only (delivered (deliveryTo (nameOf (c .node h)) (s .required .bits) n (c .node h)))
     (given (C (s .p + 1)) (nameElement (nameOf (c .node h))) (delivery c (s .p) (s .d) h))))) z) q v))

@@ -5,10 +5,9 @@ use mathlib.Core.Logic.{⊎-elim}
 use mathlib.Core.Bool.{Bool, true, false, not, _&&_}
 use mathlib.Core.List.{List, [], _∷_, List·Memᴰ, List·Memᴰ·head, List·Memᴰ·tail, List·Memᴰ·cases-cons, List·Memᴰ·not-nil}
 use native.Mathlib.Omega.{arith}
-use borrow.Author.Tests.{eq-eqb}
-use lib.Dec.{T, eqb}
+use lib.Dec.{T}
 use lib.ListN.{length, getD, drop}
-use Rattle.permset.specs.Sets.{within}
+use Rattle.delivery.specs.Delivery.{delivered}
 use Rattle.table.specs.Words.{argument, names}
 use Rattle.table.specs.Scan.{name, accepted, reading}
 use Rattle.table.specs.Code.{Code, Node, Linked, block, code, tasks, taskAt, nodeFor, blocksFrom, endOf, part}
@@ -16,16 +15,18 @@ use Rattle.table.specs.Links.{linkAt, LinksOf}
 use Rattle.table.proofs.Linked.{linked as code-linked}
 use Rattle.table.proofs.Blocks.{Follows, Block, block as block-words, head-word, blocks-first, blocks-next, blocks-end}
 use Rattle.table.proofs.BlockLoop.{blocksOn}
-use Rattle.calculus.specs.Elements.{plain, nameElement, sendable}
+use Rattle.calculus.specs.Elements.{plain, nameElement, sendable, elements}
 use Rattle.calculus.specs.Constraint.{C, B, P, L, Sets, Rule, Obeys, put, sub, given, only, each, _and_}
-use Rattle.calculus.specs.Rules.{nameOf, permsOf, guarded, admits, live, pass}
+use Rattle.calculus.specs.Rules.{nameOf, deliveryTo, live, pass}
 use Rattle.calculus.specs.Layout.{sets, WellFormed}
 use Rattle.rows.specs.declared.layout.Layout.{Layout}
 use Rattle.clauses.specs.Asks.{rowAt, sortAt}
 use Rattle.clauses.proofs.Sorts.{row-C, row-B}
+use Rattle.queries.specs.Starts.{startsAt}
+use Rattle.queries.proofs.Sends.{answer-so, named-so, named-not}
 use Rattle.checker.specs.declared.sends.Sending.{Sending}
 use Rattle.checker.specs.Decides.{Decides}
-use Rattle.checker.specs.Sends.{delivery, toBlock, mayStart, Sent}
+use Rattle.checker.specs.Sends.{delivery, toBlock, Sent}
 use Rattle.checker.proofs.Laws.{decided, both, put-decides, only-so, only-not, given-so, given-not, negated-true, negated-false}
 
 pub delivered-is : (c : Code) (e : Sets) (p d b : ℕ) {r s t : Bool} → r ≡ e (L b) 0
@@ -51,45 +52,38 @@ module _ (ws masks est : List ℕ) (l : Layout) (s : Sending) (h : Sent ws masks
   unfolding code
   name-in = omega (arith, words-of .named, h .laid .lead)
 
+  pub name-element : 32 + argument (getD ws b 0) < elements c
+  unfolding code
+  name-element = omega (arith, words-of .named)
+
   node-is : c .node b ≡ block (argument (getD ws b 0)) (argument (getD ws (b + 1) 0)) (argument (getD ws (b + 2) 0))
   unfolding code nodeFor
   node-is = ap (nodeFor ws b) t
 
-  named-is : nameOf (c .node b) ≡ argument (getD ws b 0)
-  unfolding nameOf
-  named-is = ap nameOf node-is
-
-  admitted-is : admits (nameOf (c .node b)) (s .required .bits) (s .own .bits) (c .node b) ≡ mayStart ws s b
-  unfolding admits nameOf permsOf guarded
-  admitted-is =
-      ap (λ (n : Node). admits (nameOf n) (s .required .bits) (s .own .bits) n) node-is
-      ∙ ap (λ (x : Bool). (x && within (s .required .bits) (argument (getD ws (b + 1) 0))) && within (argument (getD ws (b + 2) 0)) (s .own .bits))
-      (eq-eqb (argument (getD ws b 0)) (argument (getD ws b 0)) refl)
-
   abbrev e : Sets
   e = sets c est
 
-  abbrev heard : Bool
-  heard = e (C (s .p + 1)) (nameElement (argument (getD ws b 0)))
+  abbrev starting : Bool
+  starting = startsAt c ws est (s .p) (s .required .bits) (s .own .bits) b
 
-  heard-is : e (C (s .p + 1)) (nameElement (nameOf (c .node b))) ≡ heard
-  heard-is = ap (λ (n : ℕ). e (C (s .p + 1)) (nameElement n)) named-is
+  abbrev answer : Bool
+  answer = delivered (deliveryTo (nameOf (c .node b)) (s .required .bits) (s .own .bits) (c .node b))
 
-  under-only : {k : Rule} (x : Bool) → Decides e k true → Decides e (only x k) true
-  under-only x d = record { yes = λ z y. d .yes tt; no = λ o. tt }
+  pub unstarted : {r : Bool} → r ≡ starting → not r ≡ true → Decides e (toBlock c s b) true
+  unstarted {r} q n = go answer refl
+    where
+      go : (t : Bool) → answer ≡ t → Decides e (toBlock c s b) true
+      go true g =
+          only-so e _ g
+          (given-not e (C (s .p + 1)) (nameElement (nameOf (c .node b)))
+          (named-not ws est (s .p) (s .required .bits) (s .own .bits) b node-is (sym q ∙ negated-true n) g))
+      go false g = only-not e _ g
 
-  pub unheard : {r : Bool} → r ≡ heard → not r ≡ true → Decides e (toBlock c s b) true
-  unheard {r} q n =
-      under-only _ (given-not e (C (s .p + 1)) (nameElement (nameOf (c .node b))) (heard-is ∙ sym q ∙ negated-true n))
-
-  pub unadmitted : {r : Bool} → r ≡ mayStart ws s b → not r ≡ true → Decides e (toBlock c s b) true
-  unadmitted {r} q n = only-not e _ (admitted-is ∙ sym q ∙ negated-true n)
-
-  pub started : {r x y : Bool} → r ≡ heard → not r ≡ false → x ≡ mayStart ws s b → not x ≡ false → Decides e (delivery c (s .p) (s .d) b) y
-      → Decides e (toBlock c s b) y
-  started {r} {x} q n v m d =
-      only-so e _ (admitted-is ∙ sym v ∙ negated-false m)
-      (given-so e (C (s .p + 1)) (nameElement (nameOf (c .node b))) (heard-is ∙ sym q ∙ negated-false n) d)
+  pub started : {r y : Bool} → r ≡ starting → not r ≡ false → Decides e (delivery c (s .p) (s .d) b) y → Decides e (toBlock c s b) y
+  started {r} q n d =
+      let z : starting ≡ true = sym q ∙ negated-false n in
+      only-so e _ (answer-so ws est (s .p) (s .required .bits) (s .own .bits) b node-is z)
+      (given-so e (C (s .p + 1)) (nameElement (nameOf (c .node b))) (named-so ws est (s .p) (s .required .bits) (s .own .bits) b node-is z) d)
 
 -- ---- all blocks in turn
 

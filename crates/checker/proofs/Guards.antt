@@ -8,7 +8,6 @@ use lib.Dec.{T, eqb}
 use borrow.Author.Tests.{eq-eqb}
 use lib.ListN.{length, getD}
 use Rattle.permset.specs.Sets.{within}
-use Rattle.permset.proofs.Laws.{empty-within}
 use Rattle.table.specs.declared.Item.{Item}
 use Rattle.table.specs.Words.{kind, argument}
 use Rattle.table.specs.Item.{handlerAt, itemAt}
@@ -22,14 +21,13 @@ use Rattle.table.proofs.Items.{item-block}
 use Rattle.table.proofs.Nodes.{itemNode, nodeAt, node-item}
 use Rattle.table.proofs.Blocks.{head-word, listed-block}
 use Rattle.calculus.specs.Constraint.{Row, B, L, Sets, Rule, put, only, _and_}
-use Rattle.calculus.specs.Rules.{nameOf, permsOf, guarded, admits, live, fill, entry}
+use Rattle.calculus.specs.Rules.{guarded, live, fill, entry}
 use Rattle.calculus.specs.Layout.{sets}
-use Rattle.calculus.proofs.Digits.{T-and}
 use Rattle.calculus.proofs.Masks.{T-false}
 use Rattle.rows.specs.declared.layout.Layout.{Layout}
 use Rattle.clauses.specs.Asks.{rowAt}
 use Rattle.clauses.proofs.Sorts.{row-B}
-use Rattle.clauses.proofs.Asked.{admitted-listed}
+use Rattle.clauses.proofs.Asked.{listed-guarded}
 use Rattle.checker.specs.Decides.{Decides}
 use Rattle.checker.specs.Words.{Accepted}
 use Rattle.checker.proofs.Laws.{both, put-is, only-so, only-not, negated-true, negated-false}
@@ -47,13 +45,9 @@ module _ (ws : List ℕ) (r : reading ws ≡ accepted) (p : ℕ) (h : p < code w
 
   -- only a block has a guard
   guard-kind : (s : ℕ) → T (guarded (c .node p) s) → kind (getD ws p 0) ≡ 2
-  unfolding admits code
+  unfolding code
   guard-kind s g =
-      let m : List·Memᴰ p (c .blocks) =
-      admitted-listed c (code-linked ws r) (λ x v. true) (nameOf (c .node p)) 0 s p
-      (T-and (eqb (nameOf (c .node p)) (nameOf (c .node p)) && within 0 (permsOf (c .node p))) (guarded (c .node p) s)
-      (T-and (eqb (nameOf (c .node p)) (nameOf (c .node p))) (within 0 (permsOf (c .node p))) (subst T (sym (eq-eqb (nameOf (c .node p)) (nameOf (c .node p)) refl)) tt) (empty-within (permsOf (c .node p)))) g)
-      in
+      let m : List·Memᴰ p (c .blocks) = listed-guarded c (code-linked ws r) (λ x v. true) p s g in
       let x = listed-block ws r p m in
       subst (λ (u : Task). Stands (reach ws r p (x .0) .keys) (getD ws p 0) u) (x .1) (place-stands ws r p (x .0)) .0
 

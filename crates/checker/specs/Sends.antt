@@ -1,17 +1,15 @@
 -- What a send asks for the blocks that it may start.
 use Prim.Native.Nat.{ℕ, _+_, _<_, _≤_}
 use mathlib.Core.Path.{_≡_}
-use mathlib.Core.Bool.{Bool, _&&_}
 use mathlib.Core.List.{List}
-use lib.ListN.{length, getD}
-use Rattle.permset.specs.Sets.{within}
-use Rattle.table.specs.Words.{argument}
+use lib.ListN.{length}
+use Rattle.delivery.specs.Delivery.{delivered}
 use Rattle.table.specs.Scan.{accepted, reading}
 use Rattle.table.specs.Code.{Code, code}
 use Rattle.table.specs.Links.{linked}
 use Rattle.calculus.specs.Elements.{nameElement, sendable}
 use Rattle.calculus.specs.Constraint.{C, B, P, Rule, sub, given, some, only, each, _and_}
-use Rattle.calculus.specs.Rules.{nameOf, admits, live, pass}
+use Rattle.calculus.specs.Rules.{nameOf, deliveryTo, live, pass}
 use Rattle.calculus.specs.Layout.{WellFormed}
 use Rattle.rows.specs.declared.layout.Layout.{Layout}
 use Rattle.rows.specs.Laid.{LaidOut, Sized}
@@ -25,12 +23,8 @@ delivery c p d b = live b and pass c (C d) (sendable c) (B b) and sub (P b) (P p
 -- for the block b
 abbrev pub toBlock : Code → Sending → ℕ → Rule
 toBlock c s b =
-    only (admits (nameOf (c .node b)) (s .required .bits) (s .own .bits) (c .node b))
+    only (delivered (deliveryTo (nameOf (c .node b)) (s .required .bits) (s .own .bits) (c .node b)))
     (given (C (s .p + 1)) (nameElement (nameOf (c .node b))) (delivery c (s .p) (s .d) b))
-
--- the send may start the block b, its name aside
-abbrev pub mayStart : List ℕ → Sending → ℕ → Bool
-mayStart ws s b = within (s .required .bits) (argument (getD ws (b + 1) 0)) && within (argument (getD ws (b + 2) 0)) (s .own .bits)
 
 -- for each block, where there is something to send
 abbrev pub sent : Code → Sending → Rule

@@ -8,7 +8,7 @@ use Rattle.table.specs.Code.{Code}
 use Rattle.calculus.specs.Elements.{made, undefined, isString, anyRecord, isRecord, opponentRecord}
 use Rattle.calculus.specs.Constraint.{Row, C, B, P, Rule, put, sub, given, some, _and_}
 use Rattle.calculus.specs.Rules.{live, fill, eachMade}
-use Rattle.calculus.proofs.OperationResults.{operationMask}
+use Rattle.calculus.specs.ResultWords.{operationMask}
 use Rattle.clauses.specs.Asks.{rowAt}
 use Rattle.checker.specs.declared.things.Action.{Action}
 use Rattle.checker.specs.declared.things.Action.the-variants as actions

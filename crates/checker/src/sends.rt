@@ -1,11 +1,10 @@
 // What a send asks for each block that it may start.
-use crate::tests::in_value;
 use crate::tests::lifted;
 use crate::tests::passed_by;
 use permset::PermSet;
 use queries::is_live;
+use queries::starts;
 use rows::layout::Layout;
-use table::words::argument_of;
 use table_links::link_at;
 ghost use mathlib.Core.Path.{_≡_};
 ghost use Prim.Native.Nat.{_+_, _*_, _<_, _≤_};
@@ -16,7 +15,7 @@ ghost use Rattle.table.specs.Links.{LinksOf};
 ghost use Rattle.calculus.specs.Constraint.{each};
 ghost use Rattle.rows.specs.Laid.{Sized};
 ghost use Rattle.checker.specs.Decides.{CheckedBy};
-ghost use Rattle.checker.specs.Sends.{delivery, toBlock, mayStart, Sent};
+ghost use Rattle.checker.specs.Sends.{delivery, toBlock, Sent};
 ghost use Rattle.checker.specs.Words.{Obeyed};
 
 // The mask of what may be sent.
@@ -39,27 +38,12 @@ fn delivered(est: &[u32], masks: &[u32], l: Layout, p: usize, d: usize, b: usize
         & (passed_by(est, masks, l, MESSAGES, 2 * d, 2 * b + 1) & lifted(est, l, b, p))
 }
 
-// Whether the send may start the block b, its name aside.
-fn admits(words: &[u32], s: Sending, b: usize) -> bool
-    requires { ⌜ b + 2 < length (now words) ⌝ }
-    ensures { λ r. ⌜ r ≡ mayStart (now (words .entry)) s b ⌝ }
-{
-    let perms = PermSet::of(argument_of(words[b + 1]));
-    let guard = PermSet::of(argument_of(words[b + 2]));
-    let required = s.required;
-    required.within(perms) & guard.within(s.own)
-}
-
 // What the send asks for the block b.
 fn to_block(words: &[u32], masks: &[u32], est: &[u32], l: Layout, s: Sending, b: usize) -> bool
     requires { ⌜ Sent (now words) (now masks) (now est) l s × (b < length (now words)) × (taskAt (now words) b ≡ name) ⌝ }
     ensures { λ r. ⌜ Obeyed (now (words .entry)) (now (est .entry)) (λ c. toBlock c s b) r ⌝ }
 {
-    let name = argument_of(words[b]) as usize;
-    if !in_value(est, l, s.p + 1, 32 + name) {
-        return true;
-    }
-    if !admits(words, s, b) {
+    if !starts(words, est, l, s.p, s.required, s.own, b) {
         return true;
     }
     delivered(est, masks, l, s.p, s.d, b)

@@ -1,7 +1,7 @@
 -- The rule of a term is its clauses: sets obey what the rule asks where the term is live exactly if they obey each of its clauses.
 use Prim.Native.Nat.{ℕ, zero, suc, _+_, _*_, _≤_, _<_}
 use mathlib.Core.Path.{_≡_, refl, sym, ap, _∙_, subst}
-use mathlib.Core.Bool.{Bool, true, false, not, _&&_}
+use mathlib.Core.Bool.{Bool, true, false, not}
 use mathlib.Core.Logic.{_⊎_, inl, inr, ⊎-elim}
 use mathlib.Core.List.{List, [], _∷_, List·Memᴰ}
 use native.Mathlib.Decide.{decLt}
@@ -10,6 +10,7 @@ use borrow.Author.Tests.{ne-eqb}
 use lib.Dec.{T, eqb}
 use lib.ListN.{getD}
 use Rattle.permset.specs.Sets.{width, member, within}
+use Rattle.delivery.specs.Delivery.{delivered}
 use Rattle.table.specs.declared.Operation.{Operation}
 use Rattle.table.specs.declared.Operation.the-variants as operations
 use Rattle.table.specs.Words.{operationOf, operationNumber}
@@ -17,8 +18,9 @@ use Rattle.table.specs.Code.{Code, Node, NodeLinked, Linked, gap, block, leaf, 
 use Rattle.table.specs.Code.{apply, sequence, get, delete, assign, operation, send}
 use Rattle.calculus.specs.Elements.{plain, made, undefined, unit, opponentRecord, nothing, isFunction, isRecord, isCell, makes, sendable, anyRecord}
 use Rattle.calculus.specs.Constraint.{Row, C, B, P, L, Sets, Obeys, Rule, put, sub, given, only, every, _and_}
-use Rattle.calculus.specs.Rules.{nameOf, permsOf, guarded, admits, permissions, flow, leafRule, oneRule, twoRule, part, fill, eachMade}
-use Rattle.calculus.proofs.Digits.{T-true, T-snd}
+use Rattle.calculus.specs.Rules.{nameOf, guarded, deliveryTo, permissions, flow, leafRule, oneRule, twoRule, part, fill, eachMade}
+use Rattle.calculus.proofs.Digits.{T-true}
+use Rattle.calculus.proofs.Deliveries.{delivered-parts}
 use Rattle.calculus.proofs.Ranges.{below-in, in-below}
 use Rattle.rows.specs.Mask.{madeAs}
 use Rattle.clauses.specs.declared.Clause.{Clause}
@@ -325,10 +327,6 @@ module _ (c : Code) (k : Linked c) (e : Sets) where
       go (yes i) t = o (suc f) (below-in i) t
       go (no i) t = absurd (gap-thing z (suc f) (omega arith) t)
 
-  guarded-of : (n r s : ℕ) (h : Node) → T (admits n r s h) → T (guarded h s)
-  unfolding admits
-  guarded-of n r s h t = T-snd (eqb (nameOf h) n && within r (permsOf h)) (guarded h s) t
-
   listed-node : (b : ℕ) (n : Node) → NodeLinked c b n → (s : ℕ) → T (guarded n s) → List·Memᴰ b (c .blocks)
   unfolding guarded
   listed-node b gap l s t = absurd t
@@ -341,8 +339,8 @@ module _ (c : Code) (k : Linked c) (e : Sets) where
   listed-node b (branch a d n) l s t = absurd t
   listed-node b (update a d n) l s t = absurd t
 
-  -- what a send may start is listed as a block
-  listed-guarded : (b s : ℕ) → T (guarded (c .node b) s) → List·Memᴰ b (c .blocks)
+  -- what has a guard is listed as a block
+  pub listed-guarded : (b s : ℕ) → T (guarded (c .node b) s) → List·Memᴰ b (c .blocks)
   unfolding guarded
   listed-guarded b s t = go (decLt b (c .size))
     where
@@ -350,8 +348,8 @@ module _ (c : Code) (k : Linked c) (e : Sets) where
       go (yes i) = listed-node b (c .node b) (k .nodes b i) s t
       go (no i) = absurd (subst (λ (n : Node). T (guarded n s)) (k .outside b (omega arith)) t)
 
-  pub admitted-listed : (n r s b : ℕ) → T (admits n r s (c .node b)) → List·Memᴰ b (c .blocks)
-  admitted-listed n r s b t = listed-guarded b s (guarded-of n r s (c .node b) t)
+  pub admitted-listed : (n r s b : ℕ) → T (delivered (deliveryTo n r s (c .node b))) → List·Memᴰ b (c .blocks)
+  admitted-listed n r s b t = listed-guarded b s (delivered-parts n r s (c .node b) t .2)
 
   blocks-narrow : (x y z f : ℕ) → Obeys e (blocks c x y z 0) → Obeys e (blocks c x y z f)
   unfolding blocks

@@ -2,14 +2,14 @@
 use Prim.Native.Nat.{ℕ, suc, _+_, _-_, _*_, _/_, _%_, _≤_, _<_}
 use mathlib.Core.Path.{_≡_, refl, sym, ap, ap₂, _∙_, subst}
 use mathlib.Core.Logic.{⊎-elim}
-use mathlib.Core.Bool.{Bool, true, false, _&&_, true≢false, false≢true}
+use mathlib.Core.Bool.{Bool, true, false}
 use mathlib.Core.List.{List, List·Memᴰ}
 use native.Mathlib.Decide.{decLt, ℕ-discrete}
 use native.Mathlib.Omega.{arith}
 use borrow.Author.Tests.{eq-eqb}
-use lib.Dec.{T, eqb, lit<}
+use lib.Dec.{T, lit<}
 use lib.ListN.{length, getD, drop}
-use Rattle.permset.specs.Sets.{member, within}
+use Rattle.delivery.specs.Delivery.{delivered}
 use Rattle.table.specs.declared.Item.{Item}
 use Rattle.table.specs.declared.Item.the-variants as items
 use Rattle.table.specs.declared.Handler.{Handler}
@@ -30,9 +30,10 @@ use Rattle.table.proofs.LinkMeaning.{link-end}
 use Rattle.table.proofs.Nodes.{itemNode, nodeAt, node-item}
 use Rattle.calculus.specs.Elements.{nameElement, sendable, elements}
 use Rattle.calculus.specs.Constraint.{Row, C, B, P, L, Rule, put, sub, given, each, _and_}
-use Rattle.calculus.specs.Rules.{nameOf, permsOf, guarded, admits, permissions, pass, live}
+use Rattle.calculus.specs.Rules.{nameOf, guarded, deliveryTo, permissions, pass, live}
 use Rattle.calculus.specs.Layout.{owner, span, shift, base, rowWords, sets, WellFormed}
 use Rattle.calculus.specs.Estimate.{fire}
+use Rattle.calculus.proofs.Deliveries.{unguarded}
 use Rattle.calculus.proofs.Fitting.{may-L, may-B, PP}
 use Rattle.calculus.proofs.Places.{is-allowed}
 use Rattle.calculus.proofs.Ranges.{in-below}
@@ -45,6 +46,8 @@ use Rattle.firing.specs.Sending.{Sends}
 use Rattle.firing.proofs.EachThing.{sized-again}
 use Rattle.clauses.specs.Asks.{rowAt, sortAt, atBlock}
 use Rattle.clauses.proofs.Sorts.{row-C, row-B}
+use Rattle.queries.specs.Starts.{startsAt}
+use Rattle.queries.proofs.Sends.{answer-so, named-so, named-not}
 
 -- a word that was made live leaves the estimate well formed
 pub live-well : (c : Code) (b : ℕ) → b < c .size → (old new : List ℕ) → WellFormed c old → new ≡ fire c (put (L b) 0) old → WellFormed c new
@@ -105,37 +108,21 @@ term-unguarded terms.Assign a b d s = refl
 term-unguarded (terms.Send r) a b d s = refl
 term-unguarded (terms.Exercise r) a b d s = refl
 
-and-fails : (x y : Bool) → y ≡ false → x && y ≡ false
-and-fails true y e = e
-and-fails false y e = refl
-
-all-rest : (x y z : Bool) → x && (y && z) ≡ true → y && z ≡ true
-all-rest true y z e = e
-all-rest false y z e = absurd (false≢true e)
-
-all-head : (x y z : Bool) → x && (y && z) ≡ true → x ≡ true
-all-head true y z e = refl
-all-head false y z e = e
-
-head-fails : (x y z : Bool) → x && (y && z) ≡ false → y && z ≡ true → x ≡ false
-head-fails true y z e f = absurd (true≢false (sym f ∙ e))
-head-fails false y z e f = refl
-
 module _ (ws : List ℕ) (r : reading ws ≡ accepted) (slice : List ℕ) (room : length ws ≤ length slice) (est : List ℕ) (x y z own : ℕ)
     (q : own ≡ permissions (code ws) x) (b : ℕ) where
   abbrev c : Code
   c = code ws
 
   -- what is done for the block
-  abbrev pub delivered : Rule
-  delivered = live b and pass c (C y) (sendable c) (B b) and sub (P b) (P x)
+  abbrev pub started : Rule
+  started = live b and pass c (C y) (sendable c) (B b) and sub (P b) (P x)
 
   -- what is no block is not started
   pub no-block : (i : Item) → itemAt ws b ≡ i → ((h : Handler) → i ≡ items.Block h → ⊥) → fire c (atBlock c x y z b) est ≡ est
-  unfolding admits guarded itemNode
+  unfolding guarded itemNode
   no-block i e n =
-      fire-only-not c (admits (nameOf (c .node b)) z (permissions c x) (c .node b)) _ est
-      (and-fails (eqb (nameOf (c .node b)) (nameOf (c .node b)) && within z (permsOf (c .node b))) (guarded (c .node b) (permissions c x))
+      fire-only-not c (delivered (deliveryTo (nameOf (c .node b)) z (permissions c x) (c .node b))) _ est
+      (unguarded (nameOf (c .node b)) z (permissions c x) (c .node b)
       (ap (λ (m : Node). guarded m (permissions c x)) (node-item ws r slice room b ∙ ap (λ (k : Item). nodeAt ws r slice room k b) e) ∙ go i n))
     where
       go : (i : Item) → ((h : Handler) → i ≡ items.Block h → ⊥) → guarded (nodeAt ws r slice room i b) (permissions c x) ≡ false
@@ -161,48 +148,27 @@ module _ (ws : List ℕ) (r : reading ws ≡ accepted) (slice : List ℕ) (room 
     pub block-inside : b < c .size
     block-inside = inside
 
-    pub body-inside : b + 3 < c .size
-    body-inside = linked-node .3 .inside
-
     pub name-small : argument (getD ws b 0) < c .names
     name-small = linked-node .0
 
-    -- the two tests of permissions
-    abbrev tests : Bool
-    tests = within z (argument (getD ws (b + 1) 0)) && within (argument (getD ws (b + 2) 0)) own
+    -- the send starts it, by the permissions of its own block
+    started-by : (t : Bool) → startsAt c ws est x z own b ≡ t → startsAt c ws est x z (permissions c x) b ≡ t
+    started-by t e = subst (λ (s : ℕ). startsAt c ws est x z s b ≡ t) q e
 
-    abbrev named : Bool
-    named = sets c est (rowAt (2 * (x + 1))) (32 + argument (getD ws b 0))
-
-    admit-is : admits (nameOf (c .node b)) z (permissions c x) (c .node b) ≡ tests
-    unfolding admits nameOf permsOf guarded
-    admit-is =
-        ap (λ (n : Node). admits (nameOf n) z (permissions c x) n) node-is
-        ∙ ap₂ (λ (t : Bool) (s : ℕ). (t && within z (argument (getD ws (b + 1) 0))) && within (argument (getD ws (b + 2) 0)) s)
-        (eq-eqb (argument (getD ws b 0)) (argument (getD ws b 0)) refl) (sym q)
-
-    set-is : sets c est (C (x + 1)) (nameElement (nameOf (c .node b))) ≡ named
-    unfolding nameOf
-    set-is =
-        ap (λ (n : Node). sets c est (C (x + 1)) (nameElement (nameOf n))) node-is
-        ∙ ap (λ (s : Row). sets c est s (32 + argument (getD ws b 0))) (sym (row-C (x + 1)))
-
-    pub block-present : named && tests ≡ true → fire c (atBlock c x y z b) est ≡ fire c delivered est
+    pub block-present : startsAt c ws est x z own b ≡ true → fire c (atBlock c x y z b) est ≡ fire c started est
     block-present e =
-        let g = within z (argument (getD ws (b + 1) 0)) in
-        let h = within (argument (getD ws (b + 2) 0)) own in
-        fire-present c (admits (nameOf (c .node b)) z (permissions c x) (c .node b)) (C (x + 1)) (nameElement (nameOf (c .node b))) delivered est
-        (admit-is ∙ all-rest named g h e) (set-is ∙ all-head named g h e)
+        fire-present c (delivered (deliveryTo (nameOf (c .node b)) z (permissions c x) (c .node b))) (C (x + 1)) (nameElement (nameOf (c .node b))) started est
+        (answer-so ws est x z (permissions c x) b node-is (started-by true e)) (named-so ws est x z (permissions c x) b node-is (started-by true e))
 
-    pub block-absent : named && tests ≡ false → fire c (atBlock c x y z b) est ≡ est
-    block-absent e = go tests refl
+    pub block-absent : startsAt c ws est x z own b ≡ false → fire c (atBlock c x y z b) est ≡ est
+    block-absent e = go (delivered (deliveryTo (nameOf (c .node b)) z (permissions c x) (c .node b))) refl
       where
-        go : (t : Bool) → tests ≡ t → fire c (atBlock c x y z b) est ≡ est
+        go : (t : Bool) → delivered (deliveryTo (nameOf (c .node b)) z (permissions c x) (c .node b)) ≡ t → fire c (atBlock c x y z b) est ≡ est
         go true g =
-            fire-absent c (admits (nameOf (c .node b)) z (permissions c x) (c .node b)) (C (x + 1)) (nameElement (nameOf (c .node b))) delivered est
-            (set-is ∙ head-fails named (within z (argument (getD ws (b + 1) 0))) (within (argument (getD ws (b + 2) 0)) own) e g)
+            fire-absent c (delivered (deliveryTo (nameOf (c .node b)) z (permissions c x) (c .node b))) (C (x + 1)) (nameElement (nameOf (c .node b))) started est
+            (named-not ws est x z (permissions c x) b node-is (started-by false e) g)
         go false g =
-            fire-only-not c (admits (nameOf (c .node b)) z (permissions c x) (c .node b)) _ est (admit-is ∙ g)
+            fire-only-not c (delivered (deliveryTo (nameOf (c .node b)) z (permissions c x) (c .node b))) _ est g
 
 -- what was delivered, by the numbers of the rows
 pub delivered-as : (c : Code) (y b : ℕ) (k : Rule) (est : List ℕ)

@@ -10,4 +10,3 @@ pub mod Sender
 pub mod Steps
 pub mod Suited
 pub mod Tags
-pub mod Tests

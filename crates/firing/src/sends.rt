@@ -4,63 +4,25 @@ use crate::targets::pass;
 use crate::targets::wake;
 use clauses::Effect;
 use permset::PermSet;
-use queries::has;
+use queries::starts;
 use rows::layout::Layout;
-use table::words::argument_of;
 use table::words::kind_of;
 use table_links::link_at;
 ghost use mathlib.Core.Path.{_≡_};
-ghost use mathlib.Core.Bool.{_&&_};
 ghost use Prim.Native.Nat.{_+_, _*_, _^_, _<_, _≤_};
-ghost use lib.ListN.{length, getD};
-ghost use Rattle.permset.specs.Sets.{within};
-ghost use Rattle.table.specs.Words.{argument};
+ghost use lib.ListN.{length};
 ghost use Rattle.table.specs.Item.{handlerAt, itemAt};
-ghost use Rattle.table.specs.Code.{Code, code};
-ghost use Rattle.calculus.specs.Elements.{elements};
+ghost use Rattle.table.specs.Code.{code};
 ghost use Rattle.calculus.specs.Constraint.{C, B, P, L, put, sub, each, _and_};
 ghost use Rattle.calculus.specs.Rules.{pass as Pass};
-ghost use Rattle.calculus.specs.Layout.{sets, WellFormed};
-ghost use Rattle.rows.specs.Laid.{LaidOut, Sized};
+ghost use Rattle.calculus.specs.Layout.{WellFormed};
+ghost use Rattle.rows.specs.Laid.{Sized};
 ghost use Rattle.clauses.specs.Asks.{rowAt, sortAt, atBlock};
 ghost use Rattle.queries.specs.Passes.{Masked};
 ghost use Rattle.queries.specs.Ready.{Ready};
 ghost use Rattle.firing.specs.Fired.{Fired, FiredFor};
 ghost use Rattle.firing.specs.Sending.{Sends};
 ghost use Rattle.table.specs.declared.Item.the-variants as items;
-
-// The argument of the word at p as a set.
-fn set_at(words: &[u32], p: usize) -> PermSet
-    requires { ⌜ p < length (now words) ⌝ }
-    ensures { λ r. ⌜ r .bits ≡ argument (getD (now (words .entry)) p 0) ⌝ }
-{
-    PermSet {
-        bits: argument_of(words[p]),
-    }
-}
-
-// Whether a send at x with so much required, from a sender with these permissions, may start the block at b for a name in C(x + 1), the message aside.
-pub fn admits(
-    words: &[u32],
-    est: &[u32],
-    l: Layout,
-    x: usize,
-    required: PermSet,
-    own: PermSet,
-    b: usize,
-) -> bool
-    requires { ⌜ (b + 2 < length (now words)) × (2 * (x + 1) * l .row + l .row ≤ length (now est)) × (32 + argument (getD (now words) b 0) < 32 * l .row) × (x < 1024) ⌝ }
-    ensures { λ r. ⌜ ((c : Code) → LaidOut c l → x + 1 < l .size → 32 + argument (getD (now (words .entry)) b 0) < elements c → r ≡ sets c (now (est .entry)) (rowAt (2 * (x + 1))) (32 + argument (getD (now (words .entry)) b 0)) && (within (required .bits) (argument (getD (now (words .entry)) (b + 1) 0)) && within (argument (getD (now (words .entry)) (b + 2) 0)) (own .bits))) ⌝ }
-{
-    let name = argument_of(words[b]) as usize;
-    if !has(est, l, 2 * (x + 1), 32 + name) {
-        return false;
-    }
-    if !required.within(set_at(words, b + 1)) {
-        return false;
-    }
-    set_at(words, b + 2).within(own)
-}
 
 // The block b is live, what C(d) has of messages is in B(b), and P(b) is in P(p).
 fn deliver(
@@ -96,7 +58,7 @@ fn send_to(
 {
     let x = e.x;
     let required = PermSet { bits: e.z as u32 };
-    if !admits(words, est, l, x, required, own, b) {
+    if !starts(words, est, l, x, required, own, b) {
         return 0;
     }
     deliver(est, masks, h, l, x, e.y, b)

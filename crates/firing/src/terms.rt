@@ -17,7 +17,7 @@ ghost use Rattle.table.specs.Code.{operation as operation·two};
 ghost use Rattle.calculus.specs.Constraint.{only, _and_};
 ghost use Rattle.calculus.specs.Rules.{part as Part, waiting, twoRule};
 ghost use Rattle.calculus.specs.Layout.{WellFormed};
-ghost use Rattle.calculus.proofs.OperationResults.{operationMask};
+ghost use Rattle.calculus.specs.ResultWords.{operationMask};
 ghost use Rattle.rows.specs.Laid.{Sized};
 ghost use Rattle.firing.specs.Fired.{FiredFor, FiredIn};
 

@@ -1,5 +1,5 @@
 -- What the solver does to the words of an estimate: sound steps, and how many facts they add.
-use Prim.Native.Nat.{ℕ, _+_}
+use Prim.Native.Nat.{ℕ, _+_, _≤_}
 use mathlib.Core.Path.{_≡_}
 use mathlib.Core.List.{List}
 use Rattle.table.specs.Code.{Code, code}
@@ -33,7 +33,7 @@ pub record Repaired (c : Code) (ρ p : ℕ) (old new : List ℕ) (added : ℕ) :
   pub grown : Grown c ρ old new added
   pub obeyed : added ≡ 0 → Obeys (sets c old) (rule c ρ p)
 
--- sound steps to an estimate that obeys every rule
-pub record Closed (c : Code) (ρ : ℕ) (old new : List ℕ) (added : ℕ) : Type 0 where
+-- sound steps to an estimate that obeys every rule, unless they added more facts than there was room for
+pub record Closed (c : Code) (ρ room : ℕ) (old new : List ℕ) (added : ℕ) : Type 0 where
   pub grown : Grown c ρ old new added
-  pub obeyed : Estimate c ρ (sets c new)
+  pub obeyed : added ≤ room → Estimate c ρ (sets c new)

@@ -1,4 +1,5 @@
-// Steps until every rule is obeyed: where the worklist has missed something, all clauses of the lowest word whose rule is broken add a fact.
+// Steps until every rule is obeyed or more than `room` facts are added: where the worklist has missed something, all clauses of the lowest word
+// whose rule is broken add a fact.
 use crate::entry::enter;
 use crate::entry::enter_all;
 use crate::events::follow;
@@ -67,12 +68,16 @@ fn mend(
     l: Layout,
     rho: PermSet,
     p: usize,
+    room: usize,
 ) -> usize
     requires { ⌜ Ready (now words) (now links) (now masks) l × WellFormed (code (now words)) (now est) × (p < l .size) ⌝ }
     ensures { λ r. ⌜ Repaired (code (now (words .entry))) (rho .bits) p (now (est .entry)) (now (est .exit)) r ⌝ }
 {
     let added = repair(words, links, masks, est, h, l, rho, p);
-    added + follow(words, links, masks, est, h, out, l)
+    if room < added {
+        return added;
+    }
+    added + follow(words, links, masks, est, h, out, l, room - added)
 }
 
 // The checker's rounds. It answers how many facts were added.
@@ -85,9 +90,10 @@ fn close(
     out: &mut [u32],
     l: Layout,
     rho: PermSet,
+    room: usize,
 ) -> usize
     requires { ⌜ Ready (now words) (now links) (now masks) l × WellFormed (code (now words)) (now est) ⌝ }
-    ensures { λ r. ⌜ Closed (code (now (words .entry))) (rho .bits) (now (est .entry)) (now (est .exit)) r ⌝ }
+    ensures { λ r. ⌜ Closed (code (now (words .entry))) (rho .bits) room (now (est .entry)) (now (est .exit)) r ⌝ }
 {
     let mut added = 0;
     loop {
@@ -95,7 +101,10 @@ fn close(
         if l.size <= p {
             return added;
         }
-        added += mend(words, links, masks, est, h, out, l, rho, p);
+        added += mend(words, links, masks, est, h, out, l, rho, p, room - added);
+        if room < added {
+            return added;
+        }
     }
 }
 
@@ -109,16 +118,21 @@ fn begin(
     out: &mut [u32],
     l: Layout,
     rho: PermSet,
+    room: usize,
 ) -> usize
     requires { ⌜ Ready (now words) (now links) (now masks) l × WellFormed (code (now words)) (now est) ⌝ }
     ensures { λ r. ⌜ Grown (code (now (words .entry))) (rho .bits) (now (est .entry)) (now (est .exit)) r ⌝ }
 {
     prepare(words, links, h);
     let entered = enter_all(words, est, h, l, rho);
-    entered + follow(words, links, masks, est, h, out, l)
+    if room < entered {
+        return entered;
+    }
+    entered + follow(words, links, masks, est, h, out, l, room - entered)
 }
 
-// From any estimate to one that obeys every rule, by sound steps, with a memory of zeros. It answers how many facts were added.
+// From any estimate to one that obeys every rule, by sound steps, with a memory of zeros; or until more than `room` facts are added. It
+// answers how many were.
 pub fn settle(
     words: &[u32],
     links: &[u32],
@@ -128,10 +142,14 @@ pub fn settle(
     out: &mut [u32],
     l: Layout,
     rho: PermSet,
+    room: usize,
 ) -> usize
     requires { ⌜ Ready (now words) (now links) (now masks) l × WellFormed (code (now words)) (now est) ⌝ }
-    ensures { λ r. ⌜ Closed (code (now (words .entry))) (rho .bits) (now (est .entry)) (now (est .exit)) r ⌝ }
+    ensures { λ r. ⌜ Closed (code (now (words .entry))) (rho .bits) room (now (est .entry)) (now (est .exit)) r ⌝ }
 {
-    let begun = begin(words, links, masks, est, h, out, l, rho);
-    begun + close(words, links, masks, est, h, out, l, rho)
+    let begun = begin(words, links, masks, est, h, out, l, rho, room);
+    if room < begun {
+        return begun;
+    }
+    begun + close(words, links, masks, est, h, out, l, rho, room - begun)
 }

@@ -40,7 +40,7 @@ fn take(
     step(words, links, masks, est, h, l, p, choice_clause(choice), f)
 }
 
-// All choices of a list.
+// The choices of a list, until more than `room` facts are added.
 fn drain(
     words: &[u32],
     links: &[u32],
@@ -49,6 +49,7 @@ fn drain(
     h: &mut [u32],
     out: &[u32],
     l: Layout,
+    room: usize,
 ) -> usize
     requires { ⌜ Ready (now words) (now links) (now masks) l × WellFormed (code (now words)) (now est) ⌝ }
     ensures { λ r. ⌜ Stepped (now (words .entry)) (now (est .entry)) (now (est .exit)) r ⌝ }
@@ -58,12 +59,15 @@ fn drain(
     let mut i = 1;
     while i <= last {
         added += take(words, links, masks, est, h, l, choice_at(out, i));
+        if room < added {
+            return added;
+        }
         i += 1;
     }
     added
 }
 
-// Events until nothing waits.
+// Events until nothing waits or more than `room` facts are added.
 pub fn follow(
     words: &[u32],
     links: &[u32],
@@ -72,6 +76,7 @@ pub fn follow(
     h: &mut [u32],
     out: &mut [u32],
     l: Layout,
+    room: usize,
 ) -> usize
     requires { ⌜ Ready (now words) (now links) (now masks) l × WellFormed (code (now words)) (now est) ⌝ }
     ensures { λ r. ⌜ Stepped (now (words .entry)) (now (est .entry)) (now (est .exit)) r ⌝ }
@@ -84,7 +89,10 @@ pub fn follow(
         if turn == NOTHING {
             return added;
         }
-        added += drain(words, links, masks, est, h, out, l);
+        added += drain(words, links, masks, est, h, out, l, room - added);
+        if room < added {
+            return added;
+        }
         left -= 1;
     }
     added

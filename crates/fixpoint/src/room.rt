@@ -15,13 +15,14 @@ fn small(
     est: &mut [u32],
     l: Layout,
     rho: PermSet,
+    room: usize,
 ) -> usize
     requires { ⌜ Ready (now words) (now links) (now masks) l × WellFormed (code (now words)) (now est) ⌝ }
-    ensures { λ r. ⌜ Closed (code (now (words .entry))) (rho .bits) (now (est .entry)) (now (est .exit)) r ⌝ }
+    ensures { λ r. ⌜ Closed (code (now (words .entry))) (rho .bits) room (now (est .entry)) (now (est .exit)) r ⌝ }
 {
     let mut h = [0u32; 772];
     let mut out = [0u32; 200];
-    settle(words, links, masks, est, &mut h, &mut out, l, rho)
+    settle(words, links, masks, est, &mut h, &mut out, l, rho, room)
 }
 
 // Up to 256.
@@ -32,13 +33,14 @@ fn medium(
     est: &mut [u32],
     l: Layout,
     rho: PermSet,
+    room: usize,
 ) -> usize
     requires { ⌜ Ready (now words) (now links) (now masks) l × WellFormed (code (now words)) (now est) ⌝ }
-    ensures { λ r. ⌜ Closed (code (now (words .entry))) (rho .bits) (now (est .entry)) (now (est .exit)) r ⌝ }
+    ensures { λ r. ⌜ Closed (code (now (words .entry))) (rho .bits) room (now (est .entry)) (now (est .exit)) r ⌝ }
 {
     let mut h = [0u32; 4228];
     let mut out = [0u32; 776];
-    settle(words, links, masks, est, &mut h, &mut out, l, rho)
+    settle(words, links, masks, est, &mut h, &mut out, l, rho, room)
 }
 
 // Up to 512.
@@ -49,13 +51,14 @@ fn large(
     est: &mut [u32],
     l: Layout,
     rho: PermSet,
+    room: usize,
 ) -> usize
     requires { ⌜ Ready (now words) (now links) (now masks) l × WellFormed (code (now words)) (now est) ⌝ }
-    ensures { λ r. ⌜ Closed (code (now (words .entry))) (rho .bits) (now (est .entry)) (now (est .exit)) r ⌝ }
+    ensures { λ r. ⌜ Closed (code (now (words .entry))) (rho .bits) room (now (est .entry)) (now (est .exit)) r ⌝ }
 {
     let mut h = [0u32; 12420];
     let mut out = [0u32; 1544];
-    settle(words, links, masks, est, &mut h, &mut out, l, rho)
+    settle(words, links, masks, est, &mut h, &mut out, l, rho, room)
 }
 
 // Up to 1,024.
@@ -66,16 +69,17 @@ fn largest(
     est: &mut [u32],
     l: Layout,
     rho: PermSet,
+    room: usize,
 ) -> usize
     requires { ⌜ Ready (now words) (now links) (now masks) l × WellFormed (code (now words)) (now est) ⌝ }
-    ensures { λ r. ⌜ Closed (code (now (words .entry))) (rho .bits) (now (est .entry)) (now (est .exit)) r ⌝ }
+    ensures { λ r. ⌜ Closed (code (now (words .entry))) (rho .bits) room (now (est .entry)) (now (est .exit)) r ⌝ }
 {
     let mut h = [0u32; 41092];
     let mut out = [0u32; 3080];
-    settle(words, links, masks, est, &mut h, &mut out, l, rho)
+    settle(words, links, masks, est, &mut h, &mut out, l, rho, room)
 }
 
-// From any estimate to one that obeys every rule, by sound steps. It answers how many facts were added.
+// From any estimate to one that obeys every rule, by sound steps, or until more than `room` facts are added. It answers how many were.
 pub fn run(
     words: &[u32],
     links: &[u32],
@@ -83,19 +87,20 @@ pub fn run(
     est: &mut [u32],
     l: Layout,
     rho: PermSet,
+    room: usize,
 ) -> usize
     requires { ⌜ Ready (now words) (now links) (now masks) l × WellFormed (code (now words)) (now est) ⌝ }
-    ensures { λ r. ⌜ Closed (code (now (words .entry))) (rho .bits) (now (est .entry)) (now (est .exit)) r ⌝ }
+    ensures { λ r. ⌜ Closed (code (now (words .entry))) (rho .bits) room (now (est .entry)) (now (est .exit)) r ⌝ }
 {
     let n = l.size;
     if n <= 64 {
-        return small(words, links, masks, est, l, rho);
+        return small(words, links, masks, est, l, rho, room);
     }
     if n <= 256 {
-        return medium(words, links, masks, est, l, rho);
+        return medium(words, links, masks, est, l, rho, room);
     }
     if n <= 512 {
-        return large(words, links, masks, est, l, rho);
+        return large(words, links, masks, est, l, rho, room);
     }
-    largest(words, links, masks, est, l, rho)
+    largest(words, links, masks, est, l, rho, room)
 }

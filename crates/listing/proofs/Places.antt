@@ -6,10 +6,10 @@ use mathlib.Core.List.{List, [], _∷_, _++_, map}
 use native.Mathlib.Decide.{decLt}
 use native.Mathlib.Omega.{arith}
 use lib.Dec.{eqb, ltb}
-use lib.ListN.{length, getD, take, length-map}
-use lib.Seq.{length-take-le, getD-take, take-all}
+use lib.ListN.{length, getD, take, drop, length-map}
+use lib.Seq.{length-take-le, getD-take, take-all, take-at}
 use borrow.Author.Tests.{ltb-false, le-ltb}
-use Rattle.table.specs.Scan.{Task, head, Outcome, accepted, refused, firstOf, fault, keep, next, scan, reading}
+use Rattle.table.specs.Scan.{Task, head, name, perms, guard, term, Outcome, accepted, refused, firstOf, tests, fault, missing, keep, next, scan, reading}
 use Rattle.table.specs.Words.{kind}
 use Rattle.table.proofs.Limits.{size-le}
 use native.Mathlib.Decide.{ℕ-discrete}
@@ -17,6 +17,7 @@ use Rattle.listing.specs.Spelling.{feed}
 use Rattle.listing.specs.Listing.{Answered, done, refusal, left, most, tested, depths, listing, written, onto, cut, indent, wordIn, wordsOf, indents, misspelled, misplaced, placed, tabled, spelt, readAs}
 use Rattle.listing.proofs.Answers.{write-refused, long-one, long-other}
 use Rattle.listing.proofs.Cutting.{cut-feed, cut-other}
+use Rattle.listing.proofs.Theorems.{read-count, read-accepted}
 
 -- ---- places
 
@@ -34,9 +35,58 @@ scan-place (w ∷ ws) keys at (t ∷ ts) n p e =
     go zero h more = omega (arith, more h)
     go (suc k) h more = let q : at ≡ p = cc in omega arith
 
-table-place : (ws : List ℕ) (n p : ℕ) → reading ws ≡ refused n p → p ≤ length ws
+pub table-place : (ws : List ℕ) (n p : ℕ) → reading ws ≡ refused n p → p ≤ length ws
 unfolding reading
 table-place ws n p e = omega (arith, scan-place ws [] 0 (head (length ws) ∷ []) n p e)
+
+-- the number: one of the table's
+pub first-small : (b : Bool) (n m : ℕ) (ts : List (Bool × ℕ)) → n ≤ m → firstOf ts ≤ m → firstOf ((b, n) ∷ ts) ≤ m
+unfolding firstOf
+first-small true n m ts h k = h
+first-small false n m ts h k = k
+
+pub no-test-small : (m : ℕ) → firstOf [] ≤ m
+unfolding firstOf
+no-test-small m = omega arith
+
+fault-small : (keys : List ℕ) (w : ℕ) (t : Task) → fault keys w t ≤ 12
+unfolding fault tests
+fault-small keys w (head n) =
+    first-small _ 1 12 _ (omega arith) (first-small _ 2 12 _ (omega arith) (first-small _ 3 12 _ (omega arith) (no-test-small 12)))
+fault-small keys w name = first-small _ 4 12 _ (omega arith) (first-small _ 5 12 _ (omega arith) (no-test-small 12))
+fault-small keys w (perms n) = first-small _ 4 12 _ (omega arith) (first-small _ 6 12 _ (omega arith) (no-test-small 12))
+fault-small keys w guard = first-small _ 4 12 _ (omega arith) (no-test-small 12)
+fault-small keys w (term d h s) =
+    first-small _ 7 12 _ (omega arith)
+    (first-small _ 7 12 _ (omega arith)
+    (first-small _ 9 12 _ (omega arith)
+    (first-small _ 10 12 _ (omega arith) (first-small _ 11 12 _ (omega arith) (no-test-small 12)))))
+
+missing-small : (t : Task) → missing t ≤ 12
+unfolding missing
+missing-small (head n) = omega arith
+missing-small name = omega arith
+missing-small (perms n) = omega arith
+missing-small guard = omega arith
+missing-small (term d h s) = omega arith
+
+scan-number : (ws keys : List ℕ) (at : ℕ) (ts : List Task) (n p : ℕ) → scan ws keys at ts ≡ refused n p → n ≤ 12
+unfolding scan
+scan-number [] keys at [] n p e = let z : _≡_ {A = ℕ} 0 1 = cc in absurd (omega arith)
+scan-number [] keys at (t ∷ ts) n p e = let q : missing t ≡ n = cc in omega (arith, missing-small t)
+scan-number (w ∷ ws) keys at [] n p e = let q : 12 ≡ n = cc in omega arith
+scan-number (w ∷ ws) keys at (t ∷ ts) n p e =
+    go (fault keys w t) (fault-small keys w t) e (scan-number ws (keep keys w t) (suc at) (next at w t ++ ts) n p)
+  where
+    go : (f : ℕ) → f ≤ 12
+        → (elim f as (λ k. Outcome) [ zero ↦ scan ws (keep keys w t) (suc at) (next at w t ++ ts) | suc k ↦ refused (suc k) at ]) ≡ refused n p
+        → (scan ws (keep keys w t) (suc at) (next at w t ++ ts) ≡ refused n p → n ≤ 12) → n ≤ 12
+    go zero s h more = more h
+    go (suc k) s h more = let q : suc k ≡ n = cc in omega arith
+
+pub table-number : (ws : List ℕ) (n p : ℕ) → reading ws ≡ refused n p → n ≤ 12
+unfolding reading
+table-number ws n p e = scan-number ws [] 0 (head (length ws) ∷ []) n p e
 
 -- the place that an answer tells, if it tells one, is at most m
 abbrev pub Within : ℕ → Answered → Type 0
@@ -152,18 +202,23 @@ many-same ws vs h k e = go (ℕ-discrete (kind (getD ws 0 0)) 1)
 refused-or : (ws : List ℕ) → 1024 < length ws → reading ws ≡ accepted → ⊥
 refused-or ws h e = let l = size-le ws e in omega arith
 
+pub reading-first : (ws : List ℕ) → reading (take 1025 ws) ≡ reading ws
+reading-first ws = go (decLt 1024 (length ws))
+  where
+    go : Dec (1024 < length ws) → reading (take 1025 ws) ≡ reading ws
+    go (no n) = ap reading (take-all 1025 ws (omega (arith, n)))
+    go (yes h) = many-same (take 1025 ws) ws (omega (arith, length-take-le 1025 ws (omega arith))) h (getD-take 1025 ws 0 0 (omega arith))
+
 pub write-first : (ws : List ℕ) (room : ℕ) → written (take 1025 ws) room ≡ written ws room
 write-first ws room = go (decLt 1024 (length ws))
   where
-    both : (o : Outcome) → 1024 < length ws → reading ws ≡ o → reading (take 1025 ws) ≡ reading ws → written (take 1025 ws) room ≡ written ws room
-    both accepted h e f = absurd (refused-or ws h e)
-    both (refused n p) h e f = write-refused (take 1025 ws) room n p (f ∙ e) ∙ sym (write-refused ws room n p e)
+    both : (o : Outcome) → 1024 < length ws → reading ws ≡ o → written (take 1025 ws) room ≡ written ws room
+    both accepted h e = absurd (refused-or ws h e)
+    both (refused n p) h e = write-refused (take 1025 ws) room n p (reading-first ws ∙ e) ∙ sym (write-refused ws room n p e)
 
     go : Dec (1024 < length ws) → written (take 1025 ws) room ≡ written ws room
     go (no n) = ap (λ (v : List ℕ). written v room) (take-all 1025 ws (omega (arith, n)))
-    go (yes h) =
-        both (reading ws) h refl
-        (many-same (take 1025 ws) ws (omega (arith, length-take-le 1025 ws (omega arith))) h (getD-take 1025 ws 0 0 (omega arith)))
+    go (yes h) = both (reading ws) h refl
 
 -- ---- the room
 
@@ -242,3 +297,14 @@ write-first-left ws room out = go (decLt 1024 (length ws))
     go : Dec (1024 < length ws) → left (written (take 1025 ws) room) (listing (take 1025 ws)) out ≡ left (written ws room) (listing ws) out
     go (no n) = ap (λ (v : List ℕ). left (written v room) (listing v) out) (take-all 1025 ws (omega (arith, n)))
     go (yes h) = same ∙ both (reading ws) h refl
+
+-- ---- the words that were read into 1,024 words, and how many they are
+
+pub read-few : (text : List ℕ) (n : ℕ) → readAs text 1024 ≡ done n → n ≤ 1024
+read-few text n e = omega (arith, read-count text 1024 n e, size-le (wordsOf text) (read-accepted text 1024 n e))
+
+pub read-words : (text words zeros : List ℕ) (n : ℕ) → readAs text 1024 ≡ done n → words ≡ left (readAs text 1024) (wordsOf text) zeros
+    → take n words ≡ wordsOf text
+unfolding left
+read-words text words zeros n e q =
+    ap (take n) (q ∙ ap (λ (a : Answered). left a (wordsOf text) zeros) e) ∙ take-at (wordsOf text) (drop n zeros) n (sym (read-count text 1024 n e))

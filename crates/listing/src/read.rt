@@ -29,7 +29,7 @@ enum Decoded {
 }
 
 // The place after the line that starts at a place.
-fn line_end(text: &[u8], at: usize) -> usize
+pub fn line_end(text: &[u8], at: usize) -> usize
     requires { ⌜ at ≤ length (now text) ⌝ }
     ensures { λ r. ⌜ (r ≡ at + lineSize (drop at (now (text .entry)))) × (r ≤ length (now (text .entry))) ⌝ }
 {

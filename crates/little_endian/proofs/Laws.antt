@@ -6,9 +6,9 @@ use native.Mathlib.Nat.{zero-add, pow-zero, pow-succ'}
 use native.Mathlib.Numerals.{add-one}
 use native.Mathlib.Omega.{arith}
 use lib.ListN.{length, getD, set, take, drop, take-append-drop}
-use lib.Seq.{take-nil, drop-nil, take-take, drop-append-le, take-suc, take-at, drop-append-add, drop-drop, length-take-le, paste-suc}
+use lib.Seq.{take-nil, drop-nil, take-take, take-all, drop-append-le, take-suc, take-at, drop-append-add, drop-drop, length-take-le, paste-suc}
 use lib.Dec.{lit<}
-use Rattle.little_endian.specs.LittleEndian.{number, lowBytes, wordsOf, bytesOf}
+use Rattle.little_endian.specs.LittleEndian.{number, lowBytes, wordsOf, bytesOf, wholeWords}
 
 abbrev pub Below : ℕ → List ℕ → Type 0
 Below n xs = (k : ℕ) → getD xs k 0 < n
@@ -60,6 +60,13 @@ unfolding wordsOf bytesOf
 wordsOf-bytesOf [] h = refl
 wordsOf-bytesOf (w ∷ ws) h =
     ap (λ (n : ℕ). n ∷ wordsOf (bytesOf ws)) (number-lowBytes 4 w (h 0)) ∙ ap (λ (l : List ℕ). w ∷ l) (wordsOf-bytesOf ws (λ k. h (suc k)))
+
+-- words and then more bytes
+pub wordsOf-append : (ws bs : List ℕ) → Below (2 ^ 32) ws → wordsOf (bytesOf ws ++ bs) ≡ ws ++ wordsOf bs
+unfolding wordsOf bytesOf
+wordsOf-append [] bs h = refl
+wordsOf-append (w ∷ ws) bs h =
+    ap (λ (n : ℕ). n ∷ wordsOf (bytesOf ws ++ bs)) (number-lowBytes 4 w (h 0)) ∙ ap (λ (l : List ℕ). w ∷ l) (wordsOf-append ws bs (λ k. h (suc k)))
 
 first-four : {n a b c d : ℕ} (bs : List ℕ) → 0 < n → Below n (a ∷ b ∷ c ∷ d ∷ bs) → Below n (a ∷ b ∷ c ∷ d ∷ [])
 first-four bs pos h zero = h 0
@@ -166,3 +173,12 @@ replaced-words es bs r h he hr =
     ap (λ (l : List ℕ). l ++ drop (4 * r) bs) (bytesOf-append es (drop (length es) (take r (wordsOf bs))))
     ∙ append-assoc (bytesOf es) (bytesOf (drop (length es) (take r (wordsOf bs)))) (drop (4 * r) bs)
     ∙ ap (λ (l : List ℕ). bytesOf es ++ l) (written-back bs (length es) r h he hr)
+
+-- all words of a list of bytes, read to the start of an array with room for them
+pub words-read : (bs own now : List ℕ) (n : ℕ) → n ≡ wholeWords bs own → now ≡ take n (wordsOf bs) ++ drop n own → length bs / 4 ≤ length own
+    → take n now ≡ wordsOf bs
+words-read bs own now n count content room =
+    let k : n ≡ length (wordsOf bs) = omega (arith, length-wordsOf bs) in
+    ap (take n) content
+    ∙ take-at (take n (wordsOf bs)) (drop n own) n (length-take-le n (wordsOf bs) (omega arith))
+    ∙ take-all n (wordsOf bs) (omega arith)

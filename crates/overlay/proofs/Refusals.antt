@@ -1,8 +1,12 @@
 -- The reading of two tables, by what the reading of each answers.
 use mathlib.Core.Path.{_≡_, refl, sym, _∙_}
 use mathlib.Core.List.{List}
-use Prim.Native.Nat.{ℕ, _+_}
+use Prim.Native.Nat.{ℕ, _+_, _≤_}
+use native.Mathlib.Omega.{arith}
 use Rattle.table.specs.Scan.{Outcome, accepted, refused, reading}
+use Rattle.table.specs.Answer.{number}
+use Rattle.table.specs.declared.Refusal.{Refusal}
+use Rattle.table.specs.declared.Refusal.the-variants as refusals
 use Rattle.table.proofs.Stack.{refused-not-accepted}
 use Rattle.overlay.specs.Lookup.{tablesRead}
 
@@ -28,3 +32,19 @@ module _ (base overlay : List ℕ) where
       go accepted accepted p q = (p, q)
       go accepted (refused n k) p q = absurd (refused-not-accepted (sym (overlay-refused p n k q) ∙ e))
       go (refused n k) o p q = absurd (refused-not-accepted (sym (base-refused n k p) ∙ e))
+
+-- a table has the numbers up to 12
+pub number-small : (r : Refusal) → number r ≤ 12
+unfolding number
+number-small refusals.NotTable = omega arith
+number-small refusals.TooManyWords = omega arith
+number-small refusals.TooManyHandlers = omega arith
+number-small (refusals.NotBlock p) = omega arith
+number-small (refusals.NameRange p) = omega arith
+number-small (refusals.KeyUsed p) = omega arith
+number-small (refusals.NotTerm p) = omega arith
+number-small (refusals.NoTerm p) = omega arith
+number-small (refusals.ArgumentRange p) = omega arith
+number-small (refusals.NoBinder p) = omega arith
+number-small (refusals.TooDeep p) = omega arith
+number-small (refusals.Trailing p) = omega arith

@@ -9,10 +9,12 @@ use native.Mathlib.Decide.{decLt}
 use native.Mathlib.Omega.{arith}
 use borrow.Author.Tests.{eq-eqb, ne-eqb}
 use lib.Dec.{eqb}
-use lib.ListN.{length, drop}
+use lib.ListN.{length, take, drop}
+use lib.Seq.{take-at}
 use Rattle.table.specs.Words.{names, handlers, size}
 use Rattle.table.specs.Scan.{Outcome, accepted, refused, has, key, reading}
 use Rattle.table.proofs.Distinct.{key-injective}
+use Rattle.table.proofs.Limits.{size-le}
 use Rattle.table.proofs.TermWords.{argument-lt}
 use Rattle.blocks.specs.Blocks.{blocks, tableOf, nameOf, permsOf, keyOf, Good, All, Distinct}
 use Rattle.blocks.proofs.Block.{good-name}
@@ -169,6 +171,14 @@ module _ (base overlay out : List ℕ) (n : ℕ) (e : joinAnswer base overlay (l
       table-accepted (joinedBlocks (blocks base) (blocks overlay))
       (joined-good (blocks base) (blocks overlay) (blocks-good base (r .0)) (blocks-good overlay (r .1)))
       (joined-distinct (blocks base) (blocks overlay) (blocks-distinct base (r .0)) (blocks-distinct overlay (r .1))) few short
+
+  pub joined-few : n ≤ size
+  joined-few = omega (arith, joined-written .0, size-le (joined base overlay) joined-accepted)
+
+  pub joined-words : (words : List ℕ) → words ≡ outAfter base overlay out → take n words ≡ joined base overlay
+  joined-words words q =
+      let w = joined-written in
+      ap (take n) (q ∙ w .1) ∙ take-at (joined base overlay) (drop n out) n (sym (w .0))
 
   -- their blocks are the base's in its order, each replaced where the overlay has its key, then the overlay's new ones in theirs
   pub joined-order : blocks (joined base overlay) ≡ map (replaced (blocks overlay)) (blocks base) ++ fresh (blocks base) (blocks overlay)

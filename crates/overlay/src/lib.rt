@@ -1,6 +1,7 @@
 // A table laid over another: the look-up of a block in the two, and the joined table.
 pub mod join;
 pub mod lookup;
+pub mod numbers;
 mod search;
 
 use table::Reading;

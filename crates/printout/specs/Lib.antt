@@ -1,1 +1,3 @@
 pub mod Program
+pub mod Handlers
+pub mod Answers

@@ -1,6 +1,6 @@
 -- What the program prints for the bytes of its standard input (document 01, "Refused" and "Parts and program").
 use Prim.Native.Nat.{ℕ, zero, suc, _%_}
-use mathlib.Core.Bool.{Bool, not}
+use mathlib.Core.Bool.{Bool, true, false, not}
 use mathlib.Core.List.{List, [], _∷_, _++_}
 use lib.Dec.{eqb, ltb}
 use lib.ListN.{length, getD, drop}
@@ -26,6 +26,11 @@ handlerLines c ρ ws position (b ∷ bs) =
     handlerLine position (nameOf (c .node b)) (guarded (c .node b) ρ) (sets c ws (L b) 0) (permissionsAt c ρ ws b)
     ++ handlerLines c ρ ws (suc position) bs
 
+-- the first line of an answer
+unfoldable pub firstLine : Answer → List ℕ
+firstLine (refused number place) = refusalLine number place
+firstLine (verdict v) = verdictLine v
+
 unfoldable pub answerText : (ρ : ℕ) → List ℕ → Answer → List ℕ
 unfolding estimate whole handlerLines
 answerText ρ ws (refused number place) = refusalLine number place
@@ -44,3 +49,23 @@ printed input =
       | zero ↦ systemText (getD (wordsOf input) 0 0) (getD (wordsOf input) 1 0) (drop 2 (wordsOf input))
       | suc n ↦ refusalLine (suc n) 0
     ]
+
+-- ---- lent bytes
+
+-- room for the text of every system: 33 lines of at most 96 bytes
+abbrev pub room : ℕ
+room = 3168
+
+-- what a call on a slice of so many bytes leaves: nothing changes where it has less room
+unfoldable pub withRoom : {A : Type 0} → (size : ℕ) (before after : A) → A
+withRoom size before after = elim (ltb size room) [ true ↦ before | false ↦ after ]
+
+-- the text at the start of the slice, and the rest untouched
+unfoldable pub textAfter : List ℕ → List ℕ → List ℕ
+unfolding withRoom
+textAfter text out = withRoom (length out) out (text ++ drop (length text) out)
+
+-- how many bytes are written
+unfoldable pub textSize : List ℕ → (size : ℕ) → ℕ
+unfolding withRoom
+textSize text size = withRoom size 0 (length text)

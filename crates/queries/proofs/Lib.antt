@@ -1,3 +1,4 @@
 pub mod Given
 pub mod Laws
 pub mod Nexts
+pub mod Sends

@@ -1,3 +1,4 @@
 pub mod Passes
 pub mod Ready
+pub mod Starts
 pub mod Things

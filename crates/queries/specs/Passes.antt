@@ -8,7 +8,7 @@ use Rattle.table.specs.Code.{Code}
 use Rattle.calculus.specs.Elements.{isString}
 use Rattle.calculus.specs.Constraint.{C}
 use Rattle.calculus.specs.Layout.{sets, WellFormed}
-use Rattle.calculus.proofs.Folds.{found}
+use Rattle.calculus.specs.Estimate.{found}
 use Rattle.rows.specs.declared.layout.Layout.{Layout}
 use Rattle.rows.specs.Laid.{LaidOut}
 use Rattle.rows.specs.Mask.{Mask}

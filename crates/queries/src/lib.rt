@@ -1,19 +1,24 @@
-// Tests on an estimate: what its rows have, and whether the guard of a clause passes. Nothing is written.
+// Tests on an estimate: what its rows have, whether the guard of a clause passes, and whether a send starts a block. Nothing is written.
 use clauses::Guard;
 use clauses::Test;
+use delivery::judge;
+use permset::PermSet;
 use rows::layout::Layout;
 use rows::row::any;
+use table_links::handler_at;
 ghost use mathlib.Core.Path.{_≡_};
 ghost use Prim.Native.Nat.{_+_, _*_, _/_, _%_, _^_, _<_, _≤_};
-ghost use lib.ListN.{length};
+ghost use lib.ListN.{length, getD};
+ghost use Rattle.table.specs.Words.{argument};
 ghost use Rattle.table.specs.Code.{Code};
 ghost use Rattle.calculus.specs.Elements.{elements, isString};
 ghost use Rattle.calculus.specs.Constraint.{L};
 ghost use Rattle.calculus.specs.Layout.{sets, WellFormed};
-ghost use Rattle.calculus.proofs.Folds.{found};
+ghost use Rattle.calculus.specs.Estimate.{found};
 ghost use Rattle.rows.specs.Laid.{LaidOut, Sized};
 ghost use Rattle.clauses.specs.Asks.{rowAt};
 ghost use Rattle.queries.specs.Passes.{FoundBy, PassedBy, Looks};
+ghost use Rattle.queries.specs.Starts.{startsAt};
 ghost use Rattle.queries.specs.Things.{Searched, common, both, Next};
 
 // Whether p is live.
@@ -114,4 +119,25 @@ pub fn has_thing(est: &[u32], masks: &[u32], l: Layout, r: usize, m: usize, f: u
     ensures { λ x. ⌜ x ≡ both (now (est .entry)) (now (masks .entry)) (l .lead) (r * l .row) (m * l .row) f ⌝ }
 {
     common_from(est, masks, l.lead, r * l.row, m * l.row, f) % 2 == 1
+}
+
+// Whether a send at x with so much required, from a sender with these permissions, starts the block at b for a name in C(x + 1), the message aside.
+pub fn starts(
+    words: &[u32],
+    est: &[u32],
+    l: Layout,
+    x: usize,
+    required: PermSet,
+    sender: PermSet,
+    b: usize,
+) -> bool
+    requires { ⌜ (b < length (now words)) × (2 * (x + 1) * l .row + l .row ≤ length (now est)) × (32 + argument (getD (now words) b 0) < 32 * l .row) × (x < 1024) ⌝ }
+    ensures { λ r. ⌜ ((c : Code) → LaidOut c l → x + 1 < l .size → 32 + argument (getD (now (words .entry)) b 0) < elements c → r ≡ startsAt c (now (words .entry)) (now (est .entry)) x (required .bits) (sender .bits) b) ⌝ }
+{
+    let receiver = handler_at(words, b);
+    let name = receiver.name;
+    if !has(est, l, 2 * (x + 1), 32 + name as usize) {
+        return false;
+    }
+    judge(name, required, sender, receiver).delivered()
 }

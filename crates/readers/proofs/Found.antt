@@ -1,4 +1,4 @@
--- The facts and the leak of an estimate, read a word and a block at a time.
+-- The leak of an estimate, read a block at a time.
 use Prim.Native.Nat.{ℕ, _+_, _%_, _^_, _<_, _≤_}
 use mathlib.Core.Path.{_≡_, sym, ap, _∙_, subst}
 use mathlib.Core.Logic.{⊎-elim}
@@ -28,17 +28,6 @@ use Rattle.calculus.specs.Estimate.{facts, permissionsAt, leakAmong, leak}
 use Rattle.calculus.proofs.Facts.{ones-word}
 use Rattle.table.proofs.BlockLoop.{blocksOn}
 use Rattle.readers.specs.Reading.{itemGuarded}
-
--- ---- facts
-
-pub facts-at : (ws : List ℕ) (i : ℕ) → i < length ws → getD ws i 0 < 2 ^ 32 → facts (drop i ws) ≡ ones (getD ws i 0) + facts (drop (i + 1) ws)
-unfolding facts
-facts-at ws i h f =
-    ap facts (drop-cons ws i 0 h) ∙ rw (add-one, ones-word (getD ws i 0) f)
-
-pub facts-done : (ws : List ℕ) (i : ℕ) → length ws ≤ i → facts (drop i ws) ≡ 0
-unfolding facts
-facts-done ws i h = ap facts (drop-of-length-le ws h)
 
 -- ---- the leak
 

@@ -1,30 +1,16 @@
-// What is read from an estimate: its facts, and the leak.
+// The leak, read from an estimate.
 use permset::PermSet;
 use rows::layout::Layout;
 use table::Item;
 ghost use mathlib.Core.Path.{_≡_};
 ghost use mathlib.Core.List.{[], _∷_};
-ghost use Prim.Native.Nat.{_<_, _≤_};
+ghost use Prim.Native.Nat.{_<_};
 ghost use lib.ListN.{length};
 ghost use Rattle.table.specs.Item.{itemAt};
 ghost use Rattle.table.specs.Scan.{name};
 ghost use Rattle.table.specs.Code.{code, taskAt};
-ghost use Rattle.calculus.specs.Estimate.{facts as estimateFacts, leakAmong, leak as estimateLeak};
+ghost use Rattle.calculus.specs.Estimate.{leakAmong, leak as estimateLeak};
 ghost use Rattle.readers.specs.Reading.{itemGuarded, Readable};
-
-// The facts of an estimate: its set digits.
-pub fn facts(est: &[u32]) -> usize
-    requires { ⌜ length (now est) ≤ 132096 ⌝ }
-    ensures { λ r. ⌜ r ≡ estimateFacts (now (est .entry)) ⌝ }
-{
-    let mut sum = 0;
-    let mut i = 0;
-    while i < est.len() {
-        sum += u32::count_ones(est[i]) as usize;
-        i += 1;
-    }
-    sum
-}
 
 // Whether the opponent may enter what stands at b.
 fn entered(words: &[u32], rho: PermSet, b: usize) -> bool

@@ -1,4 +1,4 @@
-// The lines of the program, written as bytes into a lent slice.
+// The lines of the program, written as bytes into a lent slice from a place on. Each has at most 96 bytes.
 use text::number_field;
 use text::put;
 use text::set_field;
@@ -8,7 +8,7 @@ ghost use mathlib.Core.List.{_++_};
 ghost use Prim.Native.Nat.{_+_, _≤_};
 ghost use lib.ListN.{length};
 ghost use Rattle.text.specs.Text.{bytes};
-ghost use Rattle.text.specs.Writing.{Wrote, Line};
+ghost use Rattle.text.specs.Writing.{Wrote};
 ghost use Rattle.report.specs.Lines.{firstOutside, refusalLine, verdictLine, handlerLine};
 
 fn first_field(out: &mut [u8], at: usize, over: bool, first: u32) -> usize
@@ -23,27 +23,32 @@ fn first_field(out: &mut [u8], at: usize, over: bool, first: u32) -> usize
     }
 }
 
-// The line of a refusal, at the start of out, and its length.
-pub fn refusal_line(out: &mut [u8; 96], number: u32, place: usize) -> usize
-    ensures { λ r. ⌜ Line (now (out .entry)) (refusalLine number place) (now (out .exit)) r ⌝ }
+// The line of a refusal.
+pub fn refusal_line(out: &mut [u8], at: usize, number: u32, place: usize) -> usize
+    requires { ⌜ at + 96 ≤ length (now out) ⌝ }
+    ensures { λ r. ⌜ Wrote (now (out .entry)) at (refusalLine number place) (now (out .exit)) r ⌝ }
+    ensures { λ r. ⌜ r ≤ at + 96 ⌝ }
 {
-    let a = number_field(out, 0, b"refused ", number as u64);
+    let a = number_field(out, at, b"refused ", number as u64);
     let b = number_field(out, a, b" at ", place as u64);
     put(out, b, b"\n")
 }
 
-// The first line of a verdict, at the start of out, and its length.
+// The first line of a verdict.
 pub fn verdict_line(
-    out: &mut [u8; 96],
+    out: &mut [u8],
+    at: usize,
     leak: u32,
     bound: u32,
     over: bool,
     first: u32,
     facts: usize,
 ) -> usize
-    ensures { λ r. ⌜ Line (now (out .entry)) (verdictLine (record { leak = leak; bound = bound; over = over; first = first; facts = facts })) (now (out .exit)) r ⌝ }
+    requires { ⌜ at + 96 ≤ length (now out) ⌝ }
+    ensures { λ r. ⌜ Wrote (now (out .entry)) at (verdictLine (record { leak = leak; bound = bound; over = over; first = first; facts = facts })) (now (out .exit)) r ⌝ }
+    ensures { λ r. ⌜ r ≤ at + 96 ⌝ }
 {
-    let a = set_field(out, 0, b"leak ", leak);
+    let a = set_field(out, at, b"leak ", leak);
     let b = set_field(out, a, b" bound ", bound);
     let c = word_field(out, b, b" verdict ", over, b"over", b"within");
     let d = first_field(out, c, over, first);
@@ -51,18 +56,21 @@ pub fn verdict_line(
     put(out, e, b"\n")
 }
 
-// The line of one handler, at the start of out, and its length.
+// The line of one handler.
 pub fn handler_line(
-    out: &mut [u8; 96],
+    out: &mut [u8],
+    at: usize,
     position: usize,
     name: u32,
     entry: bool,
     live: bool,
     permissions: u32,
 ) -> usize
-    ensures { λ r. ⌜ Line (now (out .entry)) (handlerLine position name entry live permissions) (now (out .exit)) r ⌝ }
+    requires { ⌜ at + 96 ≤ length (now out) ⌝ }
+    ensures { λ r. ⌜ Wrote (now (out .entry)) at (handlerLine position name entry live permissions) (now (out .exit)) r ⌝ }
+    ensures { λ r. ⌜ r ≤ at + 96 ⌝ }
 {
-    let a = number_field(out, 0, b"handler ", position as u64);
+    let a = number_field(out, at, b"handler ", position as u64);
     let b = number_field(out, a, b" name ", name as u64);
     let c = word_field(out, b, b" entry ", entry, b"yes", b"no");
     let d = word_field(out, c, b" live ", live, b"yes", b"no");

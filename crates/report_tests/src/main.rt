@@ -3,19 +3,19 @@ use libc::STDOUT_FILENO;
 
 fn show_refusal(number: u32, place: usize) {
     let mut line = [0u8; 96];
-    let n = report::refusal_line(&mut line, number, place);
+    let n = report::refusal_line(&mut line, 0, number, place);
     io::write_all(STDOUT_FILENO, &line[..n]);
 }
 
 fn show_verdict(leak: u32, bound: u32, over: bool, first: u32, facts: usize) {
     let mut line = [0u8; 96];
-    let n = report::verdict_line(&mut line, leak, bound, over, first, facts);
+    let n = report::verdict_line(&mut line, 0, leak, bound, over, first, facts);
     io::write_all(STDOUT_FILENO, &line[..n]);
 }
 
 fn show_handler(position: usize, name: u32, entry: bool, live: bool, permissions: u32) {
     let mut line = [0u8; 96];
-    let n = report::handler_line(&mut line, position, name, entry, live, permissions);
+    let n = report::handler_line(&mut line, 0, position, name, entry, live, permissions);
     io::write_all(STDOUT_FILENO, &line[..n]);
 }
 

@@ -2,7 +2,7 @@
 use Prim.Native.Nat.{ℕ}
 use mathlib.Core.Bool.{Bool, true, false}
 use mathlib.Core.List.{List}
-use Rattle.calculus.proofs.SignResults.{sumMasks, lessMasks}
+use Rattle.calculus.specs.ResultWords.{sumMasks, lessMasks}
 
 unfoldable pub signTable : Bool → List ℕ
 signTable true = sumMasks

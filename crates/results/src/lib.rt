@@ -6,9 +6,7 @@ ghost use Prim.Native.Nat.{_^_, _<_};
 ghost use lib.ListN.{getD};
 ghost use Rattle.permset.specs.Sets.{member};
 ghost use Rattle.calculus.specs.Elements.{constantElement, sign};
-ghost use Rattle.calculus.proofs.SignResults.{signEntry, signsBelow};
-ghost use Rattle.calculus.proofs.EqualResults.{anyDigit, comparables, sameMask, apart, apartMask, equalMask};
-ghost use Rattle.calculus.proofs.OperationResults.{operationMask};
+ghost use Rattle.calculus.specs.ResultWords.{signEntry, signsBelow, anyDigit, comparables, sameMask, apart, apartMask, equalMask, operationMask};
 ghost use Rattle.results.specs.Signs.{signTable};
 
 pub fn constant_bit(k: Constant) -> u32

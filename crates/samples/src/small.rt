@@ -1,4 +1,5 @@
 // The samples that document 01 writes out.
+use printout::system::answer_line;
 use test_tables::tables::RELAY;
 use test_tables::tables::copy;
 use test_tables::tables::head;
@@ -9,7 +10,10 @@ use verdict::judge::verdict;
 fn answer(words: &[u32], rho: u32) {
     let mut est = [0u32; 70656];
     let mut work = [0u32; 4096];
-    console::first_line(verdict(words, rho, 0, &mut est, &mut work));
+    let v = verdict(words, rho, 0, &mut est, &mut work);
+    let mut line = [0u8; 96];
+    let n = answer_line(v, &mut line, 0);
+    console::text(&line[..n]);
 }
 
 pub fn sample(label: &[u8], words: &[u32], rho: u32) {

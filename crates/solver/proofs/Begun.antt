@@ -10,7 +10,6 @@ use Rattle.table.specs.Links as Links
 use Rattle.table.proofs.Linked.{linked}
 use Rattle.calculus.specs.Elements.{isFunction, anyRecord}
 use Rattle.calculus.specs.Layout.{estimateWords, WellFormed}
-use Rattle.calculus.specs.Estimate.{estimate}
 use Rattle.rows.specs.declared.layout.Layout.{Layout}
 use Rattle.masks.specs.Masks.{Masked}
 use Rattle.rows.specs.Laid.{LaidOut}
@@ -20,7 +19,8 @@ use Rattle.queries.specs.Passes.{maskAt}
 use Rattle.queries.specs.Ready.{Ready}
 use Rattle.readers.specs.Reading.{Readable}
 use Rattle.fixpoint.specs.Grown.{Closed}
-use Rattle.solver.proofs.Least.{zeros-well, closed-least}
+use Rattle.solver.specs.Ceiling.{clearedOver, Counted}
+use Rattle.solver.proofs.Least.{zeros-well, counted-least}
 use Rattle.solver.proofs.Zeros.{clear-all}
 
 -- the masks by their numbers
@@ -67,5 +67,6 @@ module _ (ws old est : List ℕ) (l : Layout) (e : reading ws ≡ accepted) (o :
       well = subst (WellFormed (code ws)) (sym cleared) (zeros-well (code ws))
 
   -- closed from there
-  pub ended : (ρ : ℕ) (new : List ℕ) (n : ℕ) → Closed (code ws) ρ est new n → new ≡ estimate (code ws) ρ
-  ended ρ new n d = closed-least (code ws) (linked ws e) ρ new n (subst (λ (xs : List ℕ). Closed (code ws) ρ xs new n) cleared d)
+  pub ended : (ρ n : ℕ) (new : List ℕ) (k : ℕ) → Closed (code ws) ρ n est new k → Counted (code ws) ρ n (clearedOver k n new) k
+  ended ρ n new k d =
+      counted-least (code ws) (linked ws e) ρ n new k (subst (λ (xs : List ℕ). Closed (code ws) ρ n xs new k) cleared d)

@@ -1,3 +1,5 @@
 pub mod Zeros
 pub mod Least
 pub mod Begun
+pub mod Sound
+pub mod Bound

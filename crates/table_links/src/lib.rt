@@ -30,7 +30,7 @@ fn set_at(words: &[u32], p: usize) -> PermSet
 }
 
 // The block whose first word is at a place.
-fn handler_at(words: &[u32], p: usize) -> Handler
+pub fn handler_at(words: &[u32], p: usize) -> Handler
     requires { ⌜ p < length (now words) ⌝ }
     ensures { λ r. ⌜ r ≡ handlerAt (now (words .entry)) p ⌝ }
 {

@@ -9,16 +9,18 @@ use Rattle.table.specs.Code.{code}
 use Rattle.table.proofs.Linked.{linked}
 use Rattle.calculus.specs.Layout.{estimateWords}
 use Rattle.calculus.specs.Estimate.{estimate, leak, facts}
-use Rattle.calculus.specs.Answer.{refused, verdict, boundUsed, judge, answer}
-use Rattle.calculus.proofs.Covers.{verdict-covers}
+use Rattle.calculus.specs.Answer.{refused, verdict, boundUsed, judge, answer, estimateAfter, workAfter}
+use Rattle.calculus.specs.Correct.{Correct, Guaranteed}
+use Rattle.calculus.proofs.Covers.{answer-guaranteed}
+use Rattle.calculus.proofs.Correct.{call-correct}
 use Rattle.calculus.proofs.Least.{estimate-well}
 use Rattle.comparison.specs.declared.Findings.{Findings}
 use Rattle.calls.specs.Calls.{Fits}
 use Rattle.calls.proofs.Answers.{after-refused, after-solved}
 use Rattle.comparison.specs.declared.Verdict.{Verdict as Declared·Verdict}
-use Rattle.comparison.specs.declared.Verdict.the-variants as variants
 use Rattle.comparison.specs.Values.{answerOf, compare}
-use Rattle.verdict.specs.Values.{Guaranteed, Judged, FoundIn}
+use Rattle.solver.specs.Analysis.{FoundIn}
+use Rattle.verdict.specs.Values.{Judged}
 
 -- ---- a leak compared with a bound
 
@@ -26,14 +28,6 @@ compare-judge : (ws : List ℕ) (ρ bound : ℕ) (us : List ℕ)
     → compare (leak (code ws) ρ us) (boundUsed bound) (facts us) ≡ verdict (judge (code ws) ρ bound us)
 unfolding compare judge
 compare-judge ws ρ bound us = refl
-
--- ---- the first words of a slice
-
--- the estimate, from the slice that a call leaves
-pub first-words : (ws : List ℕ) (ρ : ℕ) → reading ws ≡ accepted → (xs ys : List ℕ) (n : ℕ) → xs ≡ estimate (code ws) ρ ++ ys
-    → n ≡ estimateWords (code ws) → take n xs ≡ estimate (code ws) ρ
-first-words ws ρ r xs ys n e m =
-    ap₂ take (m ∙ sym (estimate-well (code ws) (linked ws r) ρ .long)) e ∙ take-append-seam (estimate (code ws) ρ) ys
 
 -- ---- the whole of a call
 
@@ -45,11 +39,11 @@ module _ (ws : List ℕ) (ρ bound : ℕ) (est work : List ℕ) (r : Declared·V
   judged est′ work′ s b f d a e =
       let after = after-solved ws ρ bound est work (judge (code ws) ρ bound (estimate (code ws) ρ)) (f .judged) in
       let same : compare (s .leak .bits) b (s .facts) ≡ compare (leak (code ws) ρ (estimate (code ws) ρ)) (boundUsed bound) (facts (estimate (code ws) ρ)) =
-      cc (d .solved .leaks, d .counted) in
+      cc (d .leaks, d .counted) in
       record {
         answers = a ∙ same ∙ compare-judge ws ρ bound (estimate (code ws) ρ) ∙ sym (f .judged);
-        estimates = d .solved .estimates ∙ after .0;
-        works = d .solved .works ∙ after .1;
+        estimates = d .estimates ∙ after .0;
+        works = d .works ∙ after .1;
       }
 
   -- it is refused
@@ -59,9 +53,25 @@ module _ (ws : List ℕ) (ρ bound : ℕ) (est work : List ℕ) (r : Declared·V
       let after = after-refused ws ρ bound est work n at e in
       record { answers = a ∙ sym e; estimates = after .0; works = after .1 }
 
--- the leak of whatever says what the answer is covers every run
-pub guaranteed : (ws : List ℕ) (ρ bound est work : ℕ) (r : Declared·Verdict) → answerOf r ≡ answer ws ρ bound est work → Guaranteed ws ρ r
-unfolding answerOf Guaranteed
-guaranteed ws ρ bound est work (variants.Refused f) e = tt
-guaranteed ws ρ bound est work (variants.Within r) e = verdict-covers ws ρ bound est work _ (sym e)
-guaranteed ws ρ bound est work (variants.Over r x) e = verdict-covers ws ρ bound est work _ (sym e)
+-- what a call promises, from what it answers and leaves
+abbrev pub Promised : List ℕ → ℕ → ℕ → List ℕ → List ℕ → Declared·Verdict → List ℕ → List ℕ → Type 0
+Promised ws ρ bound est work r est′ work′ =
+    (answerOf r ≡ answer ws ρ bound (length est) (length work))
+    × ((est′ ≡ estimateAfter ws ρ bound est work)
+    × ((work′ ≡ workAfter ws ρ bound est work) × (Correct ws ρ bound est′ (answerOf r) × Guaranteed ws ρ (answerOf r))))
+
+pub promised : (ws : List ℕ) (ρ bound : ℕ) (est work : List ℕ) (r : Declared·Verdict) (est′ work′ : List ℕ)
+    → Judged ws ρ bound est work r est′ work′ → Promised ws ρ bound est work r est′ work′
+promised ws ρ bound est work r est′ work′ j = (
+  j .answers,
+  (
+    j .estimates,
+    (
+      j .works,
+      (
+        call-correct ws ρ bound est work est′ (answerOf r) (j .answers) (j .estimates),
+        answer-guaranteed ws ρ bound (length est) (length work) (answerOf r) (j .answers),
+      ),
+    ),
+  ),
+)

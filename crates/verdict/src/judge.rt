@@ -1,33 +1,18 @@
 // The verdict.
 use calls::checks::Checked;
 use calls::checks::check;
-use calls::checks::words_needed;
-use comparison::Findings;
 use comparison::Verdict;
 use comparison::bound_used;
 use comparison::compared;
 use permset::PermSet;
-use readers::facts;
-use solver::analyse::solve_in;
+use solver::analyse::find;
 ghost use mathlib.Core.Path.{_≡_};
 ghost use lib.ListN.{length};
 ghost use Rattle.calculus.specs.Answer.{answer, estimateAfter, workAfter};
-ghost use Rattle.calls.specs.Calls.{Fit, Fits};
+ghost use Rattle.calculus.specs.Correct.{Correct, Guaranteed};
+ghost use Rattle.calls.specs.Calls.{Fits};
 ghost use Rattle.comparison.specs.Values.{answerOf};
-ghost use Rattle.verdict.specs.Values.{Guaranteed, Judged, FoundIn};
-
-// The least estimate in the first words of its slice, its leak and its facts.
-fn find(words: &[u32], rho: PermSet, est: &mut [u32], work: &mut [u32]) -> Findings
-    requires { ⌜ Fit (now words) (length (now est)) (length (now work)) ⌝ }
-    ensures { λ r. ⌜ FoundIn (now (words .entry)) (rho .bits) (now (est .entry)) (now (work .entry)) (now (est .exit)) (now (work .exit)) r ⌝ }
-{
-    let leak = solve_in(words, rho, est, work);
-    let need = words_needed(words);
-    Findings {
-        leak,
-        facts: facts(&est[..need]),
-    }
-}
+ghost use Rattle.verdict.specs.Values.{Judged};
 
 // The verdict where nothing is wrong with the call.
 fn judged(words: &[u32], rho: u32, bound: u32, est: &mut [u32], work: &mut [u32]) -> Verdict
@@ -44,7 +29,8 @@ pub fn verdict(words: &[u32], rho: u32, bound: u32, est: &mut [u32], work: &mut 
     ensures answer { λ r. ⌜ answerOf r ≡ answer (now (words .entry)) rho bound (length (now (est .entry))) (length (now (work .entry))) ⌝ }
     ensures estimate { λ _. ⌜ now (est .exit) ≡ estimateAfter (now (words .entry)) rho bound (now (est .entry)) (now (work .entry)) ⌝ }
     ensures work { λ _. ⌜ now (work .exit) ≡ workAfter (now (words .entry)) rho bound (now (est .entry)) (now (work .entry)) ⌝ }
-    ensures guarantee { λ r. ⌜ Guaranteed (now (words .entry)) rho r ⌝ }
+    ensures correct { λ r. ⌜ Correct (now (words .entry)) rho bound (now (est .exit)) (answerOf r) ⌝ }
+    ensures guarantee { λ r. ⌜ Guaranteed (now (words .entry)) rho (answerOf r) ⌝ }
 {
     match check(words, rho, bound, est.len(), work.len()) {
         Checked::Wrong(f) => Verdict::Refused(f),

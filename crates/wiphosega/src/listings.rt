@@ -11,7 +11,7 @@ use listing::read::read;
 use listing::write::write;
 use little_endian::bytes_of;
 use little_endian::words_of;
-use verdict::judge::verdict;
+use printout::system::system_text;
 
 fn refusal(r: Refusal) {
     console::refusal(refusal_number(r), refusal_place(r));
@@ -68,10 +68,9 @@ pub fn words() {
 fn leak_of(words: &[u32], rho: u32, bound: u32) {
     let mut est = [0u32; 70656];
     let mut work = [0u32; 4096];
-    let v = verdict(words, rho, bound, &mut est, &mut work);
-    if console::first_line(v) {
-        console::handlers(words, rho, &est);
-    }
+    let mut out = [0u8; 3168];
+    let n = system_text(words, rho, bound, &mut est, &mut work, &mut out);
+    console::text(&out[..n]);
 }
 
 fn leak_in(text: &[u8], rho: u32, bound: u32) {

@@ -12,6 +12,7 @@ pub mod manifest;
 pub mod manifest_inputs;
 pub mod naive;
 pub mod overlay;
+pub mod overlay_inputs;
 pub mod samples;
 pub mod solve;
 pub mod table;

@@ -1,8 +1,9 @@
 //! A table laid over another: the look-up, the join, and their refusals. PEER_ROUNDS makes the runs longer.
 
-use peer::generate::{damaged, exact_table, overlay_of, table, Random};
+use peer::generate::Random;
 use peer::overlay::{find, join, lookup, Side};
-use peer::table::{kind::*, read, Block, Refusal, Table};
+use peer::overlay_inputs::{handlers, keys, pair, relay, sized};
+use peer::table::{kind::*, read, Refusal};
 use peer::terms::*;
 use std::collections::BTreeMap;
 
@@ -39,13 +40,6 @@ fn place(base: &[u32], overlay: &[u32], name: u32, permissions: u32) -> Result<(
             Err((number, place))
         }
     }
-}
-
-/// *relay* of document 01, and a table to lay over it.
-fn relay() -> (Vec<u32>, Vec<u32>) {
-    let base = system(&[block(0, 8, 0, send(0, name(1), variable(0))), block(1, 2, 8, exercise(2))]);
-    let overlay = system(&[block(1, 4, 8, exercise(4)), block(1, 2, 0, empty())]);
-    (base, overlay)
 }
 
 #[test]
@@ -92,15 +86,8 @@ fn refusals_of_the_tables_come_first() {
     }
 }
 
-/// A table of these handlers with these sizes of blocks.
-fn sized(blocks: &[(u32, usize)]) -> Vec<u32> {
-    let body = |words: usize| [vec![word(FUNCTION, 0); words - 4], constant(0)].concat();
-    system(&blocks.iter().map(|&(name, words)| block(name, 1, 0, body(words))).collect::<Vec<_>>())
-}
-
 #[test]
 fn limits() {
-    let handlers = |from: u32, to: u32, words| sized(&(from..to).map(|name| (name, words)).collect::<Vec<_>>());
     // 48 counts after replacement, and before 49 and 50.
     assert_eq!(joined(&handlers(0, 20, 4), &handlers(12, 32, 4), 129), Ok(handlers(0, 32, 4)));
     assert_eq!(joined(&handlers(0, 20, 4), &handlers(12, 32, 4), 128), Err((50, 0)));
@@ -118,25 +105,6 @@ fn limits() {
     assert_eq!(joined(&base, &sized(&[(16, 63)]), 1023), Err((50, 0)));
     // A block that is replaced by a shorter one makes room.
     assert_eq!(joined(&base, &sized(&[(16, 64), (15, 59)]), 1024).map(|words| words.len()), Ok(1024));
-}
-
-fn keys(table: &Table) -> Vec<(u32, u32)> {
-    table.blocks.iter().map(|&Block { name, permissions, .. }| (name, permissions)).collect()
-}
-
-/// A base and an overlay; some are damaged.
-fn pair(random: &mut Random) -> (Vec<u32>, Vec<u32>) {
-    let words = 1 + random.below(1024);
-    let mut base = if random.once_in(2) { table(random) } else { exact_table(random, words) };
-    let read = read(&base).expect("a valid table");
-    let mut overlay = if random.once_in(5) { table(random) } else { overlay_of(random, &read) };
-    if random.once_in(10) {
-        base = damaged(random, base);
-    }
-    if random.once_in(10) {
-        overlay = damaged(random, overlay);
-    }
-    (base, overlay)
 }
 
 #[test]

@@ -9,7 +9,8 @@ use lib.Dec.{T}
 use Rattle.permset.specs.Sets.{member}
 use Rattle.table.specs.Code.{Code, Linked}
 use Rattle.calculus.specs.Constraint.{Sets}
-use Rattle.calculus.specs.Rules.{Estimate, leakOf, permsOf, guarded, admits}
+use Rattle.delivery.specs.Delivery.{delivered}
+use Rattle.calculus.specs.Rules.{Estimate, leakOf, permsOf, guarded, deliveryTo}
 use Rattle.calculus.specs.Values.{Value, plain, sentAs, datum}
 use Rattle.calculus.specs.Machine.{Effect, silent, exercises, sends, Move, stay, go, step}
 use Rattle.calculus.specs.Run.{Instance, running, World, world, nothing, Event, steps, starts, started, joined, sent, effect, moved, stepped, act}
@@ -59,8 +60,8 @@ module _ (c : Code) (linked : Linked c) (ρ : ℕ) (e : Sets) (est : Estimate c 
   unfolding sent
   sent-good h r n v none is rs before k g s w = (g, s)
   sent-good h r n v (some b) is rs before k g s w =
-      starts-good (plain (sentAs v) && admits n r (permsOf (c .node h)) (c .node b)) is rs (started (permsOf (c .node b)) b (sentAs v)) before
-      (λ t. let p = both (plain (sentAs v)) (admits n r (permsOf (c .node h)) (c .node b)) t in k b (p .0) (p .1))
+      starts-good (plain (sentAs v) && delivered (deliveryTo n r (permsOf (c .node h)) (c .node b))) is rs (started (permsOf (c .node b)) b (sentAs v)) before
+      (λ t. let p = both (plain (sentAs v)) (delivered (deliveryTo n r (permsOf (c .node h)) (c .node b))) t in k b (p .0) (p .1))
       g
       s
       w

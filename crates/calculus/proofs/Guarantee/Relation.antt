@@ -14,7 +14,8 @@ use Rattle.table.specs.Code.{Code, Node, Leaf}
 use Rattle.calculus.specs.Constraint.{C, B, P, L, Sets}
 use Rattle.calculus.specs.Elements.{constantElement, literalElement, nameElement, negative, nought, positive}
 use Rattle.calculus.specs.Elements.{otherString, opponentRecord, made, makes, isRecord, isCell}
-use Rattle.calculus.specs.Rules.{leakOf, permsOf, admits}
+use Rattle.delivery.specs.Delivery.{delivered}
+use Rattle.calculus.specs.Rules.{leakOf, permsOf, deliveryTo}
 use Rattle.calculus.specs.Values.{Atom, constant, number, text, named, known, dataFields, plain, sentAs}
 use Rattle.calculus.specs.Values.{Value, atom, function, fields, cell, Environment, closed, bound, Fields, empty, field}
 use Rattle.calculus.specs.Machine.{Control, eval, give, stopped, Frame, first, second, third, again}
@@ -150,7 +151,7 @@ module _ (c : Code) (ρ : ℕ) (e : Sets) where
   GoodEffect h silent = Unit {0}
   GoodEffect h (exercises r) = (x : ℕ) → T (member r x) → leakOf c ρ e x
   GoodEffect h (sends r n v) =
-      (b : ℕ) → T (plain (sentAs v)) → T (admits n r (permsOf (c .node h)) (c .node b)) → Starts b (sentAs v)
+      (b : ℕ) → T (plain (sentAs v)) → T (delivered (deliveryTo n r (permsOf (c .node h)) (c .node b))) → Starts b (sentAs v)
 
   abbrev pub GoodMove : ℕ → Move → Type 0
   GoodMove h stay = Unit {0}

@@ -1,19 +1,20 @@
 -- What the rules give at a live word: its parts may run, more values may be waited for, and a handler may start.
 use Prim.Native.Nat.{ℕ, _<_, _≤_, _+_}
 use mathlib.Core.Path.{_≡_, refl, sym, subst, _∙_}
-use mathlib.Core.Bool.{Bool, true, false, not, _&&_}
+use mathlib.Core.Bool.{Bool, true, false, not}
 use mathlib.Core.List.{List, [], _∷_, _++_, List·Memᴰ}
-use lib.Dec.{T, eqb, eqb→eq, ltb, ltb→lt, nltb→le}
-use Rattle.permset.specs.Sets.{within}
+use lib.Dec.{T, ltb, ltb→lt, nltb→le}
 use Rattle.table.specs.Code.{Code, Node, Two, Within, Linked, NodeLinked}
+use Rattle.delivery.specs.Delivery.{delivered}
 use Rattle.calculus.specs.Constraint.{C, B, P, L, Sets, Obeys}
 use Rattle.calculus.specs.Elements.{nameElement}
-use Rattle.calculus.specs.Rules.{Estimate, rule, entry, flow, twoRule, nameOf, permsOf, permissions, guarded, admits}
+use Rattle.calculus.specs.Rules.{Estimate, rule, entry, flow, twoRule, nameOf, permsOf, permissions, guarded, deliveryTo}
 use Rattle.calculus.specs.Values.{Value, Environment, closed, bound, plain, sentAs, datum}
 use Rattle.calculus.specs.Machine.{Frame, first, second, third, again}
 use Rattle.calculus.proofs.Ranges.{below-in}
+use Rattle.calculus.proofs.Deliveries.{delivered-parts}
 use Rattle.calculus.proofs.Guarantee.Relation.{Sub, partOf, In, Bound, Leaks, Runs, Wait, Starts}
-use Rattle.calculus.proofs.Guarantee.Values.{both, moved, datum-in, weaken, weaken-bound}
+use Rattle.calculus.proofs.Guarantee.Values.{moved, datum-in, weaken, weaken-bound}
 use Rattle.calculus.proofs.Guarantee.Messages.{sent-in}
 use Rattle.calculus.proofs.Guarantee.Elements.{stands}
 
@@ -77,14 +78,6 @@ module _ (c : Code) (ρ : ℕ) (e : Sets) (h : ℕ) (ty : List ℕ) where
 
 -- ---- handlers
 
--- A handler that a send may start has the name that is sent to, the required permissions, and a guard within the sender's.
-admitted : (n r s : ℕ) (m : Node) → T (admits n r s m) → (nameOf m ≡ n) × T (within r (permsOf m)) × T (guarded m s)
-unfolding admits
-admitted n r s m t =
-    let all = both (eqb (nameOf m) n && within r (permsOf m)) (guarded m s) t in
-    let two = both (eqb (nameOf m) n) (within r (permsOf m)) (all .0) in
-    (eqb→eq (nameOf m) n (two .0), two .1, all .1)
-
 module _ (c : Code) (linked : Linked c) (ρ : ℕ) (e : Sets) (est : Estimate c ρ e) where
   pub flows : (p : ℕ) → p < c .size → T (e (L p) 0) → Obeys e (flow c p (c .node p))
   unfolding rule
@@ -147,18 +140,18 @@ module _ (c : Code) (linked : Linked c) (ρ : ℕ) (e : Sets) (est : Estimate c 
       → T (e (C a) (nameElement n))
       → In c e h ty v (e (C d))
       → T (plain (sentAs v))
-      → T (admits n r (permsOf (c .node h)) (c .node b))
+      → T (delivered (deliveryTo n r (permsOf (c .node h)) (c .node b)))
       → Starts c ρ e b (sentAs v)
   unfolding twoRule permissions
   sent-good h ty p r a d n b v q leaks o i j k t =
       let held = permsOf (c .node h) in
-      let f : T (guarded (c .node b) held) = admitted n r held (c .node b) t .2 in
-      let name : n ≡ nameOf (c .node b) = sym (admitted n r held (c .node b) t .0) in
+      let f : T (guarded (c .node b) held) = delivered-parts n r held (c .node b) t .2 in
+      let name : n ≡ nameOf (c .node b) = sym (delivered-parts n r held (c .node b) t .0) in
       let s = stands c e h ty (sentAs v) (e (C d)) (sent-in c e h ty v (e (C d)) j) in
       let g =
       o .1 (s .0) (s .3 k) (s .2) b (block-listed b held f)
-      (subst (λ (z : ℕ). T (admits (nameOf (c .node b)) r (permsOf (c .node z)) (c .node b))) (sym q)
-      (subst (λ (z : ℕ). T (admits z r held (c .node b))) name t))
+      (subst (λ (z : ℕ). T (delivered (deliveryTo (nameOf (c .node b)) r (permsOf (c .node z)) (c .node b)))) (sym q)
+      (subst (λ (z : ℕ). T (delivered (deliveryTo z r held (c .node b)))) name t))
       (subst (λ (z : ℕ). T (e (C a) (nameElement z))) name i)
       in
       start-good b held (sentAs v) f (g .0) (λ x u. leaks x (g .1 .1 x u))

@@ -21,7 +21,7 @@ add-result c = search needs
 returns : tie.Need-returns
 returns c =
     let a = c .before .before .before .before .before .args in
-    answered-as (wordsOf (a .system .now)) (a .rho) _ _ (a .estimate .now) (a .work .now) _ _ _
+    answered-as (a .system .now) (a .rho) (a .bound) (a .estimate .now) (a .work .now) _ _ _ _
     (refused-answered (wordsOf (a .system .now)) (a .rho) (c .before .system-fault .result) (a .estimate .now) (a .work .now))
     (sym (refused-before (a .system .now) (a .rho) (a .bound) _ _ (c .before .system-fault .result) (c .before .system-fault .ensures) (c .if1 .taken)))
 
@@ -41,7 +41,7 @@ same-length-2 c = search needs
 returns-2 : tie.Need-returns-2
 returns-2 c =
     let a = c .before .before .before .before .before .before .before .before .before .before .before .before .before .before .args in
-    answered-as (wordsOf (a .system .now)) (a .rho) _ _ (a .estimate .now) (a .work .now) _ _ _ (c .before .before .before .before .before .of-system .ensures)
+    answered-as (a .system .now) (a .rho) (a .bound) (a .estimate .now) (a .work .now) _ _ _ _ (c .before .before .before .before .before .of-system .ensures)
     (answered-after (a .system .now) (a .rho) (a .bound) _ _ (c .before .before .before .before .before .before .before .before .before .before .system-fault .result) (c .before .before .before .before .before .before .before .before .before .before .system-fault .ensures) (c .before .before .before .before .before .before .before .before .before .if1 .left))
 
 pub wiphosega-verdict-spec : {M : Type 1} → statement M

@@ -9,9 +9,9 @@ use Rattle.little_endian.specs.LittleEndian.{bytesOf}
 use Rattle.listing.specs.Listing.{Answered, left}
 use Rattle.listing.specs.Listing.{wordsOf as Listing·wordsOf}
 use Rattle.listing.specs.Answer.{answered}
-use Rattle.listing.proofs.Places.{read-within}
+use Rattle.listing.proofs.Places.{read-within, read-few, read-words}
 use Rattle.capi_text.specs.Interface.{answerNumber}
-use Rattle.capi_text.proofs.Bytes.{refused-within, read-done, read-refused, read-few, read-words}
+use Rattle.capi_text.proofs.Bytes.{refused-within, read-done, read-refused}
 use borrow.Author.Needs.{needs}
 use Rattle.capi_text.proofs.wiphosega_listing_read.Statement.{statement}
 use Rattle.capi_text.proofs.wiphosega_listing_read.Tie as tie
@@ -25,12 +25,12 @@ read-requires c κs = search needs
 enum-known-count : tie.Need-enum-known-count
 enum-known-count c = search needs
 
-slice-aggregate-put-system : tie.Need-slice-aggregate-put-system
-slice-aggregate-put-system c = search needs
+slice-aggregate-put-words : tie.Need-slice-aggregate-put-words
+slice-aggregate-put-words c = search needs
 
-put-system-requires : tie.Need-put-system-requires
+put-words-requires : tie.Need-put-words-requires
 unfolding answered
-put-system-requires c κs =
+put-words-requires c κs =
     let s = c .before .before .before .before .before .before .before .before .before .before in
     let r = c .before .before .before .before .before .before .read in
     let e = sym (r .ensures .0) ∙ ap answered (c .before .before .before .count .given .1) in
@@ -55,7 +55,7 @@ returns c =
     let text = s .args .text .now in
     let r = c .before .before .before .before .before .before .before .before .before .read in
     let e = sym (r .ensures .0) ∙ ap answered (c .before .before .before .before .before .before .count .given .1) in
-    let p = c .before .before .put-system .ensures in
+    let p = c .before .before .put-words .ensures in
     let a = read-done text _ (length (s .args .system .now)) e in
     let ws = read-words text (r .last .1 .0) _ _ e (r .ensures .1) in (
       p .answer ∙ ap answerNumber a,
@@ -79,8 +79,8 @@ wiphosega-listing-read-spec =
     slice-aggregate-read
     read-requires
     enum-known-count
-    slice-aggregate-put-system
-    put-system-requires
+    slice-aggregate-put-words
+    put-words-requires
     enum-known-r
     refusal-answer-requires
     same-length

@@ -6,11 +6,12 @@ use native.Mathlib.Omega.{arith}
 use lib.ListN.{length, take, drop}
 use lib.ListN.{replicate}
 use Rattle.little_endian.specs.LittleEndian.{wordsOf}
+use Rattle.little_endian.proofs.First.{words-size, words-few}
 use Rattle.listing.specs.Listing.{Answered, left, listing}
 use Rattle.listing.specs.Answer.{answered}
 use Rattle.listing.proofs.Places.{write-within}
 use Rattle.capi_text.specs.Interface.{answerNumber}
-use Rattle.capi_text.proofs.Bytes.{refused-within, write-odd, words-size, words-few, write-answer, write-left}
+use Rattle.capi_text.proofs.Bytes.{refused-within, write-odd, write-answer, write-left}
 use borrow.Author.Needs.{needs}
 use Rattle.capi_text.proofs.wiphosega_listing_write.Statement.{statement}
 use Rattle.capi_text.proofs.wiphosega_listing_write.Tie as tie
@@ -34,7 +35,7 @@ array-share-prefix-words c = search needs
 slice-aggregate-write : tie.Need-slice-aggregate-write
 slice-aggregate-write c =
     let o = c .before .before .words-of in
-    sym (words-size (c .before .before .before .before .before .before .before .args .system .now) (replicate 1025 0) (o .last .1 .0) (o .result) refl (o .ensures .0) (o .ensures .1))
+    sym (words-size 1025 (c .before .before .before .before .before .before .before .args .system .now) (replicate 1025 0) (o .last .1 .0) (o .result) refl (o .ensures .0) (o .ensures .1))
 
 write-requires : tie.Need-write-requires
 write-requires c κs = search needs
@@ -52,8 +53,8 @@ refusal-answer-requires c κs =
     let o = c .before .before .before .before .before .before .before .before .before .words-of in
     let w = c .before .before .before .before .before .write .ensures in
     let vs = o .last .1 .0 in
-    let few = words-few system (replicate 1025 0) vs (o .result) refl (o .ensures .0) (o .ensures .1) in
-    let size = words-size system (replicate 1025 0) vs (o .result) refl (o .ensures .0) (o .ensures .1) in
+    let few = words-few 1025 system (replicate 1025 0) vs (o .result) refl (o .ensures .0) (o .ensures .1) in
+    let size = words-size 1025 system (replicate 1025 0) vs (o .result) refl (o .ensures .0) (o .ensures .1) in
     let h = refused-within _ _ _ (length (take (o .result) vs)) (c .before .r .given .1) (w .0) (write-within (take (o .result) vs) (length (s .args .text .now))) in
     omega arith
 

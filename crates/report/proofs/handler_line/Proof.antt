@@ -1,7 +1,9 @@
 -- `report::handler_line` meets its contract. Assumes nothing.
+use mathlib.Core.Path.{_∙_}
+use native.Mathlib.Omega.{arith}
 use borrow.Author.Needs.{needs}
 use Rattle.report.specs.Lines.{handlerLine}
-use Rattle.text.proofs.Writing.{then, line}
+use Rattle.text.proofs.Writing.{then, wrote-length}
 use Rattle.report.proofs.handler_line.Statement.{statement}
 use Rattle.report.proofs.handler_line.Tie as tie
 
@@ -51,21 +53,46 @@ slice-aggregate-put : tie.Need-slice-aggregate-put
 slice-aggregate-put c = search needs
 
 put-requires : tie.Need-put-requires
-put-requires c κs = search needs
+put-requires c κs =
+    let at-set-field = c .before .before .before .before in
+    let at-word-field2 = at-set-field .before .before .before .before .before in
+    let at-word-field = at-word-field2 .before .before .before .before .before .before .before in
+    let at-number-field2 = at-word-field .before .before .before .before .before .before .before in
+    let at-number-field = at-number-field2 .before .before .before .before .before in
+    omega (arith, at-set-field .set-field .ensures .1, at-word-field2 .word-field2 .ensures .1, at-word-field .word-field .ensures .1, at-number-field2 .number-field2 .ensures .1, at-number-field .number-field .ensures .1, at-number-field .before .before .before .before .pre)
+
+same-length : tie.Need-same-length
+unfolding handlerLine
+same-length c =
+    let at-put = c .before .before in
+    let at-set-field = at-put .before .before .before .before .before in
+    let at-word-field2 = at-set-field .before .before .before .before .before in
+    let at-word-field = at-word-field2 .before .before .before .before .before .before .before in
+    let at-number-field2 = at-word-field .before .before .before .before .before .before .before in
+    let at-number-field = at-number-field2 .before .before .before .before .before in
+    wrote-length (at-put .put .ensures)
+    ∙ wrote-length (at-set-field .set-field .ensures .0)
+    ∙ wrote-length (at-word-field2 .word-field2 .ensures .0)
+    ∙ wrote-length (at-word-field .word-field .ensures .0)
+    ∙ wrote-length (at-number-field2 .number-field2 .ensures .0)
+    ∙ wrote-length (at-number-field .number-field .ensures .0)
 
 returns : tie.Need-returns
 unfolding handlerLine
 returns c =
-    let at-set-field = c .before .before .before in
-    let at-word-field2 = at-set-field .before .before .before in
-    let at-word-field = at-word-field2 .before .before .before .before .before in
-    let at-number-field2 = at-word-field .before .before .before .before .before in
-    let at-number-field = at-number-field2 .before .before .before in
+    let at-put = c .before .before in
+    let at-set-field = at-put .before .before .before .before .before in
+    let at-word-field2 = at-set-field .before .before .before .before .before in
+    let at-word-field = at-word-field2 .before .before .before .before .before .before .before in
+    let at-number-field2 = at-word-field .before .before .before .before .before .before .before in
+    let at-number-field = at-number-field2 .before .before .before .before .before in
     let two = then (at-number-field .number-field .ensures .0) (at-number-field2 .number-field2 .ensures .0) in
     let three = then two (at-word-field .word-field .ensures .0) in
     let four = then three (at-word-field2 .word-field2 .ensures .0) in
-    let five = then four (at-set-field .set-field .ensures .0) in
-    line (then five (c .put .ensures))
+    let five = then four (at-set-field .set-field .ensures .0) in (
+      then five (at-put .put .ensures),
+      omega (arith, at-put .put .ensures .ends, at-set-field .set-field .ensures .1, at-word-field2 .word-field2 .ensures .1, at-word-field .word-field .ensures .1, at-number-field2 .number-field2 .ensures .1, at-number-field .number-field .ensures .1),
+    )
 
 pub handler-line-spec : {M : Type 1} → statement M
 handler-line-spec =
@@ -87,4 +114,5 @@ handler-line-spec =
     set-field-requires
     slice-aggregate-put
     put-requires
+    same-length
     returns)

@@ -1,7 +1,8 @@
 -- `report::refusal_line` meets its contract. Assumes nothing.
+use native.Mathlib.Omega.{arith}
 use borrow.Author.Needs.{needs}
 use Rattle.report.specs.Lines.{refusalLine}
-use Rattle.text.proofs.Writing.{then, line}
+use Rattle.text.proofs.Writing.{then}
 use Rattle.report.proofs.refusal_line.Statement.{statement}
 use Rattle.report.proofs.refusal_line.Tie as tie
 
@@ -23,12 +24,18 @@ slice-aggregate-put c = search needs
 put-requires : tie.Need-put-requires
 put-requires c κs = search needs
 
+same-length : tie.Need-same-length
+same-length c = search needs
+
 returns : tie.Need-returns
 unfolding refusalLine
 returns c =
-    let at-number-field2 = c .before .before .before in
-    let at-number-field = at-number-field2 .before .before .before in
-    line (then (then (at-number-field .number-field .ensures .0) (at-number-field2 .number-field2 .ensures .0)) (c .put .ensures))
+    let at-put = c .before .before in
+    let at-number-field2 = at-put .before .before .before .before .before in
+    let at-number-field = at-number-field2 .before .before .before .before .before in (
+      then (then (at-number-field .number-field .ensures .0) (at-number-field2 .number-field2 .ensures .0)) (at-put .put .ensures),
+      omega (arith, at-put .put .ensures .ends),
+    )
 
 pub refusal-line-spec : {M : Type 1} → statement M
 refusal-line-spec =
@@ -40,4 +47,5 @@ refusal-line-spec =
     number-field-requires-2
     slice-aggregate-put
     put-requires
+    same-length
     returns)

@@ -1,7 +1,8 @@
 -- `report::verdict_line` meets its contract. Assumes nothing.
+use native.Mathlib.Omega.{arith}
 use borrow.Author.Needs.{needs}
 use Rattle.report.specs.Lines.{verdictLine}
-use Rattle.text.proofs.Writing.{then, line}
+use Rattle.text.proofs.Writing.{then}
 use Rattle.report.proofs.verdict_line.Statement.{statement}
 use Rattle.report.proofs.verdict_line.Tie as tie
 
@@ -44,19 +45,25 @@ slice-aggregate-put c = search needs
 put-requires : tie.Need-put-requires
 put-requires c κs = search needs
 
+same-length : tie.Need-same-length
+same-length c = search needs
+
 returns : tie.Need-returns
 unfolding verdictLine
 returns c =
-    let at-number-field = c .before .before .before in
-    let at-first-field = at-number-field .before .before .before in
-    let at-word-field = at-first-field .before .before in
-    let at-set-field2 = at-word-field .before .before .before .before .before in
-    let at-set-field = at-set-field2 .before .before .before in
+    let at-put = c .before .before in
+    let at-number-field = at-put .before .before .before .before .before in
+    let at-first-field = at-number-field .before .before .before .before .before in
+    let at-word-field = at-first-field .before .before .before .before in
+    let at-set-field2 = at-word-field .before .before .before .before .before .before .before in
+    let at-set-field = at-set-field2 .before .before .before .before .before in
     let two = then (at-set-field .set-field .ensures .0) (at-set-field2 .set-field2 .ensures .0) in
     let three = then two (at-word-field .word-field .ensures .0) in
     let four = then three (at-first-field .first-field .ensures .0) in
-    let five = then four (at-number-field .number-field .ensures .0) in
-    line (then five (c .put .ensures))
+    let five = then four (at-number-field .number-field .ensures .0) in (
+      then five (at-put .put .ensures),
+      omega (arith, at-put .put .ensures .ends, at-number-field .number-field .ensures .1, at-first-field .first-field .ensures .1, at-word-field .word-field .ensures .1, at-set-field2 .set-field2 .ensures .1, at-set-field .set-field .ensures .1),
+    )
 
 pub verdict-line-spec : {M : Type 1} → statement M
 verdict-line-spec =
@@ -75,4 +82,5 @@ verdict-line-spec =
     number-field-requires
     slice-aggregate-put
     put-requires
+    same-length
     returns)

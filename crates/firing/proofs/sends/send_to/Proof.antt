@@ -7,7 +7,7 @@ use Rattle.table.specs.Code.{code}
 use Rattle.calculus.specs.Constraint.{P, sub}
 use Rattle.calculus.specs.Layout.{rowWords}
 use Rattle.queries.proofs.Laws.{value-in}
-use Rattle.firing.proofs.Deliver.{block-inside, body-inside, name-small, block-present, block-absent, delivered-as}
+use Rattle.firing.proofs.Deliver.{block-inside, name-small, block-present, block-absent, delivered-as}
 use borrow.Author.Needs.{needs}
 use Rattle.firing.proofs.sends.send_to.Statement.{statement}
 use Rattle.firing.proofs.sends.send_to.Tie as tie
@@ -15,11 +15,11 @@ use Rattle.firing.proofs.sends.send_to.Tie as tie
 cast-t11 : tie.Need-cast-t11
 cast-t11 c = search needs
 
-admits-requires : tie.Need-admits-requires
+starts-requires : tie.Need-starts-requires
 unfolding rowWords code
-admits-requires c κs =
+starts-requires c κs =
     let s = c .before .before .before .before .before .before in let a = s .args in let e = a .e in let w = a .words .now in
-    (omega (arith, body-inside w (s .pre .0 .readable) w (omega arith) (a .est .now) (e .x) (e .y) (e .z) (a .own .bits) (s .pre .0 .sender) (a .b) (s .pre .1)), value-in (a .l) (a .est .now) (s .pre .0 .sized) (e .x + 1) (s .pre .0 .word), omega (arith, name-small w (s .pre .0 .readable) w (omega arith) (a .est .now) (e .x) (e .y) (e .z) (a .own .bits) (s .pre .0 .sender) (a .b) (s .pre .1), s .pre .0 .laid .row, s .pre .0 .laid .lead), omega (arith, s .pre .0 .word, s .pre .0 .sized .size))
+    (block-inside w (s .pre .0 .readable) w (omega arith) (a .est .now) (e .x) (e .y) (e .z) (a .own .bits) (s .pre .0 .sender) (a .b) (s .pre .1), value-in (a .l) (a .est .now) (s .pre .0 .sized) (e .x + 1) (s .pre .0 .word), omega (arith, name-small w (s .pre .0 .readable) w (omega arith) (a .est .now) (e .x) (e .y) (e .z) (a .own .bits) (s .pre .0 .sender) (a .b) (s .pre .1), s .pre .0 .laid .row, s .pre .0 .laid .lead), omega (arith, s .pre .0 .word, s .pre .0 .sized .size))
 
 same-length : tie.Need-same-length
 same-length c = search needs
@@ -27,7 +27,7 @@ same-length c = search needs
 returns : tie.Need-returns
 returns c =
     let s = c .before .before .before .before .before .before .before .before in let a = s .args in let e = a .e in let w = a .words .now in
-    record { words = sym (block-absent w (s .pre .0 .readable) w (omega arith) (a .est .now) (e .x) (e .y) (e .z) (a .own .bits) (s .pre .0 .sender) (a .b) (s .pre .1) (sym (c .before .admits .ensures (code w) (s .pre .0 .laid) (s .pre .0 .word) (omega (arith, name-small w (s .pre .0 .readable) w (omega arith) (a .est .now) (e .x) (e .y) (e .z) (a .own .bits) (s .pre .0 .sender) (a .b) (s .pre .1)))) ∙ not-true _ (c .if1 .taken))); count = omega arith }
+    record { words = sym (block-absent w (s .pre .0 .readable) w (omega arith) (a .est .now) (e .x) (e .y) (e .z) (a .own .bits) (s .pre .0 .sender) (a .b) (s .pre .1) (sym (c .before .starts .ensures (code w) (s .pre .0 .laid) (s .pre .0 .word) (omega (arith, name-small w (s .pre .0 .readable) w (omega arith) (a .est .now) (e .x) (e .y) (e .z) (a .own .bits) (s .pre .0 .sender) (a .b) (s .pre .1)))) ∙ not-true _ (c .if1 .taken))); count = omega arith }
 
 deliver-requires : tie.Need-deliver-requires
 deliver-requires c κs =
@@ -48,7 +48,7 @@ returns-2 c =
       words =
           d .words (code w) (s .pre .0 .laid) (s .pre .0 .well, s .pre .0 .masked)
           ∙ delivered-as (code w) (e .y) (a .b) (sub (P (a .b)) (P (e .x))) (a .est .now)
-          ∙ sym (block-present w (s .pre .0 .readable) w (omega arith) (a .est .now) (e .x) (e .y) (e .z) (a .own .bits) (s .pre .0 .sender) (a .b) (s .pre .1) (sym (c .before .before .before .before .before .before .before .before .admits .ensures (code w) (s .pre .0 .laid) (s .pre .0 .word) (omega (arith, name-small w (s .pre .0 .readable) w (omega arith) (a .est .now) (e .x) (e .y) (e .z) (a .own .bits) (s .pre .0 .sender) (a .b) (s .pre .1)))) ∙ not-false _ (c .before .before .before .before .before .before .before .if1 .left)));
+          ∙ sym (block-present w (s .pre .0 .readable) w (omega arith) (a .est .now) (e .x) (e .y) (e .z) (a .own .bits) (s .pre .0 .sender) (a .b) (s .pre .1) (sym (c .before .before .before .before .before .before .before .before .starts .ensures (code w) (s .pre .0 .laid) (s .pre .0 .word) (omega (arith, name-small w (s .pre .0 .readable) w (omega arith) (a .est .now) (e .x) (e .y) (e .z) (a .own .bits) (s .pre .0 .sender) (a .b) (s .pre .1)))) ∙ not-false _ (c .before .before .before .before .before .before .before .if1 .left)));
       count = d .count;
     }
 
@@ -57,7 +57,7 @@ send-to-spec =
     tie.close
     (tie.spec
     cast-t11
-    admits-requires
+    starts-requires
     same-length
     returns
     deliver-requires

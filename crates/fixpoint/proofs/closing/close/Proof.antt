@@ -1,5 +1,5 @@
--- `fixpoint::closing::close` meets its contract. The loop's invariant: what was done so far is sound. A word whose rule is broken adds a fact, so that less is left to add. Assumes nothing.
-use Prim.Native.Nat.{_-_, _*_}
+-- `fixpoint::closing::close` meets its contract. The loop's invariant: what was done so far is sound, and not over the room. A word whose rule is broken adds a fact, so that less is left to add. Assumes nothing.
+use Prim.Native.Nat.{_-_, _*_, _≤_}
 use mathlib.Core.Path.{_≡_, refl, sym, _∙_, subst}
 use native.Mathlib.Omega.{arith}
 use lib.ListN.{length}
@@ -15,14 +15,14 @@ use Rattle.fixpoint.proofs.closing.close.Statement.{statement}
 use Rattle.fixpoint.proofs.closing.close.Tie as tie
 
 abbrev Inv-loop : tie.InvT-loop
-Inv-loop words links masks est₀ h₀ out₀ l rho added₀ est h out added =
-    (length est ≡ length est₀) × (length h ≡ length h₀) × (length out ≡ length out₀) × Grown (code words) (rho .bits) est₀ est added
+Inv-loop words links masks est₀ h₀ out₀ l rho room added₀ est h out added =
+    (length est ≡ length est₀) × (length h ≡ length h₀) × (length out ≡ length out₀) × Grown (code words) (rho .bits) est₀ est added × (added ≤ room)
 
 abbrev μ-loop : tie.MeasureT-loop
-μ-loop words links masks est₀ h₀ out₀ l rho added₀ est h out added = 32 * length est - facts est
+μ-loop words links masks est₀ h₀ out₀ l rho room added₀ est h out added = 32 * length est - facts est
 
 loop-holds : tie.Need-loop-holds Inv-loop μ-loop
-loop-holds c = (refl, refl, refl, grown-none (code (c .before .before .before .before .before .before .args .words .now)) (c .before .before .before .before .before .before .args .rho .bits) (c .before .before .before .before .before .before .args .est .now))
+loop-holds c = (refl, refl, refl, grown-none (code (c .before .before .before .before .before .before .args .words .now)) (c .before .before .before .before .before .before .args .rho .bits) (c .before .before .before .before .before .before .args .est .now), omega arith)
 
 broken-requires : tie.Need-broken-requires Inv-loop μ-loop
 broken-requires c κs = (c .before .before .before .before .before .before .before .before .pre .0, c .before .loop .inv .3 .sound .well (c .before .before .before .before .before .before .before .before .pre .1))
@@ -37,7 +37,10 @@ same-length-3 : tie.Need-same-length-3 Inv-loop μ-loop
 same-length-3 c = c .before .before .before .before .loop .inv .2
 
 returns : tie.Need-returns Inv-loop μ-loop
-returns c = record { grown = c .before .before .before .before .loop .inv .3; obeyed = unbroken (code (c .before .before .before .before .before .before .before .before .before .before .before .args .words .now)) (c .before .before .before .before .before .before .before .before .before .before .before .args .rho .bits) (c .before .before .before .before .loop .est) (omega (arith, c .before .before .broken .ensures, broken-most (code (c .before .before .before .before .before .before .before .before .before .before .before .args .words .now)) (c .before .before .before .before .before .before .before .before .before .before .before .args .rho .bits) (c .before .before .before .before .loop .est), c .before .before .before .before .before .before .before .before .before .before .before .pre .0 .laid .size, c .if1 .taken)) }
+returns c = record { grown = c .before .before .before .before .loop .inv .3; obeyed = λ z. unbroken (code (c .before .before .before .before .before .before .before .before .before .before .before .args .words .now)) (c .before .before .before .before .before .before .before .before .before .before .before .args .rho .bits) (c .before .before .before .before .loop .est) (omega (arith, c .before .before .broken .ensures, broken-most (code (c .before .before .before .before .before .before .before .before .before .before .before .args .words .now)) (c .before .before .before .before .before .before .before .before .before .before .before .args .rho .bits) (c .before .before .before .before .loop .est), c .before .before .before .before .before .before .before .before .before .before .before .pre .0 .laid .size, c .if1 .taken)) }
+
+sub-mend : tie.Need-sub-mend Inv-loop μ-loop
+sub-mend c = omega (arith, c .before .before .before .before .before .before .before .loop .inv .4)
 
 mend-requires : tie.Need-mend-requires Inv-loop μ-loop
 mend-requires c κs = (c .before .before .before .before .before .before .before .before .before .before .before .before .before .before .pre .0, c .before .before .before .before .before .before .before .loop .inv .3 .sound .well (c .before .before .before .before .before .before .before .before .before .before .before .before .before .before .pre .1), omega (arith, c .before .before .before .if1 .left))
@@ -47,13 +50,25 @@ add-added c =
     let g = grown-then (code (c .before .before .before .before .before .before .before .before .before .before .before .before .before .before .before .before .before .before .before .before .before .args .words .now)) (c .before .before .before .before .before .before .before .before .before .before .before .before .before .before .before .before .before .before .before .before .before .args .rho .bits) (c .before .before .before .before .before .before .before .before .before .before .before .before .before .before .loop .inv .3) (c .before .before .before .before .before .before .mend .ensures .grown) in
     omega (arith, few-facts (c .before .before .before .before .before .before .before .before .before .before .before .before .before .before .before .before .before .before .before .before .before .args .words .now) (c .before .before .before .before .before .before .before .before .before .before .before .before .before .before .before .before .before .before .before .before .before .args .links .now) (c .before .before .before .before .before .before .before .before .before .before .before .before .before .before .before .before .before .before .before .before .before .args .masks .now) (c .before .before .before .before .before .before .before .before .before .before .before .before .before .before .before .before .before .before .before .before .before .args .l) (c .before .before .before .before .before .before .before .before .before .before .before .before .before .before .before .before .before .before .before .before .before .pre .0) (c .before .before .before .before .before .before .before .before .before .before .before .before .before .before .before .before .before .before .before .before .before .args .est .now) _ _ (g .sound .well (c .before .before .before .before .before .before .before .before .before .before .before .before .before .before .before .before .before .before .before .before .before .pre .1)) (g .count))
 
+same-length-4 : tie.Need-same-length-4 Inv-loop μ-loop
+same-length-4 c = c .before .before .before .before .before .before .before .mend .kept .1 .1 .1 .0 ∙ c .before .before .before .before .before .before .before .before .before .before .before .before .before .before .before .loop .inv .0
+
+same-length-5 : tie.Need-same-length-5 Inv-loop μ-loop
+same-length-5 c = c .before .before .before .before .before .before .before .mend .kept .1 .1 .1 .1 .0 ∙ c .before .before .before .before .before .before .before .before .before .before .before .before .before .before .before .loop .inv .1
+
+same-length-6 : tie.Need-same-length-6 Inv-loop μ-loop
+same-length-6 c = c .before .before .before .before .before .before .before .mend .kept .1 .1 .1 .1 .1 .0 ∙ c .before .before .before .before .before .before .before .before .before .before .before .before .before .before .before .loop .inv .2
+
+returns-2 : tie.Need-returns-2 Inv-loop μ-loop
+returns-2 c = record { grown = grown-then (code (c .before .before .before .before .before .before .before .before .before .before .before .before .before .before .before .before .before .before .before .before .before .before .args .words .now)) (c .before .before .before .before .before .before .before .before .before .before .before .before .before .before .before .before .before .before .before .before .before .before .args .rho .bits) (c .before .before .before .before .before .before .before .before .before .before .before .before .before .before .before .loop .inv .3) (c .before .before .before .before .before .before .before .mend .ensures .grown); obeyed = λ z. absurd (omega (arith, c .if2 .taken)) }
+
 loop-less : tie.Need-loop-less Inv-loop μ-loop
 loop-less c =
-    let m = c .before .before .before .before .before .before .mend in
-    omega (arith, mended (code (c .before .before .before .before .before .before .before .before .before .before .before .before .before .before .before .before .before .before .before .before .before .args .words .now)) (c .before .before .before .before .before .before .before .before .before .before .before .before .before .before .before .before .before .before .before .before .before .args .rho .bits) (c .before .before .before .before .before .before .before .before .before .before .before .before .before .before .loop .est) (c .before .before .before .before .before .before .before .before .before .before .before .before .broken .result) (c .before .before .before .before .before .before .before .before .before .before .before .before .broken .ensures) (omega (arith, c .before .before .before .before .before .before .before .before .before .before .before .before .before .before .before .before .before .before .before .before .before .pre .0 .laid .size, c .before .before .before .before .before .before .before .before .before .before .if1 .left)) _ _ (m .ensures), m .ensures .grown .count, m .kept .1 .1 .1 .0, facts-most (m .last .1 .1 .1 .0))
+    let m = c .before .before .before .before .before .before .before .mend in
+    omega (arith, mended (code (c .before .before .before .before .before .before .before .before .before .before .before .before .before .before .before .before .before .before .before .before .before .before .args .words .now)) (c .before .before .before .before .before .before .before .before .before .before .before .before .before .before .before .before .before .before .before .before .before .before .args .rho .bits) (c .before .before .before .before .before .before .before .before .before .before .before .before .before .before .before .loop .est) (c .before .before .before .before .before .before .before .before .before .before .before .before .before .broken .result) (c .before .before .before .before .before .before .before .before .before .before .before .before .before .broken .ensures) (omega (arith, c .before .before .before .before .before .before .before .before .before .before .before .before .before .before .before .before .before .before .before .before .before .before .pre .0 .laid .size, c .before .before .before .before .before .before .before .before .before .before .before .if1 .left)) _ _ (m .ensures), m .ensures .grown .count, m .kept .1 .1 .1 .0, facts-most (m .last .1 .1 .1 .0))
 
 loop-again : tie.Need-loop-again Inv-loop μ-loop
-loop-again c = (c .before .before .before .before .before .before .mend .kept .1 .1 .1 .0 ∙ c .before .before .before .before .before .before .before .before .before .before .before .before .before .before .loop .inv .0, c .before .before .before .before .before .before .mend .kept .1 .1 .1 .1 .0 ∙ c .before .before .before .before .before .before .before .before .before .before .before .before .before .before .loop .inv .1, c .before .before .before .before .before .before .mend .kept .1 .1 .1 .1 .1 .0 ∙ c .before .before .before .before .before .before .before .before .before .before .before .before .before .before .loop .inv .2, grown-then (code (c .before .before .before .before .before .before .before .before .before .before .before .before .before .before .before .before .before .before .before .before .before .args .words .now)) (c .before .before .before .before .before .before .before .before .before .before .before .before .before .before .before .before .before .before .before .before .before .args .rho .bits) (c .before .before .before .before .before .before .before .before .before .before .before .before .before .before .loop .inv .3) (c .before .before .before .before .before .before .mend .ensures .grown))
+loop-again c = (c .before .before .before .before .before .before .before .mend .kept .1 .1 .1 .0 ∙ c .before .before .before .before .before .before .before .before .before .before .before .before .before .before .before .loop .inv .0, c .before .before .before .before .before .before .before .mend .kept .1 .1 .1 .1 .0 ∙ c .before .before .before .before .before .before .before .before .before .before .before .before .before .before .before .loop .inv .1, c .before .before .before .before .before .before .before .mend .kept .1 .1 .1 .1 .1 .0 ∙ c .before .before .before .before .before .before .before .before .before .before .before .before .before .before .before .loop .inv .2, grown-then (code (c .before .before .before .before .before .before .before .before .before .before .before .before .before .before .before .before .before .before .before .before .before .before .args .words .now)) (c .before .before .before .before .before .before .before .before .before .before .before .before .before .before .before .before .before .before .before .before .before .before .args .rho .bits) (c .before .before .before .before .before .before .before .before .before .before .before .before .before .before .before .loop .inv .3) (c .before .before .before .before .before .before .before .mend .ensures .grown), omega (arith, c .if2 .left))
 
 pub close-spec : {M : Type 1} → statement M
 close-spec =
@@ -67,7 +82,12 @@ close-spec =
     same-length-2
     same-length-3
     returns
+    sub-mend
     mend-requires
     add-added
+    same-length-4
+    same-length-5
+    same-length-6
+    returns-2
     loop-less
     loop-again)

@@ -11,11 +11,11 @@ use Rattle.fixpoint.proofs.events.drain.Statement.{statement}
 use Rattle.fixpoint.proofs.events.drain.Tie as tie
 
 abbrev Inv-loop : tie.InvT-loop
-Inv-loop words links masks est₀ h₀ out l last added₀ i₀ est h added i =
+Inv-loop words links masks est₀ h₀ out l room last added₀ i₀ est h added i =
     (length est ≡ length est₀) × (length h ≡ length h₀) × (1 ≤ i) × (i ≤ last + 1) × Stepped words est₀ est added
 
 abbrev μ-loop : tie.MeasureT-loop
-μ-loop words links masks est₀ h₀ out l last added₀ i₀ est h added i = last + 1 - i
+μ-loop words links masks est₀ h₀ out l room last added₀ i₀ est h added i = last + 1 - i
 
 count-requires : tie.Need-count-requires Inv-loop μ-loop
 count-requires c κs = search needs
@@ -34,23 +34,32 @@ add-added c =
     let g = grown-then (code (c .before .before .before .before .before .before .before .before .before .before .before .before .before .before .before .before .before .args .words .now)) 0 (c .before .before .before .before .before .before .before .before .before .loop .inv .4 0) (c .before .before .before .before .take .ensures 0) in
     omega (arith, few-facts (c .before .before .before .before .before .before .before .before .before .before .before .before .before .before .before .before .before .args .words .now) (c .before .before .before .before .before .before .before .before .before .before .before .before .before .before .before .before .before .args .links .now) (c .before .before .before .before .before .before .before .before .before .before .before .before .before .before .before .before .before .args .masks .now) (c .before .before .before .before .before .before .before .before .before .before .before .before .before .before .before .before .before .args .l) (c .before .before .before .before .before .before .before .before .before .before .before .before .before .before .before .before .before .pre .0) (c .before .before .before .before .before .before .before .before .before .before .before .before .before .before .before .before .before .args .est .now) _ _ (g .sound .well (c .before .before .before .before .before .before .before .before .before .before .before .before .before .before .before .before .before .pre .1)) (g .count))
 
-add-i : tie.Need-add-i Inv-loop μ-loop
-add-i c = omega (arith, c .before .before .before .before .before .before .before .before .loop-test .taken, c .before .before .before .before .before .before .before .before .before .before .count .ensures)
-
-loop-less : tie.Need-loop-less Inv-loop μ-loop
-loop-less c = omega (arith, c .before .before .before .before .before .before .before .before .loop-test .taken)
-
-loop-again : tie.Need-loop-again Inv-loop μ-loop
-loop-again c = (c .before .before .before .before .take .kept .1 .1 .1 .0 ∙ c .before .before .before .before .before .before .before .before .before .loop .inv .0, c .before .before .before .before .take .kept .1 .1 .1 .1 .0 ∙ c .before .before .before .before .before .before .before .before .before .loop .inv .1, omega arith, omega (arith, c .before .before .before .before .before .before .before .before .loop-test .taken), λ ρ. grown-then (code (c .before .before .before .before .before .before .before .before .before .before .before .before .before .before .before .before .before .args .words .now)) ρ (c .before .before .before .before .before .before .before .before .before .loop .inv .4 ρ) (c .before .before .before .before .take .ensures ρ))
-
 same-length : tie.Need-same-length Inv-loop μ-loop
-same-length c = c .before .loop .inv .0
+same-length c = c .before .before .before .before .before .take .kept .1 .1 .1 .0 ∙ c .before .before .before .before .before .before .before .before .before .before .loop .inv .0
 
 same-length-2 : tie.Need-same-length-2 Inv-loop μ-loop
-same-length-2 c = c .before .loop .inv .1
+same-length-2 c = c .before .before .before .before .before .take .kept .1 .1 .1 .1 .0 ∙ c .before .before .before .before .before .before .before .before .before .before .loop .inv .1
 
 returns : tie.Need-returns Inv-loop μ-loop
-returns c = c .before .loop .inv .4
+returns c = λ ρ. grown-then (code (c .before .before .before .before .before .before .before .before .before .before .before .before .before .before .before .before .before .before .args .words .now)) ρ (c .before .before .before .before .before .before .before .before .before .before .loop .inv .4 ρ) (c .before .before .before .before .before .take .ensures ρ)
+
+add-i : tie.Need-add-i Inv-loop μ-loop
+add-i c = omega (arith, c .before .before .before .before .before .before .before .before .before .loop-test .taken, c .before .before .before .before .before .before .before .before .before .before .before .count .ensures)
+
+loop-less : tie.Need-loop-less Inv-loop μ-loop
+loop-less c = omega (arith, c .before .before .before .before .before .before .before .before .before .loop-test .taken)
+
+loop-again : tie.Need-loop-again Inv-loop μ-loop
+loop-again c = (c .before .before .before .before .before .take .kept .1 .1 .1 .0 ∙ c .before .before .before .before .before .before .before .before .before .before .loop .inv .0, c .before .before .before .before .before .take .kept .1 .1 .1 .1 .0 ∙ c .before .before .before .before .before .before .before .before .before .before .loop .inv .1, omega arith, omega (arith, c .before .before .before .before .before .before .before .before .before .loop-test .taken), λ ρ. grown-then (code (c .before .before .before .before .before .before .before .before .before .before .before .before .before .before .before .before .before .before .args .words .now)) ρ (c .before .before .before .before .before .before .before .before .before .before .loop .inv .4 ρ) (c .before .before .before .before .before .take .ensures ρ))
+
+same-length-3 : tie.Need-same-length-3 Inv-loop μ-loop
+same-length-3 c = c .before .loop .inv .0
+
+same-length-4 : tie.Need-same-length-4 Inv-loop μ-loop
+same-length-4 c = c .before .loop .inv .1
+
+returns-2 : tie.Need-returns-2 Inv-loop μ-loop
+returns-2 c = c .before .loop .inv .4
 
 pub drain-spec : {M : Type 1} → statement M
 drain-spec =
@@ -63,9 +72,12 @@ drain-spec =
     choice-at-requires
     take-requires
     add-added
+    same-length
+    same-length-2
+    returns
     add-i
     loop-less
     loop-again
-    same-length
-    same-length-2
-    returns)
+    same-length-3
+    same-length-4
+    returns-2)

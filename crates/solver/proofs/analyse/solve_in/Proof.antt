@@ -1,11 +1,12 @@
--- `solver::analyse::solve_in` meets its contract: what is lent of the slices comes back in its place.
--- Assumes nothing.
+-- `solver::analyse::solve_in` meets its contract. What is lent of the slices comes back in its place. Assumes nothing.
 use mathlib.Core.Path.{sym, ap, ap₂, _∙_}
 use mathlib.Core.List.{List, _++_}
 use Prim.Native.Nat.{ℕ, _*_}
 use lib.ListN.{length, drop}
 use lib.Seq.{length-take-le}
 use native.Mathlib.Omega.{arith}
+use Rattle.table.specs.Code.{code}
+use Rattle.calculus.specs.Estimate.{leak}
 use borrow.Author.Needs.{needs}
 use Rattle.solver.proofs.analyse.solve_in.Statement.{statement}
 use Rattle.solver.proofs.analyse.solve_in.Tie as tie
@@ -20,8 +21,7 @@ slice-relend-prefix-solve : tie.Need-slice-relend-prefix-solve
 slice-relend-prefix-solve c = search needs
 
 slice-aggregate-solve : tie.Need-slice-aggregate-solve
-slice-aggregate-solve c =
-    sym (length-take-le _ _ (omega (arith, c .before .words-needed .ensures, c .before .before .before .before .before .pre .long)))
+slice-aggregate-solve c = sym (length-take-le _ _ (omega (arith, c .before .words-needed .ensures, c .before .before .before .before .before .pre .long)))
 
 slice-relend-prefix-solve-2 : tie.Need-slice-relend-prefix-solve-2
 slice-relend-prefix-solve-2 c = search needs
@@ -30,10 +30,7 @@ slice-aggregate-solve-2 : tie.Need-slice-aggregate-solve-2
 slice-aggregate-solve-2 c = sym (length-take-le _ _ (c .before .before .before .before .before .before .pre .room))
 
 solve-requires : tie.Need-solve-requires
-solve-requires c κs =
-    let h = c .before .before .before .before .before .before .pre in
-    let n = c .before .before .words-needed .ensures in
-    (h .readable, (length-take-le _ _ (omega (arith, n, h .long)) ∙ n, length-take-le _ _ (h .room)))
+solve-requires c κs = (c .before .before .before .before .before .before .pre .readable, (length-take-le _ _ (omega (arith, c .before .before .words-needed .ensures, c .before .before .before .before .before .before .pre .long)) ∙ c .before .before .words-needed .ensures, length-take-le _ _ (c .before .before .before .before .before .before .pre .room)))
 
 same-length : tie.Need-same-length
 same-length c = search needs
@@ -43,13 +40,13 @@ same-length-2 c = search needs
 
 returns : tie.Need-returns
 returns c =
-    let a = c .before .before .before .before .before .before .before .before .before .before .before .args in
-    let n = c .before .before .before .before .before .before .before .words-needed .ensures in
     let s = c .before .before .before .before .solve .ensures in
     record {
-      estimates = ap₂ (λ (k : ℕ) (xs : List ℕ). xs ++ drop k (a .est .now)) n (s .0);
-      works = ap (λ (xs : List ℕ). xs ++ drop (4 * length (a .words .now)) (a .work .now)) (s .1 .0);
-      leaks = s .1 .1;
+      estimates = ap₂ (λ (k : ℕ) (xs : List ℕ). xs ++ drop k (c .before .before .before .before .before .before .before .before .before .before .before .args .est .now)) (c .before .before .before .before .before .before .before .words-needed .ensures) (s .0 .words);
+      works = ap (λ (xs : List ℕ). xs ++ drop (4 * length (c .before .before .before .before .before .before .before .before .before .before .before .args .words .now)) (c .before .before .before .before .before .before .before .before .before .before .before .args .work .now)) (s .1 .0);
+      leaks = s .1 .1 ∙ ap (leak (code (c .before .before .before .before .before .before .before .before .before .before .before .args .words .now)) (c .before .before .before .before .before .before .before .before .before .before .before .args .rho .bits)) (s .0 .words);
+      within = s .0 .within;
+      over = s .0 .over;
     }
 
 pub solve-in-spec : {M : Type 1} → statement M

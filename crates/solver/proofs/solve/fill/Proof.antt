@@ -1,5 +1,4 @@
--- `solver::solve::fill` meets its contract: four rows fit into 144 words.
--- Assumes nothing.
+-- `solver::solve::fill` meets its contract. Four rows fit into 144 words. Assumes nothing.
 use mathlib.Core.Path.{sym}
 use Rattle.solver.proofs.Zeros.{zeros-at}
 use Rattle.calls.proofs.Bounds.{row-bound}
@@ -13,19 +12,13 @@ slice-aggregate-fill-masks : tie.Need-slice-aggregate-fill-masks
 slice-aggregate-fill-masks c = search needs
 
 fill-masks-requires : tie.Need-fill-masks-requires
-fill-masks-requires c κs =
-    let a = c .before .before .before .before .args in
-    let h = c .before .before .before .before .pre in
-    (h .0 .readable, (sym (h .0 .laid .row), (zeros-at 144, (omega (arith, h .0 .laid .row, row-bound (a .words .now) (h .0 .readable)), omega arith))))
+fill-masks-requires c κs = (c .before .before .before .before .pre .0 .readable, (sym (c .before .before .before .before .pre .0 .laid .row), (zeros-at 144, (omega (arith, c .before .before .before .before .pre .0 .laid .row, row-bound (c .before .before .before .before .args .words .now) (c .before .before .before .before .pre .0 .readable)), omega arith))))
 
 slice-aggregate-run : tie.Need-slice-aggregate-run
 slice-aggregate-run c = search needs
 
 run-requires : tie.Need-run-requires
-run-requires c κs =
-    let a = c .before .before .before .before .before .before .before .before .args in
-    let h = c .before .before .before .before .before .before .before .before .pre in
-    (ready-of (a .words .now) (a .links .now) _ (a .est .now) (a .l) (h .0) (omega (arith, c .before .before .before .fill-masks .kept .1 .0, h .0 .laid .row, row-bound (a .words .now) (h .0 .readable))) (c .before .before .before .fill-masks .ensures), h .1)
+run-requires c κs = (ready-of (c .before .before .before .before .before .before .before .before .args .words .now) (c .before .before .before .before .before .before .before .before .args .links .now) _ (c .before .before .before .before .before .before .before .before .args .est .now) (c .before .before .before .before .before .before .before .before .args .l) (c .before .before .before .before .before .before .before .before .pre .0) (omega (arith, c .before .before .before .fill-masks .kept .1 .0, c .before .before .before .before .before .before .before .before .pre .0 .laid .row, row-bound (c .before .before .before .before .before .before .before .before .args .words .now) (c .before .before .before .before .before .before .before .before .pre .0 .readable))) (c .before .before .before .fill-masks .ensures), c .before .before .before .before .before .before .before .before .pre .1)
 
 same-length : tie.Need-same-length
 same-length c = search needs

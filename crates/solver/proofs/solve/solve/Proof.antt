@@ -1,11 +1,9 @@
--- `solver::solve::solve` meets its contract.
--- Assumes nothing.
+-- `solver::solve::solve` meets its contract. Assumes nothing.
 use mathlib.Core.Path.{ap, _∙_}
 use Prim.Native.Nat.{ℕ}
 use lib.ListN.{replicate}
 use Rattle.table.specs.Code.{code}
 use Rattle.table.proofs.Limits.{size-le}
-use Rattle.calculus.specs.Estimate.{leak}
 use Rattle.solver.proofs.Zeros.{clear-all}
 use Rattle.calls.proofs.Bounds.{laid-out}
 use native.Mathlib.Omega.{arith}
@@ -17,24 +15,10 @@ of-requires : tie.Need-of-requires
 of-requires c κs = size-le (c .before .before .before .args .words .now) (c .before .before .before .pre .0)
 
 least-requires : tie.Need-least-requires
-least-requires c κs =
-    let a = c .before .before .before .before .before .before .args in
-    let h = c .before .before .before .before .before .before .pre in
-    let o = c .before .before .of in
-    ((h .0, laid-out (a .words .now) (o .result) (o .ensures .0) (o .ensures .1) (o .ensures .2)), (h .1 .0, omega (arith, h .1 .1)))
+least-requires c κs = ((c .before .before .before .before .before .before .pre .0, laid-out (c .before .before .before .before .before .before .args .words .now) (c .before .before .of .result) (c .before .before .of .ensures .0) (c .before .before .of .ensures .1) (c .before .before .of .ensures .2)), (c .before .before .before .before .before .before .pre .1 .0, omega (arith, c .before .before .before .before .before .before .pre .1 .1)))
 
 leak-requires : tie.Need-leak-requires
-leak-requires c κs =
-    let a = c .before .before .before .before .before .before .before .before .before .before .before .before .before .args in
-    let h = c .before .before .before .before .before .before .before .before .before .before .before .before .before .pre in
-    let o = c .before .before .before .before .before .before .before .before .before .of in
-    let s = c .before .before .before .before .before .before .least in
-    record {
-      readable = h .0;
-      laid = laid-out (a .words .now) (o .result) (o .ensures .0) (o .ensures .1) (o .ensures .2);
-      linked = s .ensures .1;
-      long = s .kept .1 .1 .0 ∙ h .1 .0;
-    }
+leak-requires c κs = record { readable = c .before .before .before .before .before .before .before .before .before .before .before .before .before .pre .0; laid = laid-out (c .before .before .before .before .before .before .before .before .before .before .before .before .before .args .words .now) (c .before .before .before .before .before .before .before .before .before .of .result) (c .before .before .before .before .before .before .before .before .before .of .ensures .0) (c .before .before .before .before .before .before .before .before .before .of .ensures .1) (c .before .before .before .before .before .before .before .before .before .of .ensures .2); linked = c .before .before .before .before .before .before .least .ensures .1; long = c .before .before .before .before .before .before .least .kept .1 .1 .0 ∙ c .before .before .before .before .before .before .before .before .before .before .before .before .before .pre .1 .0 }
 
 clear-requires : tie.Need-clear-requires
 clear-requires c κs = search needs
@@ -46,17 +30,7 @@ same-length-2 : tie.Need-same-length-2
 same-length-2 c = search needs
 
 returns : tie.Need-returns
-returns c =
-    let a = c .before .before .before .before .before .before .before .before .before .before .before .before .before .before .before .before .before .before .args in
-    let h = c .before .before .before .before .before .before .before .before .before .before .before .before .before .before .before .before .before .before .pre in
-    let s = c .before .before .before .before .before .before .before .before .before .before .before .least in
-    let e = s .ensures .0 in (
-      e,
-      (
-        c .before .before .clear .ensures ∙ clear-all (s .last .1 .0) ∙ ap (λ (n : ℕ). replicate n 0) (s .kept .1 .0 ∙ h .1 .1),
-        c .before .before .before .before .leak .ensures ∙ ap (leak (code (a .words .now)) (a .rho .bits)) e,
-      ),
-    )
+returns c = (c .before .before .before .before .before .before .before .before .before .before .before .least .ensures .0, (c .before .before .clear .ensures ∙ clear-all (c .before .before .before .before .before .before .before .before .before .before .before .least .last .1 .0) ∙ ap (λ (n : ℕ). replicate n 0) (c .before .before .before .before .before .before .before .before .before .before .before .least .kept .1 .0 ∙ c .before .before .before .before .before .before .before .before .before .before .before .before .before .before .before .before .before .before .pre .1 .1), c .before .before .before .before .leak .ensures))
 
 pub solve-spec : {M : Type 1} → statement M
 solve-spec =

@@ -4,7 +4,7 @@ use lib.ListN.{length}
 use Rattle.calls.specs.Calls.{CheckedAs}
 use Rattle.comparison.specs.declared.Verdict.the-variants.{Refused}
 use Rattle.comparison.specs.Values.{answerOf}
-use Rattle.verdict.proofs.Answers.{rejected, guaranteed}
+use Rattle.verdict.proofs.Answers.{rejected, promised}
 use borrow.Author.Needs.{needs}
 use Rattle.verdict.proofs.judge.verdict.Statement.{statement}
 use Rattle.verdict.proofs.judge.verdict.Tie as tie
@@ -31,8 +31,8 @@ returns c =
     let r = Refused (c .before .f .given .0 .0) in
     let e =
     subst (CheckedAs (a .words .now) (a .rho) (a .bound) (length (a .est .now)) (length (a .work .now))) (c .before .f .given .1) (c .before .before .before .check .ensures) in
-    let j = rejected (a .words .now) (a .rho) (a .bound) (a .est .now) (a .work .now) r _ _ e refl in
-    (j .answers, (j .estimates, (j .works, guaranteed (a .words .now) (a .rho) (a .bound) _ _ r (j .answers))))
+    promised (a .words .now) (a .rho) (a .bound) (a .est .now) (a .work .now) r _ _
+    (rejected (a .words .now) (a .rho) (a .bound) (a .est .now) (a .work .now) r _ _ e refl)
 
 same-length : tie.Need-same-length
 same-length c = search needs
@@ -43,8 +43,7 @@ same-length-2 c = search needs
 returns-2 : tie.Need-returns-2
 returns-2 c =
     let a = c .before .before .before .before .before .before .before .before .before .before .before .before .before .args in
-    let j = c .before .before .before .before .judged .ensures in
-    (j .answers, (j .estimates, (j .works, guaranteed (a .words .now) (a .rho) (a .bound) _ _ _ (j .answers))))
+    promised (a .words .now) (a .rho) (a .bound) (a .est .now) (a .work .now) _ _ _ (c .before .before .before .before .judged .ensures)
 
 pub verdict-spec : {M : Type 1} → statement M
 verdict-spec =

@@ -1,0 +1,68 @@
+-- `capi_text::overlays::find_in` meets its contract. Assumes nothing.
+use mathlib.Core.Path.{refl, sym, ap, ap₂, _∙_}
+use mathlib.Core.List.{List}
+use Prim.Native.Nat.{ℕ}
+use lib.ListN.{replicate, length}
+use Rattle.little_endian.proofs.First.{words-size, words-first}
+use Rattle.overlay.specs.Lookup.{placeOf}
+use Rattle.capi_text.proofs.TwoTables.{place-first}
+use borrow.Author.Needs.{needs}
+use Rattle.capi_text.proofs.overlays.find_in.Statement.{statement}
+use Rattle.capi_text.proofs.overlays.find_in.Tie as tie
+
+slice-aggregate-words-of : tie.Need-slice-aggregate-words-of
+slice-aggregate-words-of c = search needs
+
+words-of-requires : tie.Need-words-of-requires
+words-of-requires c κs = search needs
+
+slice-aggregate-words-of-2 : tie.Need-slice-aggregate-words-of-2
+slice-aggregate-words-of-2 c = search needs
+
+words-of-requires-2 : tie.Need-words-of-requires-2
+words-of-requires-2 c κs = search needs
+
+array-share-prefix-under : tie.Need-array-share-prefix-under
+array-share-prefix-under c = search needs
+
+slice-aggregate-find : tie.Need-slice-aggregate-find
+slice-aggregate-find c =
+    let s = c .before .before .before .before .before .before .before .before .before in
+    let w = c .before .before .before .before .before .words-of in
+    sym (words-size 1025 (s .args .base .now) (replicate 1025 0) (w .last .1 .0) (w .result) refl (w .ensures .0) (w .ensures .1))
+
+array-share-prefix-over : tie.Need-array-share-prefix-over
+array-share-prefix-over c = search needs
+
+slice-aggregate-find-2 : tie.Need-slice-aggregate-find-2
+slice-aggregate-find-2 c =
+    let s = c .before .before .before .before .before .before .before .before .before .before in
+    let w = c .before .before .before .words-of2 in
+    sym (words-size 1025 (s .args .overlay .now) (replicate 1025 0) (w .last .1 .0) (w .result) refl (w .ensures .0) (w .ensures .1))
+
+find-requires : tie.Need-find-requires
+find-requires c κs = search needs
+
+returns : tie.Need-returns
+returns c =
+    let s = c .before .before .before .before .before .before .before .before .before .before .before in
+    let a = c .before .before .before .before .before .before .before .words-of in
+    let b = c .before .before .before .before .words-of2 in
+    c .find .ensures
+    ∙ ap₂ (λ (x y : List ℕ). placeOf x y (s .args .name) (s .args .perms)) (words-first 1025 (s .args .base .now) (replicate 1025 0) (a .last .1 .0) (a .result) refl (a .ensures .0) (a .ensures .1)) (words-first 1025 (s .args .overlay .now) (replicate 1025 0) (b .last .1 .0) (b .result) refl (b .ensures .0) (b .ensures .1))
+    ∙ place-first _ _ (s .args .name) (s .args .perms)
+
+pub find-in-spec : {M : Type 1} → statement M
+find-in-spec =
+    tie.close
+    (tie.spec
+    slice-aggregate-words-of
+    words-of-requires
+    slice-aggregate-words-of-2
+    words-of-requires-2
+    array-share-prefix-under
+    slice-aggregate-find
+    array-share-prefix-over
+    slice-aggregate-find-2
+    find-requires
+    returns)

@@ -1,0 +1,5 @@
+pub mod Digits
+pub mod Meant
+pub mod Texts
+pub mod PairLaws
+pub mod Runs

@@ -1,0 +1,61 @@
+-- `commands::explain::row` meets its contract. Assumes nothing.
+use Prim.Native.Nat.{ℕ, _+_, _-_, _≤_}
+use mathlib.Core.Path.{_≡_, refl, sym, ap, _∙_}
+use native.Mathlib.Omega.{arith}
+use lib.ListN.{drop}
+use Rattle.commands.specs.Meanings.{numbers, position}
+use Rattle.commands.proofs.Meant.{numbers-long, position-there, position-more, position-end}
+use borrow.Author.Needs.{needs}
+use Rattle.commands.proofs.explain.row.Statement.{statement}
+use Rattle.commands.proofs.explain.row.Tie as tie
+
+abbrev Inv-loop : tie.InvT-loop
+Inv-loop n listed i₀ i = (i ≤ 28) × (position n numbers ≡ i + position n (drop i numbers))
+
+abbrev μ-loop : tie.MeasureT-loop
+μ-loop n listed i₀ i = 28 - i
+
+loop-holds : tie.Need-loop-holds Inv-loop μ-loop
+unfolding numbers
+loop-holds c = (omega arith, omega arith)
+
+mul-if1 : tie.Need-mul-if1 Inv-loop μ-loop
+mul-if1 c = search needs
+
+array-read-if1 : tie.Need-array-read-if1 Inv-loop μ-loop
+array-read-if1 c = search needs
+
+returns : tie.Need-returns Inv-loop μ-loop
+unfolding numbers
+returns c = let l = c .before .before .loop in omega (arith, l .inv .1, position-there (c .before .before .before .args .n) numbers (l .i) (omega (arith, numbers-long)) (c .if1 .taken))
+
+add-i : tie.Need-add-i Inv-loop μ-loop
+add-i c = search needs
+
+loop-less : tie.Need-loop-less Inv-loop μ-loop
+loop-less c = search needs
+
+loop-again : tie.Need-loop-again Inv-loop μ-loop
+unfolding numbers
+loop-again c =
+    let l = c .before .before .loop in
+    (omega arith, omega (arith, l .inv .1, position-more (c .before .before .before .args .n) numbers (l .i) (omega (arith, numbers-long)) (c .if1 .left)))
+
+returns-2 : tie.Need-returns-2 Inv-loop μ-loop
+unfolding numbers
+returns-2 c = let l = c .before .loop in omega (arith, l .inv .1, position-end (c .before .before .args .n) numbers (l .i) (omega (arith, numbers-long)))
+
+pub row-spec : {M : Type 1} → statement M
+row-spec =
+    tie.close
+    (tie.spec
+    Inv-loop
+    μ-loop
+    loop-holds
+    mul-if1
+    array-read-if1
+    returns
+    add-i
+    loop-less
+    loop-again
+    returns-2)

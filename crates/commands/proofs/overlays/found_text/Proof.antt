@@ -1,0 +1,123 @@
+-- `commands::overlays::found_text` meets its contract. Assumes nothing.
+use mathlib.Core.Path.{_≡_, refl, sym, ap, ap₂, subst, _∙_}
+use mathlib.Core.List.{List}
+use Prim.Native.Nat.{ℕ, _-_}
+use native.Mathlib.Omega.{arith}
+use lib.ListN.{length, take, drop, length-take, length-drop}
+use lib.Seq.{length-take-le}
+use Rattle.listing.specs.Listing.{wordsOf}
+use Rattle.overlay.specs.Lookup.{placeOf}
+use Rattle.text.proofs.Writing.{reworded}
+use Rattle.commands.specs.Printed.{placeText, foundText}
+use Rattle.commands.specs.Pairs.{PairAs}
+use Rattle.commands.proofs.PairLaws.{both-text, refused-text}
+use borrow.Author.Needs.{needs}
+use Rattle.commands.proofs.overlays.found_text.Statement.{statement}
+use Rattle.commands.proofs.overlays.found_text.Tie as tie
+
+second-start-requires : tie.Need-second-start-requires
+second-start-requires c κs = search needs
+
+slice-aggregate-first : tie.Need-slice-aggregate-first
+slice-aggregate-first c = sym (length-take-le _ _ (c .before .second-start .ensures .1))
+
+sub-second : tie.Need-sub-second
+sub-second c = search needs
+
+part-second-start : tie.Need-part-second-start
+part-second-start c = search needs
+
+part-second-end : tie.Need-part-second-end
+part-second-end c = search needs
+
+slice-aggregate-read-pair : tie.Need-slice-aggregate-read-pair
+slice-aggregate-read-pair c = search needs
+
+slice-aggregate-read-pair-2 : tie.Need-slice-aggregate-read-pair-2
+slice-aggregate-read-pair-2 c = search needs
+
+read-pair-requires : tie.Need-read-pair-requires
+read-pair-requires c κs = search needs
+
+enum-known-m : tie.Need-enum-known-m
+enum-known-m c = search needs
+
+array-share-prefix-under : tie.Need-array-share-prefix-under
+array-share-prefix-under c =
+    let b = subst (PairAs _ _ _ _) (c .before .m .given .1) (c .before .before .before .before .before .read-pair .ensures) in
+    omega (arith, b .few, c .before .before .before .before .before .read-pair .kept .1 .1 .0)
+
+slice-aggregate-place-text : tie.Need-slice-aggregate-place-text
+slice-aggregate-place-text c =
+    let b = subst (PairAs _ _ _ _) (c .before .before .m .given .1) (c .before .before .before .before .before .before .read-pair .ensures) in
+    sym (length-take-le _ _ (omega (arith, b .few, c .before .before .before .before .before .before .read-pair .kept .1 .1 .0)))
+
+array-share-prefix-over : tie.Need-array-share-prefix-over
+array-share-prefix-over c =
+    let b = subst (PairAs _ _ _ _) (c .before .before .m .given .1) (c .before .before .before .before .before .before .read-pair .ensures) in
+    omega (arith, b .fit, c .before .before .before .before .before .before .read-pair .kept .1 .1 .1 .0)
+
+slice-aggregate-place-text-2 : tie.Need-slice-aggregate-place-text-2
+slice-aggregate-place-text-2 c =
+    let b = subst (PairAs _ _ _ _) (c .before .before .before .m .given .1) (c .before .before .before .before .before .before .before .read-pair .ensures) in
+    sym (length-take-le _ _ (omega (arith, b .fit, c .before .before .before .before .before .before .before .read-pair .kept .1 .1 .1 .0)))
+
+place-text-requires : tie.Need-place-text-requires
+place-text-requires c κs =
+    let s = c .before .before .before .before .before .before .before .before .before .before .before .before .before .before .before .before in
+    let k = c .before .before .before .before .before .before .before .before .before .before .before .before .before .second-start .result in
+    let input = s .args .input .now in
+    (omega (arith, length-take k input), omega (arith, length-take (length input - k) (drop k input), length-drop k input), omega arith)
+
+enum-known-number : tie.Need-enum-known-number
+enum-known-number c = search needs
+
+refusal-line-requires : tie.Need-refusal-line-requires
+refusal-line-requires c κs = search needs
+
+same-length : tie.Need-same-length
+same-length c = search needs
+
+returns : tie.Need-returns
+unfolding foundText
+returns c =
+    let s = c .before .before .before .before .before .before .before .before .before .before .before .before .before .before .before .before .before .before .before in
+    let input = s .args .input .now in
+    let k = c .before .before .before .before .before .before .before .before .before .before .before .before .before .before .before .before .second-start .result in
+    let b = subst (PairAs _ _ _ _) (c .before .before .before .before .before .before .before .m .given .1) (c .before .before .before .before .before .before .before .before .before .before .before .read-pair .ensures) in
+    reworded (ap₂ (λ (u v : List ℕ). placeText (take k input) (take (length input - k) (drop k input)) (placeOf u v (s .args .name) (s .args .perms))) (b .base) (b .overlay) ∙ both-text input k (c .before .before .before .before .before .before .before .before .before .before .before .before .before .before .before .before .second-start .ensures .0) (λ (x y : List ℕ). placeText x y (placeOf (wordsOf x) (wordsOf y) (s .args .name) (s .args .perms))) b) (c .before .before .place-text .ensures)
+
+same-length-2 : tie.Need-same-length-2
+same-length-2 c = search needs
+
+returns-2 : tie.Need-returns-2
+unfolding foundText
+returns-2 c =
+    let s = c .before .before .before .before .before .before .before .before .before .before .before .before .before .before .before .before .before in
+    let h = subst (PairAs _ _ _ _) (c .before .before .before .before .before .number .given .1) (c .before .before .before .before .before .before .before .before .before .read-pair .ensures) in
+    reworded (refused-text (s .args .input .now) _ (c .before .before .before .before .before .before .before .before .before .before .before .before .before .before .second-start .ensures .0) (λ (x y : List ℕ). placeText x y (placeOf (wordsOf x) (wordsOf y) (s .args .name) (s .args .perms))) _ _ h) (c .before .before .refusal-line .ensures .0)
+
+pub found-text-spec : {M : Type 1} → statement M
+found-text-spec =
+    tie.close
+    (tie.spec
+    second-start-requires
+    slice-aggregate-first
+    sub-second
+    part-second-start
+    part-second-end
+    slice-aggregate-read-pair
+    slice-aggregate-read-pair-2
+    read-pair-requires
+    enum-known-m
+    array-share-prefix-under
+    slice-aggregate-place-text
+    array-share-prefix-over
+    slice-aggregate-place-text-2
+    place-text-requires
+    enum-known-number
+    refusal-line-requires
+    same-length
+    returns
+    same-length-2
+    returns-2)

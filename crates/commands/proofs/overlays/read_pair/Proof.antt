@@ -1,0 +1,106 @@
+-- `commands::overlays::read_pair` meets its contract. Assumes nothing.
+use mathlib.Core.Path.{_≡_, refl, sym, ap, ap₂, subst, _∙_}
+use Prim.Native.Nat.{ℕ, _+_}
+use native.Mathlib.Omega.{arith}
+use Rattle.listing.specs.Answer.{answered}
+use Rattle.report.specs.Lines.{refusalLine}
+use Rattle.commands.proofs.PairLaws.{number-small, first-refused, second-refused, both-read}
+use borrow.Author.Needs.{needs}
+use Rattle.commands.proofs.overlays.read_pair.Statement.{statement}
+use Rattle.commands.proofs.overlays.read_pair.Tie as tie
+
+read-requires : tie.Need-read-requires
+read-requires c κs = search needs
+
+enum-known-r : tie.Need-enum-known-r
+enum-known-r c = search needs
+
+refusal-number-requires : tie.Need-refusal-number-requires
+refusal-number-requires c κs = search needs
+
+refusal-place-requires : tie.Need-refusal-place-requires
+refusal-place-requires c κs = search needs
+
+enum-known-m : tie.Need-enum-known-m
+enum-known-m c = search needs
+
+read-requires-2 : tie.Need-read-requires-2
+read-requires-2 c κs = search needs
+
+enum-known-r-2 : tie.Need-enum-known-r-2
+enum-known-r-2 c = search needs
+
+refusal-number-requires-2 : tie.Need-refusal-number-requires-2
+refusal-number-requires-2 c κs = search needs
+
+add-t20 : tie.Need-add-t20
+add-t20 c = omega (arith, c .refusal-number2 .ensures, number-small (c .before .before .r2 .given .0 .0))
+
+refusal-place-requires-2 : tie.Need-refusal-place-requires-2
+refusal-place-requires-2 c κs = search needs
+
+enum-known-n : tie.Need-enum-known-n
+enum-known-n c = search needs
+
+same-length : tie.Need-same-length
+same-length c = search needs
+
+returns : tie.Need-returns
+unfolding answered
+returns c =
+    let s = c .before .before .before .before .before .before .before .before .before .before .before .before .before in
+    let e = sym (c .before .before .before .before .before .before .before .read .ensures .0) ∙ ap answered (c .before .before .before .r .given .1) in
+    λ t. first-refused (s .args .first .now) (s .args .second .now) _ 1024 (s .pre .0) refl _ _ e t ∙ sym (ap₂ refusalLine (c .before .refusal-number .ensures) (c .refusal-place .ensures))
+
+same-length-2 : tie.Need-same-length-2
+same-length-2 c = search needs
+
+same-length-3 : tie.Need-same-length-3
+same-length-3 c = search needs
+
+returns-2 : tie.Need-returns-2
+unfolding answered
+returns-2 c =
+    let s = c .before .before .before .before .before .before .before .before .before .before .before .before .before .before .before .before .before .before .before .before in
+    let d = sym (c .before .before .before .before .before .before .before .before .before .before .before .before .before .before .read .ensures .0) ∙ ap answered (c .before .before .before .before .before .before .before .before .before .before .m .given .1) in
+    let e = sym (c .before .before .before .before .before .before .before .read2 .ensures .0) ∙ ap answered (c .before .before .before .r2 .given .1) in
+    λ t. second-refused (s .args .first .now) (s .args .second .now) _ _ (s .pre .0) (s .pre .1) _ d _ _ e t
+    ∙ sym (ap₂ (λ (n p : ℕ). refusalLine (100 + n) p) (c .before .refusal-number2 .ensures) (c .refusal-place2 .ensures))
+
+same-length-4 : tie.Need-same-length-4
+same-length-4 c = search needs
+
+same-length-5 : tie.Need-same-length-5
+same-length-5 c = search needs
+
+returns-3 : tie.Need-returns-3
+unfolding answered
+returns-3 c =
+    let s = c .before .before .before .before .before .before .before .before .before .before .before .before .before .before .before .before .before .before in
+    let d = sym (c .before .before .before .before .before .before .before .before .before .before .before .before .read .ensures .0) ∙ ap answered (c .before .before .before .before .before .before .before .before .m .given .1) in
+    let e = sym (c .before .before .before .before .before .read2 .ensures .0) ∙ ap answered (c .before .n .given .1) in
+    both-read (s .args .first .now) (s .args .second .now) _ _ (s .pre .0) (s .pre .1) _ d _ _ _ _ _ e (c .before .before .before .before .before .before .before .before .before .before .before .before .read .ensures .1) (c .before .before .before .before .before .read2 .ensures .1)
+
+pub read-pair-spec : {M : Type 1} → statement M
+read-pair-spec =
+    tie.close
+    (tie.spec
+    read-requires
+    enum-known-r
+    refusal-number-requires
+    refusal-place-requires
+    enum-known-m
+    read-requires-2
+    enum-known-r-2
+    refusal-number-requires-2
+    add-t20
+    refusal-place-requires-2
+    enum-known-n
+    same-length
+    returns
+    same-length-2
+    same-length-3
+    returns-2
+    same-length-4
+    same-length-5
+    returns-3)

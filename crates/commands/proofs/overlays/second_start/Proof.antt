@@ -1,0 +1,69 @@
+-- `commands::overlays::second_start` meets its contract. Assumes nothing.
+use Prim.Native.Nat.{ℕ, _+_, _-_, _*_, _%_, _^_, _<_, _≤_}
+use mathlib.Core.Path.{_≡_, refl, sym, ap, _∙_}
+use mathlib.Core.Bool.{Bool, true, false, _&&_}
+use mathlib.Core.Logic.{⊎-elim}
+use native.Mathlib.Omega.{arith}
+use lib.ListN.{length, drop}
+use Rattle.commands.specs.Printed.{startsSystem, before}
+use Rattle.commands.proofs.PairLaws.{and-false, before-end, before-here, before-more}
+use borrow.Author.Needs.{needs}
+use Rattle.commands.proofs.overlays.second_start.Statement.{statement}
+use Rattle.commands.proofs.overlays.second_start.Tie as tie
+
+abbrev Inv-loop : tie.InvT-loop
+Inv-loop text start₀ i₀ start i = (i ≤ length text) × (before false text ≡ i + before start (drop i text))
+
+abbrev μ-loop : tie.MeasureT-loop
+μ-loop text start₀ i₀ start i = length text - i
+
+loop-holds : tie.Need-loop-holds Inv-loop μ-loop
+loop-holds c = (omega arith, omega arith)
+
+starts-system-requires : tie.Need-starts-system-requires Inv-loop μ-loop
+starts-system-requires c κs = search needs
+
+returns : tie.Need-returns Inv-loop μ-loop
+returns c =
+    let l = c .before .before .before .before .loop in
+    let text = c .before .before .before .before .before .before .args .text .now in
+    let e = ap (λ (s : Bool). before s (drop (l .i) text)) (c .before .before .if1 .taken) ∙ before-here text (l .i) (omega arith) (sym (c .before .starts-system .ensures) ∙ c .if2 .taken) in
+    (omega (arith, l .inv .1, e), l .inv .0)
+
+shared-slice-read-start : tie.Need-shared-slice-read-start Inv-loop μ-loop
+shared-slice-read-start c = search needs
+
+add-i : tie.Need-add-i Inv-loop μ-loop
+add-i c = search needs
+
+loop-less : tie.Need-loop-less Inv-loop μ-loop
+loop-less c = search needs
+
+loop-again : tie.Need-loop-again Inv-loop μ-loop
+loop-again c =
+    let l = c .before .before .before .loop in
+    let text = c .before .before .before .before .before .args .text .now in
+    let none : (l .start && startsSystem (drop (l .i) text)) ≡ false =
+    ⊎-elim
+    (λ w. and-false (l .start) (startsSystem (drop (l .i) text)) (sym (w .1 .ensures) ∙ w .2 .left))
+    (λ w. ap (λ (s : Bool). s && startsSystem (drop (l .i) text)) (w .left))
+    (c .before .if1 .came) in
+    (omega arith, omega (arith, l .inv .1, before-more text (l .i) (omega arith) (l .start) none))
+
+returns-2 : tie.Need-returns-2 Inv-loop μ-loop
+returns-2 c = let l = c .before .loop in (omega (arith, l .inv .1, before-end (c .before .before .before .args .text .now) (l .i) (l .start) (omega arith)), l .inv .0)
+
+pub second-start-spec : {M : Type 1} → statement M
+second-start-spec =
+    tie.close
+    (tie.spec
+    Inv-loop
+    μ-loop
+    loop-holds
+    starts-system-requires
+    returns
+    shared-slice-read-start
+    add-i
+    loop-less
+    loop-again
+    returns-2)

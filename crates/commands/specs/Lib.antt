@@ -1,0 +1,4 @@
+pub mod Arguments
+pub mod Meanings
+pub mod Printed
+pub mod Pairs

@@ -1,0 +1,40 @@
+-- `printout::program::sized_text` meets its contract. Assumes nothing.
+use Prim.Native.Nat.{ℕ}
+use mathlib.Core.Path.{ap₂, _∙_}
+use Rattle.calculus.specs.Answer.{answer}
+use Rattle.text.proofs.Writing.{reworded}
+use Rattle.printout.specs.Program.{answerText}
+use Rattle.printout.proofs.Texts.{system-exact}
+use borrow.Author.Needs.{needs}
+use Rattle.printout.proofs.program.sized_text.Statement.{statement}
+use Rattle.printout.proofs.program.sized_text.Tie as tie
+
+tell-requires : tie.Need-tell-requires
+tell-requires c κs = search needs
+
+same-length : tie.Need-same-length
+same-length c = search needs
+
+same-length-2 : tie.Need-same-length-2
+same-length-2 c = search needs
+
+same-length-3 : tie.Need-same-length-3
+same-length-3 c = search needs
+
+returns : tie.Need-returns
+returns c =
+    let s = c .before .before .before .before .before .before .before .before .before .before .before .before .before .before in
+    reworded
+    (ap₂ (λ (m n : ℕ). answerText (s .args .rho) (s .args .words .now) (answer (s .args .words .now) (s .args .rho) (s .args .bound) m n)) (s .pre .1) (s .pre .2)
+    ∙ system-exact (s .args .words .now) (s .args .rho) (s .args .bound) (s .pre .0))
+    (c .before .before .before .before .before .before .tell .ensures .wrote)
+
+pub sized-text-spec : {M : Type 1} → statement M
+sized-text-spec =
+    tie.close
+    (tie.spec
+    tell-requires
+    same-length
+    same-length-2
+    same-length-3
+    returns)
