@@ -4,6 +4,7 @@ use mathlib.Core.Path.{_≡_, refl, sym, ap, _∙_, subst}
 use mathlib.Core.Bool.{Bool, true, false}
 use mathlib.Core.List.{List}
 use native.Mathlib.Decide.{decLt, ℕ-discrete}
+use native.Mathlib.Nat.{zero-add, add-zero}
 use native.Mathlib.Omega.{arith}
 use borrow.Author.Count.{below-more}
 use Rattle.table.specs.Code.{Code, code}
@@ -24,8 +25,9 @@ use Rattle.firing.specs.Step.{stepAt}
 use Rattle.firing.proofs.Steps.{step-well, steps-rule}
 use Rattle.checker.specs.Obeyed.{firstBroken}
 use Rattle.checker.proofs.Laws.{broken-disobeys}
-use Rattle.fixpoint.specs.Grown.{Grown, Exhausted, Repaired}
-use Rattle.fixpoint.proofs.Grows.{grown-then, entered, entry-obeyed, fired-same}
+use Rattle.fixpoint.specs.declared.events.Choice.{Choice}
+use Rattle.fixpoint.specs.Grown.{Grown, Stepped, Taken, Exhausted, Repaired}
+use Rattle.fixpoint.proofs.Grows.{grown-none, grown-then, entered, entry-obeyed, fired-same}
 
 -- nothing was changed by the clauses below k
 pub record Tried (ws links : List ℕ) (p : ℕ) (old : List ℕ) (k : ℕ) (new : List ℕ) : Type 0 where
@@ -34,6 +36,11 @@ pub record Tried (ws links : List ℕ) (p : ℕ) (old : List ℕ) (k : ℕ) (new
 
 pub tried-none : (ws links : List ℕ) (p : ℕ) (old : List ℕ) → Tried ws links p old 0 old
 tried-none ws links p old = record { same = refl; steps = λ j i. absurd (omega arith) }
+
+-- a step for the target 0 is one for all targets
+pub all-targets : (ws links : List ℕ) (p k f : ℕ) (old new : List ℕ) (n : ℕ) → f ≡ 0 → Fired (code ws) (stepAt ws links p k f) old new n
+    → Fired (code ws) (stepAt ws links p k 0) old new n
+all-targets ws links p k f old new n z x = subst (λ (g : ℕ). Fired (code ws) (stepAt ws links p k g) old new n) z x
 
 module _ (ws links masks : List ℕ) (l : Layout) (y : Ready ws links masks l) (p : ℕ) (h : p < l .size) (old : List ℕ) (w : WellFormed (code ws) old) where
   abbrev c : Code
@@ -50,6 +57,14 @@ module _ (ws links masks : List ℕ) (l : Layout) (y : Ready ws links masks l) (
         let v : WellFormed c new = subst (WellFormed c) (sym (g .words)) (step-well ws links masks l y p h k 0 old w) in
         let e : new ≡ old = fired-same c (stepAt ws links p k 0) w v g (omega arith) in
         record { same = e; steps = below-more _ _ (a .steps) (sym (g .words) ∙ e) }
+
+  -- a choice that is clause k of p
+  pub taken-fired : (x : Choice) (k : ℕ) (mid new : List ℕ) (n : ℕ) → (x .place ≡ p) × (x .clause ≡ k) × (x .target ≡ 0) → Taken ws links (l .size) x mid new n
+      → Fired c (stepAt ws links p k 0) mid new n
+  taken-fired x k mid new n e t =
+      let f : Fired c (stepAt ws links (x .place) (x .clause) 0) mid new n = t .fired (omega (arith, e .0)) (e .2) in
+      subst (λ (q : ℕ). Fired c (stepAt ws links q k 0) mid new n) (e .0)
+      (subst (λ (j : ℕ). Fired c (stepAt ws links (x .place) j 0) mid new n) (e .1) f)
 
   never-adds : fire c (given (L p) 0 (asks c never 0)) old ≡ old
   unfolding fire asks under
@@ -79,9 +94,36 @@ module _ (ws links masks : List ℕ) (l : Layout) (y : Ready ws links masks l) (
             let e : mid ≡ old = fired-same c (entry c ρ p) w (g .sound .well w) f (omega arith) in (
               entry-obeyed c ρ (linked-code ws links masks l y) p in-code old w (sym (f .words) ∙ e),
               steps-rule ws links masks l y p h old w
-                  (λ k. subst (λ (xs : List ℕ). fire c (stepAt ws links p k 0) xs ≡ xs) e (x .nothing (omega arith) k)),
+                  (λ k. subst (λ (xs : List ℕ). fire c (stepAt ws links p k 0) xs ≡ xs) e (x .nothing in-code (omega arith) k)),
             );
       }
+
+-- ---- the clauses of a word first, then other steps
+
+module _ (ws links : List ℕ) (p : ℕ) (old : List ℕ) where
+  then-stepped : (mid new : List ℕ) (m n : ℕ) → Exhausted ws links p old mid m → Stepped ws mid new n → Exhausted ws links p old new (m + n)
+  then-stepped mid new m n x s =
+      record { stepped = λ ρ. grown-then (code ws) ρ (x .stepped ρ) (s ρ); nothing = λ h z. x .nothing h (omega arith) }
+
+  no-word : code ws .size ≤ p → Exhausted ws links p old old 0
+  no-word h = record { stepped = λ ρ. grown-none (code ws) ρ old; nothing = λ i z. absurd (omega arith) }
+
+-- so much was added so far, and all clauses of q are next
+abbrev pub Toward : (ws links : List ℕ) (p : ℕ) (old : List ℕ) (q : ℕ) (mid : List ℕ) (m : ℕ) → Type 0
+Toward ws links p old q mid m = (new : List ℕ) (n : ℕ) → Exhausted ws links q mid new n → Exhausted ws links p old new (m + n)
+
+module _ (ws links : List ℕ) (p : ℕ) (old : List ℕ) where
+  pub toward-start : Toward ws links p old p old 0
+  toward-start new n x = subst (Exhausted ws links p old new) (sym (zero-add n)) x
+
+  module _ (q : ℕ) (mid : List ℕ) (m : ℕ) (t : Toward ws links p old q mid m) where
+    pub toward-more : (next : List ℕ) (k r : ℕ) → Exhausted ws links q mid next k → Toward ws links p old r next (m + k)
+    toward-more next k r x new n y =
+        let e : m + (k + n) ≡ m + k + n = omega arith in
+        subst (Exhausted ws links p old new) e (t new (k + n) (then-stepped ws links q mid next new k n x (y .stepped)))
+
+    pub toward-end : code ws .size ≤ q → Exhausted ws links p old mid m
+    toward-end h = subst (Exhausted ws links p old mid) (add-zero m) (t mid 0 (no-word ws links q mid h))
 
 -- a word whose rule is broken has something to add
 pub mended : (c : Code) (ρ : ℕ) (est : List ℕ) (p : ℕ) → p ≡ firstBroken c ρ est → p < c .size → (new : List ℕ) (n : ℕ) → Repaired c ρ p est new n → 0 < n

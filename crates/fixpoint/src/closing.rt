@@ -2,9 +2,9 @@
 // whose rule is broken add a fact.
 use crate::entry::enter;
 use crate::entry::enter_all;
+use crate::events::LISTED;
 use crate::events::follow;
 use checker::broken;
-use firing::step::step;
 use permset::PermSet;
 use rows::layout::Layout;
 use worklist::plan::prepare;
@@ -12,52 +12,9 @@ ghost use Prim.Native.Nat.{_<_};
 ghost use Rattle.table.specs.Code.{code};
 ghost use Rattle.calculus.specs.Layout.{WellFormed};
 ghost use Rattle.queries.specs.Ready.{Ready};
-ghost use Rattle.fixpoint.specs.Grown.{Grown, Exhausted, Repaired, Closed};
+ghost use Rattle.fixpoint.specs.Grown.{Grown, Repaired, Closed};
 
-// No word has more clauses.
-const CLAUSES: usize = 5;
-
-// All clauses of p.
-fn exhaust(
-    words: &[u32],
-    links: &[u32],
-    masks: &[u32],
-    est: &mut [u32],
-    h: &mut [u32],
-    l: Layout,
-    p: usize,
-) -> usize
-    requires { ⌜ Ready (now words) (now links) (now masks) l × WellFormed (code (now words)) (now est) × (p < l .size) ⌝ }
-    ensures { λ r. ⌜ Exhausted (now (words .entry)) (now (links .entry)) p (now (est .entry)) (now (est .exit)) r ⌝ }
-{
-    let mut added = 0;
-    let mut k = 0;
-    while k < CLAUSES {
-        added += step(words, links, masks, est, h, l, p, k, 0);
-        k += 1;
-    }
-    added
-}
-
-// All that the rule of p asks.
-fn repair(
-    words: &[u32],
-    links: &[u32],
-    masks: &[u32],
-    est: &mut [u32],
-    h: &mut [u32],
-    l: Layout,
-    rho: PermSet,
-    p: usize,
-) -> usize
-    requires { ⌜ Ready (now words) (now links) (now masks) l × WellFormed (code (now words)) (now est) × (p < l .size) ⌝ }
-    ensures { λ r. ⌜ Repaired (code (now (words .entry))) (rho .bits) p (now (est .entry)) (now (est .exit)) r ⌝ }
-{
-    let entered = enter(words, est, h, l, rho, p);
-    entered + exhaust(words, links, masks, est, h, l, p)
-}
-
-// What p lacks, and all that follows from it.
+// All that the rule of p asks, and what follows from it.
 fn mend(
     words: &[u32],
     links: &[u32],
@@ -73,11 +30,11 @@ fn mend(
     requires { ⌜ Ready (now words) (now links) (now masks) l × WellFormed (code (now words)) (now est) × (p < l .size) ⌝ }
     ensures { λ r. ⌜ Repaired (code (now (words .entry))) (rho .bits) p (now (est .entry)) (now (est .exit)) r ⌝ }
 {
-    let added = repair(words, links, masks, est, h, l, rho, p);
-    if room < added {
-        return added;
+    let entered = enter(words, est, h, l, rho, p);
+    if room < entered {
+        return entered;
     }
-    added + follow(words, links, masks, est, h, out, l, room - added)
+    entered + follow(words, links, masks, est, h, out, l, p, room - entered)
 }
 
 // The checker's rounds. It answers how many facts were added.
@@ -128,7 +85,7 @@ fn begin(
     if room < entered {
         return entered;
     }
-    entered + follow(words, links, masks, est, h, out, l, room - entered)
+    entered + follow(words, links, masks, est, h, out, l, LISTED, room - entered)
 }
 
 // From any estimate to one that obeys every rule, by sound steps, with a memory of zeros; or until more than `room` facts are added. It

@@ -21,7 +21,7 @@ use Rattle.calculus.proofs.Slices.{length-pour, pour-adds}
 use Rattle.calculus.proofs.Facts.{facts-le, facts-set, facts-append, pour-one}
 use Rattle.calculus.specs.Layout.{masked}
 use Rattle.calculus.proofs.Masks.{bit-masked, masked-words, nonzero, digit-nonzero, nonzero-digit}
-use Rattle.rows.specs.Rows.{meets, lacking, Poured, gained}
+use Rattle.rows.specs.Rows.{meets, lacking, Poured}
 
 -- ---- the digits of one word
 
@@ -144,16 +144,6 @@ length-poured ws new at xs added p = ap length (p .words) ∙ length-pour ws at 
 pub pour-grows : (ws : List ℕ) (at : ℕ) (xs : List ℕ) → facts ws ≤ facts (pour ws at xs)
 pour-grows ws at xs = facts-le ws (pour ws at xs) (sym (length-pour ws at xs)) (pour-adds ws at xs)
 
--- where nobody counted
-pub uncounted : (old new : List ℕ) (at : ℕ) (xs : List ℕ) → new ≡ pour old at xs → Poured old new at xs (gained old new)
-uncounted old new at xs e =
-    let f : facts new ≡ facts (pour old at xs) = ap facts e in record { words = e; count = omega (arith, f, pour-grows old at xs) }
-
-pub merged-more : (ws old xs : List ℕ) (i : ℕ) → i < length xs → old ≡ pour ws 0 (take i xs)
-    → set old i (bitOr (getD old i 0) (getD xs i 0)) ≡ pour ws 0 (take (i + 1) xs)
-merged-more ws old xs i h e =
-    sym (pour-one old i (getD xs i 0)) ∙ ap (λ (ys : List ℕ). pour ys i (getD xs i 0 ∷ [])) e ∙ pour-more ws xs i h
-
 -- ---- one word or-ed in
 
 module _ (ws : List ℕ) (k x : ℕ) where
@@ -198,12 +188,6 @@ pub facts-most : (ws : List ℕ) → facts ws ≤ 32 * length ws
 unfolding facts
 facts-most [] = omega arith
 facts-most (w ∷ ws) = omega (arith, onesIn-le 32 w, facts-most ws)
-
--- one word adds at most 32
-pub one-adds : (ws new : List ℕ) (at x n : ℕ) → at < length ws → Poured ws new at (x ∷ []) n → n ≤ 32
-one-adds ws new at x n h p =
-    let e : facts new ≡ facts (set ws at (bitOr (getD ws at 0) x)) = ap facts (p .words ∙ pour-one ws at x) in
-    omega (arith, p .count, facts-set ws at (bitOr (getD ws at 0) x) h, onesIn-le 32 (bitOr (getD ws at 0) x))
 
 -- ---- a part of a list lent, and put back
 

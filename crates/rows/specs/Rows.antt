@@ -1,5 +1,5 @@
 -- Rows of words: what they have in common, what one lacks of another, and what it is to or words into a list and count what that added.
-use Prim.Native.Nat.{ℕ, _+_, _-_}
+use Prim.Native.Nat.{ℕ, _+_}
 use mathlib.Core.Path.{_≡_}
 use mathlib.Core.Bool.{Bool, true, false, not, _||_}
 use mathlib.Core.List.{List, [], _∷_}
@@ -24,7 +24,3 @@ lacking (x ∷ xs) (y ∷ ys) = not (eqb (bitAnd x y) x) || lacking xs ys
 pub record Poured (old new : List ℕ) (at : ℕ) (xs : List ℕ) (added : ℕ) : Type 0 where
   pub words : new ≡ pour old at xs
   pub count : facts new ≡ facts old + added
-
--- how many digits were added, where nobody counted them
-abbrev pub gained : List ℕ → List ℕ → ℕ
-gained old new = facts new - facts old

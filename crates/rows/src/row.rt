@@ -4,7 +4,7 @@ ghost use mathlib.Core.List.{[], _∷_, _++_};
 ghost use Prim.Native.Nat.{_+_, _<_, _≤_};
 ghost use lib.ListN.{length, drop, take};
 ghost use Rattle.calculus.specs.Layout.{masked};
-ghost use Rattle.rows.specs.Rows.{Poured, gained, meets, lacking};
+ghost use Rattle.rows.specs.Rows.{Poured, meets, lacking};
 
 // Sets bits of the word k, and answers how many that added.
 pub fn set(row: &mut [u32], k: usize, bits: u32) -> usize
@@ -17,7 +17,7 @@ pub fn set(row: &mut [u32], k: usize, bits: u32) -> usize
         return 0;
     }
     row[k] = new;
-    (u32::count_ones(new) - u32::count_ones(old)) as usize
+    u32::count_ones(new ^ old) as usize
 }
 
 // Or-s a row into this one, and answers how many bits that added. No branch: the compiler takes several words at a time.
@@ -36,18 +36,6 @@ pub fn join(row: &mut [u32], from: &[u32]) -> usize
         i += 1;
     }
     added as usize
-}
-
-// Or-s a row into this one, for whoever needs no count.
-pub fn merge(row: &mut [u32], from: &[u32])
-    requires { ⌜ length (now from) ≡ length (now row) ⌝ }
-    ensures { λ _. ⌜ Poured (now (row .entry)) (now (row .exit)) 0 (now (from .entry)) (gained (now (row .entry)) (now (row .exit))) ⌝ }
-{
-    let mut k = 0;
-    while k < row.len() {
-        row[k] = row[k] | from[k];
-        k += 1;
-    }
 }
 
 // Copies a row to the front of a slice.

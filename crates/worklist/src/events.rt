@@ -3,6 +3,7 @@ use crate::choices::choose;
 use crate::choices::choose_some;
 use crate::choices::choose_unless;
 use crate::kinds;
+use crate::memory::MOST;
 use crate::memory::parent;
 use crate::memory::use_of;
 use crate::memory::word;
@@ -162,6 +163,25 @@ fn plain_part(out: &mut [u32], kind: u32, d: usize, p: usize, i: usize)
     }
 }
 
+// A part of the send at p, whose message is at d: what is sent goes to the one block of its names, or to all where they have more.
+fn send_part(
+    words: &[u32],
+    links: &[u32],
+    est: &[u32],
+    h: &mut [u32],
+    out: &mut [u32],
+    l: Layout,
+    d: usize,
+    p: usize,
+)
+    requires { ⌜ (d < 2048) × (p < 1024) ⌝ }
+{
+    let b = follow_names(words, links, est, h, l, p);
+    if b < MOST {
+        choose_unless(h, out, 2 * d, kinds::SEND_SEND, p, b);
+    }
+}
+
 // The value of i, a part of p, has grown.
 fn part_grew(
     words: &[u32],
@@ -196,12 +216,7 @@ fn part_grew(
                 choose(out, kinds::ASSIGN_HAND, p, 0);
             }
         }
-        kinds::SEND => {
-            choose(out, kinds::SEND_SEND, p, 0);
-            if first {
-                follow_names(words, links, est, h, l, p);
-            }
-        }
+        kinds::SEND => send_part(words, links, est, h, out, l, d, p),
         _ => plain_part(out, kind, d, p, i),
     }
 }

@@ -124,27 +124,48 @@ pub fn meet_new(
     }
 }
 
-// The block b is followed by the send at p, if its name is in the row of an estimate that starts at a word.
-fn follow_name(words: &[u32], est: &[u32], h: &mut [u32], n: usize, at: usize, p: usize, b: usize)
+// The block b is followed by the send at p, if its name is in the row of an estimate that starts at a word. Answers the only block that
+// was found, where `found` is that so far: MOST if there is none, 0 if there are more.
+fn follow_name(
+    words: &[u32],
+    est: &[u32],
+    h: &mut [u32],
+    n: usize,
+    at: usize,
+    p: usize,
+    b: usize,
+    found: usize,
+) -> usize
     requires { ⌜ at < 4294967296 ⌝ }
 {
     let name = argument_of(word(words, b)) as usize;
-    if has_bit(est, at, NAMES + name) {
-        follow(h, n, b, p);
+    if !has_bit(est, at, NAMES + name) {
+        return found;
     }
+    follow(h, n, b, p);
+    if found == MOST { b } else { 0 }
 }
 
-// The blocks of a name in C(p + 1) are followed by the send at p.
-pub fn follow_names(words: &[u32], links: &[u32], est: &[u32], h: &mut [u32], l: Layout, p: usize)
+// The blocks of a name in C(p + 1) are followed by the send at p. Answers the only one; MOST if there is none, 0 if there are more.
+pub fn follow_names(
+    words: &[u32],
+    links: &[u32],
+    est: &[u32],
+    h: &mut [u32],
+    l: Layout,
+    p: usize,
+) -> usize
     requires { ⌜ p < 1024 ⌝ }
 {
     let at = row_at(l, 2 * (p + 1));
     let end = l.size % TURNS;
+    let mut found = MOST;
     let mut b = 1;
     while b < end {
-        follow_name(words, est, h, l.size, at, p, b);
+        found = follow_name(words, est, h, l.size, at, p, b, found);
         b = past(links, b + 3);
     }
+    found
 }
 
 // The word p, which acts on f, takes what f holds or gives.

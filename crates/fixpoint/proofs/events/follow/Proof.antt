@@ -1,62 +1,65 @@
--- `fixpoint::events::follow` meets its contract. The loop's invariant: what was done so far is sound, and not over the room. Assumes nothing.
+-- `fixpoint::events::follow` meets its contract. The loop's invariant: what is left to do leads to what is promised. Assumes nothing.
 use Prim.Native.Nat.{_≤_}
 use mathlib.Core.Path.{_≡_, refl, _∙_}
 use native.Mathlib.Omega.{arith}
 use lib.ListN.{length}
 use Rattle.table.specs.Code.{code}
+use Rattle.queries.proofs.Given.{sized}
 use Rattle.fixpoint.specs.Grown.{Stepped}
 use Rattle.fixpoint.proofs.Grows.{grown-none, grown-then, few-facts}
+use Rattle.fixpoint.proofs.Tried.{Toward, toward-start, toward-more, toward-end}
 use borrow.Author.Needs.{needs}
 use Rattle.fixpoint.proofs.events.follow.Statement.{statement}
 use Rattle.fixpoint.proofs.events.follow.Tie as tie
 
 abbrev Inv-loop : tie.InvT-loop
-Inv-loop words links masks est₀ h₀ out₀ l room added₀ turn₀ left₀ est h out added turn left =
-    (length est ≡ length est₀) × (length h ≡ length h₀) × (length out ≡ length out₀) × Stepped words est₀ est added × (added ≤ room)
+Inv-loop words links masks est₀ h₀ out₀ l p room first₀ added₀ turn₀ left₀ est h out first added turn left =
+    (length est ≡ length est₀) × (length h ≡ length h₀) × (length out ≡ length out₀) × (added ≤ room) × Stepped words est₀ est added × Toward words links p est₀ first est added
+    × (left ≡ 0 → 1024 ≤ first)
 
 abbrev μ-loop : tie.MeasureT-loop
-μ-loop words links masks est₀ h₀ out₀ l room added₀ turn₀ left₀ est h out added turn left = left
+μ-loop words links masks est₀ h₀ out₀ l p room first₀ added₀ turn₀ left₀ est h out first added turn left = left
 
 loop-holds : tie.Need-loop-holds Inv-loop μ-loop
-loop-holds c = (refl, refl, refl, λ ρ. grown-none (code (c .before .before .before .before .before .before .args .words .now)) ρ (c .before .before .before .before .before .before .args .est .now), omega arith)
+loop-holds c = (refl, refl, refl, omega arith, λ ρ. grown-none (code (c .before .before .before .before .before .before .args .words .now)) ρ (c .before .before .before .before .before .before .args .est .now), toward-start (c .before .before .before .before .before .before .args .words .now) (c .before .before .before .before .before .before .args .links .now) (c .before .before .before .before .before .before .args .p) (c .before .before .before .before .before .before .args .est .now), λ z. absurd (omega (arith, z)))
+
+sub-drain : tie.Need-sub-drain Inv-loop μ-loop
+sub-drain c = c .before .before .before .before .loop .inv .3
+
+drain-requires : tie.Need-drain-requires Inv-loop μ-loop
+drain-requires c κs = (c .before .before .before .before .before .before .before .before .before .before .before .pre .0, c .before .before .before .before .loop .inv .4 0 .sound .well (c .before .before .before .before .before .before .before .before .before .before .before .pre .1))
+
+add-added : tie.Need-add-added Inv-loop μ-loop
+add-added c =
+    let g = grown-then (code (c .before .before .before .before .before .before .before .before .before .before .before .before .before .before .before .before .args .words .now)) 0 (c .before .before .before .before .before .before .before .before .before .loop .inv .4 0) (c .before .before .before .before .drain .ensures .stepped 0) in
+    omega (arith, few-facts (c .before .before .before .before .before .before .before .before .before .before .before .before .before .before .before .before .args .words .now) (c .before .before .before .before .before .before .before .before .before .before .before .before .before .before .before .before .args .links .now) (c .before .before .before .before .before .before .before .before .before .before .before .before .before .before .before .before .args .masks .now) (c .before .before .before .before .before .before .before .before .before .before .before .before .before .before .before .before .args .l) (c .before .before .before .before .before .before .before .before .before .before .before .before .before .before .before .before .pre .0) (c .before .before .before .before .before .before .before .before .before .before .before .before .before .before .before .before .args .est .now) _ _ (g .sound .well (c .before .before .before .before .before .before .before .before .before .before .before .before .before .before .before .before .pre .1)) (g .count))
+
+same-length : tie.Need-same-length Inv-loop μ-loop
+same-length c = c .before .before .before .before .before .drain .kept .1 .1 .1 .0 ∙ c .before .before .before .before .before .before .before .before .before .before .loop .inv .0
+
+same-length-2 : tie.Need-same-length-2 Inv-loop μ-loop
+same-length-2 c = c .before .before .before .before .before .drain .kept .1 .1 .1 .1 .0 ∙ c .before .before .before .before .before .before .before .before .before .before .loop .inv .1
+
+same-length-3 : tie.Need-same-length-3 Inv-loop μ-loop
+same-length-3 c = c .before .before .before .before .before .before .before .before .before .before .loop .inv .2
+
+returns : tie.Need-returns Inv-loop μ-loop
+returns c = c .before .before .before .before .before .before .before .before .before .before .loop .inv .5 _ _ (c .before .before .before .before .before .drain .ensures)
 
 next-requires : tie.Need-next-requires Inv-loop μ-loop
 next-requires c κs = search needs
 
-same-length : tie.Need-same-length Inv-loop μ-loop
-same-length c = c .before .before .before .before .before .before .before .before .before .before .loop .inv .0
-
-same-length-2 : tie.Need-same-length-2 Inv-loop μ-loop
-same-length-2 c = c .before .before .before .before .before .next .kept .1 .1 .1 .1 .0 ∙ c .before .before .before .before .before .before .before .before .before .before .loop .inv .1
-
-same-length-3 : tie.Need-same-length-3 Inv-loop μ-loop
-same-length-3 c = c .before .before .before .before .before .next .kept .1 .1 .1 .1 .1 .0 ∙ c .before .before .before .before .before .before .before .before .before .before .loop .inv .2
-
-returns : tie.Need-returns Inv-loop μ-loop
-returns c = c .before .before .before .before .before .before .before .before .before .before .loop .inv .3
-
-sub-drain : tie.Need-sub-drain Inv-loop μ-loop
-sub-drain c = omega (arith, c .before .before .before .before .before .before .before .before .before .before .before .before .before .loop .inv .4)
-
-drain-requires : tie.Need-drain-requires Inv-loop μ-loop
-drain-requires c κs = (c .before .before .before .before .before .before .before .before .before .before .before .before .before .before .before .before .before .before .before .before .pre .0, c .before .before .before .before .before .before .before .before .before .before .before .before .before .loop .inv .3 0 .sound .well (c .before .before .before .before .before .before .before .before .before .before .before .before .before .before .before .before .before .before .before .before .pre .1))
-
-add-added : tie.Need-add-added Inv-loop μ-loop
-add-added c =
-    let g = grown-then (code (c .before .before .before .before .before .before .before .before .before .before .before .before .before .before .before .before .before .before .before .before .before .before .before .before .before .args .words .now)) 0 (c .before .before .before .before .before .before .before .before .before .before .before .before .before .before .before .before .before .before .loop .inv .3 0) (c .before .before .before .before .drain .ensures 0) in
-    omega (arith, few-facts (c .before .before .before .before .before .before .before .before .before .before .before .before .before .before .before .before .before .before .before .before .before .before .before .before .before .args .words .now) (c .before .before .before .before .before .before .before .before .before .before .before .before .before .before .before .before .before .before .before .before .before .before .before .before .before .args .links .now) (c .before .before .before .before .before .before .before .before .before .before .before .before .before .before .before .before .before .before .before .before .before .before .before .before .before .args .masks .now) (c .before .before .before .before .before .before .before .before .before .before .before .before .before .before .before .before .before .before .before .before .before .before .before .before .before .args .l) (c .before .before .before .before .before .before .before .before .before .before .before .before .before .before .before .before .before .before .before .before .before .before .before .before .before .pre .0) (c .before .before .before .before .before .before .before .before .before .before .before .before .before .before .before .before .before .before .before .before .before .before .before .before .before .args .est .now) _ _ (g .sound .well (c .before .before .before .before .before .before .before .before .before .before .before .before .before .before .before .before .before .before .before .before .before .before .before .before .before .pre .1)) (g .count))
-
 same-length-4 : tie.Need-same-length-4 Inv-loop μ-loop
-same-length-4 c = c .before .before .before .before .before .drain .kept .1 .1 .1 .0 ∙ c .before .before .before .before .before .before .before .before .before .before .before .before .before .before .before .before .before .before .before .loop .inv .0
+same-length-4 c = c .before .before .before .before .before .before .before .before .before .before .before .before .before .before .drain .kept .1 .1 .1 .0 ∙ c .before .before .before .before .before .before .before .before .before .before .before .before .before .before .before .before .before .before .before .loop .inv .0
 
 same-length-5 : tie.Need-same-length-5 Inv-loop μ-loop
-same-length-5 c = c .before .before .before .before .before .drain .kept .1 .1 .1 .1 .0 ∙ c .before .before .before .before .before .before .before .before .before .before .before .before .before .before .next .kept .1 .1 .1 .1 .0 ∙ c .before .before .before .before .before .before .before .before .before .before .before .before .before .before .before .before .before .before .before .loop .inv .1
+same-length-5 c = c .before .before .before .before .before .next .kept .1 .1 .1 .1 .0 ∙ c .before .before .before .before .before .before .before .before .before .before .before .before .before .before .drain .kept .1 .1 .1 .1 .0 ∙ c .before .before .before .before .before .before .before .before .before .before .before .before .before .before .before .before .before .before .before .loop .inv .1
 
 same-length-6 : tie.Need-same-length-6 Inv-loop μ-loop
-same-length-6 c = c .before .before .before .before .before .before .before .before .before .before .before .before .before .before .next .kept .1 .1 .1 .1 .1 .0 ∙ c .before .before .before .before .before .before .before .before .before .before .before .before .before .before .before .before .before .before .before .loop .inv .2
+same-length-6 c = c .before .before .before .before .before .next .kept .1 .1 .1 .1 .1 .0 ∙ c .before .before .before .before .before .before .before .before .before .before .before .before .before .before .before .before .before .before .before .loop .inv .2
 
 returns-2 : tie.Need-returns-2 Inv-loop μ-loop
-returns-2 c = λ ρ. grown-then (code (c .before .before .before .before .before .before .before .before .before .before .before .before .before .before .before .before .before .before .before .before .before .before .before .before .before .before .args .words .now)) ρ (c .before .before .before .before .before .before .before .before .before .before .before .before .before .before .before .before .before .before .before .loop .inv .3 ρ) (c .before .before .before .before .before .drain .ensures ρ)
+returns-2 c = c .before .before .before .before .before .before .before .before .before .before .before .before .before .before .before .before .before .before .before .loop .inv .5 _ _ (c .before .before .before .before .before .before .before .before .before .before .before .before .before .before .drain .ensures)
 
 sub-left : tie.Need-sub-left Inv-loop μ-loop
 sub-left c = omega (arith, c .before .before .before .before .before .before .before .before .before .before .before .before .before .before .before .before .before .before .loop-test .taken)
@@ -65,7 +68,15 @@ loop-less : tie.Need-loop-less Inv-loop μ-loop
 loop-less c = omega (arith, c .before .before .before .before .before .before .before .before .before .before .before .before .before .before .before .before .before .before .loop-test .taken)
 
 loop-again : tie.Need-loop-again Inv-loop μ-loop
-loop-again c = (c .before .before .before .before .before .drain .kept .1 .1 .1 .0 ∙ c .before .before .before .before .before .before .before .before .before .before .before .before .before .before .before .before .before .before .before .loop .inv .0, c .before .before .before .before .before .drain .kept .1 .1 .1 .1 .0 ∙ c .before .before .before .before .before .before .before .before .before .before .before .before .before .before .next .kept .1 .1 .1 .1 .0 ∙ c .before .before .before .before .before .before .before .before .before .before .before .before .before .before .before .before .before .before .before .loop .inv .1, c .before .before .before .before .before .before .before .before .before .before .before .before .before .before .next .kept .1 .1 .1 .1 .1 .0 ∙ c .before .before .before .before .before .before .before .before .before .before .before .before .before .before .before .before .before .before .before .loop .inv .2, λ ρ. grown-then (code (c .before .before .before .before .before .before .before .before .before .before .before .before .before .before .before .before .before .before .before .before .before .before .before .before .before .before .args .words .now)) ρ (c .before .before .before .before .before .before .before .before .before .before .before .before .before .before .before .before .before .before .before .loop .inv .3 ρ) (c .before .before .before .before .before .drain .ensures ρ), omega (arith, c .if2 .left))
+loop-again c = (
+  c .before .before .before .before .before .before .before .before .before .before .before .before .before .before .drain .kept .1 .1 .1 .0 ∙ c .before .before .before .before .before .before .before .before .before .before .before .before .before .before .before .before .before .before .before .loop .inv .0,
+  c .before .before .before .before .before .next .kept .1 .1 .1 .1 .0 ∙ c .before .before .before .before .before .before .before .before .before .before .before .before .before .before .drain .kept .1 .1 .1 .1 .0 ∙ c .before .before .before .before .before .before .before .before .before .before .before .before .before .before .before .before .before .before .before .loop .inv .1,
+  c .before .before .before .before .before .next .kept .1 .1 .1 .1 .1 .0 ∙ c .before .before .before .before .before .before .before .before .before .before .before .before .before .before .before .before .before .before .before .loop .inv .2,
+  c .before .before .before .before .before .before .before .before .before .if1 .left,
+  λ ρ. grown-then (code (c .before .before .before .before .before .before .before .before .before .before .before .before .before .before .before .before .before .before .before .before .before .before .before .before .before .before .args .words .now)) ρ (c .before .before .before .before .before .before .before .before .before .before .before .before .before .before .before .before .before .before .before .loop .inv .4 ρ) (c .before .before .before .before .before .before .before .before .before .before .before .before .before .before .drain .ensures .stepped ρ),
+  toward-more (c .before .before .before .before .before .before .before .before .before .before .before .before .before .before .before .before .before .before .before .before .before .before .before .before .before .before .args .words .now) (c .before .before .before .before .before .before .before .before .before .before .before .before .before .before .before .before .before .before .before .before .before .before .before .before .before .before .args .links .now) (c .before .before .before .before .before .before .before .before .before .before .before .before .before .before .before .before .before .before .before .before .before .before .before .before .before .before .args .p) (c .before .before .before .before .before .before .before .before .before .before .before .before .before .before .before .before .before .before .before .before .before .before .before .before .before .before .args .est .now) (c .before .before .before .before .before .before .before .before .before .before .before .before .before .before .before .before .before .before .before .loop .first) (c .before .before .before .before .before .before .before .before .before .before .before .before .before .before .before .before .before .before .before .loop .est) _ (c .before .before .before .before .before .before .before .before .before .before .before .before .before .before .before .before .before .before .before .loop .inv .5) _ _ 1024 (c .before .before .before .before .before .before .before .before .before .before .before .before .before .before .drain .ensures),
+  λ z. omega arith,
+)
 
 same-length-7 : tie.Need-same-length-7 Inv-loop μ-loop
 same-length-7 c = c .before .loop .inv .0
@@ -77,7 +88,9 @@ same-length-9 : tie.Need-same-length-9 Inv-loop μ-loop
 same-length-9 c = c .before .loop .inv .2
 
 returns-3 : tie.Need-returns-3 Inv-loop μ-loop
-returns-3 c = c .before .loop .inv .3
+returns-3 c =
+    toward-end (c .before .before .before .before .before .before .before .before .args .words .now) (c .before .before .before .before .before .before .before .before .args .links .now) (c .before .before .before .before .before .before .before .before .args .p) (c .before .before .before .before .before .before .before .before .args .est .now) (c .before .loop .first) (c .before .loop .est) _ (c .before .loop .inv .5)
+    (omega (arith, c .before .loop .inv .6 (omega (arith, c .loop-test .left)), c .before .before .before .before .before .before .before .before .pre .0 .laid .size, sized (c .before .before .before .before .before .before .before .before .args .words .now) (c .before .before .before .before .before .before .before .before .args .links .now) (c .before .before .before .before .before .before .before .before .args .masks .now) (c .before .before .before .before .before .before .before .before .args .l) (c .before .before .before .before .before .before .before .before .pre .0) (c .before .before .before .before .before .before .before .before .args .est .now) (c .before .before .before .before .before .before .before .before .pre .1) .size))
 
 pub follow-spec : {M : Type 1} → statement M
 follow-spec =
@@ -86,14 +99,14 @@ follow-spec =
     Inv-loop
     μ-loop
     loop-holds
-    next-requires
+    sub-drain
+    drain-requires
+    add-added
     same-length
     same-length-2
     same-length-3
     returns
-    sub-drain
-    drain-requires
-    add-added
+    next-requires
     same-length-4
     same-length-5
     same-length-6

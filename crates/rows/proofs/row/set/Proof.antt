@@ -1,11 +1,11 @@
 -- `rows::row::set` meets its contract: the count is exact, because no digit of the word is lost.
 -- Assumes nothing.
 use native.Mathlib.Omega.{arith}
-use lib.Bits.{or-lt}
+use lib.Bits.{or-lt, xor-lt}
 use lib.Count.{ones-le}
 use lib.ListN.{getD}
 use borrow.Author.Needs.{needs}
-use Rattle.rows.proofs.Laws.{nothing-new, ones-grow, new-bits}
+use Rattle.rows.proofs.Laws.{nothing-new, different-bits}
 use Rattle.rows.proofs.row.set.Statement.{statement}
 use Rattle.rows.proofs.row.set.Tie as tie
 
@@ -24,15 +24,11 @@ mul-row c = search needs
 slice-write-row : tie.Need-slice-write-row
 slice-write-row c = search needs
 
-sub-result : tie.Need-sub-result
-sub-result c =
-    let a = c .before .before .args in
-    ones-grow (a .row .now) (a .k) (a .bits) (c .before .before .pre) (c .before .slice-known .given (a .k) .fits) (c .before .before .fits .bits .fits)
-
 cast-result : tie.Need-cast-result
 cast-result c =
     let a = c .before .before .args in
-    omega (arith, ones-le 32 _ (or-lt 32 (getD (a .row .now) (a .k) 0) (a .bits) (c .before .slice-known .given (a .k) .fits) (c .before .before .fits .bits .fits)))
+    let old = c .before .slice-known .given (a .k) .fits in
+    omega (arith, ones-le 32 _ (xor-lt 32 _ (getD (a .row .now) (a .k) 0) (or-lt 32 (getD (a .row .now) (a .k) 0) (a .bits) old (c .before .before .fits .bits .fits)) old))
 
 same-length : tie.Need-same-length
 same-length c = search needs
@@ -40,7 +36,7 @@ same-length c = search needs
 returns-2 : tie.Need-returns-2
 returns-2 c =
     let a = c .before .before .args in
-    new-bits (a .row .now) (a .k) (a .bits) (c .before .before .pre) (c .before .slice-known .given (a .k) .fits) (c .before .before .fits .bits .fits)
+    different-bits (a .row .now) (a .k) (a .bits) (c .before .before .pre) (c .before .slice-known .given (a .k) .fits) (c .before .before .fits .bits .fits)
 
 pub set-spec : {M : Type 1} → statement M
 set-spec =
@@ -51,7 +47,6 @@ set-spec =
     returns
     mul-row
     slice-write-row
-    sub-result
     cast-result
     same-length
     returns-2)

@@ -7,10 +7,10 @@ use Rattle.worklist.proofs.things.follow_names.Statement.{statement}
 use Rattle.worklist.proofs.things.follow_names.Tie as tie
 
 abbrev Inv-loop : tie.InvT-loop
-Inv-loop words links est h₀ l p at end b₀ h b = (length h ≡ length h₀)
+Inv-loop words links est h₀ l p at end found₀ b₀ h found b = (length h ≡ length h₀)
 
 abbrev μ-loop : tie.MeasureT-loop
-μ-loop words links est h₀ l p at end b₀ h b = 2048 - b
+μ-loop words links est h₀ l p at end found₀ b₀ h found b = 2048 - b
 
 add-row-at : tie.Need-add-row-at Inv-loop μ-loop
 add-row-at c = search needs

@@ -1,0 +1,23 @@
+-- `fixpoint::events::number` meets its contract. Assumes nothing.
+use mathlib.Core.Path.{refl}
+use native.Mathlib.Omega.{arith}
+use borrow.Author.Needs.{needs}
+use Rattle.fixpoint.proofs.events.number.Statement.{statement}
+use Rattle.fixpoint.proofs.events.number.Tie as tie
+
+count-requires : tie.Need-count-requires
+count-requires c κs = search needs
+
+returns : tie.Need-returns
+returns c = (omega arith, λ h. refl)
+
+returns-2 : tie.Need-returns-2
+returns-2 c = (c .count .ensures, λ h. absurd (omega (arith, h, c .before .if1 .left)))
+
+pub number-spec : {M : Type 1} → statement M
+number-spec =
+    tie.close
+    (tie.spec
+    count-requires
+    returns
+    returns-2)
