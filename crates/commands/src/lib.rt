@@ -1,6 +1,6 @@
 // What the program prints: the text of each command, written into lent bytes from its arguments and its input.
 mod arguments;
-mod explain;
+pub mod explain;
 mod lines;
 mod listings;
 mod manifests;

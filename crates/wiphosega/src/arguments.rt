@@ -1,14 +1,12 @@
-// The arguments: the command, sets in hexadecimal digits, and a number.
+// The arguments: the command, and sets in hexadecimal digits.
 ghost use Prim.Native.Nat.{_<_, _^_, _≤_};
 
+// The commands that stand in this program, and those of `commands`: with an input to read, or without.
 pub enum Command {
-    Text,
-    Words,
     Leak,
     Check,
-    Manifest,
-    Explain,
-    Help,
+    WithInput,
+    WithoutInput,
 }
 
 // What an argument says, if it is digits.
@@ -18,27 +16,36 @@ pub enum Value {
     Wrong,
 }
 
-// The command that a word names.
-fn command_of(word: &[u8]) -> Command {
+// Whether a command of `commands` has an input.
+fn has_input(word: &[u8]) -> bool {
     if check::same(word, b"text") {
-        return Command::Text;
+        return true;
     }
     if check::same(word, b"words") {
-        return Command::Words;
+        return true;
     }
+    if check::same(word, b"join") {
+        return true;
+    }
+    if check::same(word, b"block") {
+        return true;
+    }
+    check::same(word, b"manifest")
+}
+
+// The command that a word names.
+fn command_of(word: &[u8]) -> Command {
     if check::same(word, b"leak") {
         return Command::Leak;
     }
     if check::same(word, b"check") {
         return Command::Check;
     }
-    if check::same(word, b"manifest") {
-        return Command::Manifest;
+    if has_input(word) {
+        Command::WithInput
+    } else {
+        Command::WithoutInput
     }
-    if check::same(word, b"explain") {
-        return Command::Explain;
-    }
-    Command::Help
 }
 
 pub fn read_command() -> Command {
@@ -105,8 +112,4 @@ fn argument(i: usize, base: u32) -> Value {
 // A set in hexadecimal digits.
 pub fn set(i: usize) -> Value {
     argument(i, 16)
-}
-
-pub fn number(i: usize) -> Value {
-    argument(i, 10)
 }

@@ -3,20 +3,17 @@ mod arguments;
 mod checking;
 mod explain;
 mod input;
-mod listings;
-mod manifests;
+mod leaks;
+mod printing;
 
 use crate::arguments::Command;
 use crate::arguments::read_command;
 
 fn main() {
     match read_command() {
-        Command::Text => listings::text(),
-        Command::Words => listings::words(),
-        Command::Leak => listings::leak(),
+        Command::Leak => leaks::leak(),
         Command::Check => checking::check(),
-        Command::Manifest => manifests::manifest(),
-        Command::Explain => explain::explain(),
-        Command::Help => explain::help(),
+        Command::WithInput => printing::with_input(),
+        Command::WithoutInput => printing::without_input(),
     }
 }

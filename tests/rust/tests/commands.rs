@@ -5,7 +5,10 @@ use peer::generate::{table, Random};
 use peer::listing::{read, text, write};
 use peer::manifest::Manifest;
 use peer::manifest_inputs::{manifests, of_length, random_damage, random_manifest};
+use peer::overlay::{join, lookup};
+use peer::overlay_inputs::{keys, pair, relay};
 use peer::samples::samples;
+use peer::terms::system;
 use peer::verdict::{bytes_of, program};
 use std::io::Write;
 use std::process::{Command, Stdio};
@@ -84,10 +87,65 @@ fn explained() {
         assert_eq!(printed(&["explain", cells[0]], b""), format!("{}\n", cells[1]));
         count += 1;
     }
-    assert_eq!(count, 24);
+    assert_eq!(count, 43);
+    assert_eq!(printed(&["explain", "13"], b""), "No refusal has this number.\n");
     let help = printed(&[], b"");
-    assert!(["text", "words", "leak RHO BOUND", "check", "manifest", "explain NUMBER"].iter().all(|command| help.contains(&format!("wiphosega {command}"))));
-    assert_eq!(printed(&["leaks"], b""), help);
+    assert!(["text", "words", "leak RHO BOUND", "check", "join", "block NAME SET", "manifest", "explain NUMBER"].iter().all(|command| help.contains(&format!("wiphosega {command}"))));
+    for arguments in [&["leaks"][..], &["explain"], &["explain", "1x"], &["explain", "123456789"], &["block"], &["block", "1"], &["block", "0a", "2"]] {
+        assert_eq!(printed(arguments, b""), help);
+    }
+}
+
+/// Two listings, the second laid over the first: the joined listing, and the lines of each of its handlers.
+#[test]
+fn join_and_block() {
+    let mut random = Random(45);
+    let mut joins = 0;
+    for _ in 0..150 {
+        let (base, overlay) = pair(&mut random);
+        let (Ok(under), Ok(over)) = (write(&base, 65_536), write(&overlay, 65_536)) else { continue };
+        let both = [under, over].concat();
+        let mut out = vec![0; 1024];
+        let expected = match join(&base, &overlay, &mut out) {
+            Ok(count) => write(&out[..count], 65_536).map_err(|refusal| (refusal.number, refusal.place)),
+            Err(refusal) => Err((refusal.number, refusal.place)),
+        };
+        let output = run(&["join"], &both);
+        let Ok(text) = expected else {
+            let (number, place) = expected.unwrap_err();
+            assert_eq!(output, format!("refused {number} at {place}\n").into_bytes());
+            continue;
+        };
+        assert_eq!(output, text);
+        joins += 1;
+        for (name, set) in keys(&peer::table::read(&read(&text, 1024).unwrap()).unwrap()).into_iter().take(3) {
+            let block = lookup(&base, &overlay, name, set);
+            let alone = peer::listing::text(&system(&[block.to_vec()]));
+            assert_eq!(run(&["block", &name.to_string(), &format!("{set:x}")], &both), alone[b"system 1\n".len()..]);
+        }
+    }
+    assert!(joins > 50, "{joins}");
+}
+
+#[test]
+fn refusals_of_two_listings() {
+    let (base, overlay) = relay();
+    let (base, overlay) = (String::from_utf8(text(&base)).unwrap(), String::from_utf8(text(&overlay)).unwrap());
+    let said = |arguments: &[&str], first: &str, second: &str| printed(arguments, format!("{first}{second}").as_bytes());
+    let join = |first: &str, second: &str| said(&["join"], first, second);
+    assert_eq!(join(&base, ""), "refused 101 at 0\n");
+    assert_eq!(join("", ""), "refused 1 at 0\n");
+    assert_eq!(join(&base.replace("guard 000008", "guard 8"), &overlay), "refused 40 at 10\n");
+    assert_eq!(join(&base, &overlay.replace("guard 000008", "guard 8")), "refused 140 at 4\n");
+    assert_eq!(join(&base.replace("name 1", "name 40"), &overlay), "refused 9 at 5\n");
+    assert_eq!(join(&base, &overlay.replace("  record", "record")), "refused 140 at 9\n");
+    assert_eq!(join(&base, &overlay.replace("handler 1", "handler 32")), "refused 105 at 1\n");
+    assert_eq!(join(&base, &format!("{overlay}{}", "x\n".repeat(40_000))), "refused 141 at 0\n");
+    assert_eq!(join(&"x\n".repeat(400_000), &overlay), "refused 41 at 0\n");
+    assert_eq!(said(&["block", "1", "2"], &base, &overlay), "handler 1\npermissions 000002\nguard 000000\n  record\n");
+    assert_eq!(said(&["block", "0", "8"], &base, &overlay), "handler 0\npermissions 000008\nguard 000000\n  send 000000\n    name 1\n    variable 0\n");
+    assert_eq!(said(&["block", "0", "1000008"], &base, &overlay), "refused 47 at 0\n");
+    assert_eq!(said(&["block", "0", "8"], &base, ""), "refused 101 at 0\n");
 }
 
 /// Manifests with answers written by hand, random and damaged ones, and texts over the limit.

@@ -1,12 +1,12 @@
--- `wiphosega::listings::words_in` meets its contract. Assumes nothing.
+-- `wiphosega::leaks::leak_in` meets its contract. Assumes nothing.
 use mathlib.Core.Path.{sym, ap, _∙_}
 use native.Mathlib.Omega.{arith}
 use lib.Seq.{length-take-le}
 use Rattle.listing.specs.Answer.{answered}
 use Rattle.listing.proofs.Theorems.{read-fits}
 use borrow.Author.Needs.{needs}
-use Rattle.wiphosega.proofs.listings.words_in.Statement.{statement}
-use Rattle.wiphosega.proofs.listings.words_in.Tie as tie
+use Rattle.wiphosega.proofs.leaks.leak_in.Statement.{statement}
+use Rattle.wiphosega.proofs.leaks.leak_in.Tie as tie
 
 slice-aggregate-read : tie.Need-slice-aggregate-read
 slice-aggregate-read c = search needs
@@ -22,13 +22,13 @@ unfolding answered
 array-share-prefix-words c =
     omega (arith, read-fits _ _ _ (sym (c .before .before .before .before .read .ensures .0) ∙ ap answered (c .before .n .given .1)), c .before .before .before .before .read .kept .1 .0)
 
-slice-aggregate-bytes : tie.Need-slice-aggregate-bytes
+slice-aggregate-leak-of : tie.Need-slice-aggregate-leak-of
 unfolding answered
-slice-aggregate-bytes c =
+slice-aggregate-leak-of c =
     sym (length-take-le _ _ (omega (arith, read-fits _ _ _ (sym (c .before .before .before .before .before .read .ensures .0) ∙ ap answered (c .before .before .n .given .1)), c .before .before .before .before .before .read .kept .1 .0)))
 
-bytes-requires : tie.Need-bytes-requires
-bytes-requires c κs = search needs
+leak-of-requires : tie.Need-leak-of-requires
+leak-of-requires c κs = search needs
 
 enum-known-r : tie.Need-enum-known-r
 enum-known-r c = search needs
@@ -42,16 +42,16 @@ returns c = search needs
 returns-2 : tie.Need-returns-2
 returns-2 c = search needs
 
-pub words-in-spec : {M : Type 1} → statement M
-words-in-spec =
+pub leak-in-spec : {M : Type 1} → statement M
+leak-in-spec =
     tie.close
     (tie.spec
     slice-aggregate-read
     read-requires
     enum-known-n
     array-share-prefix-words
-    slice-aggregate-bytes
-    bytes-requires
+    slice-aggregate-leak-of
+    leak-of-requires
     enum-known-r
     refusal-requires
     returns
