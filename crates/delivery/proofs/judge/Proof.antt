@@ -18,7 +18,7 @@ difference-requires : tie.Need-difference-requires
 difference-requires c κs = search needs
 
 returns-2 : tie.Need-returns-2
-returns-2 c = 
+returns-2 c =
     let a = c .before .before .before .before .before .before .before .args in
     ap deliveries.ReceiverLacks (c .difference .ensures)
     ∙ sym (receiver-lacks (a .name) (a .required .bits) (a .sender .bits) (a .receiver) (eq-eqb _ _ (c .before .before .before .if1 .left)) (sym (c .before .before .within .ensures) ∙ not-true _ (c .before .if2 .taken)))
@@ -30,13 +30,13 @@ difference-requires-2 : tie.Need-difference-requires-2
 difference-requires-2 c κs = search needs
 
 returns-3 : tie.Need-returns-3
-returns-3 c = 
+returns-3 c =
     let a = c .before .before .before .before .before .before .before .before .before .args in
     ap deliveries.SenderLacks (c .difference2 .ensures)
     ∙ sym (sender-lacks (a .name) (a .required .bits) (a .sender .bits) (a .receiver) (eq-eqb _ _ (c .before .before .before .before .before .if1 .left)) (sym (c .before .before .before .before .within .ensures) ∙ not-false _ (c .before .before .before .if2 .left)) (sym (c .before .before .within2 .ensures) ∙ not-true _ (c .before .if3 .taken)))
 
 returns-4 : tie.Need-returns-4
-returns-4 c = 
+returns-4 c =
     let a = c .before .before .before .before .before .before .before .before .args in
     sym (is-delivered (a .name) (a .required .bits) (a .sender .bits) (a .receiver) (eq-eqb _ _ (c .before .before .before .before .if1 .left)) (sym (c .before .before .before .within .ensures) ∙ not-false _ (c .before .before .if2 .left)) (sym (c .before .within2 .ensures) ∙ not-false _ (c .if3 .left)))
 

@@ -27,12 +27,12 @@ add-has-2 : tie.Need-add-has-2
 add-has-2 c = search needs
 
 has-requires : tie.Need-has-requires
-has-requires c κs = 
+has-requires c κs =
     let s = c .before .before .before in let a = s .args in
     (s .pre .1, omega (arith, s .pre .2, name-is (a .words .now) (a .b) _ (c .handler-at .ensures)))
 
 returns : tie.Need-returns
-returns c = 
+returns c =
     let s = c .before .before .before .before .before in let a = s .args in let w = a .words .now in
     let n = name-is w (a .b) _ (c .before .before .handler-at .ensures) in
     λ k o h e. first-fails _ _ _ (not-true _ (c .if1 .taken))
@@ -45,7 +45,7 @@ delivered-requires : tie.Need-delivered-requires
 delivered-requires c κs = search needs
 
 returns-2 : tie.Need-returns-2
-returns-2 c = 
+returns-2 c =
     let s = c .before .before .before .before .before .before .before in let a = s .args in let w = a .words .now in
     let g = c .before .before .before .before .handler-at .ensures in
     let n = name-is w (a .b) _ g in
