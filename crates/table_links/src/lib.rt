@@ -184,7 +184,7 @@ fn bind_word(links: &mut [u32], w: u32, p: usize)
 }
 
 // The block of a word at a place, where the word before it is in the block `home`.
-fn block_of(w: u32, p: usize, home: usize) -> usize
+pub fn block_of(w: u32, p: usize, home: usize) -> usize
     ensures { λ r. ⌜ r ≡ blockAt w p home ⌝ }
 {
     if kind_of(w) == 2 { p } else { home }

@@ -1,0 +1,49 @@
+-- `deliveries::put_receiver` meets its contract. Assumes nothing.
+use mathlib.Core.Path.{sym, ap, _∙_}
+use native.Mathlib.Omega.{arith}
+use Rattle.deliveries.specs.Text.{line}
+use Rattle.deliveries.proofs.Adding.{added-nothing, added-as, receiver-block, receiver-none}
+use borrow.Author.Needs.{needs}
+use Rattle.deliveries.proofs.put_receiver.Statement.{statement}
+use Rattle.deliveries.proofs.put_receiver.Tie as tie
+
+mul-kind-of : tie.Need-mul-kind-of
+mul-kind-of c = search needs
+
+shared-slice-read-kind-of : tie.Need-shared-slice-read-kind-of
+shared-slice-read-kind-of c = search needs
+
+kind-of-requires : tie.Need-kind-of-requires
+kind-of-requires c κs = search needs
+
+answer-requires : tie.Need-answer-requires
+answer-requires c κs = search needs
+
+add-line-requires : tie.Need-add-line-requires
+add-line-requires c κs = search needs
+
+same-length : tie.Need-same-length
+same-length c = search needs
+
+returns : tie.Need-returns
+returns c =
+    let a = c .before .before .before .before .before .before .before .before .before .before .args in let r = c .before .before .add-line .ensures in
+    (added-as (ap (line (a .p) (a .from) (a .to)) (c .before .before .before .answer .ensures) ∙ sym (receiver-block (a .words .now) (a .p) (a .home) (a .from) (a .q) (a .to) (sym (c .before .before .before .before .before .before .kind-of .ensures) ∙ c .before .before .before .before .before .if1 .taken))) (r .0), r .1)
+
+returns-2 : tie.Need-returns-2
+returns-2 c =
+    let a = c .before .before .before .before .before .args in
+    (added-as (sym (receiver-none (a .words .now) (a .p) (a .home) (a .from) (a .q) (a .to) (λ z. c .if1 .left (c .before .kind-of .ensures ∙ z)))) (added-nothing _ _), omega arith)
+
+pub put-receiver-spec : {M : Type 1} → statement M
+put-receiver-spec =
+    tie.close
+    (tie.spec
+    mul-kind-of
+    shared-slice-read-kind-of
+    kind-of-requires
+    answer-requires
+    add-line-requires
+    same-length
+    returns
+    returns-2)

@@ -1,0 +1,57 @@
+-- `deliveries::write` meets its contract. Assumes nothing.
+use Prim.Native.Nat.{ℕ}
+use mathlib.Core.Path.{refl, sym, ap, _∙_}
+use mathlib.Core.List.{_++_}
+use native.Mathlib.Omega.{arith}
+use lib.ListN.{length, drop}
+use Rattle.table.specs.Answer.{outcome}
+use Rattle.listing.specs.Listing.{Answered, left}
+use Rattle.listing.specs.Answer.{number, place, answered}
+use Rattle.deliveries.specs.Text.{text}
+use Rattle.deliveries.proofs.Answers.{refused-table}
+use borrow.Author.Needs.{needs}
+use Rattle.deliveries.proofs.write.Statement.{statement}
+use Rattle.deliveries.proofs.write.Tie as tie
+
+read-requires : tie.Need-read-requires
+read-requires c κs = search needs
+
+enum-known-r : tie.Need-enum-known-r
+enum-known-r c = search needs
+
+returns : tie.Need-returns
+unfolding answered left number place outcome
+returns c =
+    let s = c .before .before .before .before .before .before in
+    let ws = s .args .words .now in
+    let e = refused-table ws (length (s .args .out .now)) _ _ (sym (c .before .before .before .read .ensures) ∙ ap outcome (c .before .r .given .1)) in
+    (sym e, sym (ap (λ (a : Answered). left a (text ws) (s .args .out .now)) e))
+
+enum-told : tie.Need-enum-told
+enum-told c = search needs
+
+write-accepted-requires : tie.Need-write-accepted-requires
+unfolding outcome
+write-accepted-requires c κs =
+    sym (c .before .before .before .read .ensures) ∙ ap outcome (c .before .enum-told .given .1)
+
+same-length : tie.Need-same-length
+same-length c = search needs
+
+returns-2 : tie.Need-returns-2
+returns-2 c =
+    let s = c .before .before .before .before .before .before .before .before .before in
+    let w = c .before .before .write-accepted .ensures in
+    (w .0, w .1)
+
+pub write-spec : {M : Type 1} → statement M
+write-spec =
+    tie.close
+    (tie.spec
+    read-requires
+    enum-known-r
+    returns
+    enum-told
+    write-accepted-requires
+    same-length
+    returns-2)

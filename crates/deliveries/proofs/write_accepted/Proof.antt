@@ -1,0 +1,58 @@
+-- `deliveries::write_accepted` meets its contract. Assumes nothing.
+use Prim.Native.Nat.{ℕ}
+use mathlib.Core.Path.{_≡_, sym, ap, _∙_}
+use mathlib.Core.List.{List}
+use native.Mathlib.Omega.{arith}
+use lib.ListN.{length}
+use Rattle.table.proofs.Limits.{size-le}
+use Rattle.listing.specs.Answer.{answered, number, place}
+use Rattle.deliveries.proofs.Answers.{nothing-before, room-lacking, room-there}
+use borrow.Author.Needs.{needs}
+use Rattle.deliveries.proofs.write_accepted.Statement.{statement}
+use Rattle.deliveries.proofs.write_accepted.Tie as tie
+
+slice-relend-prefix-put-words : tie.Need-slice-relend-prefix-put-words
+slice-relend-prefix-put-words c = search needs
+
+slice-aggregate-put-words : tie.Need-slice-aggregate-put-words
+slice-aggregate-put-words c = search needs
+
+put-words-requires : tie.Need-put-words-requires
+put-words-requires c κs = let s = c .before .before .before in size-le (s .args .words .now) (s .pre)
+
+same-length : tie.Need-same-length
+same-length c = search needs
+
+returns : tie.Need-returns
+unfolding answered number place
+returns c =
+    let s = c .before .before .before .before .before .before .before in let a = s .args in let f = c .before .before .before .put-words .ensures in
+    let z = nothing-before (c .before .before .before .put-words .last .1 .0) (a .out .now) (f .same) in
+    let w = room-lacking (a .words .now) (s .pre) (a .out .now) _ (f .ends) (omega (arith, c .if1 .taken, ap length z)) in
+    (w .0, z ∙ w .1)
+
+put-words-requires-2 : tie.Need-put-words-requires-2
+put-words-requires-2 c κs = let s = c .before .before .before .before .before .before .before .before in size-le (s .args .words .now) (s .pre)
+
+same-length-2 : tie.Need-same-length-2
+same-length-2 c = search needs
+
+returns-2 : tie.Need-returns-2
+unfolding answered
+returns-2 c =
+    let s = c .before .before .before .before .before .before .before .before .before .before .before in let a = s .args in let f = c .before .before .before .before .before .before .before .put-words .ensures in
+    let z = nothing-before (c .before .before .before .before .before .before .before .put-words .last .1 .0) (a .out .now) (f .same) in
+    room-there (a .words .now) (s .pre) (a .out .now) _ (f .ends) (omega (arith, c .before .before .before .before .if1 .left, ap length z)) _ _ _ z (c .before .before .put-words2 .ensures)
+
+pub write-accepted-spec : {M : Type 1} → statement M
+write-accepted-spec =
+    tie.close
+    (tie.spec
+    slice-relend-prefix-put-words
+    slice-aggregate-put-words
+    put-words-requires
+    same-length
+    returns
+    put-words-requires-2
+    same-length-2
+    returns-2)
