@@ -35,7 +35,7 @@ pub record Behind (text : List ℕ) (start k place : ℕ) : Type 0 where
 
 -- the numbers that have a meaning, in the order of the page
 unfoldable pub numbers : List ℕ
-numbers = 1 ∷ 2 ∷ 3 ∷ 4 ∷ 5 ∷ 6 ∷ 7 ∷ 8 ∷ 9 ∷ 10 ∷ 11 ∷ 12 ∷ 20 ∷ 21 ∷ 22 ∷ 30 ∷ 31 ∷ 40 ∷ 41 ∷ 42 ∷ 43 ∷ 44 ∷ 45 ∷ 46 ∷ 47 ∷ 48 ∷ 49 ∷ 50 ∷ []
+numbers = 1 ∷ 2 ∷ 3 ∷ 4 ∷ 5 ∷ 6 ∷ 7 ∷ 8 ∷ 9 ∷ 10 ∷ 11 ∷ 12 ∷ 20 ∷ 21 ∷ 22 ∷ 23 ∷ 30 ∷ 31 ∷ 40 ∷ 41 ∷ 42 ∷ 43 ∷ 44 ∷ 45 ∷ 46 ∷ 47 ∷ 48 ∷ 49 ∷ 50 ∷ []
 
 -- a line for each of them, and one for every other number
 unfoldable pub page : List ℕ
@@ -55,6 +55,7 @@ page =
     ++ bytes "A set has a permission above 23.\n"
     ++ bytes "The slice for the estimate is too short.\n"
     ++ bytes "The work slice is too short.\n"
+    ++ bytes "The least estimate has more facts than the ceiling.\n"
     ++ bytes "The bytes are no whole words, or too few.\n"
     ++ bytes "There are more bytes than a system may have here.\n"
     ++ bytes "The line is not how a word is written, or does not start with two spaces for each depth.\n"
@@ -90,7 +91,8 @@ unfoldable pub help : List ℕ
 help =
     bytes "wiphosega text             words in, their listing out\n"
     ++ bytes "wiphosega words            a listing in, its words out\n"
-    ++ bytes "wiphosega leak RHO BOUND   a listing in, its leak out; sets in hexadecimal digits, BOUND 0 if left out\n"
+    ++ bytes "wiphosega leak RHO BOUND CEILING   a listing in, its leak out; sets in hexadecimal digits, BOUND 0 if left out, CEILING on facts\n"
+    ++ bytes "wiphosega deliveries       a listing in, for each send and each handler whether it is delivered, and if not, why\n"
     ++ bytes "wiphosega check            a listing in, what is wrong with it out\n"
     ++ bytes "wiphosega join             two listings in, the second laid over the first; the joined listing out\n"
     ++ bytes "wiphosega block NAME SET   the same in, that handler's lines out, the second listing's if it has it\n"

@@ -8,7 +8,7 @@ ghost use Rattle.text.specs.Writing.{Wrote};
 ghost use Rattle.commands.specs.Meanings.{numbers, position, meaning as Meanings·meaning};
 ghost use Rattle.commands.specs.Meanings.{sentence as Meanings·sentence, help as Meanings·help};
 
-const NUMBERS: [u32; 28] = [
+const NUMBERS: [u32; 29] = [
     1,
     2,
     3,
@@ -24,6 +24,7 @@ const NUMBERS: [u32; 28] = [
     20,
     21,
     22,
+    23,
     30,
     31,
     40,
@@ -45,7 +46,7 @@ fn row(n: u32) -> usize
 {
     let listed = NUMBERS;
     let mut i = 0;
-    while i < 28 {
+    while i < 29 {
         if listed[i] == n {
             return i;
         }
@@ -77,6 +78,7 @@ fn meaning(out: &mut [u8], at: usize, n: u32) -> usize
            A set has a permission above 23.\n\
            The slice for the estimate is too short.\n\
            The work slice is too short.\n\
+           The least estimate has more facts than the ceiling.\n\
            The bytes are no whole words, or too few.\n\
            There are more bytes than a system may have here.\n\
            The line is not how a word is written, or does not start with two spaces for each depth.\n\
@@ -116,7 +118,8 @@ pub fn help(out: &mut [u8]) -> usize
         0,
         b"wiphosega text             words in, their listing out\n\
            wiphosega words            a listing in, its words out\n\
-           wiphosega leak RHO BOUND   a listing in, its leak out; sets in hexadecimal digits, BOUND 0 if left out\n\
+           wiphosega leak RHO BOUND CEILING   a listing in, its leak out; sets in hexadecimal digits, BOUND 0 if left out, CEILING on facts\n\
+           wiphosega deliveries       a listing in, for each send and each handler whether it is delivered, and if not, why\n\
            wiphosega check            a listing in, what is wrong with it out\n\
            wiphosega join             two listings in, the second laid over the first; the joined listing out\n\
            wiphosega block NAME SET   the same in, that handler's lines out, the second listing's if it has it\n\

@@ -4,6 +4,7 @@ ghost use Prim.Native.Nat.{_<_, _^_, _≤_};
 // The commands that stand in this program, and those of `commands`: with an input to read, or without.
 pub enum Command {
     Leak,
+    Deliveries,
     Check,
     WithInput,
     WithoutInput,
@@ -37,6 +38,9 @@ fn has_input(word: &[u8]) -> bool {
 fn command_of(word: &[u8]) -> Command {
     if check::same(word, b"leak") {
         return Command::Leak;
+    }
+    if check::same(word, b"deliveries") {
+        return Command::Deliveries;
     }
     if check::same(word, b"check") {
         return Command::Check;
@@ -112,4 +116,9 @@ fn argument(i: usize, base: u32) -> Value {
 // A set in hexadecimal digits.
 pub fn set(i: usize) -> Value {
     argument(i, 16)
+}
+
+// A number in decimal digits.
+pub fn number(i: usize) -> Value {
+    argument(i, 10)
 }

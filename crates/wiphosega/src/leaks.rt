@@ -1,16 +1,23 @@
-// The command `leak`.
+// The command `leak`: the leak of a listing's system, under a ceiling on facts if there is one.
 use crate::arguments::Value;
+use crate::arguments::number;
 use crate::arguments::set;
 use crate::explain::help;
 use crate::input::read_input;
+use calls::checks::stray_bound;
 use listing::Answer;
 use listing::Refusal;
 use listing::numbers::refusal_number;
 use listing::numbers::refusal_place;
 use listing::read::read;
 use printout::system::system_text;
+use solver::Bounded;
+use solver::analyse::analyse_within;
 
-fn refusal(r: Refusal) {
+// More than any estimate has.
+const NO_CEILING: usize = 4294967296;
+
+pub fn refusal(r: Refusal) {
     console::refusal(refusal_number(r), refusal_place(r));
 }
 
@@ -22,24 +29,47 @@ fn leak_of(words: &[u32], rho: u32, bound: u32) {
     console::text(&out[..n]);
 }
 
-fn leak_in(text: &[u8], rho: u32, bound: u32) {
+// The same under a ceiling, which is looked at after the bound.
+fn leak_under(words: &[u32], rho: u32, bound: u32, ceiling: usize) {
+    if stray_bound(bound) {
+        leak_of(words, rho, bound);
+        return;
+    }
+    let mut est = [0u32; 70656];
+    let mut work = [0u32; 4096];
+    match analyse_within(words, rho, ceiling, &mut est, &mut work) {
+        Bounded::Over(n) => console::refusal(23, n),
+        Bounded::Refused(_) => leak_of(words, rho, bound),
+        Bounded::Solved(_) => leak_of(words, rho, bound),
+    }
+}
+
+fn leak_in(text: &[u8], rho: u32, bound: u32, ceiling: usize) {
     let mut words = [0u32; 1024];
     match read(text, &mut words) {
-        Answer::Done(n) => leak_of(&words[..n], rho, bound),
+        Answer::Done(n) => leak_under(&words[..n], rho, bound, ceiling),
         Answer::Refused(r) => refusal(r),
     }
 }
 
-fn leak_with(rho: u32, bound: u32) {
+fn leak_with(rho: u32, bound: u32, ceiling: usize) {
     let mut input = [0u8; 65537];
     let n = read_input(&mut input);
-    leak_in(&input[..n], rho, bound);
+    leak_in(&input[..n], rho, bound, ceiling);
+}
+
+fn leak_within(rho: u32, bound: u32) {
+    match number(4) {
+        Value::Number(ceiling) => leak_with(rho, bound, ceiling as usize),
+        Value::Missing => leak_with(rho, bound, NO_CEILING),
+        Value::Wrong => help(),
+    }
 }
 
 fn leak_for(rho: u32) {
     match set(3) {
-        Value::Number(bound) => leak_with(rho, bound),
-        Value::Missing => leak_with(rho, 0),
+        Value::Number(bound) => leak_within(rho, bound),
+        Value::Missing => leak_within(rho, 0),
         Value::Wrong => help(),
     }
 }

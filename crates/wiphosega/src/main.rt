@@ -5,6 +5,7 @@ mod explain;
 mod input;
 mod leaks;
 mod printing;
+mod sends;
 
 use crate::arguments::Command;
 use crate::arguments::read_command;
@@ -12,6 +13,7 @@ use crate::arguments::read_command;
 fn main() {
     match read_command() {
         Command::Leak => leaks::leak(),
+        Command::Deliveries => sends::deliveries(),
         Command::Check => checking::check(),
         Command::WithInput => printing::with_input(),
         Command::WithoutInput => printing::without_input(),

@@ -22,13 +22,13 @@ unfolding answered
 array-share-prefix-words c =
     omega (arith, read-fits _ _ _ (sym (c .before .before .before .before .read .ensures .0) ∙ ap answered (c .before .n .given .1)), c .before .before .before .before .read .kept .1 .0)
 
-slice-aggregate-leak-of : tie.Need-slice-aggregate-leak-of
+slice-aggregate-leak-under : tie.Need-slice-aggregate-leak-under
 unfolding answered
-slice-aggregate-leak-of c =
+slice-aggregate-leak-under c =
     sym (length-take-le _ _ (omega (arith, read-fits _ _ _ (sym (c .before .before .before .before .before .read .ensures .0) ∙ ap answered (c .before .before .n .given .1)), c .before .before .before .before .before .read .kept .1 .0)))
 
-leak-of-requires : tie.Need-leak-of-requires
-leak-of-requires c κs = search needs
+leak-under-requires : tie.Need-leak-under-requires
+leak-under-requires c κs = search needs
 
 enum-known-r : tie.Need-enum-known-r
 enum-known-r c = search needs
@@ -50,8 +50,8 @@ leak-in-spec =
     read-requires
     enum-known-n
     array-share-prefix-words
-    slice-aggregate-leak-of
-    leak-of-requires
+    slice-aggregate-leak-under
+    leak-under-requires
     enum-known-r
     refusal-requires
     returns
