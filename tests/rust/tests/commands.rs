@@ -8,6 +8,7 @@ use peer::manifest_inputs::{manifests, of_length, random_damage, random_manifest
 use peer::overlay::{join, lookup};
 use peer::overlay_inputs::{keys, pair, relay};
 use peer::samples::samples;
+use peer::table::{kind, Table};
 use peer::terms::system;
 use peer::verdict::{bytes_of, program};
 use std::io::Write;
@@ -87,10 +88,10 @@ fn explained() {
         assert_eq!(printed(&["explain", cells[0]], b""), format!("{}\n", cells[1]));
         count += 1;
     }
-    assert_eq!(count, 43);
+    assert_eq!(count, 44);
     assert_eq!(printed(&["explain", "13"], b""), "No refusal has this number.\n");
     let help = printed(&[], b"");
-    assert!(["text", "words", "leak RHO BOUND", "check", "join", "block NAME SET", "manifest", "explain NUMBER"].iter().all(|command| help.contains(&format!("wiphosega {command}"))));
+    assert!(["text", "words", "leak RHO BOUND CEILING", "deliveries", "check", "join", "block NAME SET", "manifest", "explain NUMBER"].iter().all(|command| help.contains(&format!("wiphosega {command}"))));
     for arguments in [&["leaks"][..], &["explain"], &["explain", "1x"], &["explain", "123456789"], &["block"], &["block", "1"], &["block", "0a", "2"]] {
         assert_eq!(printed(arguments, b""), help);
     }
@@ -184,4 +185,61 @@ fn examples() {
         count += 1;
     }
     assert_eq!(count, 21);
+}
+
+/// The lines of every send and every block, written from document 02's sentence: name, required set, guard, in this order.
+fn deliveries(table: &Table) -> String {
+    let mut lines = String::new();
+    for p in (0..table.size()).filter(|&p| table.kind(p) == kind::SEND) {
+        let from = table.blocks.iter().rposition(|block| block.start < p).expect("a send stands in a block");
+        let (sender, required, target) = (table.permissions(p), table.argument(p), table.part(p, 0));
+        for (to, receiver) in table.blocks.iter().enumerate() {
+            let named = table.kind(target) != kind::NAME || table.argument(target) == receiver.name;
+            let (lacks, needs) = (required & !receiver.permissions, receiver.guard & !sender);
+            let outcome = match (named, lacks, needs) {
+                (false, _, _) => "other name".to_string(),
+                (true, 0, 0) => "delivered".to_string(),
+                (true, 0, _) => format!("needs {needs:06x}"),
+                _ => format!("lacks {lacks:06x}"),
+            };
+            lines += &format!("send {p} from {from} to {to} {outcome}\n");
+        }
+    }
+    lines
+}
+
+#[test]
+fn why_a_send_is_not_delivered() {
+    let mut random = Random(52);
+    let mut count = 0;
+    for words in samples().into_iter().map(|sample| sample.words).chain((0..150).map(|_| table(&mut random))) {
+        let (Ok(listing), Ok(table)) = (write(&words, 65_536), peer::table::read(&words)) else { continue };
+        let expected = deliveries(&table);
+        assert_eq!(printed(&["deliveries"], &listing), expected);
+        count += expected.lines().count();
+    }
+    assert!(count > 1000, "{count}");
+    let handlers = |required: &str, sender: &str, target: u32| {
+        format!("system 2\nhandler 0\npermissions {sender}\nguard 000000\n  send {required}\n    name {target}\n    variable 0\nhandler 1\npermissions 000002\nguard 000008\n  exercise 000002\n")
+    };
+    let to_one = |text: String| printed(&["deliveries"], text.as_bytes()).lines().nth(1).unwrap_or_default().to_string();
+    assert_eq!(to_one(handlers("000004", "000000", 0)), "send 4 from 0 to 1 other name");
+    assert_eq!(to_one(handlers("000004", "000000", 1)), "send 4 from 0 to 1 lacks 000004");
+    assert_eq!(to_one(handlers("000000", "000000", 1)), "send 4 from 0 to 1 needs 000008");
+    assert_eq!(to_one(handlers("000000", "000008", 1)), "send 4 from 0 to 1 delivered");
+    assert_eq!(printed(&["deliveries"], b"system 1\n"), "refused 4 at 1\n");
+}
+
+/// The ceiling comes after the bound, and 23 at the ceiling stands alone.
+#[test]
+fn leak_under_a_ceiling() {
+    let relay = include_bytes!("../../../examples/relay.listing");
+    let whole = printed(&["leak", "0", "0"], relay);
+    let facts: usize = whole.lines().next().unwrap().rsplit(' ').next().unwrap().parse().expect("a number of facts");
+    assert_eq!(printed(&["leak", "0", "0", &facts.to_string()], relay), whole);
+    assert_eq!(printed(&["leak", "0", "0", &(facts - 1).to_string()], relay), format!("refused 23 at {}\n", facts - 1));
+    assert_eq!(printed(&["leak", "0", "0", "0"], relay), "refused 23 at 0\n");
+    assert_eq!(printed(&["leak", "0", "1000000", "0"], relay), "refused 20 at 0\n");
+    assert_eq!(printed(&["leak", "1000000", "0", "0"], relay), "refused 20 at 0\n");
+    assert_eq!(printed(&["leak", "0", "0", "x"], relay), printed(&[], b""));
 }
