@@ -1,10 +1,10 @@
--- `wiphosega::listings::leak_of` meets its contract: what is written is the system's text. Assumes nothing.
+-- `wiphosega::leaks::leak_of` meets its contract: what is written is the system's text. Assumes nothing.
 use mathlib.Core.Path.{sym}
 use native.Mathlib.Omega.{arith}
 use lib.Seq.{length-take-le}
 use borrow.Author.Needs.{needs}
-use Rattle.wiphosega.proofs.listings.leak_of.Statement.{statement}
-use Rattle.wiphosega.proofs.listings.leak_of.Tie as tie
+use Rattle.wiphosega.proofs.leaks.leak_of.Statement.{statement}
+use Rattle.wiphosega.proofs.leaks.leak_of.Tie as tie
 
 slice-aggregate-system-text : tie.Need-slice-aggregate-system-text
 slice-aggregate-system-text c = search needs
