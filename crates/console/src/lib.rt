@@ -6,6 +6,13 @@ pub fn text(s: &[u8]) {
     io::write_all(STDOUT_FILENO, s);
 }
 
+// The first n bytes of a text.
+pub fn first(s: &[u8], n: usize) {
+    if n <= s.len() {
+        text(&s[..n]);
+    }
+}
+
 // The line of a refusal.
 pub fn refusal(number: u32, place: usize) {
     let mut line = [0u8; 96];

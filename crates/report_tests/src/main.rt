@@ -1,29 +1,20 @@
 // Runs the writers of lines on document 01's examples and on the widest numbers, and prints each line.
-use libc::STDOUT_FILENO;
-
-// The first n bytes of a line.
-fn print(line: &[u8], n: usize) {
-    if n <= line.len() {
-        io::write_all(STDOUT_FILENO, &line[..n]);
-    }
-}
-
 fn show_refusal(number: u32, place: usize) {
     let mut line = [0u8; 96];
     let n = report::refusal_line(&mut line, 0, number, place);
-    print(&line, n);
+    console::first(&line, n);
 }
 
 fn show_verdict(leak: u32, bound: u32, over: bool, first: u32, facts: usize) {
     let mut line = [0u8; 96];
     let n = report::verdict_line(&mut line, 0, leak, bound, over, first, facts);
-    print(&line, n);
+    console::first(&line, n);
 }
 
 fn show_handler(position: usize, name: u32, entry: bool, live: bool, permissions: u32) {
     let mut line = [0u8; 96];
     let n = report::handler_line(&mut line, 0, position, name, entry, live, permissions);
-    print(&line, n);
+    console::first(&line, n);
 }
 
 fn main() {

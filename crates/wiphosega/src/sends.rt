@@ -4,18 +4,11 @@ use crate::leaks::refusal;
 use listing::Answer;
 use listing::read::read;
 
-// The first n bytes of a text.
-fn print(text: &[u8], n: usize) {
-    if n <= text.len() {
-        console::text(&text[..n]);
-    }
-}
-
 // 524,288 bytes are enough: 309 sends at most, a line of at most 40 bytes for each of 32 handlers.
 fn deliveries_of(words: &[u32]) {
     let mut out = [0u8; 524288];
     match deliveries::write(words, &mut out) {
-        Answer::Done(n) => print(&out, n),
+        Answer::Done(n) => console::first(&out, n),
         Answer::Refused(r) => refusal(r),
     }
 }

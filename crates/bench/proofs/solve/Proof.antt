@@ -8,19 +8,19 @@ use Rattle.bench.proofs.solve.Statement.{statement}
 use Rattle.bench.proofs.solve.Tie as tie
 
 abbrev Inv-loop : tie.InvT-loop
-Inv-loop words rho est₀ work₀ more a₀ i₀ est work a i = (length est ≡ length est₀) × (length work ≡ length work₀)
+Inv-loop words rho ceiling est₀ work₀ more a₀ i₀ est work a i = (length est ≡ length est₀) × (length work ≡ length work₀)
 
 abbrev μ-loop : tie.MeasureT-loop
-μ-loop words rho est₀ work₀ more a₀ i₀ est work a i = more - i
+μ-loop words rho ceiling est₀ work₀ more a₀ i₀ est work a i = more - i
 
-analyse-requires : tie.Need-analyse-requires Inv-loop μ-loop
-analyse-requires c κs = search needs
+analyse-within-requires : tie.Need-analyse-within-requires Inv-loop μ-loop
+analyse-within-requires c κs = search needs
 
 loop-holds : tie.Need-loop-holds Inv-loop μ-loop
 loop-holds c = search needs
 
-analyse-requires-2 : tie.Need-analyse-requires-2 Inv-loop μ-loop
-analyse-requires-2 c κs = search needs
+analyse-within-requires-2 : tie.Need-analyse-within-requires-2 Inv-loop μ-loop
+analyse-within-requires-2 c κs = search needs
 
 add-i : tie.Need-add-i Inv-loop μ-loop
 add-i c = search needs
@@ -46,9 +46,9 @@ solve-spec =
     (tie.spec
     Inv-loop
     μ-loop
-    analyse-requires
+    analyse-within-requires
     loop-holds
-    analyse-requires-2
+    analyse-within-requires-2
     add-i
     loop-less
     loop-again
