@@ -41,8 +41,8 @@ fn clear_over(est: &mut [u32], facts: usize, ceiling: usize)
     ensures { λ _. ⌜ now (est .exit) ≡ clearedOver facts ceiling (now (est .entry)) ⌝ }
 {
     if ceiling < facts {
-        let n = est.len();
-        clear(est, n);
+        let all = est.len();
+        clear(est, all);
     }
 }
 
