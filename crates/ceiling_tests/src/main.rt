@@ -47,7 +47,13 @@ fn zeros(words: &[u32]) -> usize {
 
 // 35 words of estimate and 20 of work are needed.
 fn show(rho: u32, ceiling: usize) {
-    let words = [0x01000001u32, 0x02000000, 0x03000003, 0x04000000, 0x24000002];
+    let words = [
+        0x01000001u32,
+        0x02000000,
+        0x03000003,
+        0x04000000,
+        0x24000002,
+    ];
     let mut est = [1u32; 40];
     let mut work = [1u32; 24];
     number(b"ceiling ", ceiling);
