@@ -4,9 +4,9 @@ use crate::leaks::refusal;
 use listing::Answer;
 use listing::read::read;
 
-// 524,288 bytes are enough: 309 sends at most, a line of at most 40 bytes for each of 32 handlers.
+// Enough for every system: 447 sends at most, where each message is a send, with a line of at most 37 bytes for each of 32 handlers.
 fn deliveries_of(words: &[u32]) {
-    let mut out = [0u8; 524288];
+    let mut out = [0u8; 532480];
     match deliveries::write(words, &mut out) {
         Answer::Done(n) => console::first(&out, n),
         Answer::Refused(r) => refusal(r),
