@@ -7,3 +7,4 @@ pub mod Laws
 pub mod Placed
 pub mod Rows
 pub mod Samples
+pub mod Receivers
