@@ -56,9 +56,12 @@ link-at-requires c κs = search needs
 unaware-of-requires : tie.Need-unaware-of-requires
 unfolding byKind termsByKind termNode
 unaware-of-requires c κs =
-    let s = c .before .before .before .before .before .before .before .before .before .before .before .before .before in let a = s .args in let i = (item-by (a .words .now) (a .p) 35 (sym (c .before .before .before .before .before .before .before .kind-of .ensures) ∙ c .before .before .before .before .before .before .if1 .left)) in let x = two-linked (a .words .now) (a .links .now) (a .masks .now) (a .l) (s .pre .0) (a .est .now) (s .pre .1) (a .p) (s .pre .2) _ i _ (c .before .before .before .end .ensures) in
-    (sent-at (a .words .now) (a .links .now) (a .masks .now) (a .l) (s .pre .0) (a .est .now) (s .pre .1) (a .p) (s .pre .2) (c .before .before .before .end .result) (c .before .before .argument-of .result) (c .before .sending .result) (c .before .sending .ensures) (term-at (a .words .now) (a .links .now) (a .masks .now) (a .l) (s .pre .0) (a .est .now) (s .pre .1) (a .p) (s .pre .2) (x .1 .inside)) (part-at (a .words .now) (a .links .now) (a .masks .now) (a .l) (s .pre .0) (a .est .now) (s .pre .1) (a .p) (s .pre .2) (x .2 .inside)),
-    links-of (a .words .now) (a .links .now) (a .masks .now) (a .l) (s .pre .0), sender-inside (a .words .now) (a .links .now) (a .masks .now) (a .l) (s .pre .0) (a .p) _ i _ (ap (λ (x : Link). x .home) (c .link-at .ensures)), s .pre .3)
+    let s = c .before .before .before .before .before .before .before .before .before .before .before .before .before in let a = s .args in let i = (item-by (a .words .now) (a .p) 35 (sym (c .before .before .before .before .before .before .before .kind-of .ensures) ∙ c .before .before .before .before .before .before .if1 .left)) in let x = two-linked (a .words .now) (a .links .now) (a .masks .now) (a .l) (s .pre .0) (a .est .now) (s .pre .1) (a .p) (s .pre .2) _ i _ (c .before .before .before .end .ensures) in (
+      sent-at (a .words .now) (a .links .now) (a .masks .now) (a .l) (s .pre .0) (a .est .now) (s .pre .1) (a .p) (s .pre .2) (c .before .before .before .end .result) (c .before .before .argument-of .result) (c .before .sending .result) (c .before .sending .ensures) (term-at (a .words .now) (a .links .now) (a .masks .now) (a .l) (s .pre .0) (a .est .now) (s .pre .1) (a .p) (s .pre .2) (x .1 .inside)) (part-at (a .words .now) (a .links .now) (a .masks .now) (a .l) (s .pre .0) (a .est .now) (s .pre .1) (a .p) (s .pre .2) (x .2 .inside)),
+      links-of (a .words .now) (a .links .now) (a .masks .now) (a .l) (s .pre .0),
+      sender-inside (a .words .now) (a .links .now) (a .masks .now) (a .l) (s .pre .0) (a .p) _ i _ (ap (λ (x : Link). x .home) (c .link-at .ensures)),
+      s .pre .3,
+    )
 
 returns-3 : tie.Need-returns-3
 unfolding byKind termsByKind termNode
