@@ -15,10 +15,11 @@ extern "C" {
 
 /* The answer: the leak in bits 0 to 23, and 2^24 added if the leak is over the bound. Refused: 2^32 + number * 65536 + place.
 
-   system    the words of the table, low byte first; at most 1,024 bytes, a multiple of four (else refused 31 or 30)
+   system    the words of the table, narrow or wide, low byte first; at most 1,024 bytes, a multiple of four (else refused 31 or 30)
    rho       the permissions that the opponent holds: bits 0 to 23
    bound     the permissions that the leak is compared with: bits 0 to 23, or WIPHOSEGA_STANDING_BOUND
-   estimate  with W words of the system and R = (64 + W + 31) / 32, at least 2WR + W words; 21,504 bytes are enough for every system
+   estimate  with W words of the system and R = (N + W + 31) / 32, N 64 or 96 (a wide table), at least 2WR + W words; 21,504 bytes are
+             enough for every narrow system, 23,552 for every system
    work      at least 4W words; 4,096 bytes are enough for every system
 
    After an answer below 2^32 the first 2WR + W words of `estimate` are the estimate, low byte first, the first 4W words of `work` are zero,

@@ -6,11 +6,13 @@ use mathlib.Core.List.{List, [], _∷_}
 use native.Mathlib.Nat.{mul-le-mul}
 use native.Mathlib.Omega.{arith}
 use lib.Dec.{eqb, leb, ltb}
-use lib.ListN.{length}
+use lib.ListN.{length, getD}
 use borrow.Author.Tests.{lt-ltb, le-ltb, ltb-true, ltb-false}
 use Rattle.permset.specs.Sets.{width}
+use Rattle.table.specs.Words.{namesOf}
 use Rattle.table.specs.Scan.{firstOf, accepted, refused as unreadable, reading}
 use Rattle.table.specs.Code.{Code, code}
+use Rattle.table.proofs.Widths.{names-most}
 use Rattle.calculus.specs.Layout.{rowWords, estimateWords}
 use Rattle.calculus.specs.Estimate.{whole, estimate}
 use Rattle.calculus.specs.Answer.{Answer, refused, verdict, standingBound, workWords, callerTests, judge, analysis, answer}
@@ -59,12 +61,12 @@ work-capped ws ρ bound est work most room =
     rw same at (answer-capped ws ρ bound est work (est + estimateWords (code ws)) most (omega arith) room)
 
 -- 256 words, the most that 1,024 bytes hold
-pub estimate-room : (ws : List ℕ) → length ws ≤ 256 → estimateWords (code ws) ≤ 5376
+pub estimate-room : (ws : List ℕ) → length ws ≤ 256 → estimateWords (code ws) ≤ 5888
 unfolding estimateWords rowWords code
 estimate-room ws h =
-    let row : (32 + 32 + length ws + 31) / 32 ≤ 10 = omega arith in
+    let row : (32 + namesOf (getD ws 0 0) + length ws + 31) / 32 ≤ 11 = omega (arith, names-most (getD ws 0 0)) in
     let twice : 2 * length ws ≤ 512 = omega arith in
-    let all : 2 * length ws * ((32 + 32 + length ws + 31) / 32) ≤ 512 * 10 = mul-le-mul twice row in
+    let all : 2 * length ws * ((32 + namesOf (getD ws 0 0) + length ws + 31) / 32) ≤ 512 * 11 = mul-le-mul twice row in
     omega arith
 
 pub work-room : (ws : List ℕ) → length ws ≤ 256 → workWords (code ws .size) ≤ 1024
@@ -73,10 +75,10 @@ work-room ws h = omega arith
 
 -- arrays for 256 words answer as slices that are just long enough
 pub answer-exact : (ws : List ℕ) (ρ bound : ℕ) → length ws ≤ 256
-    → answer ws ρ bound 5376 1024 ≡ answer ws ρ bound (estimateWords (code ws)) (workWords (length ws))
+    → answer ws ρ bound 5888 1024 ≡ answer ws ρ bound (estimateWords (code ws)) (workWords (length ws))
 unfolding code
 answer-exact ws ρ bound h =
-    let e : min 5376 (estimateWords (code ws)) ≡ estimateWords (code ws) = omega (arith, estimate-room ws h) in
+    let e : min 5888 (estimateWords (code ws)) ≡ estimateWords (code ws) = omega (arith, estimate-room ws h) in
     let w : min 1024 (workWords (length ws)) ≡ workWords (length ws) = omega (arith, work-room ws h) in
-    sym (answer-capped ws ρ bound 5376 1024 (estimateWords (code ws)) (workWords (length ws)) (omega arith) (omega arith))
+    sym (answer-capped ws ρ bound 5888 1024 (estimateWords (code ws)) (workWords (length ws)) (omega arith) (omega arith))
     ∙ ap₂ (answer ws ρ bound) e w
