@@ -5,21 +5,23 @@ use mathlib.Core.Path.{_≡_, refl, sym, ap, _∙_}
 use mathlib.Core.List.{List, [], _++_, append-nil, append-assoc}
 use native.Mathlib.Omega.{arith}
 use lib.ListN.{length, getD}
-use Rattle.deliveries.specs.Added.{Added}
+use Rattle.text.specs.Added.{Added}
 use Rattle.deliveries.specs.Text.{receiver, receivers}
-use Rattle.deliveries.proofs.Adding.{added-nothing, added-then, added-as, rest, rest-end, rest-here, counted-most}
+use Rattle.text.proofs.Adding.{added-nothing, added-then, added-as}
+use Rattle.deliveries.proofs.Positions.{rest, rest-end, rest-here, counted-most}
 use Rattle.deliveries.proofs.put_receivers.Statement.{statement}
 use Rattle.deliveries.proofs.put_receivers.Tie as tie
 
 abbrev Inv-loop : tie.InvT-loop
 Inv-loop words p home from out₀ at next₀ to₀ q₀ out next to q =
     (q ≤ length words) × (next ≤ at + 96 * q) × (to ≤ q)
-    × ((done : List ℕ) × Added out₀ at done out next × (done ++ rest words p home from q to ≡ receivers words p home from 0 0 words))
+    × ((done : List ℕ) × Added out₀ at done out next × (done ++ rest (receiver words p home from) words q to ≡ receivers words p home from))
 
 abbrev μ-loop : tie.MeasureT-loop
 μ-loop words p home from out₀ at next₀ to₀ q₀ out next to q = length words - q
 
 loop-holds : tie.Need-loop-holds Inv-loop μ-loop
+unfolding receivers
 loop-holds c = (omega arith, omega arith, omega arith, ([], added-nothing _ _, refl))
 
 put-receiver-requires : tie.Need-put-receiver-requires Inv-loop μ-loop
@@ -50,9 +52,9 @@ loop-again c =
       (
         d ++ r,
         added-then (i .inv .3 .1) (f .0),
-        ap (λ (t : ℕ). (d ++ r) ++ rest w (a .p) (a .home) (a .from) (i .q + 1) t) (c .counted .ensures)
+        ap (λ (t : ℕ). (d ++ r) ++ rest (receiver w (a .p) (a .home) (a .from)) w (i .q + 1) t) (c .counted .ensures)
             ∙ append-assoc d r _
-            ∙ ap (λ (l : List ℕ). d ++ l) (sym (rest-here w (a .p) (a .home) (a .from) (i .q) (i .to) (omega arith)))
+            ∙ ap (λ (l : List ℕ). d ++ l) (sym (rest-here (receiver w (a .p) (a .home) (a .from)) w (i .q) (i .to) (omega arith)))
             ∙ i .inv .3 .2,
       ),
     )
@@ -63,8 +65,8 @@ same-length c = c .before .loop .inv .3 .1 .same
 returns : tie.Need-returns Inv-loop μ-loop
 returns c =
     let a = c .before .before .before .before .args in let i = c .before .loop in let w = a .words .now in let d = i .inv .3 .0 in
-    let whole : d ≡ receivers w (a .p) (a .home) (a .from) 0 0 w =
-    sym (append-nil d) ∙ ap (λ (l : List ℕ). d ++ l) (sym (rest-end w (a .p) (a .home) (a .from) (i .q) (i .to) (c .loop-test .left))) ∙ i .inv .3 .2 in
+    let whole : d ≡ receivers w (a .p) (a .home) (a .from) =
+    sym (append-nil d) ∙ ap (λ (l : List ℕ). d ++ l) (sym (rest-end (receiver w (a .p) (a .home) (a .from)) w (i .q) (i .to) (c .loop-test .left))) ∙ i .inv .3 .2 in
     (added-as whole (i .inv .3 .1), omega (arith, i .inv .0, i .inv .1))
 
 pub put-receivers-spec : {M : Type 1} → statement M
