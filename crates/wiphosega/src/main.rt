@@ -7,6 +7,7 @@ mod leaks;
 mod printing;
 mod receivers;
 mod sends;
+mod systems;
 
 use crate::arguments::Command;
 use crate::arguments::read_command;
