@@ -10,7 +10,8 @@ use Rattle.calculus.specs.Elements.{constantElement, sign, isString, lea
 use Rattle.calculus.specs.Elements.{sendable, anyRecord, isSign, signPlace, sumSigns, lessSigns, bySigns, comparable, isMany}
 use Rattle.calculus.specs.Elements.{equalResults, results}
 use Rattle.calculus.specs.Constraint.{range}
-use Rattle.calculus.specs.Rules.{nameOf, permsOf, guarded, permissions, deliveryTo, leafRule, oneRule, twoRule, flow, entry, rule}
+use Rattle.calculus.specs.Rules.{nameOf, permsOf, guarded, isBlock, permissions, deliveryTo, leafRule, oneRule, twoRule, flow, entry}
+use Rattle.calculus.specs.Rules.{twoSender, sender, senders, rule}
 use Rattle.calculus.specs.Layout.{rowWords, estimateWords}
 use Rattle.calculus.specs.Samples.{passes, samples}
 
@@ -18,6 +19,6 @@ pub samples-pass : T (passes samples)
 unfolding onesIn partsByKind limitsByKind parts arity limit constantNumber constantOf operationOf termsByKind termOf firstOf has tests
     fault missing keep under next scan reading code skip part trace tasks taskAt termNode nodeFor scopeFor homeFor blocksFrom within member union
     difference lowest constantElement sign isString leafMakes oneMakes makes isFunction isRecord isCell making sendable anyRecord isSign signPlace
-    sumSigns lessSigns bySigns comparable isMany equalResults results range nameOf permsOf guarded permissions deliveryTo judged delivered leafRule oneRule twoRule
-    flow entry rule rowWords estimateWords passes samples
+    sumSigns lessSigns bySigns comparable isMany equalResults results range nameOf permsOf guarded isBlock permissions deliveryTo judged delivered leafRule oneRule twoRule
+    flow entry twoSender sender senders rule rowWords estimateWords passes samples
 samples-pass = tt

@@ -14,14 +14,14 @@ use Rattle.table.specs.declared.Operation.{Operation}
 use Rattle.table.specs.declared.Operation.the-variants as operations
 use Rattle.table.specs.Words.{constantNumber}
 use Rattle.table.specs.Code.{Code, Node, Leaf, One, Two, gap, block, leaf, one, two, bind, while, branch, update, Linked}
-use Rattle.table.specs.Code.{NodeLinked, LeafLinked}
+use Rattle.table.specs.Code.{NodeLinked, LeafLinked, TwoLinked, Within}
 use Rattle.table.specs.Code.{constant, number, literal, named, variable, function, empty, exercise, cell, read}
 use Rattle.table.specs.Code.{apply, sequence, get, delete, assign, operation, send}
 use Rattle.calculus.specs.Elements.{elements, constantElement, sign, leafMakes, oneMakes, makes, isFunction, bySigns}
 use Rattle.calculus.specs.Elements.{sumSigns, lessSigns, equalResults, results}
 use Rattle.calculus.specs.Elements.{isSign, signPlace, comparable, isMany, truth, falsehood}
 use Rattle.calculus.specs.Constraint.{C, B, P, L}
-use Rattle.calculus.specs.Rules.{part, leafRule, oneRule, twoRule, flow, entry, rule}
+use Rattle.calculus.specs.Rules.{part, leafRule, oneRule, twoRule, flow, entry, twoSender, sender, senders, rule}
 use Rattle.calculus.specs.Layout.{owner, span, shift, allowed}
 use Rattle.calculus.proofs.Digits.{T-fst, T-snd}
 use Rattle.calculus.proofs.Places.{is-allowed}
@@ -138,25 +138,25 @@ module _ (c : Code) (k : Linked c) where
   PP h l = record { from = h; to = l; spans = refl; unshifted-from = refl; unshifted-to = refl }
 
   -- a function's body is a word of the code
-  pub body-lt : (f : ℕ) → f < c .size → T (isFunction (makes (c .node f))) → suc f < c .size
+  pub body-within : (f : ℕ) → f < c .size → T (isFunction (makes (c .node f))) → Within c (suc f) (c .home f) (f ∷ c .scope f)
   unfolding makes leafMakes oneMakes isFunction
-  body-lt f h t = go (c .node f) (k .nodes f h) t
+  body-within f h t = go (c .node f) (k .nodes f h) t
     where
-      go-leaf : (l : Leaf) → LeafLinked c f l → T (isFunction (leafMakes l)) → suc f < c .size
+      go-leaf : (l : Leaf) → LeafLinked c f l → T (isFunction (leafMakes l)) → Within c (suc f) (c .home f) (f ∷ c .scope f)
       go-leaf (constant d) n t = absurd t
       go-leaf (number d) n t = absurd t
       go-leaf (literal d) n t = absurd t
       go-leaf (named d) n t = absurd t
       go-leaf (variable d) n t = absurd t
-      go-leaf function n t = n .inside
+      go-leaf function n t = n
       go-leaf empty n t = absurd t
       go-leaf (exercise d) n t = absurd t
 
-      go-one : (o : One) → T (isFunction (oneMakes o)) → suc f < c .size
+      go-one : (o : One) → T (isFunction (oneMakes o)) → Within c (suc f) (c .home f) (f ∷ c .scope f)
       go-one cell t = absurd t
       go-one read t = absurd t
 
-      go : (n : Node) → NodeLinked c f n → T (isFunction (makes n)) → suc f < c .size
+      go : (n : Node) → NodeLinked c f n → T (isFunction (makes n)) → Within c (suc f) (c .home f) (f ∷ c .scope f)
       go gap l t = absurd t
       go (block n s g) l t = absurd t
       go (leaf d) l t = go-leaf d l t
@@ -166,6 +166,9 @@ module _ (c : Code) (k : Linked c) where
       go (while a b) l t = absurd t
       go (branch a b d) l t = absurd t
       go (update a b d) l t = absurd t
+
+  pub body-lt : (f : ℕ) → f < c .size → T (isFunction (makes (c .node f))) → suc f < c .size
+  body-lt f h t = body-within f h t .inside
 
   -- ---- the rule of a word; where `omega` finds a bound, any word of the code would do
 
@@ -243,7 +246,35 @@ module _ (c : Code) (k : Linked c) where
       ),
     )
 
+    -- what the word q asks of the block p
+    two-sender-fits : (q : ℕ) (t : Two) (a d : ℕ) → TwoLinked c q t → Fits c (twoSender c p q t a d)
+    unfolding twoSender
+    two-sender-fits q apply a d l = tt
+    two-sender-fits q sequence a d l = tt
+    two-sender-fits q get a d l = tt
+    two-sender-fits q delete a d l = tt
+    two-sender-fits q assign a d l = tt
+    two-sender-fits q (operation o) a d l = tt
+    two-sender-fits q (send r) a d l = λ t. may-C h (omega (arith, k .listed (c .home q) (l .1) .0))
+
+    pub sender-fits : (q : ℕ) (n : Node) → NodeLinked c q n → Fits c (sender c p q n)
+    unfolding sender
+    sender-fits q gap l = tt
+    sender-fits q (block n s g) l = tt
+    sender-fits q (leaf f) l = tt
+    sender-fits q (one o a) l = tt
+    sender-fits q (two t a d) l = two-sender-fits q t a d (l .0)
+    sender-fits q (bind a d) l = tt
+    sender-fits q (while a d) l = tt
+    sender-fits q (branch a b d) l = tt
+    sender-fits q (update a b d) l = tt
+
     pub rule-fits : (ρ : ℕ) → Fits c (rule c ρ p)
-    unfolding rule entry
-    rule-fits ρ =
-        ((λ t. (may-L h, λ v m. may-B h (omega (arith, range-bound _ _ v m)))), flow-fits (c .node p) (k .nodes p h))
+    unfolding rule entry senders
+    rule-fits ρ = (
+      (
+        (λ t. (may-L h, ((λ v m. may-B h (omega (arith, range-bound _ _ v m))), may-C h (omega arith)))),
+        λ t q m. sender-fits q (c .node q) (k .nodes q (in-below m)),
+      ),
+      flow-fits (c .node p) (k .nodes p h),
+    )

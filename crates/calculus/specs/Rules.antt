@@ -1,7 +1,7 @@
 -- The flow rules: the constraint of each word, in the order and the words of document 01, "Flow rules".
 use Prim.Native.Nat.{ℕ, suc, _+_, _<_}
 use mathlib.Core.List.{List·Memᴰ}
-use mathlib.Core.Bool.{Bool, false}
+use mathlib.Core.Bool.{Bool, true, false}
 use lib.ListN.{getD}
 use lib.Dec.{T}
 use Rattle.permset.specs.Sets.{width, member, within}
@@ -54,6 +54,17 @@ guarded (while a b) s = false
 guarded (branch a b d) s = false
 guarded (update a b d) s = false
 
+unfoldable pub isBlock : Node → Bool
+isBlock gap = false
+isBlock (block n t g) = true
+isBlock (leaf l) = false
+isBlock (one o a) = false
+isBlock (two t a b) = false
+isBlock (bind a b) = false
+isBlock (while a b) = false
+isBlock (branch a b d) = false
+isBlock (update a b d) = false
+
 -- the permissions of the block of word p
 unfoldable pub permissions : Code → ℕ → ℕ
 permissions c p = permsOf (c .node (c .home p))
@@ -88,6 +99,11 @@ module _ (c : Code) where
   -- k at each word that makes a thing of this sort which is in r
   abbrev pub eachMade : (Making → Bool) → Row → (ℕ → Rule) → Rule
   eachMade q r k = every (c .size) (λ f. only (q (makes (c .node f))) (given r (made c f) (k f)))
+
+-- k where a send at p with the target a, which requires r, may start the handler h for a name in C(a)
+abbrev pub delivering : Code → (p r a h : ℕ) → Rule → Rule
+delivering c p r a h k =
+    only (delivered (deliveryTo (nameOf (c .node h)) r (permissions c p) (c .node h))) (given (C a) (nameElement (nameOf (c .node h))) k)
 
 -- "Parts are live .. P of each part but a function's body is in P(p)."
 abbrev pub part : ℕ → ℕ → Rule
@@ -144,9 +160,7 @@ module _ (c : Code) (p : ℕ) where
   twoRule (send r) a d =
       put (C p) unit
       and some (C d) (sendable c)
-      (each (c .blocks)
-      (λ h. only (delivered (deliveryTo (nameOf (c .node h)) r (permissions c p) (c .node h)))
-      (given (C a) (nameElement (nameOf (c .node h))) (live h and pass c (C d) (sendable c) (B h) and sub (P h) (P p)))))
+      (each (c .blocks) (λ h. delivering c p r a h (live h and pass c (C d) (sendable c) (B h) and sub (P h) (P p))))
 
   -- what holds where p is live
   unfoldable pub flow : Node → Rule
@@ -171,13 +185,42 @@ module _ (c : Code) (p : ℕ) where
       (some (C a) (anyRecord c) (put (C p) (made c p) and sub (C d) (B p)) and eachMade c isRecord (C a) (λ q. sub (B q) (B p))
       and given (C a) opponentRecord (fill c (B p)))
 
--- "Block at b: guard within ρ makes b live and puts all 64 in B(b).": the one rule that always applies
+-- "Block at b: guard within ρ makes b live and puts all 64 in B(b).": the one rule of document 01 that always applies. "and element 7 if
+-- its guard lets the opponent in" (document 02, wish 8)
 unfoldable pub entry : Code → ℕ → ℕ → Rule
-entry c ρ p = only (guarded (c .node p) ρ) (live p and fill c (B p))
+entry c ρ p = only (guarded (c .node p) ρ) (live p and fill c (B p) and put (C p) opponentRecord)
+
+-- "The value set of a block's first word .. shall hold 64+s for each block, first word s, with a live send that delivers to it by the send
+-- rule" (document 02, wish 8): of the block b and the send at p
+module _ (c : Code) (b p : ℕ) where
+  unfoldable pub twoSender : Two → ℕ → ℕ → Rule
+  twoSender apply a d = none
+  twoSender sequence a d = none
+  twoSender get a d = none
+  twoSender delete a d = none
+  twoSender assign a d = none
+  twoSender (operation o) a d = none
+  twoSender (send r) a d =
+      given (L p) 0 (some (C d) (sendable c) (delivering c p r a b (put (C b) (made c (c .home p)))))
+
+  unfoldable pub sender : Node → Rule
+  sender gap = none
+  sender (block n s g) = none
+  sender (leaf l) = none
+  sender (one o a) = none
+  sender (two t a d) = twoSender t a d
+  sender (bind a d) = none
+  sender (while a d) = none
+  sender (branch a d e) = none
+  sender (update a d e) = none
+
+-- stated at the receiver, live or not
+unfoldable pub senders : Code → ℕ → Rule
+senders c b = only (isBlock (c .node b)) (every (c .size) (λ p. sender c b p (c .node p)))
 
 -- "Each applies where p is live"
 unfoldable pub rule : Code → ℕ → ℕ → Rule
-rule c ρ p = entry c ρ p and given (L p) 0 (flow c p (c .node p))
+rule c ρ p = (entry c ρ p and senders c p) and given (L p) 0 (flow c p (c .node p))
 
 -- e obeys every rule of every word
 abbrev pub Estimate : Code → ℕ → Sets → Type 0

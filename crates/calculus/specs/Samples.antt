@@ -50,7 +50,7 @@ passes (s ∷ ss) = elim (agrees s (s .expected) (answerTo s)) [ true ↦ passes
 -- ---- tables
 
 -- one handler with permissions 0 and 1, and this guard
-abbrev single : ℕ → List ℕ → List ℕ
+abbrev pub single : ℕ → List ℕ → List ℕ
 single guard body = 0x01000001 ∷ 0x02000000 ∷ 0x03000003 ∷ (0x04000000 + guard) ∷ body
 
 -- a handler that passes its message on to name 1, with this set required
@@ -59,10 +59,10 @@ relayed perms required =
     0x02000000 ∷ (0x03000000 + perms) ∷ 0x04000000 ∷ (0x23000000 + required) ∷ 0x13000001 ∷ 0x14000000 ∷ 0x02000001 ∷ 0x03000002
     ∷ 0x04000008 ∷ 0x24000002 ∷ []
 
-abbrev relay : ℕ → ℕ → List ℕ
+abbrev pub relay : ℕ → ℕ → List ℕ
 relay perms required = 0x01000002 ∷ relayed perms required
 
-abbrev twins : List ℕ
+abbrev pub twins : List ℕ
 twins = 0x01000003 ∷ relayed 8 4 ++ (0x02000001 ∷ 0x03000004 ∷ 0x04000008 ∷ 0x24000004 ∷ [])
 
 unfoldable pub samples : List Sample
@@ -70,23 +70,23 @@ samples =
     -- *01000000 alone
     record { words = 0x01000000 ∷ []; opponent = 0; expected = fills 0 0 (0 ∷ 0 ∷ 0 ∷ 0 ∷ 0 ∷ 0 ∷ 0 ∷ []) }
     -- direct; its guard 04000004; the same with ρ 4
-    ∷ record { words = single 0 (0x24000002 ∷ []); opponent = 0; expected = counts 2 69 }
+    ∷ record { words = single 0 (0x24000002 ∷ []); opponent = 0; expected = counts 2 70 }
     ∷ record { words = single 4 (0x24000002 ∷ []); opponent = 0; expected = counts 0 0 }
     ∷ record { words = single 4 (0x24000002 ∷ []); opponent = 4; expected = leaks 2 }
     -- ours: direct with ρ 2, where the standing bound lets no permission pass
     ∷ record { words = single 0 (0x24000002 ∷ []); opponent = 2; expected = exceeds 2 0 1 }
     -- a permission that the handler lacks
-    ∷ record { words = single 0 (0x24000004 ∷ []); opponent = 0; expected = counts 0 66 }
+    ∷ record { words = single 0 (0x24000004 ∷ []); opponent = 0; expected = counts 0 67 }
     -- if on true; with the message as condition
     ∷ record { words = single 0 (0x19000000 ∷ 0x10000002 ∷ 0x24000001 ∷ 0x24000002 ∷ []); opponent = 0; expected = leaks 1 }
     ∷ record { words = single 0 (0x19000000 ∷ 0x14000000 ∷ 0x24000001 ∷ 0x24000002 ∷ []); opponent = 0; expected = leaks 3 }
     -- a function applied; a function alone
-    ∷ record { words = single 0 (0x16000000 ∷ 0x15000000 ∷ 0x24000001 ∷ 0x10000000 ∷ []); opponent = 0; expected = counts 1 77 }
-    ∷ record { words = single 0 (0x15000000 ∷ 0x24000001 ∷ []); opponent = 0; expected = counts 0 67 }
+    ∷ record { words = single 0 (0x16000000 ∷ 0x15000000 ∷ 0x24000001 ∷ 0x10000000 ∷ []); opponent = 0; expected = counts 1 78 }
+    ∷ record { words = single 0 (0x15000000 ∷ 0x24000001 ∷ []); opponent = 0; expected = counts 0 68 }
     -- relay; with 23000001; twins
-    ∷ record { words = relay 8 0; opponent = 0; expected = counts 2 205 }
+    ∷ record { words = relay 8 0; opponent = 0; expected = counts 2 207 }
     ∷ record { words = relay 8 1; opponent = 0; expected = leaks 0 }
-    ∷ record { words = twins; opponent = 0; expected = leaks 4 }
+    ∷ record { words = twins; opponent = 0; expected = counts 4 207 }
     -- ours: relay from a sender that lacks the receiver's guard
     ∷ record { words = relay 0 0; opponent = 0; expected = leaks 0 }
     -- no words; 01000021

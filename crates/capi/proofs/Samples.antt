@@ -13,7 +13,8 @@ use Rattle.delivery.specs.Delivery.{judged, delivered}
 use Rattle.calculus.specs.Elements.{constantElement, sign, isString, leafMakes, oneMakes, makes, isFunction, isRecord, isCell, making}
 use Rattle.calculus.specs.Elements.{sendable, anyRecord, isSign, signPlace, sumSigns, lessSigns, bySigns, comparable, isMany, equalResults, results}
 use Rattle.calculus.specs.Constraint.{range}
-use Rattle.calculus.specs.Rules.{nameOf, permsOf, guarded, permissions, deliveryTo, leafRule, oneRule, twoRule, flow, entry, rule}
+use Rattle.calculus.specs.Rules.{nameOf, permsOf, guarded, isBlock, permissions, deliveryTo, leafRule, oneRule, twoRule, flow, entry}
+use Rattle.calculus.specs.Rules.{twoSender, sender, senders, rule}
 use Rattle.calculus.specs.Layout.{rowWords, estimateWords}
 use Rattle.calculus.specs.Answer.{Answer, answer}
 use Rattle.little_endian.specs.LittleEndian.{wordsOf, bytesOf}
@@ -46,6 +47,6 @@ pub samples-answered :
 unfolding onesIn partsByKind limitsByKind parts arity limit constantNumber constantOf operationOf termsByKind termOf firstOf has tests
     fault missing keep under next scan reading code skip part trace tasks taskAt termNode nodeFor scopeFor homeFor blocksFrom within member union
     difference lowest constantElement sign isString leafMakes oneMakes makes isFunction isRecord isCell making sendable anyRecord isSign signPlace
-    sumSigns lessSigns bySigns comparable isMany equalResults results range nameOf permsOf guarded permissions deliveryTo judged delivered leafRule oneRule twoRule
-    flow entry rule rowWords estimateWords wordsOf bytesOf answer answerNumber bytesAnswer
+    sumSigns lessSigns bySigns comparable isMany equalResults results range nameOf permsOf guarded isBlock permissions deliveryTo judged delivered leafRule oneRule twoRule
+    flow entry twoSender sender senders rule rowWords estimateWords wordsOf bytesOf answer answerNumber bytesAnswer
 samples-answered = refl

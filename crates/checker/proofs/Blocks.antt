@@ -26,7 +26,7 @@ use Rattle.queries.specs.Starts.{startsAt}
 use Rattle.queries.proofs.Sends.{answer-so, named-so, named-not}
 use Rattle.checker.specs.declared.sends.Sending.{Sending}
 use Rattle.checker.specs.Decides.{Decides}
-use Rattle.checker.specs.Sends.{delivery, toBlock, Sent}
+use Rattle.checker.specs.Sends.{delivery, toStarted, toBlock, Sent}
 use Rattle.checker.proofs.Laws.{decided, both, put-decides, only-so, only-not, given-so, given-not, negated-true, negated-false}
 
 pub delivered-is : (c : Code) (e : Sets) (p d b : ℕ) {r s t : Bool} → r ≡ e (L b) 0
@@ -69,18 +69,18 @@ module _ (ws masks est : List ℕ) (l : Layout) (s : Sending) (h : Sent ws masks
   abbrev answer : Bool
   answer = delivered (deliveryTo (nameOf (c .node b)) (s .required .bits) (s .own .bits) (c .node b))
 
-  pub unstarted : {r : Bool} → r ≡ starting → not r ≡ true → Decides e (toBlock c s b) true
-  unstarted {r} q n = go answer refl
+  pub unstarted : {k : Rule} {r : Bool} → r ≡ starting → not r ≡ true → Decides e (toStarted c s b k) true
+  unstarted {k} {r} q n = go answer refl
     where
-      go : (t : Bool) → answer ≡ t → Decides e (toBlock c s b) true
+      go : (t : Bool) → answer ≡ t → Decides e (toStarted c s b k) true
       go true g =
           only-so e _ g
           (given-not e (C (s .p + 1)) (nameElement (nameOf (c .node b)))
           (named-not ws est (s .p) (s .required .bits) (s .own .bits) b node-is (sym q ∙ negated-true n) g))
       go false g = only-not e _ g
 
-  pub started : {r y : Bool} → r ≡ starting → not r ≡ false → Decides e (delivery c (s .p) (s .d) b) y → Decides e (toBlock c s b) y
-  started {r} q n d =
+  pub started : {k : Rule} {r y : Bool} → r ≡ starting → not r ≡ false → Decides e k y → Decides e (toStarted c s b k) y
+  started {k} {r} q n d =
       let z : starting ≡ true = sym q ∙ negated-false n in
       only-so e _ (answer-so ws est (s .p) (s .required .bits) (s .own .bits) b node-is z)
       (given-so e (C (s .p + 1)) (nameElement (nameOf (c .node b))) (named-so ws est (s .p) (s .required .bits) (s .own .bits) b node-is z) d)

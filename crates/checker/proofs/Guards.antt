@@ -20,7 +20,8 @@ use Rattle.table.proofs.Parts.{place-stands}
 use Rattle.table.proofs.Items.{item-block}
 use Rattle.table.proofs.Nodes.{itemNode, nodeAt, node-item}
 use Rattle.table.proofs.Blocks.{head-word, listed-block}
-use Rattle.calculus.specs.Constraint.{Row, B, L, Sets, Rule, put, only, _and_}
+use Rattle.calculus.specs.Elements.{opponentRecord}
+use Rattle.calculus.specs.Constraint.{Row, C, B, L, Sets, Rule, put, only, _and_}
 use Rattle.calculus.specs.Rules.{guarded, live, fill, entry}
 use Rattle.calculus.specs.Layout.{sets}
 use Rattle.calculus.proofs.Masks.{T-false}
@@ -72,8 +73,9 @@ module _ (ws : List ℕ) (r : reading ws ≡ accepted) (p : ℕ) (h : p < code w
     unfolding entry
     closed-entry n = only-not e (guarded (c .node p) ρ) (sym q ∙ negated-true n)
 
-    pub open-entry : not x ≡ false → {y z : Bool} → y ≡ e (L p) 0 → Decides e (fill c (rowAt (2 * p + 1))) z → Decides e (entry c ρ p) (y && z)
+    pub open-entry : not x ≡ false → {y z v : Bool} → y ≡ e (L p) 0 → Decides e (fill c (rowAt (2 * p + 1))) z → v ≡ e (C p) opponentRecord
+        → Decides e (entry c ρ p) (y && (z && v))
     unfolding entry
-    open-entry n {y} {z} u v =
+    open-entry n {y} {z} u v w =
         only-so e (guarded (c .node p) ρ) (sym q ∙ negated-false n)
-        (both e (put-is e (L p) 0 u) (subst (λ (s : Row). Decides e (fill c s) z) (row-B p) v))
+        (both e (put-is e (L p) 0 u) (both e (subst (λ (s : Row). Decides e (fill c s) z) (row-B p) v) (put-is e (C p) opponentRecord w)))

@@ -11,7 +11,8 @@ use Rattle.table.specs.Code.{Code, code, skip, part, trace, tasks, taskAt, term
 use Rattle.delivery.specs.Delivery.{judged, delivered}
 use Rattle.calculus.specs.Elements.{constantElement, sign}
 use Rattle.calculus.specs.Constraint.{range}
-use Rattle.calculus.specs.Rules.{nameOf, permsOf, guarded, permissions, deliveryTo, leafRule, oneRule, twoRule, flow, entry, rule}
+use Rattle.calculus.specs.Rules.{nameOf, permsOf, guarded, isBlock, permissions, deliveryTo, leafRule, oneRule, twoRule, flow, entry}
+use Rattle.calculus.specs.Rules.{twoSender, sender, senders, rule}
 use Rattle.calculus.specs.Layout.{rowWords, estimateWords}
 use Rattle.calculus.specs.Estimate.{estimate}
 use Rattle.checker.specs.Obeyed.{firstBroken}
@@ -26,6 +27,6 @@ pub samples-broken :
     map (firstBroken direct 0) (least ∷ replicate 35 0 ∷ set least 24 0 ∷ set least 31 (2 ^ 24) ∷ []) ≡ 5 ∷ 1 ∷ 4 ∷ 1 ∷ []
 unfolding partsByKind limitsByKind parts arity limit constantNumber constantOf operationOf termsByKind termOf firstOf has tests
     fault missing keep under next code skip part trace tasks taskAt termNode nodeFor scopeFor homeFor blocksFrom within member
-    constantElement sign range nameOf permsOf guarded permissions deliveryTo judged delivered leafRule oneRule twoRule
-    flow entry rule rowWords estimateWords estimate firstBroken
+    constantElement sign range nameOf permsOf guarded isBlock permissions deliveryTo judged delivered leafRule oneRule twoRule
+    flow entry twoSender sender senders rule rowWords estimateWords estimate firstBroken
 samples-broken = refl

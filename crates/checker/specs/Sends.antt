@@ -20,11 +20,15 @@ use Rattle.checker.specs.declared.sends.Sending.{Sending}
 abbrev pub delivery : Code → (p d b : ℕ) → Rule
 delivery c p d b = live b and pass c (C d) (sendable c) (B b) and sub (P b) (P p)
 
+-- k where it starts the block b
+abbrev pub toStarted : Code → Sending → ℕ → Rule → Rule
+toStarted c s b k =
+    only (delivered (deliveryTo (nameOf (c .node b)) (s .required .bits) (s .own .bits) (c .node b)))
+    (given (C (s .p + 1)) (nameElement (nameOf (c .node b))) k)
+
 -- for the block b
 abbrev pub toBlock : Code → Sending → ℕ → Rule
-toBlock c s b =
-    only (delivered (deliveryTo (nameOf (c .node b)) (s .required .bits) (s .own .bits) (c .node b)))
-    (given (C (s .p + 1)) (nameElement (nameOf (c .node b))) (delivery c (s .p) (s .d) b))
+toBlock c s b = toStarted c s b (delivery c (s .p) (s .d) b)
 
 -- for each block, where there is something to send
 abbrev pub sent : Code → Sending → Rule

@@ -1,9 +1,11 @@
 // Whether an estimate obeys the flow rules: a test for each kind of word, in the order of the clauses. Nothing is written.
+pub mod senders;
 pub mod sends;
 pub mod terms;
 pub mod tests;
 pub mod things;
 
+use crate::senders::unaware_of;
 use crate::sends::Sending;
 use crate::terms::apply;
 use crate::terms::assign;
@@ -33,14 +35,15 @@ use table::words::argument_of;
 use table::words::kind_of;
 use table_links::link_at;
 ghost use mathlib.Core.Path.{_≡_};
-ghost use Prim.Native.Nat.{_+_, _<_};
+ghost use Prim.Native.Nat.{_+_, _<_, _≤_};
 ghost use lib.ListN.{length};
 ghost use Rattle.table.specs.Code.{code};
 ghost use Rattle.table.specs.Links.{linkAt};
-ghost use Rattle.calculus.specs.Rules.{guarded, flow as Flow, entry as Entry, rule as Rule};
-ghost use Rattle.calculus.specs.Layout.{WellFormed};
+ghost use Rattle.calculus.specs.Rules.{guarded, flow as Flow, entry as Entry, sender as Sender};
+ghost use Rattle.calculus.specs.Layout.{sets, WellFormed};
 ghost use Rattle.queries.specs.Ready.{Ready};
 ghost use Rattle.checker.specs.Obeyed.{firstBroken};
+ghost use Rattle.checker.specs.Senders.{First, Unsent, ownRule};
 ghost use Rattle.checker.specs.Words.{Accepted, Obeyed, SendingAt, Unknown};
 ghost use Rattle.rows.specs.Laid.{Sized};
 
@@ -151,10 +154,10 @@ fn entry(words: &[u32], est: &[u32], l: Layout, rho: PermSet, p: usize) -> bool
     if !opens(words, l, rho, p) {
         return true;
     }
-    is_live(est, l, p) & full(est, l, 2 * p + 1)
+    is_live(est, l, p) & (full(est, l, 2 * p + 1) & in_value(est, l, p, 7))
 }
 
-// Whether the rule of the word p is obeyed.
+// Whether the rule of the word p is obeyed, but for its senders.
 fn word(
     words: &[u32],
     links: &[u32],
@@ -165,7 +168,7 @@ fn word(
     p: usize,
 ) -> bool
     requires { ⌜ Ready (now words) (now links) (now masks) l × WellFormed (code (now words)) (now est) × (p < l .size) ⌝ }
-    ensures { λ r. ⌜ Obeyed (now (words .entry)) (now (est .entry)) (λ c. Rule c (rho .bits) p) r ⌝ }
+    ensures { λ r. ⌜ Obeyed (now (words .entry)) (now (est .entry)) (λ c. ownRule c (rho .bits) p) r ⌝ }
 {
     if !entry(words, est, l, rho, p) {
         return false;
@@ -174,6 +177,46 @@ fn word(
         return true;
     }
     flow(words, links, masks, est, l, p)
+}
+
+// The first block below `below` that lacks the block of the word p as a sender; `below` where there is none.
+fn lacking(
+    words: &[u32],
+    links: &[u32],
+    masks: &[u32],
+    est: &[u32],
+    l: Layout,
+    p: usize,
+    below: usize,
+) -> usize
+    requires { ⌜ Ready (now words) (now links) (now masks) l × WellFormed (code (now words)) (now est) × (p < l .size) × (below ≤ l .size) ⌝ }
+    ensures { λ r. ⌜ First (code (now (words .entry))) (sets (code (now (words .entry))) (now (est .entry))) (λ b. Sender (code (now (words .entry))) b p (code (now (words .entry)) .node p)) below r ⌝ }
+{
+    let w = words[p];
+    if kind_of(w) != 35 {
+        return below;
+    }
+    if !is_live(est, l, p) {
+        return below;
+    }
+    let d = end(links, p + 1);
+    let s = sending(words, links, p, d, argument_of(w));
+    let home = link_at(links, p).home;
+    unaware_of(words, links, masks, est, l, s, home, below)
+}
+
+// The lowest block whose senders' rule the estimate does not obey; the size of the table where there is none. One pass over the sends.
+fn unsent(words: &[u32], links: &[u32], masks: &[u32], est: &[u32], l: Layout) -> usize
+    requires { ⌜ Ready (now words) (now links) (now masks) l × WellFormed (code (now words)) (now est) ⌝ }
+    ensures { λ r. ⌜ Unsent (code (now (words .entry))) (sets (code (now (words .entry))) (now (est .entry))) r ⌝ }
+{
+    let mut below = l.size;
+    let mut p = 0;
+    while p < l.size {
+        below = lacking(words, links, masks, est, l, p, below);
+        p += 1;
+    }
+    below
 }
 
 // The lowest word whose rule the estimate does not obey; the size of the table where it obeys all.
@@ -188,8 +231,9 @@ pub fn broken(
     requires { ⌜ Ready (now words) (now links) (now masks) l × WellFormed (code (now words)) (now est) ⌝ }
     ensures { λ r. ⌜ r ≡ firstBroken (code (now (words .entry))) (rho .bits) (now (est .entry)) ⌝ }
 {
+    let limit = unsent(words, links, masks, est, l);
     let mut p = 0;
-    while p < l.size {
+    while p < limit {
         if !word(words, links, masks, est, l, rho, p) {
             return p;
         }

@@ -17,8 +17,8 @@ use Rattle.table.specs.Words.{operationOf, operationNumber}
 use Rattle.table.specs.Code.{Code, Node, NodeLinked, Linked, gap, block, leaf, one, two, bind, while, branch, update, cell, read, exercise}
 use Rattle.table.specs.Code.{apply, sequence, get, delete, assign, operation, send}
 use Rattle.calculus.specs.Elements.{plain, made, undefined, unit, opponentRecord, nothing, isFunction, isRecord, isCell, makes, sendable, anyRecord}
-use Rattle.calculus.specs.Constraint.{Row, C, B, P, L, Sets, Obeys, Rule, put, sub, given, only, every, _and_}
-use Rattle.calculus.specs.Rules.{nameOf, guarded, deliveryTo, permissions, flow, leafRule, oneRule, twoRule, part, fill, eachMade}
+use Rattle.calculus.specs.Constraint.{Row, C, B, P, L, Sets, Obeys, Rule, put, sub, given, only, each, every, _and_}
+use Rattle.calculus.specs.Rules.{nameOf, guarded, deliveryTo, permissions, flow, leafRule, oneRule, twoRule, part, fill, eachMade, twoSender, sender}
 use Rattle.calculus.proofs.Digits.{T-true}
 use Rattle.calculus.proofs.Deliveries.{delivered-parts}
 use Rattle.calculus.proofs.Ranges.{below-in, in-below}
@@ -240,13 +240,25 @@ module _ (c : Code) (k : Linked c) (e : Sets) where
           let b = rw (row-C p, row-C d) at a in
           (b .0 .0, (b .0 .1 .0 (is-part later), λ q m t i. (b .1 .0 (made c q) (is-made c k isCell q t) i, b .1 .1 .0 q m t i)))
 
-      pub send-asks : (r : ℕ) → Obeys e (flow c p (two (send r) (p + 1) d)) → Every (Asked 0) (ofSend p d r)
-      unfolding flow twoRule ofSend asks under effect blocks sortAt
-      send-asks r o = rw (row-C p) ((o .0, ((λ t. o .1 .0), λ t. absurd t)), (o .1 .1 .0, (o .1 .1 .1, tt)))
+      pub send-asks : (r : ℕ) → Obeys e (flow c p (two (send r) (p + 1) d)) → Obeys e (each (c .blocks) (λ b. sender c b p (two (send r) (p + 1) d)))
+          → T (e (L p) 0) → Every (Asked 0) (ofSend p d r)
+      unfolding flow twoRule sender twoSender ofSend asks under effect blocks sortAt
+      send-asks r o s l =
+          rw (row-C p) (
+            (o .0, ((λ t. o .1 .0), λ t. absurd t)),
+            (o .1 .1 .0, ((λ v q i b m t n. (o .1 .1 .1 v q i b m t n, s b m l v q i t n)), tt)),
+          )
 
       pub send-from : (r : ℕ) → Every (Asked 0) (ofSend p d r) → Obeys e (flow c p (two (send r) (p + 1) d))
       unfolding flow twoRule ofSend asks under effect blocks sortAt
-      send-from r a = let b = rw (row-C p) at a in (b .0 .0, (b .0 .1 .0 (is-part later), (b .1 .0, b .1 .1 .0)))
+      send-from r a =
+          let b = rw (row-C p) at a in
+          (b .0 .0, (b .0 .1 .0 (is-part later), (b .1 .0, λ v q i x m t n. b .1 .1 .0 v q i x m t n .0)))
+
+      -- what it asks of its receivers
+      pub send-sent : (r : ℕ) → Every (Asked 0) (ofSend p d r) → Obeys e (each (c .blocks) (λ b. sender c b p (two (send r) (p + 1) d)))
+      unfolding sender twoSender ofSend asks under effect blocks sortAt
+      send-sent r a = λ b m l v q i t n. a .1 .1 .0 v q i b m t n .1
 
       -- ---- three parts
 

@@ -132,9 +132,9 @@ module _ (c : Code) (k : Linked c) where
         assign-fit =
             rw (row-C p, row-C d) ((first-part a, ((λ t. a-part b), λ t. absurd t)), (CC c k b h, ((λ q m t. CB c k b (in-below m)), tt)))
 
-        send-fit : (r : ℕ) → Every Fit (ofSend p d r)
+        send-fit : (r : ℕ) → List·Memᴰ (c .home p) (c .blocks) → Every Fit (ofSend p d r)
         unfolding ofSend asks under effect blocks
-        send-fit r =
+        send-fit r s =
             rw (row-C p) (
               (first-part a, ((λ t. a-part b), λ t. absurd t)),
               (
@@ -142,7 +142,7 @@ module _ (c : Code) (k : Linked c) where
                 (
                   (λ q m t.
                       let i : q < c .size = k .listed q m .0 in
-                      (may-L c k i, ((λ v l s. may-B c k i (in-below l)), PP c k i h))),
+                      ((may-L c k i, ((λ v l s. may-B c k i (in-below l)), PP c k i h)), may-C c k i (omega (arith, k .listed (c .home p) s .0)))),
                   tt,
                 ),
               ),
@@ -192,7 +192,7 @@ module _ (c : Code) (k : Linked c) where
     term-fit terms.Cell s w l = rw (w .own) (cell-fit (l .inside))
     term-fit terms.Read s w l = read-fit (l .inside)
     term-fit terms.Assign s w l = assign-fit (l .1 .inside) _ (l .2 .inside)
-    term-fit (terms.Send r) s w l = send-fit (l .1 .inside) _ (l .2 .inside) (r .bits)
+    term-fit (terms.Send r) s w l = send-fit (l .1 .inside) _ (l .2 .inside) (r .bits) (l .0 .1)
     term-fit (terms.Exercise r) s w l = exercise-fit (r .bits) (s .perms)
 
     block-fit : p + 3 < c .size → Every Fit (ofBlock p)

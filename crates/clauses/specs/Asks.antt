@@ -3,12 +3,11 @@ use Prim.Native.Nat.{ℕ, zero, suc, _+_, _/_, _%_}
 use mathlib.Core.Bool.{Bool, true, false, not}
 use lib.Dec.{eqb}
 use Rattle.permset.specs.Sets.{width, member}
-use Rattle.delivery.specs.Delivery.{delivered}
 use Rattle.table.specs.Words.{operationOf}
 use Rattle.table.specs.Code.{Code}
 use Rattle.calculus.specs.Elements.{plain, made, nameElement, isString, Making, isFunction, isRecord, isCell, makes, sendable, anyRecord, results}
 use Rattle.calculus.specs.Constraint.{Row, C, B, P, Rule, none, put, sub, given, some, only, each, every, _and_}
-use Rattle.calculus.specs.Rules.{nameOf, permissions, deliveryTo, live, fill, pass, eachMade, part, waiting}
+use Rattle.calculus.specs.Rules.{delivering, live, fill, pass, eachMade, part, waiting}
 use Rattle.rows.specs.Mask.{madeAs}
 use Rattle.clauses.specs.declared.Test.{Test}
 use Rattle.clauses.specs.declared.Test.the-variants as tests
@@ -75,8 +74,8 @@ module _ (c : Code) where
   -- the block b, where the send at x may start it for a name in C(x + 1)
   abbrev pub atBlock : (x y z b : ℕ) → Rule
   atBlock x y z b =
-      only (delivered (deliveryTo (nameOf (c .node b)) z (permissions c x) (c .node b)))
-      (given (C (x + 1)) (nameElement (nameOf (c .node b))) (live b and pass c (C y) (sendable c) (B b) and sub (P b) (P x)))
+      delivering c x z (x + 1) b
+      ((live b and pass c (C y) (sendable c) (B b) and sub (P b) (P x)) and put (C b) (made c (c .home x)))
 
   -- all targets, or the one target f where it is not 0
   unfoldable pub things : What → (x y z f : ℕ) → Rule

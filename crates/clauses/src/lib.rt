@@ -50,7 +50,8 @@ pub enum What {
     Hand,
     Take,
     Back,
-    // For each block f that a send at x, with z required, may start for a name in C(x + 1): f is live, what C(y) has of messages is in B(f), and P(f) is in P(x).
+    // For each block f that a send at x, with z required, may start for a name in C(x + 1): f is live, what C(y) has of messages
+    // is in B(f), P(f) is in P(x), and C(f) has the block of x.
     Send,
 }
 

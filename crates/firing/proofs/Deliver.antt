@@ -28,19 +28,19 @@ use Rattle.table.proofs.Blocks.{Follows, Block, block as block-words, head-word
 use Rattle.table.proofs.Linked.{linked as code-linked}
 use Rattle.table.proofs.LinkMeaning.{link-end}
 use Rattle.table.proofs.Nodes.{itemNode, nodeAt, node-item}
-use Rattle.calculus.specs.Elements.{nameElement, sendable, elements}
+use Rattle.calculus.specs.Elements.{made, nameElement, sendable, elements}
 use Rattle.calculus.specs.Constraint.{Row, C, B, P, L, Rule, put, sub, given, each, _and_}
 use Rattle.calculus.specs.Rules.{nameOf, guarded, deliveryTo, permissions, pass, live}
 use Rattle.calculus.specs.Layout.{owner, span, shift, base, rowWords, sets, WellFormed}
 use Rattle.calculus.specs.Estimate.{fire}
 use Rattle.calculus.proofs.Deliveries.{unguarded}
-use Rattle.calculus.proofs.Fitting.{may-L, may-B, PP}
+use Rattle.calculus.proofs.Fitting.{may-C, may-L, may-B, PP}
 use Rattle.calculus.proofs.Places.{is-allowed}
 use Rattle.calculus.proofs.Ranges.{in-below}
 use Rattle.calculus.proofs.Firing.{Fits, fire-well}
 use Rattle.calculus.proofs.Folds.{fire-only-not, fire-present, fire-absent, each-nil, each-cons}
 use Rattle.rows.specs.declared.layout.Layout.{Layout}
-use Rattle.permset.specs.declared.PermSet.{PermSet}
+use Rattle.firing.specs.declared.sends.Sender.{Sender}
 use Rattle.clauses.specs.declared.Effect.{Effect}
 use Rattle.firing.specs.Sending.{Sends}
 use Rattle.firing.proofs.EachThing.{sized-again}
@@ -115,7 +115,7 @@ module _ (ws : List ℕ) (r : reading ws ≡ accepted) (slice : List ℕ) (room 
 
   -- what is done for the block
   abbrev pub started : Rule
-  started = live b and pass c (C y) (sendable c) (B b) and sub (P b) (P x)
+  started = (live b and pass c (C y) (sendable c) (B b) and sub (P b) (P x)) and put (C b) (made c (c .home x))
 
   -- what is no block is not started
   pub no-block : (i : Item) → itemAt ws b ≡ i → ((h : Handler) → i ≡ items.Block h → ⊥) → fire c (atBlock c x y z b) est ≡ est
@@ -171,10 +171,13 @@ module _ (ws : List ℕ) (r : reading ws ≡ accepted) (slice : List ℕ) (room 
             fire-only-not c (delivered (deliveryTo (nameOf (c .node b)) z (permissions c x) (c .node b))) _ est g
 
 -- what was delivered, by the numbers of the rows
-pub delivered-as : (c : Code) (y b : ℕ) (k : Rule) (est : List ℕ)
-    → fire c (put (L b) 0 and pass c (rowAt (2 * y)) (sortAt 3 c) (rowAt (2 * b + 1)) and k) est ≡ fire c (live b and pass c (C y) (sendable c) (B b) and k) est
+pub delivered-as : (c : Code) (y b : ℕ) (k : Rule) (u v : ℕ) → u ≡ v → (est : List ℕ)
+    → fire c ((put (L b) 0 and pass c (rowAt (2 * y)) (sortAt 3 c) (rowAt (2 * b + 1)) and k) and put (rowAt (2 * b)) u) est
+    ≡ fire c ((live b and pass c (C y) (sendable c) (B b) and k) and put (C b) v) est
 unfolding sortAt
-delivered-as c y b k est = ap₂ (λ (s t : Row). fire c (put (L b) 0 and pass c s (sendable c) t and k) est) (row-C y) (row-B b)
+delivered-as c y b k u v q est =
+    ap₂ (λ (s t : Row). fire c ((put (L b) 0 and pass c s (sendable c) t and k) and put (rowAt (2 * b)) u) est) (row-C y) (row-B b)
+    ∙ ap₂ (λ (s : Row) (z : ℕ). fire c ((put (L b) 0 and pass c (C y) (sendable c) (B b) and k) and put s z) est) (row-C b) q
 
 -- an item that is a block has a block's kind
 block-kind : (ws : List ℕ) (b : ℕ) (h : Handler) → itemAt ws b ≡ items.Block h → kind (getD ws b 0) ≡ 2
@@ -186,8 +189,8 @@ block-kind ws b h e = go (ℕ-discrete (kind (getD ws b 0)) 2) (decLt (kind (get
     go (no k) (no d) = absurd (term-item (sym (item-term ws b (omega arith)) ∙ e))
 
 -- what a send asks for a block fits the code
-block-fits : (c : Code) (k : Linked c) (x y z b : ℕ) → x < c .size → b < c .size → Fits c (atBlock c x y z b)
-block-fits c k x y z b h i = λ t. (may-L c k i, ((λ v l s. may-B c k i (in-below l)), PP c k i h))
+block-fits : (c : Code) (k : Linked c) (x y z b : ℕ) → x < c .size → b < c .size → c .home x < c .size → Fits c (atBlock c x y z b)
+block-fits c k x y z b h i g = λ t. ((may-L c k i, ((λ v l s. may-B c k i (in-below l)), PP c k i h)), may-C c k i (omega arith))
 
 -- a block is the item at its place
 module _ (ws : List ℕ) (e : reading ws ≡ accepted) (b : ℕ) (i : b < length ws) (t : taskAt ws b ≡ name) where
@@ -206,7 +209,7 @@ not-block ws r est x y z own q b n =
     no-block ws r ws (omega arith) est x y z own q b (itemAt ws b) refl (λ h e. n (block-kind ws b h e))
 
 -- the estimate that a send leaves is handed on
-pub sends-again : (ws masks old new : List ℕ) (l : Layout) (e : Effect) (own : PermSet) → Sends ws masks old l e own → (b : ℕ)
+pub sends-again : (ws masks old new : List ℕ) (l : Layout) (e : Effect) (own : Sender) → Sends ws masks old l e own → (b : ℕ)
     → itemAt ws b ≡ items.Block (handlerAt ws b) → length new ≡ length old → new ≡ fire (code ws) (atBlock (code ws) (e .x) (e .y) (e .z) b) old
     → Sends ws masks new l e own
 sends-again ws masks old new l e own s b i n w =
@@ -218,9 +221,11 @@ sends-again ws masks old new l e own s b i n w =
       well =
           subst (WellFormed (code ws)) (sym w)
           (fire-well (code ws) (atBlock (code ws) (e .x) (e .y) (e .z) b)
-          (block-fits (code ws) (code-linked ws (s .readable)) (e .x) (e .y) (e .z) b (omega (arith, s .word, s .laid .size)) (block-inside ws (s .readable) ws (omega arith) old (e .x) (e .y) (e .z) (own .bits) (s .sender) b i)) old
+          (block-fits (code ws) (code-linked ws (s .readable)) (e .x) (e .y) (e .z) b (omega (arith, s .word, s .laid .size)) (block-inside ws (s .readable) ws (omega arith) old (e .x) (e .y) (e .z) (own .perms .bits) (s .sender) b i) (omega (arith, s .block, s .homed, s .laid .size))) old
           (s .well));
       word = s .word;
       message = s .message;
       sender = s .sender;
+      block = s .block;
+      homed = s .homed;
     }

@@ -3,18 +3,48 @@ use Prim.Native.Nat.{ℕ, _<_}
 use mathlib.Core.Path.{_≡_, sym, subst}
 use mathlib.Core.List.{List}
 use native.Mathlib.Omega.{arith}
-use Rattle.table.specs.Code.{code}
+use lib.Dec.{T}
+use Rattle.table.specs.Code.{Code, Node, Two, gap, block, leaf, one, two, bind, while, branch, update, code}
+use Rattle.table.specs.Code.{apply, sequence, get, delete, assign, operation, send}
 use Rattle.table.specs.Links.{linked}
+use Rattle.table.proofs.Linked.{linked as linked-code}
 use Rattle.calculus.specs.Constraint.{Sets, Rule, Obeys, L, given}
-use Rattle.calculus.specs.Rules.{flow, rule, Estimate}
+use Rattle.calculus.specs.Rules.{flow, entry, twoSender, sender, rule, Estimate}
 use Rattle.calculus.specs.Layout.{sets, WellFormed, LiesIn}
 use Rattle.calculus.specs.Estimate.{fire}
 use Rattle.calculus.proofs.Firing.{Fits, fire-well, fire-inside, fire-obeys}
-use Rattle.clauses.proofs.OfWord.{rule-clauses, clauses-rule}
+use Rattle.calculus.proofs.Senders.{sentFrom, from-senders, estimate-sent}
+use Rattle.clauses.proofs.OfWord.{rule-clauses, clauses-rule, clauses-sent}
 use Rattle.clauses.proofs.Fit.{clause-fits}
 use Rattle.rows.specs.declared.layout.Layout.{Layout}
 use Rattle.queries.specs.Ready.{Ready}
 use Rattle.firing.specs.Step.{stepAt}
+
+-- what a word asks of its receivers is asked where it is live
+two-live : (c : Code) (e : Sets) (p b : ℕ) (u : Two) (a d : ℕ) → (T (e (L p) 0) → Obeys e (twoSender c b p u a d)) → Obeys e (twoSender c b p u a d)
+unfolding twoSender
+two-live c e p b apply a d k = tt
+two-live c e p b sequence a d k = tt
+two-live c e p b get a d k = tt
+two-live c e p b delete a d k = tt
+two-live c e p b assign a d k = tt
+two-live c e p b (operation x) a d k = tt
+two-live c e p b (send r) a d k = λ t. k t t
+
+node-live : (c : Code) (e : Sets) (p b : ℕ) (n : Node) → (T (e (L p) 0) → Obeys e (sender c b p n)) → Obeys e (sender c b p n)
+unfolding sender
+node-live c e p b gap k = tt
+node-live c e p b (block n s g) k = tt
+node-live c e p b (leaf x) k = tt
+node-live c e p b (one x a) k = tt
+node-live c e p b (two u a d) k = two-live c e p b u a d k
+node-live c e p b (bind a d) k = tt
+node-live c e p b (while a d) k = tt
+node-live c e p b (branch a d x) k = tt
+node-live c e p b (update a d x) k = tt
+
+sent-live : (c : Code) (e : Sets) (p : ℕ) → Obeys e (given (L p) 0 (sentFrom c p)) → Obeys e (sentFrom c p)
+sent-live c e p o = λ b m. node-live c e p b (c .node p) (λ t. o t b m)
 
 module _ (ws links masks : List ℕ) (l : Layout) (y : Ready ws links masks l) (p : ℕ) (h : p < l .size) where
   in-code : p < code ws .size
@@ -32,7 +62,8 @@ module _ (ws links masks : List ℕ) (l : Layout) (y : Ready ws links masks l) (
     unfolding rule
     step-asked ρ e o =
         made-by (λ (xs : List ℕ). Obeys e (stepAt ws xs p k f))
-        (λ t. rule-clauses ws (y .readable) (y .slice) (y .room) e p in-code (o p in-code .1 t) k f)
+        (λ t. rule-clauses ws (y .readable) (y .slice) (y .room) e p in-code (o p in-code .1 t)
+        (estimate-sent (code ws) (linked-code ws (y .readable)) e ρ o p in-code) t k f)
 
     module _ (est : List ℕ) (w : WellFormed (code ws) est) where
       pub step-well : WellFormed (code ws) (fire (code ws) (stepAt ws links p k f) est)
@@ -46,3 +77,25 @@ module _ (ws links masks : List ℕ) (l : Layout) (y : Ready ws links masks l) (
   steps-rule est w s =
       λ t. clauses-rule ws (y .readable) (y .slice) (y .room) (sets (code ws) est) p in-code
       (λ k. subst (λ (xs : List ℕ). Obeys (sets (code ws) est) (stepAt ws xs p k 0)) (y .from) (fire-obeys (code ws) (stepAt ws links p k 0) (step-fits k 0) est w (s k)) t)
+
+  -- and what it asks of its receivers
+  pub steps-sent : (est : List ℕ) → WellFormed (code ws) est → ((k : ℕ) → fire (code ws) (stepAt ws links p k 0) est ≡ est)
+      → Obeys (sets (code ws) est) (given (L p) 0 (sentFrom (code ws) p))
+  steps-sent est w s =
+      λ t. clauses-sent ws (y .readable) (y .slice) (y .room) (sets (code ws) est) p in-code
+      (λ k. subst (λ (xs : List ℕ). Obeys (sets (code ws) est) (stepAt ws xs p k 0)) (y .from) (fire-obeys (code ws) (stepAt ws links p k 0) (step-fits k 0) est w (s k)) t)
+
+-- where no step of any word adds anything, a word whose entry is obeyed obeys its rule
+pub steps-rules : (ws links masks : List ℕ) (l : Layout) → Ready ws links masks l → (ρ : ℕ) (est : List ℕ) → WellFormed (code ws) est
+    → ((p : ℕ) → p < l .size → (k : ℕ) → fire (code ws) (stepAt ws links p k 0) est ≡ est) → (p : ℕ) → p < l .size
+    → Obeys (sets (code ws) est) (entry (code ws) ρ p) → Obeys (sets (code ws) est) (rule (code ws) ρ p)
+unfolding rule
+steps-rules ws links masks l y ρ est w s p h o =
+    let inside : (q : ℕ) → q < code ws .size → q < l .size = λ q g. omega (arith, y .laid .size) in (
+      (
+        o,
+        from-senders (code ws) (linked-code ws (y .readable)) (sets (code ws) est)
+            (λ q g. sent-live (code ws) (sets (code ws) est) q (steps-sent ws links masks l y q (inside q g) est w (s q (inside q g)))) p (in-code ws links masks l y p h),
+      ),
+      steps-rule ws links masks l y p h est w (s p h),
+    )

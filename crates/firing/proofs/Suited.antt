@@ -258,7 +258,7 @@ module _ (ws : List ℕ) (r : reading ws ≡ accepted) (l : Layout) (o : LaidOut
       term-suit terms.Read s i w x n = read-suit (to (n .inside))
       term-suit terms.Assign s i w x n = assign-suit (to (n .1 .inside)) _ (to (n .2 .inside))
       term-suit (terms.Send d) s i w x n =
-          send-suit (to (n .1 .inside)) _ (to (n .2 .inside)) (d .bits) (n .0) (subst IsTerm (sym i) tt)
+          send-suit (to (n .1 .inside)) _ (to (n .2 .inside)) (d .bits) (n .0 .0) (subst IsTerm (sym i) tt)
       term-suit (terms.Exercise d) s i w x n = exercise-suit (d .bits) (s .perms) n
 
       module _ (slice : List ℕ) (room : length ws ≤ length slice) where

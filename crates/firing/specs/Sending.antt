@@ -2,7 +2,6 @@
 use Prim.Native.Nat.{ℕ, _+_, _^_, _<_}
 use mathlib.Core.Path.{_≡_}
 use mathlib.Core.List.{List}
-use Rattle.permset.specs.declared.PermSet.{PermSet}
 use Rattle.permset.specs.Sets.{width}
 use Rattle.table.specs.declared.Item.the-variants as items
 use Rattle.table.specs.declared.Term.{Term}
@@ -15,8 +14,9 @@ use Rattle.rows.specs.declared.layout.Layout.{Layout}
 use Rattle.rows.specs.Laid.{LaidOut, Sized}
 use Rattle.clauses.specs.declared.Effect.{Effect}
 use Rattle.queries.specs.Passes.{Masked}
+use Rattle.firing.specs.declared.sends.Sender.{Sender}
 
-pub record Sends (ws masks est : List ℕ) (l : Layout) (e : Effect) (own : PermSet) : Type 0 where
+pub record Sends (ws masks est : List ℕ) (l : Layout) (e : Effect) (own : Sender) : Type 0 where
   pub readable : reading ws ≡ accepted
   pub laid : LaidOut (code ws) l
   pub masked : Masked (code ws) l masks
@@ -24,7 +24,9 @@ pub record Sends (ws masks est : List ℕ) (l : Layout) (e : Effect) (own : Perm
   pub well : WellFormed (code ws) est
   pub word : e .x + 1 < l .size
   pub message : e .y < l .size
-  pub sender : own .bits ≡ permissions (code ws) (e .x)
+  pub sender : own .perms .bits ≡ permissions (code ws) (e .x)
+  pub block : own .home ≡ code ws .home (e .x)
+  pub homed : own .home < l .size
 
 -- a send at a term of the table, to all blocks or (f not 0) to one
 pub record Sending (ws : List ℕ) (l : Layout) (e : Effect) (f : ℕ) : Type 0 where

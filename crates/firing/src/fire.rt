@@ -1,6 +1,7 @@
 // A clause on an estimate.
 use crate::sends::send_all;
 use crate::sends::send_one;
+use crate::sends::sender_of;
 use crate::targets::fill;
 use crate::targets::flow;
 use crate::targets::part;
@@ -16,7 +17,6 @@ use crate::things::one_thing;
 use clauses::Clause;
 use clauses::Effect;
 use clauses::What;
-use clauses::make::permissions_of;
 use queries::holds;
 use rows::layout::Layout;
 ghost use mathlib.Core.Path.{_≡_};
@@ -68,7 +68,7 @@ fn fire_send(
     requires { ⌜ Ready (now words) (now links) (now masks) l × WellFormed (code (now words)) (now est) × Sending (now words) l e f ⌝ }
     ensures { λ r. ⌜ Fired (code (now (words .entry))) (blocks (code (now (words .entry))) (e .x) (e .y) (e .z) f) (now (est .entry)) (now (est .exit)) r ⌝ }
 {
-    let own = permissions_of(words, links, e.x);
+    let own = sender_of(words, links, e.x);
     if f == 0 {
         send_all(words, links, est, masks, h, l, e, own)
     } else {

@@ -1,8 +1,10 @@
 // What a send does for each block that it may start.
 use crate::targets::lift;
+use crate::targets::mark;
 use crate::targets::pass;
 use crate::targets::wake;
 use clauses::Effect;
+use clauses::make::permissions_of;
 use permset::PermSet;
 use queries::starts;
 use rows::layout::Layout;
@@ -11,9 +13,10 @@ use table_links::link_at;
 ghost use mathlib.Core.Path.{_≡_};
 ghost use Prim.Native.Nat.{_+_, _*_, _^_, _<_, _≤_};
 ghost use lib.ListN.{length};
-ghost use Rattle.table.specs.Item.{handlerAt, itemAt};
+ghost use Rattle.table.specs.Item.{handlerAt, itemAt, itemPerms};
+ghost use Rattle.table.specs.Links.{linkAt};
 ghost use Rattle.table.specs.Code.{code};
-ghost use Rattle.calculus.specs.Constraint.{C, B, P, L, put, sub, each, _and_};
+ghost use Rattle.calculus.specs.Constraint.{C, B, P, L, put as Put, sub, each, _and_};
 ghost use Rattle.calculus.specs.Rules.{pass as Pass};
 ghost use Rattle.calculus.specs.Layout.{WellFormed};
 ghost use Rattle.rows.specs.Laid.{Sized};
@@ -23,6 +26,21 @@ ghost use Rattle.queries.specs.Ready.{Ready};
 ghost use Rattle.firing.specs.Fired.{Fired, FiredFor};
 ghost use Rattle.firing.specs.Sending.{Sends};
 ghost use Rattle.table.specs.declared.Item.the-variants as items;
+
+// The block of a send: its permissions and its first word.
+pub struct Sender {
+    pub perms: PermSet,
+    pub home: usize,
+}
+
+// The block of the send at x.
+pub fn sender_of(words: &[u32], links: &[u32], x: usize) -> Sender
+    ensures { λ r. ⌜ (r .perms .bits ≡ itemPerms (itemAt (now (words .entry)) (linkAt (now (links .entry)) x .home))) × (r .home ≡ linkAt (now (links .entry)) x .home) ⌝ }
+{
+    let home = link_at(links, x).home;
+    let perms = permissions_of(words, links, x);
+    Sender { perms, home }
+}
 
 // The block b is live, what C(d) has of messages is in B(b), and P(b) is in P(p).
 fn deliver(
@@ -35,11 +53,29 @@ fn deliver(
     b: usize,
 ) -> usize
     requires { ⌜ Sized l (now est) × (p < l .size) × (d < l .size) × (b < l .size) × (4 * l .row ≤ length (now masks)) ⌝ }
-    ensures { λ x. ⌜ FiredFor l (λ c. WellFormed c (now (est .entry)) × Masked c l (now (masks .entry))) (λ c. put (L b) 0 and Pass c (rowAt (2 * d)) (sortAt 3 c) (rowAt (2 * b + 1)) and sub (P b) (P p)) (now (est .entry)) (now (est .exit)) x ⌝ }
+    ensures { λ x. ⌜ FiredFor l (λ c. WellFormed c (now (est .entry)) × Masked c l (now (masks .entry))) (λ c. Put (L b) 0 and Pass c (rowAt (2 * d)) (sortAt 3 c) (rowAt (2 * b + 1)) and sub (P b) (P p)) (now (est .entry)) (now (est .exit)) x ⌝ }
 {
     let started = wake(est, h, l, b);
     let passed = pass(est, masks, h, l, 2 * d, 3, 2 * b + 1);
     started + (passed + lift(est, h, l, b, p))
+}
+
+// The same, and C(b) has the block at `home`, from which it was sent.
+fn deliver_from(
+    est: &mut [u32],
+    masks: &[u32],
+    h: &mut [u32],
+    l: Layout,
+    p: usize,
+    d: usize,
+    home: usize,
+    b: usize,
+) -> usize
+    requires { ⌜ Sized l (now est) × (p < l .size) × (d < l .size) × (b < l .size) × (4 * l .row ≤ length (now masks)) × (home < l .size) ⌝ }
+    ensures { λ x. ⌜ FiredFor l (λ c. WellFormed c (now (est .entry)) × Masked c l (now (masks .entry))) (λ c. (Put (L b) 0 and Pass c (rowAt (2 * d)) (sortAt 3 c) (rowAt (2 * b + 1)) and sub (P b) (P p)) and Put (rowAt (2 * b)) (32 * l .lead + home)) (now (est .entry)) (now (est .exit)) x ⌝ }
+{
+    let started = deliver(est, masks, h, l, p, d, b);
+    started + mark(est, l, 2 * b, 32 * l.lead + home)
 }
 
 // What a send does for the block at b.
@@ -50,7 +86,7 @@ fn send_to(
     h: &mut [u32],
     l: Layout,
     e: Effect,
-    own: PermSet,
+    own: Sender,
     b: usize,
 ) -> usize
     requires { ⌜ Sends (now words) (now masks) (now est) l e own × (itemAt (now words) b ≡ items.Block (handlerAt (now words) b)) × (e .z < 4294967296) ⌝ }
@@ -58,10 +94,10 @@ fn send_to(
 {
     let x = e.x;
     let required = PermSet { bits: e.z as u32 };
-    if !starts(words, est, l, x, required, own, b) {
+    if !starts(words, est, l, x, required, own.perms, b) {
         return 0;
     }
-    deliver(est, masks, h, l, x, e.y, b)
+    deliver_from(est, masks, h, l, x, e.y, own.home, b)
 }
 
 // What a send does for each block in turn.
@@ -73,7 +109,7 @@ pub fn send_all(
     h: &mut [u32],
     l: Layout,
     e: Effect,
-    own: PermSet,
+    own: Sender,
 ) -> usize
     requires { ⌜ Ready (now words) (now links) (now masks) l × Sends (now words) (now masks) (now est) l e own × (e .z < 4294967296) ⌝ }
     ensures { λ r. ⌜ Fired (code (now (words .entry))) (each (code (now (words .entry)) .blocks) (atBlock (code (now (words .entry))) (e .x) (e .y) (e .z))) (now (est .entry)) (now (est .exit)) r ⌝ }
@@ -95,7 +131,7 @@ pub fn send_one(
     h: &mut [u32],
     l: Layout,
     e: Effect,
-    own: PermSet,
+    own: Sender,
     b: usize,
 ) -> usize
     requires { ⌜ Sends (now words) (now masks) (now est) l e own × (b < length (now words)) × (e .z < 4294967296) ⌝ }

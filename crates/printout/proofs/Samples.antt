@@ -12,7 +12,8 @@ use Rattle.delivery.specs.Delivery.{judged, delivered}
 use Rattle.calculus.specs.Elements.{constantElement, sign, isString, leafMakes, oneMakes, makes, isFunction, isRecord, isCell, making}
 use Rattle.calculus.specs.Elements.{sendable, anyRecord, isSign, signPlace, sumSigns, lessSigns, bySigns, comparable, isMany, equalResults, results}
 use Rattle.calculus.specs.Constraint.{range}
-use Rattle.calculus.specs.Rules.{nameOf, permsOf, guarded, permissions, deliveryTo, leafRule, oneRule, twoRule, flow, entry, rule}
+use Rattle.calculus.specs.Rules.{nameOf, permsOf, guarded, isBlock, permissions, deliveryTo, leafRule, oneRule, twoRule, flow, entry}
+use Rattle.calculus.specs.Rules.{twoSender, sender, senders, rule}
 use Rattle.calculus.specs.Layout.{rowWords, estimateWords}
 use Rattle.little_endian.specs.LittleEndian.{wordsOf, bytesOf}
 use Rattle.text.specs.Text.{bytes, decimal, set}
@@ -39,11 +40,11 @@ inputs =
 
 pub samples-printed :
     map printed inputs
-    ≡ (bytes "leak 000002 bound 000000 verdict over first 1 facts 205\n"
+    ≡ (bytes "leak 000002 bound 000000 verdict over first 1 facts 207\n"
     ++ bytes "handler 0 name 0 entry yes live yes set 000002\n"
     ++ bytes "handler 1 name 1 entry no live yes set 000002\n")
-    ∷ (bytes "leak 000002 bound 000002 verdict within first - facts 69\n" ++ bytes "handler 0 name 0 entry yes live yes set 000002\n")
-    ∷ (bytes "leak 000002 bound 000000 verdict over first 1 facts 69\n" ++ bytes "handler 0 name 0 entry yes live yes set 000002\n")
+    ∷ (bytes "leak 000002 bound 000002 verdict within first - facts 70\n" ++ bytes "handler 0 name 0 entry yes live yes set 000002\n")
+    ∷ (bytes "leak 000002 bound 000000 verdict over first 1 facts 70\n" ++ bytes "handler 0 name 0 entry yes live yes set 000002\n")
     ∷ bytes "refused 10 at 4\n"
     ∷ bytes "refused 1 at 0\n"
     ∷ bytes "refused 30 at 0\n"
@@ -53,6 +54,6 @@ pub samples-printed :
 unfolding onesIn partsByKind limitsByKind parts arity limit constantNumber constantOf operationOf termsByKind termOf firstOf has tests
     fault missing keep under next scan reading code skip part trace tasks taskAt termNode nodeFor scopeFor homeFor blocksFrom within member union
     difference lowest constantElement sign isString leafMakes oneMakes makes isFunction isRecord isCell making sendable anyRecord isSign signPlace
-    sumSigns lessSigns bySigns comparable isMany equalResults results range nameOf permsOf guarded permissions deliveryTo judged delivered leafRule oneRule twoRule
-    flow entry rule rowWords estimateWords wordsOf bytesOf decimal set refusalLine verdictLine handlerLine printed
+    sumSigns lessSigns bySigns comparable isMany equalResults results range nameOf permsOf guarded isBlock permissions deliveryTo judged delivered leafRule oneRule twoRule
+    flow entry twoSender sender senders rule rowWords estimateWords wordsOf bytesOf decimal set refusalLine verdictLine handlerLine printed
 samples-printed = refl

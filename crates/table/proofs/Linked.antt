@@ -1,16 +1,17 @@
 -- The code of an accepted table is linked.
 use mathlib.Core.Path.{_≡_, refl, sym, ap, _∙_, subst}
-use mathlib.Core.List.{List, [], _∷_}
+use mathlib.Core.List.{List, [], _∷_, List·Memᴰ}
 use mathlib.Core.Bool.{Bool, true, false}
 use Prim.Native.Nat.{ℕ, suc, _+_, _<_}
 use native.Mathlib.Nat.{le-trans, le-of-eq, lt-trans, not-suc-le-zero}
 use lib.ListN.{length, getD, List·getD-eq-default}
 use lib.Dec.{T, ltb, ltb→lt}
 use Rattle.table.specs.declared.Term.{Term}
+use Rattle.table.specs.declared.Term.the-variants as terms
 use Rattle.table.specs.Words.{argument, firstKind, partsByKind, limitsByKind, parts, arity, termsByKind, termOf}
 use Rattle.table.specs.Scan.{Task, head, name, perms, guard, term, accepted, under, reading}
-use Rattle.table.specs.Code.{part, tasks, taskAt, termNode, nodeFor, scopeFor, homeFor, code, Within, Part, Bound, NodeLinked}
-use Rattle.table.specs.Code.{IsBlock, Linked}
+use Rattle.table.specs.Code.{part, tasks, taskAt, blocksFrom, termNode, nodeFor, scopeFor, homeFor, code, Within, Part, Bound, NodeLinked}
+use Rattle.table.specs.Code.{IsSet24, IsBlock, IsTerm, Linked}
 use Rattle.table.proofs.TermWords.{Rows, done, _▸_, by-kind, argument-lt}
 use Rattle.table.proofs.Parts.{part-zero, part-inside, part-task, tasks-length, term-stands}
 use Rattle.table.proofs.Scopes.{scoped}
@@ -24,7 +25,7 @@ module _ (ws : List ℕ) (p : ℕ) where
 
   RowLinked : ℕ → ℕ → Term → ℕ → List Bool → Type 0
   RowLinked a k t l bs =
-      a < l → (k ≡ 20 → a < length (code ws .scope p)) → PartsLinked bs
+      a < l → (k ≡ 20 → a < length (code ws .scope p)) → List·Memᴰ (code ws .home p) (code ws .blocks) → PartsLinked bs
       → NodeLinked (code ws) p (termNode t (part ws p 0) (part ws p 1) (part ws p 2))
 
   -- the parts of one, two and three that run
@@ -57,30 +58,68 @@ module _ (ws : List ℕ) (p : ℕ) where
   rows : (a : ℕ) → Rows (RowLinked a) firstKind (termsByKind a) limitsByKind partsByKind
   unfolding RowLinked PartsLinked termsByKind limitsByKind partsByKind termNode under code
   rows a =
-      (λ h v q. tt)  -- constant
-      ▸ (λ h v q. h)  -- whole number
-      ▸ (λ h v q. h)  -- string literal
-      ▸ (λ h v q. h)  -- handler name
-      ▸ (λ h v q. v refl)  -- variable
-      ▸ (λ h v q. body q)  -- function
-      ▸ (λ h v q. two-parts tt q)  -- apply
-      ▸ (λ h v q. let-parts q)  -- let
-      ▸ (λ h v q. two-parts tt q)  -- sequence
-      ▸ (λ h v q. three-parts q)  -- if
-      ▸ (λ h v q. pair-parts q)  -- while
-      ▸ (λ h v q. two-parts tt q)  -- operation
-      ▸ (λ h v q. tt)  -- empty record
-      ▸ (λ h v q. two-parts tt q)  -- get
-      ▸ (λ h v q. three-parts q)  -- set
-      ▸ (λ h v q. two-parts tt q)  -- delete
-      ▸ (λ h v q. one-part q)  -- new cell
-      ▸ (λ h v q. one-part q)  -- read cell
-      ▸ (λ h v q. two-parts tt q)  -- assign
-      ▸ (λ h v q. two-parts h q)  -- send
-      ▸ (λ h v q. h)  -- exercise
+      (λ h v b q. tt)  -- constant
+      ▸ (λ h v b q. h)  -- whole number
+      ▸ (λ h v b q. h)  -- string literal
+      ▸ (λ h v b q. h)  -- handler name
+      ▸ (λ h v b q. v refl)  -- variable
+      ▸ (λ h v b q. body q)  -- function
+      ▸ (λ h v b q. two-parts tt q)  -- apply
+      ▸ (λ h v b q. let-parts q)  -- let
+      ▸ (λ h v b q. two-parts tt q)  -- sequence
+      ▸ (λ h v b q. three-parts q)  -- if
+      ▸ (λ h v b q. pair-parts q)  -- while
+      ▸ (λ h v b q. two-parts tt q)  -- operation
+      ▸ (λ h v b q. tt)  -- empty record
+      ▸ (λ h v b q. two-parts tt q)  -- get
+      ▸ (λ h v b q. three-parts q)  -- set
+      ▸ (λ h v b q. two-parts tt q)  -- delete
+      ▸ (λ h v b q. one-part q)  -- new cell
+      ▸ (λ h v b q. one-part q)  -- read cell
+      ▸ (λ h v b q. two-parts tt q)  -- assign
+      ▸ (λ h v b q. two-parts {A = IsSet24 a × List·Memᴰ (code ws .home p) (code ws .blocks)} (h, b) q)  -- send
+      ▸ (λ h v b q. h)  -- exercise
       ▸ done
 
+-- a term's node is one
+is-term : (t : Term) (a b d : ℕ) → IsTerm (termNode t a b d)
+unfolding termNode
+is-term (terms.Constant k) a b d = tt
+is-term (terms.Number n) a b d = tt
+is-term (terms.Literal n) a b d = tt
+is-term (terms.Name n) a b d = tt
+is-term (terms.Variable n) a b d = tt
+is-term terms.Function a b d = tt
+is-term terms.Apply a b d = tt
+is-term terms.Let a b d = tt
+is-term terms.Sequence a b d = tt
+is-term terms.If a b d = tt
+is-term terms.While a b d = tt
+is-term (terms.Operation o) a b d = tt
+is-term terms.Record a b d = tt
+is-term terms.Get a b d = tt
+is-term terms.Set a b d = tt
+is-term terms.Delete a b d = tt
+is-term terms.Cell a b d = tt
+is-term terms.Read a b d = tt
+is-term terms.Assign a b d = tt
+is-term (terms.Send x) a b d = tt
+is-term (terms.Exercise x) a b d = tt
+
 module _ (ws : List ℕ) (e : reading ws ≡ accepted) where
+  term-there : (q d h : ℕ) (s : List ℕ) → taskAt ws q ≡ term d h s → IsTerm (code ws .node q)
+  unfolding code nodeFor
+  term-there q d h s t =
+      subst (λ (z : Task). IsTerm (nodeFor ws q z)) (sym t) (is-term (termOf (getD ws q 0)) (part ws q 0) (part ws q 1) (part ws q 2))
+
+  -- the block of a term is one of the blocks
+  pub home-listed : (p d h : ℕ) (s : List ℕ) → p < length ws → taskAt ws p ≡ term d h s → List·Memᴰ (code ws .home p) (code ws .blocks)
+  unfolding code homeFor
+  home-listed p d h s l t =
+      let r = scoped ws e p d h s l t in
+      subst (λ (z : Task). List·Memᴰ (homeFor z p) (blocksFrom (tasks ws) 0)) (sym t)
+      (block-listed ws e h (lt-trans (r .home-before) l) (r .home-task))
+
   -- a part of a term, as the code has it
   part-within : (p d h : ℕ) (s : List ℕ) → p < length ws → taskAt ws p ≡ term d h s → PartsLinked ws p (parts (getD ws p 0))
   unfolding PartsLinked code scopeFor homeFor arity
@@ -89,6 +128,7 @@ module _ (ws : List ℕ) (e : reading ws ≡ accepted) where
       let u = part-task ws e p d h s l t k i in
       record {
         inside = part-inside ws e p d h s l t k i;
+        term = term-there (part ws p k) _ _ _ u;
         home = ap (λ (z : Task). homeFor z (part ws p k)) u ∙ sym (ap (λ (z : Task). homeFor z p) t);
         scope = ap scopeFor u ∙ ap (under (getD (parts (getD ws p 0)) k false) p) (sym (ap scopeFor t));
       }
@@ -96,7 +136,7 @@ module _ (ws : List ℕ) (e : reading ws ≡ accepted) where
   body-within : (b : ℕ) → Block ws b → Within (code ws) (b + 3) b (b ∷ [])
   unfolding code scopeFor homeFor
   body-within b r =
-      record { inside = r .inside; home = ap (λ (z : Task). homeFor z (b + 3)) (r .body-task); scope = ap scopeFor (r .body-task) }
+      record { inside = r .inside; term = term-there (b + 3) _ _ _ (r .body-task); home = ap (λ (z : Task). homeFor z (b + 3)) (r .body-task); scope = ap scopeFor (r .body-task) }
 
   term-linked : (p d h : ℕ) (s : List ℕ) → p < length ws → taskAt ws p ≡ term d h s
       → NodeLinked (code ws) p (termNode (termOf (getD ws p 0)) (part ws p 0) (part ws p 1) (part ws p 2))
@@ -105,7 +145,7 @@ module _ (ws : List ℕ) (e : reading ws ≡ accepted) where
       let w = getD ws p 0 in
       let f = term-stands ws e p d h s l t in
       by-kind (RowLinked ws p (argument w)) w (f .0) (f .1) (rows ws p (argument w)) (f .2)
-      (λ k. subst (λ (u : Task). argument w < length (scopeFor u)) (sym t) (f .3 k)) (part-within p d h s l t)
+      (λ k. subst (λ (u : Task). argument w < length (scopeFor u)) (sym t) (f .3 k)) (home-listed p d h s l t) (part-within p d h s l t)
 
   node-linked : (p : ℕ) → p < length ws → (t : Task) → taskAt ws p ≡ t → NodeLinked (code ws) p (nodeFor ws p t)
   unfolding nodeFor code

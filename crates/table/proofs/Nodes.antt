@@ -1,7 +1,7 @@
 -- The code of an accepted table from what `item_at` and `link_at` answer: node, home and binder of each word.
 use mathlib.Core.Path.{_≡_, refl, sym, ap, ap₂, _∙_}
 use mathlib.Core.Logic.{_≢_}
-use mathlib.Core.List.{List}
+use mathlib.Core.List.{List, List·Memᴰ}
 use mathlib.Core.Bool.{Bool}
 use Prim.Native.Nat.{ℕ, suc, _≤_, _<_}
 use native.Mathlib.Nat.{suc-inj}
@@ -26,7 +26,7 @@ use Rattle.table.proofs.TermWords.{Rows, done, _▸_, by-kind}
 use Rattle.table.proofs.Faults.{Stands}
 use Rattle.table.proofs.Stack.{reach}
 use Rattle.table.proofs.Parts.{part-zero, part-suc, part-inside, place-stands, term-stands}
-use Rattle.table.proofs.Linked.{linked as code-linked}
+use Rattle.table.proofs.Linked.{linked as code-linked, home-listed}
 use Rattle.table.proofs.LinkMeaning.{link-end, link-term, counted-variable}
 
 -- the node of an item whose parts, as far as it has them, stand at a, b and d
@@ -258,6 +258,9 @@ module _ (ws : List ℕ) (e : reading ws ≡ accepted) (l : List ℕ) (room : le
       let r = term-at p t h in
       ap (λ (u : Task). homeFor u p) (r .task)
       ∙ sym (link-term ws e l room p (r .depth) (r .home) (r .scope) (r .inside) (r .task) .home-right)
+
+  pub home-block : (p : ℕ) (t : Term) → itemAt ws p ≡ items.Term t → List·Memᴰ (code ws .home p) (code ws .blocks)
+  home-block p t h = let r = term-at p t h in home-listed ws e p (r .depth) (r .home) (r .scope) (r .inside) (r .task)
 
   pub binder-link : (p n : ℕ) → itemAt ws p ≡ items.Term (terms.Variable n) → getD (code ws .scope p) n 0 ≡ linkAt (linked ws l) p .binder
   unfolding code scopeFor

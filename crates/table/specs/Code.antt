@@ -148,9 +148,32 @@ code ws =
 abbrev pub IsSet24 : ℕ → Type 0
 IsSet24 s = s < 2 ^ width
 
--- q is a word of the code, in the block h, under these binders
+abbrev pub IsBlock : Node → Type 0
+IsBlock gap = ⊥
+IsBlock (block n s g) = Unit {0}
+IsBlock (leaf l) = ⊥
+IsBlock (one o a) = ⊥
+IsBlock (two t a b) = ⊥
+IsBlock (bind a b) = ⊥
+IsBlock (while a b) = ⊥
+IsBlock (branch a b d) = ⊥
+IsBlock (update a b d) = ⊥
+
+abbrev pub IsTerm : Node → Type 0
+IsTerm gap = ⊥
+IsTerm (block n s g) = ⊥
+IsTerm (leaf l) = Unit {0}
+IsTerm (one o a) = Unit {0}
+IsTerm (two t a b) = Unit {0}
+IsTerm (bind a b) = Unit {0}
+IsTerm (while a b) = Unit {0}
+IsTerm (branch a b d) = Unit {0}
+IsTerm (update a b d) = Unit {0}
+
+-- q is a term of the code, in the block h, under these binders
 pub record Within (c : Code) (q h : ℕ) (s : List ℕ) : Type 0 where
   pub inside : q < c .size
+  pub term : IsTerm (c .node q)
   pub home : c .home q ≡ h
   pub scope : c .scope q ≡ s
 
@@ -179,7 +202,7 @@ module _ (c : Code) (p : ℕ) where
   TwoLinked delete = Unit {0}
   TwoLinked assign = Unit {0}
   TwoLinked (operation o) = Unit {0}
-  TwoLinked (send r) = IsSet24 r
+  TwoLinked (send r) = IsSet24 r × List·Memᴰ (c .home p) (c .blocks)
 
   abbrev pub NodeLinked : Node → Type 0
   NodeLinked gap = Unit {0}
@@ -191,17 +214,6 @@ module _ (c : Code) (p : ℕ) where
   NodeLinked (while a b) = Part a × Part b
   NodeLinked (branch a b d) = Part a × Part b × Part d
   NodeLinked (update a b d) = Part a × Part b × Part d
-
-abbrev pub IsBlock : Node → Type 0
-IsBlock gap = ⊥
-IsBlock (block n s g) = Unit {0}
-IsBlock (leaf l) = ⊥
-IsBlock (one o a) = ⊥
-IsBlock (two t a b) = ⊥
-IsBlock (bind a b) = ⊥
-IsBlock (while a b) = ⊥
-IsBlock (branch a b d) = ⊥
-IsBlock (update a b d) = ⊥
 
 -- each word's node is linked, its binders are words of the code, nothing stands past the end, and what is listed as a block is one
 pub record Linked (c : Code) : Type 0 where

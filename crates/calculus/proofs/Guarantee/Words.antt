@@ -130,9 +130,9 @@ module _ (c : Code) (linked : Linked c) (ρ : ℕ) (e : Sets) (est : Estimate c 
   pub opponent-good : (b : ℕ) (v : Value) → T (guarded (c .node b) ρ) → T (datum v (c .names)) → Starts c ρ e b v
   unfolding rule entry
   opponent-good b v g d =
-      let o = est b (guard-inside b ρ g) .0 g in
+      let o = est b (guard-inside b ρ g) .0 .0 g in
       start-good b ρ v g (o .0) (λ x t. (b, block-listed b ρ g, g, t))
-      (datum-in c e b [] (e (B b)) (λ x l. o .1 x (below-in l)) v d)
+      (datum-in c e b [] (e (B b)) (λ x l. o .1 .0 x (below-in l)) v d)
 
   -- A handler that the send at the word p of the block h may start is live and holds the message.
   pub sent-good : (h : ℕ) (ty : List ℕ) (p r a d n b : ℕ) (v : Value) → c .home p ≡ h → Leaks c ρ e p

@@ -24,8 +24,15 @@ add-full c = omega (arith, c .before .before .before .before .before .pre .1 .si
 full-requires : tie.Need-full-requires
 full-requires c κs = (c .before .before .before .before .before .pre .1, omega (arith, c .before .before .before .before .before .pre .3))
 
+in-value-requires : tie.Need-in-value-requires
+in-value-requires c κs =
+    let s = c .before .before .before .before .before .before in (s .pre .1, s .pre .3, omega (arith, s .pre .1 .lead))
+
 returns-2 : tie.Need-returns-2
-returns-2 c = open-entry (c .before .before .before .before .before .before .args .words .now) (c .before .before .before .before .before .before .pre .0 .readable) (c .before .before .before .before .before .before .args .p) (in-table (c .before .before .before .before .before .before .args .words .now) (c .before .before .before .before .before .before .args .l) (c .before .before .before .before .before .before .pre .0) (c .before .before .before .before .before .before .args .p) (c .before .before .before .before .before .before .pre .3) .0) _ (c .before .before .before .before .before .before .args .rho .bits) (c .before .before .before .opens .ensures) (c .before .before .if1 .left) (c .before .is-live .ensures (code (c .before .before .before .before .before .before .args .words .now)) (c .before .before .before .before .before .before .pre .0 .laid)) (c .full .ensures (code (c .before .before .before .before .before .before .args .words .now)) (c .before .before .before .before .before .before .pre .0 .laid) (c .before .before .before .before .before .before .pre .2))
+returns-2 c =
+    let s = c .before .before .before .before .before .before .before in let a = s .args in let w = a .words .now in
+    open-entry w (s .pre .0 .readable) (a .p) (in-table w (a .l) (s .pre .0) (a .p) (s .pre .3) .0) _ (a .rho .bits) (c .before .before .before .before .opens .ensures) (c .before .before .before .if1 .left)
+    (c .before .before .is-live .ensures (code w) (s .pre .0 .laid)) (c .before .full .ensures (code w) (s .pre .0 .laid) (s .pre .2)) (c .in-value .ensures (code w) (s .pre .0 .laid))
 
 pub entry-spec : {M : Type 1} → statement M
 entry-spec =
@@ -37,4 +44,5 @@ entry-spec =
     mul-full
     add-full
     full-requires
+    in-value-requires
     returns-2)

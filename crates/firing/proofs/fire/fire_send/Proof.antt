@@ -5,13 +5,13 @@ use Rattle.table.specs.Code.{code}
 use Rattle.clauses.specs.Asks.{blocks}
 use Rattle.queries.proofs.Given.{sized}
 use Rattle.firing.proofs.Effects.{all-blocks, one-block}
-use Rattle.firing.proofs.Sender.{sender}
+use Rattle.queries.proofs.Home.{sender, sender-home, sender-inside}
 use borrow.Author.Needs.{needs}
 use Rattle.firing.proofs.fire.fire_send.Statement.{statement}
 use Rattle.firing.proofs.fire.fire_send.Tie as tie
 
-permissions-of-requires : tie.Need-permissions-of-requires
-permissions-of-requires c κs = search needs
+sender-of-requires : tie.Need-sender-of-requires
+sender-of-requires c κs = search needs
 
 send-all-requires : tie.Need-send-all-requires
 send-all-requires c κs =
@@ -25,7 +25,9 @@ send-all-requires c κs =
         well = s .pre .1;
         word = s .pre .2 .word;
         message = s .pre .2 .message;
-        sender = sender w (a .links .now) (a .masks .now) (a .l) (s .pre .0) (e .x) (s .pre .2 .term) (s .pre .2 .there) _ (c .before .before .before .permissions-of .ensures);
+        sender = sender w (a .links .now) (a .masks .now) (a .l) (s .pre .0) (e .x) (s .pre .2 .term) (s .pre .2 .there) _ (c .before .before .before .sender-of .ensures .0);
+        block = sender-home w (a .links .now) (a .masks .now) (a .l) (s .pre .0) (e .x) (s .pre .2 .term) (s .pre .2 .there) _ (c .before .before .before .sender-of .ensures .1);
+        homed = sender-inside w (a .links .now) (a .masks .now) (a .l) (s .pre .0) (e .x) (s .pre .2 .term) (s .pre .2 .there) _ (c .before .before .before .sender-of .ensures .1);
       },
       omega (arith, s .pre .2 .required),
     )
@@ -42,7 +44,9 @@ send-one-requires c κs =
         well = s .pre .1;
         word = s .pre .2 .word;
         message = s .pre .2 .message;
-        sender = sender w (a .links .now) (a .masks .now) (a .l) (s .pre .0) (e .x) (s .pre .2 .term) (s .pre .2 .there) _ (c .before .before .before .permissions-of .ensures);
+        sender = sender w (a .links .now) (a .masks .now) (a .l) (s .pre .0) (e .x) (s .pre .2 .term) (s .pre .2 .there) _ (c .before .before .before .sender-of .ensures .0);
+        block = sender-home w (a .links .now) (a .masks .now) (a .l) (s .pre .0) (e .x) (s .pre .2 .term) (s .pre .2 .there) _ (c .before .before .before .sender-of .ensures .1);
+        homed = sender-inside w (a .links .now) (a .masks .now) (a .l) (s .pre .0) (e .x) (s .pre .2 .term) (s .pre .2 .there) _ (c .before .before .before .sender-of .ensures .1);
       },
       omega (arith, s .pre .2 .target, s .pre .0 .laid .size),
       omega (arith, s .pre .2 .required),
@@ -77,7 +81,7 @@ pub fire-send-spec : {M : Type 1} → statement M
 fire-send-spec =
     tie.close
     (tie.spec
-    permissions-of-requires
+    sender-of-requires
     send-all-requires
     send-one-requires
     same-length

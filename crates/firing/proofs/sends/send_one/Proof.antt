@@ -33,7 +33,7 @@ returns c = search needs
 returns-2 : tie.Need-returns-2
 returns-2 c =
     let s = c .before .before .before .before .before .before .before in let a = s .args in let e = a .e in let w = a .words .now in
-    record { words = sym (not-block w (s .pre .0 .readable) (a .est .now) (e .x) (e .y) (e .z) (a .own .bits) (s .pre .0 .sender) (a .b) (λ z. c .if1 .left (c .before .kind-of .ensures ∙ z))); count = omega arith }
+    record { words = sym (not-block w (s .pre .0 .readable) (a .est .now) (e .x) (e .y) (e .z) (a .own .perms .bits) (s .pre .0 .sender) (a .b) (λ z. c .if1 .left (c .before .kind-of .ensures ∙ z))); count = omega arith }
 
 pub send-one-spec : {M : Type 1} → statement M
 send-one-spec =

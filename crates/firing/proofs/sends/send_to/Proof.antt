@@ -4,6 +4,7 @@ use mathlib.Core.Path.{sym, _∙_}
 use native.Mathlib.Omega.{arith}
 use borrow.Author.Tests.{not-true, not-false}
 use Rattle.table.specs.Code.{code}
+use Rattle.calculus.specs.Elements.{made}
 use Rattle.calculus.specs.Constraint.{P, sub}
 use Rattle.calculus.specs.Layout.{rowWords}
 use Rattle.queries.proofs.Laws.{value-in}
@@ -19,7 +20,7 @@ starts-requires : tie.Need-starts-requires
 unfolding rowWords code
 starts-requires c κs =
     let s = c .before .before .before .before .before .before in let a = s .args in let e = a .e in let w = a .words .now in
-    (block-inside w (s .pre .0 .readable) w (omega arith) (a .est .now) (e .x) (e .y) (e .z) (a .own .bits) (s .pre .0 .sender) (a .b) (s .pre .1), value-in (a .l) (a .est .now) (s .pre .0 .sized) (e .x + 1) (s .pre .0 .word), omega (arith, name-small w (s .pre .0 .readable) w (omega arith) (a .est .now) (e .x) (e .y) (e .z) (a .own .bits) (s .pre .0 .sender) (a .b) (s .pre .1), s .pre .0 .laid .row, s .pre .0 .laid .lead), omega (arith, s .pre .0 .word, s .pre .0 .sized .size))
+    (block-inside w (s .pre .0 .readable) w (omega arith) (a .est .now) (e .x) (e .y) (e .z) (a .own .perms .bits) (s .pre .0 .sender) (a .b) (s .pre .1), value-in (a .l) (a .est .now) (s .pre .0 .sized) (e .x + 1) (s .pre .0 .word), omega (arith, name-small w (s .pre .0 .readable) w (omega arith) (a .est .now) (e .x) (e .y) (e .z) (a .own .perms .bits) (s .pre .0 .sender) (a .b) (s .pre .1), s .pre .0 .laid .row, s .pre .0 .laid .lead), omega (arith, s .pre .0 .word, s .pre .0 .sized .size))
 
 same-length : tie.Need-same-length
 same-length c = search needs
@@ -27,12 +28,12 @@ same-length c = search needs
 returns : tie.Need-returns
 returns c =
     let s = c .before .before .before .before .before .before .before .before in let a = s .args in let e = a .e in let w = a .words .now in
-    record { words = sym (block-absent w (s .pre .0 .readable) w (omega arith) (a .est .now) (e .x) (e .y) (e .z) (a .own .bits) (s .pre .0 .sender) (a .b) (s .pre .1) (sym (c .before .starts .ensures (code w) (s .pre .0 .laid) (s .pre .0 .word) (omega (arith, name-small w (s .pre .0 .readable) w (omega arith) (a .est .now) (e .x) (e .y) (e .z) (a .own .bits) (s .pre .0 .sender) (a .b) (s .pre .1)))) ∙ not-true _ (c .if1 .taken))); count = omega arith }
+    record { words = sym (block-absent w (s .pre .0 .readable) w (omega arith) (a .est .now) (e .x) (e .y) (e .z) (a .own .perms .bits) (s .pre .0 .sender) (a .b) (s .pre .1) (sym (c .before .starts .ensures (code w) (s .pre .0 .laid) (s .pre .0 .word) (omega (arith, name-small w (s .pre .0 .readable) w (omega arith) (a .est .now) (e .x) (e .y) (e .z) (a .own .perms .bits) (s .pre .0 .sender) (a .b) (s .pre .1)))) ∙ not-true _ (c .if1 .taken))); count = omega arith }
 
-deliver-requires : tie.Need-deliver-requires
-deliver-requires c κs =
+deliver-from-requires : tie.Need-deliver-from-requires
+deliver-from-requires c κs =
     let s = c .before .before .before .before .before .before .before .before .before .before in let a = s .args in let e = a .e in let w = a .words .now in
-    (s .pre .0 .sized, omega (arith, s .pre .0 .word), s .pre .0 .message, omega (arith, block-inside w (s .pre .0 .readable) w (omega arith) (a .est .now) (e .x) (e .y) (e .z) (a .own .bits) (s .pre .0 .sender) (a .b) (s .pre .1), s .pre .0 .laid .size), s .pre .0 .masked .long)
+    (s .pre .0 .sized, omega (arith, s .pre .0 .word), s .pre .0 .message, omega (arith, block-inside w (s .pre .0 .readable) w (omega arith) (a .est .now) (e .x) (e .y) (e .z) (a .own .perms .bits) (s .pre .0 .sender) (a .b) (s .pre .1), s .pre .0 .laid .size), s .pre .0 .masked .long, s .pre .0 .homed)
 
 same-length-2 : tie.Need-same-length-2
 same-length-2 c = search needs
@@ -43,12 +44,12 @@ same-length-3 c = search needs
 returns-2 : tie.Need-returns-2
 returns-2 c =
     let s = c .before .before .before .before .before .before .before .before .before .before .before .before .before .before .before in let a = s .args in let e = a .e in let w = a .words .now in
-    let d = c .before .before .before .before .deliver .ensures in
+    let d = c .before .before .before .before .deliver-from .ensures in
     record {
       words =
           d .words (code w) (s .pre .0 .laid) (s .pre .0 .well, s .pre .0 .masked)
-          ∙ delivered-as (code w) (e .y) (a .b) (sub (P (a .b)) (P (e .x))) (a .est .now)
-          ∙ sym (block-present w (s .pre .0 .readable) w (omega arith) (a .est .now) (e .x) (e .y) (e .z) (a .own .bits) (s .pre .0 .sender) (a .b) (s .pre .1) (sym (c .before .before .before .before .before .before .before .before .starts .ensures (code w) (s .pre .0 .laid) (s .pre .0 .word) (omega (arith, name-small w (s .pre .0 .readable) w (omega arith) (a .est .now) (e .x) (e .y) (e .z) (a .own .bits) (s .pre .0 .sender) (a .b) (s .pre .1)))) ∙ not-false _ (c .before .before .before .before .before .before .before .if1 .left)));
+          ∙ delivered-as (code w) (e .y) (a .b) (sub (P (a .b)) (P (e .x))) (32 * a .l .lead + a .own .home) (made (code w) (code w .home (e .x))) (omega (arith, s .pre .0 .laid .lead, s .pre .0 .block)) (a .est .now)
+          ∙ sym (block-present w (s .pre .0 .readable) w (omega arith) (a .est .now) (e .x) (e .y) (e .z) (a .own .perms .bits) (s .pre .0 .sender) (a .b) (s .pre .1) (sym (c .before .before .before .before .before .before .before .before .starts .ensures (code w) (s .pre .0 .laid) (s .pre .0 .word) (omega (arith, name-small w (s .pre .0 .readable) w (omega arith) (a .est .now) (e .x) (e .y) (e .z) (a .own .perms .bits) (s .pre .0 .sender) (a .b) (s .pre .1)))) ∙ not-false _ (c .before .before .before .before .before .before .before .if1 .left)));
       count = d .count;
     }
 
@@ -60,7 +61,7 @@ send-to-spec =
     starts-requires
     same-length
     returns
-    deliver-requires
+    deliver-from-requires
     same-length-2
     same-length-3
     returns-2)
