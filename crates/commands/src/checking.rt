@@ -1,7 +1,6 @@
 // The command `check`: whether a listing is accepted, and if not, the line that is wrong, as it stands and as the writer makes it.
 use crate::explain::sentence;
 use crate::lines::behind;
-use crate::refusals::refusal_line;
 use listing::Answer;
 use listing::numbers::refusal_number;
 use listing::numbers::refusal_place;
@@ -9,6 +8,7 @@ use listing::read::line_end;
 use listing::read::read;
 use listing::read::word_of_line;
 use listing::write::write;
+use report::refusal_line;
 use text::number_field;
 use text::put;
 ghost use mathlib.Core.Path.{_≡_};

@@ -1,12 +1,11 @@
 // What the program prints: the text of each command, written into lent bytes from its arguments and its input.
-mod arguments;
+pub mod arguments;
 mod checking;
 pub mod explain;
 mod lines;
 mod listings;
 mod manifests;
 mod overlays;
-mod refusals;
 
 use crate::arguments::Value;
 use crate::arguments::value_of;
