@@ -19,6 +19,7 @@ use Rattle.commands.specs.declared.arguments.Value.{Value}
 use Rattle.commands.specs.declared.arguments.Value.the-variants.{Number, Other}
 use Rattle.commands.specs.Arguments.{valueOf}
 use Rattle.commands.specs.Meanings.{linesAt, sentence, help}
+use Rattle.commands.specs.Checked.{checkText}
 
 -- a text, or the line of the refusal
 unfoldable pub answerText : Answered → List ℕ → List ℕ
@@ -130,9 +131,9 @@ blockText name permissions input = keyText (valueOf 10 name) (valueOf 16 permiss
 
 -- ---- the program
 
--- room for the text of every command: a listing, or no more than the input has
+-- so many bytes more than the input has are room for the text of every command
 abbrev pub room : ℕ
-room = 65536
+room = 81920
 
 unfoldable pub same : List ℕ → List ℕ → Bool
 same [] [] = true
@@ -142,7 +143,7 @@ same (a ∷ l) (b ∷ bs) = eqb a b && same l bs
 
 -- what is printed for a command, its two arguments and the input
 unfoldable pub printed : (command first second input : List ℕ) → List ℕ
-unfolding textText wordsText joinText keyText outcomeText valueText same
+unfolding textText wordsText joinText keyText outcomeText valueText checkText same
 printed command first second input =
     elim (same command (bytes "text")) [
       | true ↦ textText input
@@ -154,7 +155,10 @@ printed command first second input =
             | true ↦ blockText first second input
             | false ↦ elim (same command (bytes "manifest")) [
               | true ↦ manifestText input
-              | false ↦ elim (same command (bytes "explain")) [ true ↦ explainText first | false ↦ help ]
+              | false ↦ elim (same command (bytes "explain")) [
+                | true ↦ explainText first
+                | false ↦ elim (same command (bytes "check")) [ true ↦ checkText input | false ↦ help ]
+              ]
             ]
           ]
         ]
@@ -163,9 +167,9 @@ printed command first second input =
 
 -- ---- lent bytes
 
--- the output has the room, and no fewer bytes than the input
+-- the output has the room
 unfoldable pub fits : (input size : ℕ) → Bool
-fits input size = leb room size && leb input size
+fits input size = leb (room + input) size
 
 -- how many bytes are written, where the input and the output have so many
 unfoldable pub printedSize : List ℕ → (input size : ℕ) → ℕ

@@ -1,9 +1,7 @@
 // The program: its first argument is the command, standard input is the input.
 mod arguments;
-mod checking;
 mod explain;
 mod input;
-mod leaks;
 mod printing;
 mod receivers;
 mod sends;
@@ -14,10 +12,9 @@ use crate::arguments::read_command;
 
 fn main() {
     match read_command() {
-        Command::Leak => leaks::leak(),
+        Command::Leak => printing::leak(),
         Command::Deliveries => sends::deliveries(),
         Command::Senders => receivers::senders(),
-        Command::Check => checking::check(),
         Command::WithInput => printing::with_input(),
         Command::WithoutInput => printing::without_input(),
     }

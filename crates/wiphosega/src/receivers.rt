@@ -1,5 +1,4 @@
 // The command `senders`: for each handler of a system who may have sent to it, by the least estimate.
-use crate::arguments::Value;
 use crate::arguments::set;
 use crate::explain::help;
 use crate::systems::Request;
@@ -7,6 +6,7 @@ use crate::systems::refusal;
 use crate::systems::run;
 use calls::numbers::fault_number;
 use calls::numbers::fault_place;
+use commands::arguments::Value;
 use listing::Answer;
 use solver::Analysis;
 use solver::analyse::analyse;
@@ -32,7 +32,6 @@ pub fn senders_of(words: &[u32], rho: u32) {
 pub fn senders() {
     match set(2) {
         Value::Number(rho) => run(Request::Senders(rho)),
-        Value::Missing => help(),
-        Value::Wrong => help(),
+        Value::Other => help(),
     }
 }

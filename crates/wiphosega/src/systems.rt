@@ -1,6 +1,5 @@
 // What the commands ask of a listing's system: the listing is read, and the answer or a refusal is printed.
 use crate::input::read_input;
-use crate::leaks::leak_under;
 use crate::receivers::senders_of;
 use crate::sends::deliveries_of;
 use listing::Answer;
@@ -10,8 +9,6 @@ use listing::numbers::refusal_place;
 use listing::read::read;
 
 pub enum Request {
-    // The opponent's set, the bound, and the ceiling on facts.
-    Leak(u32, u32, usize),
     Deliveries,
     // The opponent's set.
     Senders(u32),
@@ -23,7 +20,6 @@ pub fn refusal(r: Refusal) {
 
 fn answer(words: &[u32], request: Request) {
     match request {
-        Request::Leak(rho, bound, ceiling) => leak_under(words, rho, bound, ceiling),
         Request::Deliveries => deliveries_of(words),
         Request::Senders(rho) => senders_of(words, rho),
     }
