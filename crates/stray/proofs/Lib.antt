@@ -1,4 +1,5 @@
 pub mod Named
+pub mod Clean
 pub mod Firsts
 pub mod Samples
 pub mod Sliced

@@ -23,13 +23,17 @@ use Rattle.calculus.proofs.Places.{fits-row}
 use Rattle.stray.specs.Stray.{holding, holds, rowDigits, proper, stray}
 use Rattle.stray.specs.Allowed.{Allowed}
 
-not-both : (b : Bool) → T (not b) → T b → ⊥
+pub not-both : (b : Bool) → T (not b) → T b → ⊥
 not-both true h k = h
 not-both false h k = k
 
-is-not : (b : Bool) → (T b → ⊥) → T (not b)
+pub is-not : (b : Bool) → (T b → ⊥) → T (not b)
 is-not true h = h tt
 is-not false h = tt
+
+pub has : (b : Bool) → (T (not b) → ⊥) → T b
+has true n = tt
+has false n = n tt
 
 module _ (c : Code) where
   -- ---- a word whose digits that may be set are those of a number
@@ -48,10 +52,6 @@ module _ (c : Code) where
         let j : T (member w (x .0)) = T-fst (member w (x .0)) (not (proper c (32 * k + x .0))) (x .1) in
         not-both (proper c (32 * k + x .0)) (T-snd (member w (x .0)) (not (proper c (32 * k + x .0))) (x .1))
         (subst T (sym (e (x .0) (member-lt 32 w (x .0) h j))) (within-member w m (x .0) t j))))
-      where
-        has : (b : Bool) → (T (not b) → ⊥) → T b
-        has true n = tt
-        has false n = n tt
 
   -- ---- the rows
 

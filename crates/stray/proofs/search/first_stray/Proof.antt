@@ -1,34 +1,24 @@
 -- `stray::search::first_stray` meets its contract. A row fits into 36 words. Assumes nothing.
-use mathlib.Core.Path.{_≡_}
-use Prim.Native.Nat.{ℕ, _≤_, _<_}
-use native.Mathlib.Decide.{decLt}
 use native.Mathlib.Omega.{arith}
-use lib.ListN.{getD, replicate, getD-replicate, length-replicate, List·getD-eq-default}
 use Rattle.calls.proofs.Bounds.{row-bound}
+use Rattle.stray.proofs.Named.{zeros-at}
 use borrow.Author.Needs.{needs}
 use Rattle.stray.proofs.search.first_stray.Statement.{statement}
 use Rattle.stray.proofs.search.first_stray.Tie as tie
-
-zeros : (k : ℕ) → _≡_ {A = ℕ} (getD (replicate 36 0) k 0) 0
-zeros k = go (decLt k 36)
-  where
-    go : Dec (k < 36) → _≡_ {A = ℕ} (getD (replicate 36 0) k 0) 0
-    go (yes h) = getD-replicate 36 k 0 0 h
-    go (no h) = List·getD-eq-default (replicate 36 0) 0 {n = k} (omega (arith, length-replicate {A = ℕ} 36 0))
 
 slice-aggregate-allow : tie.Need-slice-aggregate-allow
 slice-aggregate-allow c = search needs
 
 allow-requires : tie.Need-allow-requires
 allow-requires c κs =
-    let s = c .before .before .before in ((s .pre .readable, s .pre .laid, omega (arith, s .pre .laid .row, row-bound (s .args .words .now) (s .pre .readable)), omega arith), zeros)
+    let s = c .before .before .before in ((s .pre .readable, s .pre .laid, omega (arith, s .pre .laid .row, row-bound (s .args .words .now) (s .pre .readable)), omega arith), zeros-at 36)
 
 slice-aggregate-allow-2 : tie.Need-slice-aggregate-allow-2
 slice-aggregate-allow-2 c = search needs
 
 allow-requires-2 : tie.Need-allow-requires-2
 allow-requires-2 c κs =
-    let s = c .before .before .before .before .before .before in ((s .pre .readable, s .pre .laid, omega (arith, s .pre .laid .row, row-bound (s .args .words .now) (s .pre .readable)), omega arith), zeros)
+    let s = c .before .before .before .before .before .before in ((s .pre .readable, s .pre .laid, omega (arith, s .pre .laid .row, row-bound (s .args .words .now) (s .pre .readable)), omega arith), zeros-at 36)
 
 slice-aggregate-search : tie.Need-slice-aggregate-search
 slice-aggregate-search c = search needs

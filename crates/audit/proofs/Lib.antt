@@ -1,0 +1,4 @@
+pub mod Exact
+pub mod Handed
+pub mod Samples
+pub mod Steps
