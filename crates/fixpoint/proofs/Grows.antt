@@ -62,7 +62,7 @@ module _ (c : Code) (ρ : ℕ) where
   module _ (k : Linked c) (p : ℕ) (h : p < c .size) where
     entry-fits : Fits c (entry c ρ p)
     unfolding rule
-    entry-fits = rule-fits c k p h ρ .0
+    entry-fits = rule-fits c k p h ρ .0 .0
 
     pub entered : {old new : List ℕ} {n : ℕ} → Fired c (entry c ρ p) old new n → Grown c ρ old new n
     unfolding rule
@@ -74,7 +74,7 @@ module _ (c : Code) (ρ : ℕ) where
                 kept = fired-keeps c (entry c ρ p) f;
                 inside =
                     λ w e o i. subst (λ (ws : List ℕ). LiesIn c ws e) (sym (f .words))
-                    (fire-inside c e (entry c ρ p) entry-fits (o p h .0) old w i);
+                    (fire-inside c e (entry c ρ p) entry-fits (o p h .0 .0) old w i);
               };
           count = f .count;
         }

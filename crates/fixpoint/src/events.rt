@@ -158,9 +158,10 @@ pub fn follow_all(
     requires { ⌜ Ready (now words) (now links) (now masks) l × WellFormed (code (now words)) (now est) ⌝ }
     ensures { λ r. ⌜ Swept (now (words .entry)) (now (links .entry)) (now (est .entry)) (now (est .exit)) r ⌝ }
 {
+    let size = l.size;
     let mut added = 0;
     let mut p = 0;
-    while p < l.size {
+    while p < size {
         added += follow(words, links, masks, est, h, out, l, p, room - added);
         if room < added {
             return added;
