@@ -16,7 +16,7 @@ use Rattle.table.proofs.Linked.{linked}
 use Rattle.calculus.specs.Layout.{estimateWords, sets, Words, WellFormed}
 use Rattle.calculus.specs.Estimate.{leak}
 use Rattle.calculus.proofs.Guarantee.{covers}
-use Rattle.calculus.proofs.Leak.{leak-has, leak-only, leak-least}
+use Rattle.calculus.proofs.Leak.{leak-has, leak-only, leak-least, leak-lt}
 use Rattle.checker.specs.Obeyed.{firstBroken}
 use Rattle.checker.proofs.Laws.{unbroken, estimate-unbroken, broken-most}
 use Rattle.stray.specs.Stray.{firstStray}
@@ -37,6 +37,7 @@ module _ (ws : List ℕ) (ρ : ℕ) (est : List ℕ) (w : Words est) where
       let k = linked ws (p .readable) in
       let v : WellFormed c est = well-formed c est w (p .long) (proper-unstray c est w (p .clean)) in
       record {
+        small = leak-lt c ρ est;
         leaks = leak-has c ρ est v;
         only = leak-only c ρ est v k;
         covers = covers c k ρ (sets c est) (p .obeyed) (leak c ρ est) (leak-has c ρ est v);

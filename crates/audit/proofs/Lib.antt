@@ -1,4 +1,5 @@
 pub mod Exact
 pub mod Handed
+pub mod Own
 pub mod Samples
 pub mod Steps

@@ -20,6 +20,15 @@ pub data Answer : Type 0 where
   refused : (number place : ℕ) → Answer
   obeys : (leak : ℕ) → Answer
 
+-- a refusal's number and place, and 0 where there is none
+unfoldable pub numberOf : Answer → ℕ
+numberOf (refused n at) = n
+numberOf (obeys s) = 0
+
+unfoldable pub placeOf : Answer → ℕ
+placeOf (refused n at) = at
+placeOf (obeys s) = 0
+
 -- the number, place and leak of each case
 unfoldable pub said : Audit → Answer
 unfolding number place

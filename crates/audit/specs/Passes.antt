@@ -22,8 +22,9 @@ pub record Passes (ws : List ℕ) (ρ : ℕ) (est : List ℕ) : Type 0 where
   pub clean : (n : ℕ) → T (bit est n) → T (proper (code ws) n)
   pub obeyed : Estimate (code ws) ρ (sets (code ws) est)
 
--- the members of s are the leak read from the estimate; s covers every run (demand 3), and has the leak of the least estimate in it
+-- s is a set whose members are the leak read from the estimate; it covers every run (demand 3), and has the leak of the least estimate in it
 pub record Sound (ws : List ℕ) (ρ : ℕ) (est : List ℕ) (s : ℕ) : Type 0 where
+  pub small : s < 2 ^ width
   pub leaks : (x : ℕ) → leakOf (code ws) ρ (sets (code ws) est) x → T (member s x)
   pub only : (x : ℕ) → T (member s x) → leakOf (code ws) ρ (sets (code ws) est) x
   pub covers : Covers (code ws) ρ s

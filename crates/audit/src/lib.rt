@@ -1,5 +1,6 @@
 // Estimates from elsewhere: whether one obeys every rule, and the leak read from it.
 pub mod judge;
+pub mod numbers;
 
 use permset::PermSet;
 use table::Refusal;
