@@ -6,6 +6,8 @@ pub enum Command {
     Leak,
     Deliveries,
     Senders,
+    Estimate,
+    Audit,
     Check,
     WithInput,
     WithoutInput,
@@ -45,6 +47,12 @@ fn command_of(word: &[u8]) -> Command {
     }
     if check::same(word, b"senders") {
         return Command::Senders;
+    }
+    if check::same(word, b"estimate") {
+        return Command::Estimate;
+    }
+    if check::same(word, b"audit") {
+        return Command::Audit;
     }
     if check::same(word, b"check") {
         return Command::Check;

@@ -1,6 +1,7 @@
 // The program: its first argument is the command, standard input is the input.
 mod arguments;
 mod checking;
+mod estimates;
 mod explain;
 mod input;
 mod leaks;
@@ -17,6 +18,8 @@ fn main() {
         Command::Leak => leaks::leak(),
         Command::Deliveries => sends::deliveries(),
         Command::Senders => receivers::senders(),
+        Command::Estimate => estimates::estimate(),
+        Command::Audit => estimates::audited(),
         Command::Check => checking::check(),
         Command::WithInput => printing::with_input(),
         Command::WithoutInput => printing::without_input(),

@@ -1,4 +1,5 @@
 // What the commands ask of a listing's system: the listing is read, and the answer or a refusal is printed.
+use crate::estimates::estimate_of;
 use crate::input::read_input;
 use crate::leaks::leak_under;
 use crate::receivers::senders_of;
@@ -15,6 +16,7 @@ pub enum Request {
     Deliveries,
     // The opponent's set.
     Senders(u32),
+    Estimate(u32),
 }
 
 pub fn refusal(r: Refusal) {
@@ -26,6 +28,7 @@ fn answer(words: &[u32], request: Request) {
         Request::Leak(rho, bound, ceiling) => leak_under(words, rho, bound, ceiling),
         Request::Deliveries => deliveries_of(words),
         Request::Senders(rho) => senders_of(words, rho),
+        Request::Estimate(rho) => estimate_of(words, rho),
     }
 }
 
