@@ -16,7 +16,7 @@ use Rattle.table.specs.Code.{Code, code}
 use Rattle.calculus.specs.Layout.{estimateWords, Words}
 use Rattle.verdict.proofs.Room.{estimate-room}
 use Rattle.interface.specs.Numbers.{systemTests}
-use Rattle.audit.specs.Audited.{Answer, refused, obeys, judged, audited}
+use Rattle.audit.specs.Audited.{Answer, refused, obeys, numberOf, placeOf, judged, audited}
 use Rattle.audit.specs.Passes.{Passes, Sound, Exact}
 use Rattle.audit.proofs.Exact.{exact}
 use Rattle.audit.proofs.Steps.{other-length, high-rho, low-rho, table-refused, table-accepted}
@@ -84,6 +84,10 @@ module _ (bs : List ℕ) where
 
 -- ---- the number
 
+pub refusal-number : {a : Answer} {n p : ℕ} → a ≡ refused n p → 2 ^ 32 + numberOf a * 65536 + placeOf a ≡ checkNumber a
+unfolding checkNumber numberOf placeOf
+refusal-number e = subst (λ (x : Answer). 2 ^ 32 + numberOf x * 65536 + placeOf x ≡ checkNumber x) (sym e) refl
+
 none-wrong : (a b : Bool) → firstOf ((a, 31) ∷ (b, 30) ∷ []) ≡ 0 → (a ≡ false) × (b ≡ false)
 unfolding firstOf
 none-wrong true b h = absurd (omega arith)
@@ -141,8 +145,10 @@ module _ (system : List ℕ) (ρ : ℕ) (est : List ℕ) where
   exact-answer h (obeys s) x =
       let z = passed-even (x .0) in
       record {
-        yes = λ l. (record { short = h .0; whole = h .1; even = z; passes = subst (Passes ws ρ) (whole-words z) (x .0) },
-            subst (λ (es : List ℕ). Sound ws ρ es s) (whole-words z) (x .1));
+        yes = λ l. (
+          record { short = h .0; whole = h .1; even = z; passes = subst (Passes ws ρ) (whole-words z) (x .0) },
+          subst (λ (es : List ℕ). Sound ws ρ es s) (whole-words z) (x .1),
+        );
         no = λ l q. omega (arith, x .1 .small);
       }
 

@@ -6,21 +6,33 @@ use audit::numbers::audit_place;
 use interface::system_fault;
 use little_endian::words_of;
 ghost use mathlib.Core.Path.{_≡_};
-ghost use Prim.Native.Nat.{_<_, _≤_};
+ghost use Prim.Native.Nat.{_+_, _*_, _^_, _<_, _≤_};
 ghost use lib.ListN.{length};
 ghost use Rattle.little_endian.specs.LittleEndian.{wordsOf};
-ghost use Rattle.audit.specs.Audited.{said, placeOf, audited};
+ghost use Rattle.audit.specs.Audited.{said, numberOf, placeOf, audited};
 ghost use Rattle.capi.specs.Check.{checkNumber, estimateFrom, bytesAudited, ExactNumber, TakenIn};
+
+// A refusal as one number.
+fn refusal(a: Audit) -> u64
+    requires { ⌜ placeOf (said a) < 65536 ⌝ }
+    ensures { λ r. ⌜ r ≡ 2 ^ 32 + numberOf (said a) * 65536 + placeOf (said a) ⌝ }
+{
+    4294967296 + audit_number(a) as u64 * 65536 + audit_place(a) as u64
+}
 
 // What is said of an estimate, as one number.
 fn check_number(a: Audit) -> u64
     requires { ⌜ placeOf (said a) < 65536 ⌝ }
     ensures { λ r. ⌜ r ≡ checkNumber (said a) ⌝ }
 {
-    if let Audit::Obeys(s) = a {
-        return s.bits as u64;
+    match a {
+        Audit::Table(_) => refusal(a),
+        Audit::Rho => refusal(a),
+        Audit::Length => refusal(a),
+        Audit::Stray(_) => refusal(a),
+        Audit::Broken(_) => refusal(a),
+        Audit::Obeys(s) => s.bits as u64,
     }
-    4294967296 + audit_number(a) as u64 * 65536 + audit_place(a) as u64
 }
 
 // The words of an estimate, at the start of a slice that has room for the largest, and how many they are.

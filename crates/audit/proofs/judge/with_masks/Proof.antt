@@ -2,8 +2,8 @@
 use mathlib.Core.Path.{sym}
 use native.Mathlib.Omega.{arith}
 use Rattle.calls.proofs.Bounds.{row-bound}
-use Rattle.stray.proofs.Named.{zeros-at}
-use Rattle.audit.proofs.Handed.{ready-of}
+use Rattle.solver.proofs.Zeros.{zeros-at}
+use Rattle.solver.proofs.Begun.{ready-of}
 use borrow.Author.Needs.{needs}
 use Rattle.audit.proofs.judge.with_masks.Statement.{statement}
 use Rattle.audit.proofs.judge.with_masks.Tie as tie
