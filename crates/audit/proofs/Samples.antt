@@ -35,26 +35,18 @@ more ws k d = set (own ws) k (union (getD (own ws) k 0) (2 ^ d))
 abbrev less : List ℕ → ℕ → ℕ → List ℕ
 less ws k d = set (own ws) k (getD (own ws) k 0 - 2 ^ d)
 
-pub samples-direct :
-    map (audited direct 0)
+pub samples-audited :
+    (map (audited direct 0)
     (own direct ∷ take 34 (own direct) ∷ (own direct ++ 0 ∷ []) ∷ less direct 34 24 ∷ less direct 24 1 ∷ less direct 31 1 ∷ less direct 6 7
     ∷ more direct 26 4 ∷ more direct 34 25 ∷ more direct 8 1 ∷ more direct 31 0 ∷ [])
+    ++ map (audited (relay 8 0) 0) (own (relay 8 0) ∷ less (relay 8 0) 44 1 ∷ []))
     ≡ obeys 2 ∷ refused 52 0 ∷ refused 52 0 ∷ refused 54 1 ∷ refused 54 4 ∷ refused 54 1 ∷ refused 54 1
-    ∷ refused 53 26 ∷ refused 53 34 ∷ obeys 2 ∷ obeys 3 ∷ []
+    ∷ refused 53 26 ∷ refused 53 34 ∷ obeys 2 ∷ obeys 3
+    ∷ obeys 2 ∷ refused 54 7 ∷ []
 unfolding onesIn partsByKind limitsByKind parts arity limit constantNumber constantOf operationOf termsByKind termOf firstOf has tests
     fault missing keep under next scan reading code skip part trace tasks taskAt termNode nodeFor scopeFor homeFor blocksFrom within member union
     difference lowest constantElement sign isString leafMakes oneMakes makes isFunction isRecord isCell making sendable anyRecord range nameOf permsOf
     guarded isBlock permissions deliveryTo deliveryJudged delivered leafRule oneRule twoRule flow entry twoSender sender senders rule rowWords
     estimateWords used anyFrom estimate leak names ofBlock holding holds proper stray strayFrom firstStray allOf firstFrom obeysRule firstBroken
     ruled swept sized judged audited
-samples-direct = refl
-
-pub samples-relay :
-    map (audited (relay 8 0) 0) (own (relay 8 0) ∷ less (relay 8 0) 44 1 ∷ []) ≡ obeys 2 ∷ refused 54 7 ∷ []
-unfolding onesIn partsByKind limitsByKind parts arity limit constantNumber constantOf operationOf termsByKind termOf firstOf has tests
-    fault missing keep under next scan reading code skip part trace tasks taskAt termNode nodeFor scopeFor homeFor blocksFrom within member union
-    difference lowest constantElement sign isString leafMakes oneMakes makes isFunction isRecord isCell making sendable anyRecord range nameOf permsOf
-    guarded isBlock permissions deliveryTo deliveryJudged delivered leafRule oneRule twoRule flow entry twoSender sender senders rule rowWords
-    estimateWords used anyFrom estimate leak names ofBlock holding holds proper stray strayFrom firstStray allOf firstFrom obeysRule firstBroken
-    ruled swept sized judged audited
-samples-relay = refl
+samples-audited = refl

@@ -2,7 +2,7 @@
 -- none (35 and 56 words); then one bit more in C(4), C(1), B(1), P(0) and past the last element.
 use Prim.Native.Nat.{ℕ, _^_}
 use mathlib.Core.Path.{_≡_, refl}
-use mathlib.Core.List.{List, [], _∷_, map}
+use mathlib.Core.List.{List, [], _∷_, _++_, map}
 use lib.ListN.{set}
 use Rattle.permset.specs.Sets.{within, member}
 use Rattle.table.specs.Words.{partsByKind, limitsByKind, parts, arity, limit, constantNumber, constantOf, operationOf, termsByKind, termOf}
@@ -27,26 +27,17 @@ applied = code (0x01000001 ∷ 0x02000000 ∷ 0x03000003 ∷ 0x04000000 ∷ 0x16
 abbrev withWord : Code → ℕ → ℕ → List ℕ
 withWord c k w = set (estimate c 0) k w
 
--- an exercise is nothing that C(4) may hold, and there is no element 69; C(1) may hold its own block, and B(1) may not; bits 24 and 25 of P(0)
-pub samples-direct :
-    map (firstStray direct)
+-- an exercise is nothing that C(4) may hold, and there is no element 69; C(1) may hold its own block, and B(1) may not; bits 24 and 25 of P(0).
+-- The function at 5 may stand in any row but C(1).
+pub samples-stray :
+    (map (firstStray direct)
     (estimate direct 0 ∷ withWord direct 26 (2 ^ 4) ∷ withWord direct 26 (2 ^ 5) ∷ withWord direct 8 2 ∷ withWord direct 11 2 ∷ withWord direct 8 (2 ^ 4)
     ∷ withWord direct 30 (2 ^ 24) ∷ withWord direct 30 (2 ^ 25) ∷ [])
-    ≡ 35 ∷ 26 ∷ 26 ∷ 35 ∷ 11 ∷ 8 ∷ 35 ∷ 30 ∷ []
+    ++ map (firstStray applied) (estimate applied 0 ∷ withWord applied 2 (2 ^ 5) ∷ withWord applied 11 (2 ^ 5) ∷ withWord applied 8 (2 ^ 5) ∷ []))
+    ≡ 35 ∷ 26 ∷ 26 ∷ 35 ∷ 11 ∷ 8 ∷ 35 ∷ 30 ∷ 56 ∷ 56 ∷ 56 ∷ 8 ∷ []
 unfolding partsByKind limitsByKind parts arity limit constantNumber constantOf operationOf termsByKind termOf firstOf has tests
     fault missing keep under next code skip part trace tasks taskAt termNode nodeFor scopeFor homeFor blocksFrom within member
     constantElement sign leafMakes oneMakes makes isFunction isRecord isCell range nameOf permsOf guarded isBlock permissions deliveryTo judged
     delivered leafRule oneRule twoRule flow entry twoSender sender senders rule rowWords estimateWords used anyFrom estimate names ofBlock holding
     holds proper stray strayFrom firstStray
-samples-direct = refl
-
--- the function at 5 may stand in any row but C(1)
-pub samples-applied :
-    map (firstStray applied) (estimate applied 0 ∷ withWord applied 2 (2 ^ 5) ∷ withWord applied 11 (2 ^ 5) ∷ withWord applied 8 (2 ^ 5) ∷ [])
-    ≡ 56 ∷ 56 ∷ 56 ∷ 8 ∷ []
-unfolding partsByKind limitsByKind parts arity limit constantNumber constantOf operationOf termsByKind termOf firstOf has tests
-    fault missing keep under next code skip part trace tasks taskAt termNode nodeFor scopeFor homeFor blocksFrom within member
-    constantElement sign leafMakes oneMakes makes isFunction isRecord isCell range nameOf permsOf guarded isBlock permissions deliveryTo judged
-    delivered leafRule oneRule twoRule flow entry twoSender sender senders rule rowWords estimateWords used anyFrom estimate names ofBlock holding
-    holds proper stray strayFrom firstStray
-samples-applied = refl
+samples-stray = refl
