@@ -8,7 +8,7 @@ ghost use Rattle.text.specs.Writing.{Wrote};
 ghost use Rattle.commands.specs.Meanings.{numbers, position, meaning as Meanings·meaning};
 ghost use Rattle.commands.specs.Meanings.{sentence as Meanings·sentence, help as Meanings·help};
 
-const NUMBERS: [u32; 29] = [
+const NUMBERS: [u32; 32] = [
     1,
     2,
     3,
@@ -38,6 +38,9 @@ const NUMBERS: [u32; 29] = [
     48,
     49,
     50,
+    52,
+    53,
+    54,
 ];
 
 // The line of the page that has the meaning of a number.
@@ -46,7 +49,7 @@ fn row(n: u32) -> usize
 {
     let listed = NUMBERS;
     let mut i = 0;
-    while i < 29 {
+    while i < 32 {
         if listed[i] == n {
             return i;
         }
@@ -92,6 +95,9 @@ fn meaning(out: &mut [u8], at: usize, n: u32) -> usize
            The joined system has more than 32 handlers.\n\
            The joined system has more than 1,024 words.\n\
            The output has no room for the joined system.\n\
+           The estimate has more or fewer words than the system asks for.\n\
+           The estimate has a bit set that stands for nothing.\n\
+           The estimate breaks a rule of this word.\n\
            No refusal has this number.\n",
         k,
     )
@@ -121,6 +127,8 @@ pub fn help(out: &mut [u8]) -> usize
            wiphosega leak RHO BOUND CEILING   a listing in, its leak out; sets in hexadecimal digits, BOUND 0 if left out, CEILING on facts\n\
            wiphosega deliveries       a listing in, for each send and each handler whether it is delivered, and if not, why\n\
            wiphosega senders RHO      a listing in, for each handler who may have sent to it: handlers by position, opponent\n\
+           wiphosega estimate RHO     a listing in, the words of its least estimate out\n\
+           wiphosega audit RHO        words in: how many the system has, the system, an estimate; whether the estimate obeys every rule out\n\
            wiphosega check            a listing in, what is wrong with it out\n\
            wiphosega join             two listings in, the second laid over the first; the joined listing out\n\
            wiphosega block NAME SET   the same in, that handler's lines out, the second listing's if it has it\n\

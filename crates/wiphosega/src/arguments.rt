@@ -7,6 +7,8 @@ pub enum Command {
     Leak,
     Deliveries,
     Senders,
+    Estimate,
+    Audit,
     WithInput,
     WithoutInput,
 }
@@ -41,6 +43,12 @@ fn command_of(word: &[u8]) -> Command {
     }
     if check::same(word, b"senders") {
         return Command::Senders;
+    }
+    if check::same(word, b"estimate") {
+        return Command::Estimate;
+    }
+    if check::same(word, b"audit") {
+        return Command::Audit;
     }
     if has_input(word) {
         Command::WithInput

@@ -1,5 +1,6 @@
 // The program: its first argument is the command, standard input is the input.
 mod arguments;
+mod estimates;
 mod explain;
 mod input;
 mod printing;
@@ -15,6 +16,8 @@ fn main() {
         Command::Leak => printing::leak(),
         Command::Deliveries => sends::deliveries(),
         Command::Senders => receivers::senders(),
+        Command::Estimate => estimates::estimate(),
+        Command::Audit => estimates::audited(),
         Command::WithInput => printing::with_input(),
         Command::WithoutInput => printing::without_input(),
     }

@@ -1,4 +1,5 @@
 // What the commands ask of a listing's system: the listing is read, and the answer or a refusal is printed.
+use crate::estimates::estimate_of;
 use crate::input::read_input;
 use crate::receivers::senders_of;
 use crate::sends::deliveries_of;
@@ -12,6 +13,7 @@ pub enum Request {
     Deliveries,
     // The opponent's set.
     Senders(u32),
+    Estimate(u32),
 }
 
 pub fn refusal(r: Refusal) {
@@ -22,6 +24,7 @@ fn answer(words: &[u32], request: Request) {
     match request {
         Request::Deliveries => deliveries_of(words),
         Request::Senders(rho) => senders_of(words, rho),
+        Request::Estimate(rho) => estimate_of(words, rho),
     }
 }
 

@@ -148,17 +148,27 @@ impl Checker<'_> {
         x < FIRST_MADE || x < FIRST_MADE + self.layout.size && named(self.table.kind(x - FIRST_MADE))
     }
 
-    /// Does every set bit stand for an element, a permission or a flag?
-    fn no_stray_bit(&self) -> bool {
-        (0..2 * self.layout.size).all(|row| (0..32 * self.layout.row).all(|x| !self.bit(row, x) || self.stands(row, x)))
-            && self.estimate[self.layout.rows()..].iter().all(|&word| within(word, LIVE | PERMISSIONS_MASK))
+    /// Does every set bit of word k of the estimate stand for an element, a permission or a flag?
+    fn clean(&self, k: usize) -> bool {
+        let (word, row) = (self.estimate[k], self.layout.row);
+        if k < self.layout.rows() {
+            (0..32).all(|d| word >> d & 1 == 0 || self.stands(k / row, 32 * (k % row) + d))
+        } else {
+            within(word, LIVE | PERMISSIONS_MASK)
+        }
     }
+}
+
+/// The first word of the estimate with a stray bit, if any.
+pub fn first_stray(table: &Table, estimate: &[u32]) -> Option<usize> {
+    let checker = Checker { table, rho: 0, layout: Layout::of(table.size()), estimate };
+    (0..estimate.len()).find(|&k| !checker.clean(k))
 }
 
 /// The lowest word with a broken rule, if any; a stray bit is the table's word 0.
 pub fn broken(table: &Table, rho: u32, estimate: &[u32]) -> Option<usize> {
     let checker = Checker { table, rho, layout: Layout::of(table.size()), estimate };
-    if !checker.no_stray_bit() {
+    if first_stray(table, estimate).is_some() {
         return Some(0);
     }
     (0..table.size()).find(|&p| {
