@@ -228,11 +228,10 @@ module _ (c : Code) where
             (tt, λ v h. tt),
             (
               (tt, λ v h. tt),
-              λ v t h.
-                  (
-                    (λ u q g. (to-C k p is _ (made-at (update a b d) e tt), λ v h. from-C (l .2) v h)),
-                    ((λ q i t g v h. h), λ g v i. is-plain (omega (arith, range-bound _ _ v i))),
-                  ),
+              λ v t h. (
+                (λ u q g. (to-C k p is _ (made-at (update a b d) e tt), λ v h. from-C (l .2) v h)),
+                ((λ q i t g v h. h), λ g v i. is-plain (omega (arith, range-bound _ _ v i))),
+              ),
             ),
           ),
         )
@@ -276,8 +275,13 @@ module _ (c : Code) where
     unfolding rule entry senders full sending
     full-obeys p h = (
       (
-        (λ t. (tt, ((λ v i. is-plain (omega (arith, range-bound _ _ v i))),
-            to-block (c .node p) (sending opponentRecord) (proper opponentRecord) (guarded-block (c .node p) ρ t) tt))),
+        (λ t. (
+          tt,
+          (
+            (λ v i. is-plain (omega (arith, range-bound _ _ v i))),
+            to-block (c .node p) (sending opponentRecord) (proper opponentRecord) (guarded-block (c .node p) ρ t) tt,
+          ),
+        )),
         λ t q m. node-sends k p (block-is (c .node p) t) q (c .node q) (k .nodes q (in-below m)),
       ),
       λ g. flow-full k p (is-made p) (c .node p) refl (k .nodes p h),

@@ -14,12 +14,12 @@ use Rattle.checker.proofs.senders.knows.Statement.{statement}
 use Rattle.checker.proofs.senders.knows.Tie as tie
 
 starts-requires : tie.Need-starts-requires
-starts-requires c κs = 
+starts-requires c κs =
     let s = c .before .before .before in let a = s .args in
     (s .pre .1, value-in (a .l) (a .est .now) (s .pre .0 .sized) (a .s .p + 1) (s .pre .0 .target), omega (arith, name-in (a .words .now) (a .masks .now) (a .est .now) (a .l) (a .s) (s .pre .0) (a .b) (s .pre .1) (s .pre .2), s .pre .0 .sized .wide), omega (arith, s .pre .0 .target, s .pre .0 .sized .size))
 
 returns : tie.Need-returns
-returns c = 
+returns c =
     let s = c .before .before .before .before .before in let a = s .args in let k = code (a .words .now) in
     unstarted (a .words .now) (a .masks .now) (a .est .now) (a .l) (a .s) (s .pre .0) (a .b) (s .pre .1) (s .pre .2) (c .before .starts .ensures k (s .pre .0 .laid) (s .pre .0 .target) (name-element (a .words .now) (a .masks .now) (a .est .now) (a .l) (a .s) (s .pre .0) (a .b) (s .pre .1) (s .pre .2))) (c .if1 .taken)
 
@@ -30,12 +30,12 @@ add-in-value : tie.Need-add-in-value
 add-in-value c = search needs
 
 in-value-requires : tie.Need-in-value-requires
-in-value-requires c κs = 
+in-value-requires c κs =
     let s = c .before .before .before .before .before .before in let a = s .args in
     (s .pre .0 .sized, omega (arith, size-is (a .words .now) (a .masks .now) (a .est .now) (a .l) (a .s) (s .pre .0) (a .b) (s .pre .1) (s .pre .2), s .pre .1), omega (arith, s .pre .3))
 
 returns-2 : tie.Need-returns-2
-returns-2 c = 
+returns-2 c =
     let s = c .before .before .before .before .before .before .before in let a = s .args in let k = code (a .words .now) in
     started (a .words .now) (a .masks .now) (a .est .now) (a .l) (a .s) (s .pre .0) (a .b) (s .pre .1) (s .pre .2) (c .before .before .before .starts .ensures k (s .pre .0 .laid) (s .pre .0 .target) (name-element (a .words .now) (a .masks .now) (a .est .now) (a .l) (a .s) (s .pre .0) (a .b) (s .pre .1) (s .pre .2))) (c .before .before .if1 .left)
     (put-is (sets k (a .est .now)) (C (a .b)) (made k (a .home)) (c .in-value .ensures k (s .pre .0 .laid) ∙ ap (λ (x : ℕ). sets k (a .est .now) (C (a .b)) (x + a .home)) (sym (s .pre .0 .laid .lead))))

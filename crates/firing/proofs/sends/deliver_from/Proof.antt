@@ -26,12 +26,12 @@ add-put : tie.Need-add-put
 add-put c = search needs
 
 put-requires : tie.Need-put-requires
-put-requires c κs = 
+put-requires c κs =
     let s = c .before .before .before .before .before .before .before .before .before .before .before .before .before in let a = s .args in
     (omega (arith, value-in (a .l) (a .est .now) (s .pre .0) (a .b) (s .pre .3), c .before .before .before .before .before .before .before .deliver .kept .0), omega (arith, s .pre .0 .wide, s .pre .5))
 
 add-result : tie.Need-add-result
-add-result c = 
+add-result c =
     let s = c .before .before .before .before .before .before .before .before .before .before .before .before .before .before .before .before .before .before in let d = c .before .before .before .before .before .before .before .before .before .before .before .before .deliver in let p = c .before .before .before .before .put in
     omega (arith, d .ensures .count, p .ensures .count, facts-most (p .last .0), p .kept .0, d .kept .0, s .pre .0 .short)
 
@@ -42,7 +42,7 @@ same-length-2 : tie.Need-same-length-2
 same-length-2 c = search needs
 
 returns : tie.Need-returns
-returns c = 
+returns c =
     let a = c .before .before .before .before .before .before .before .before .before .before .before .before .before .before .before .before .before .before .args in
     and-for (a .l) (a .est .now) _ _ _ _ (λ k. WellFormed k (a .est .now) × Masked k (a .l) (a .masks .now)) (λ k. Unit {0})
     (λ k. put (L (a .b)) 0 and pass k (rowAt (2 * a .d)) (sortAt 3 k) (rowAt (2 * a .b + 1)) and sub (P (a .b)) (P (a .p))) (λ k. put (rowAt (2 * a .b)) (32 * a .l .lead + a .home))

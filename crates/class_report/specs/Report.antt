@@ -1,0 +1,93 @@
+-- The report on a class (document 02, wish 14): a line for each system of the stream, then the totals, or the line of the fault that ends the stream.
+use Prim.Native.Nat.{ℕ, zero, suc}
+use mathlib.Core.Bool.{true, false}
+use mathlib.Core.List.{List, [], _∷_, _++_, map}
+use lib.ListN.{length}
+use Rattle.permset.specs.Sets.{width, member}
+use Rattle.little_endian.specs.LittleEndian.{wordsOf}
+use Rattle.fingerprint.specs.Fnv.{fnv1a}
+use Rattle.table.specs.Code.{code}
+use Rattle.calculus.specs.Layout.{estimateWords}
+use Rattle.calculus.specs.Answer.{Answer, refused, verdict, standingBound, workWords, answer}
+use Rattle.text.specs.Text.{bytes, decimal, set, hexWord}
+use Rattle.report.specs.Lines.{refusalLine}
+use Rattle.class_report.specs.declared.Outcome.{Outcome}
+use Rattle.class_report.specs.declared.Outcome.the-variants.{Leak, Refused}
+use Rattle.class_report.specs.Stream.{System, Ending, whole, broken, Cut, number, mostSystems, cut}
+
+-- ---- the outcome of a system
+
+unfoldable pub outcomeOf : Answer → Outcome
+outcomeOf (refused n at) = Refused n at
+outcomeOf (verdict v) = Leak (record { bits = v .leak })
+
+-- the answer to a system: its slices are never short, and no bound is asked about
+unfoldable pub answerTo : System → Answer
+unfolding answer
+answerTo s =
+    answer (wordsOf (s .bytes)) (s .rho) standingBound (estimateWords (code (wordsOf (s .bytes)))) (workWords (length (wordsOf (s .bytes))))
+
+unfoldable pub outcome : System → Outcome
+unfolding outcomeOf answerTo
+outcome s = outcomeOf (answerTo s)
+
+-- ---- the line of a system
+
+unfoldable pub outcomeText : Outcome → List ℕ
+outcomeText (Leak s) = (bytes "leak " ++ set (s .bits)) ++ bytes "\n"
+outcomeText (Refused n at) = refusalLine n at
+
+-- position, fingerprint, outcome
+unfoldable pub line : (position fingerprint : ℕ) → Outcome → List ℕ
+unfolding outcomeText
+line position fingerprint o = (bytes "" ++ decimal position) ++ (bytes " " ++ hexWord fingerprint) ++ bytes " " ++ outcomeText o
+
+-- the lines of systems, the first at this position
+unfoldable pub lines : (position : ℕ) → List System → List ℕ
+unfolding line outcome
+lines position [] = []
+lines position (s ∷ ss) = line position (fnv1a (s .bytes)) (outcome s) ++ lines (suc position) ss
+
+-- ---- the totals
+
+unfoldable pub accepted : List Outcome → ℕ
+accepted [] = 0
+accepted (Leak s ∷ os) = suc (accepted os)
+accepted (Refused n at ∷ os) = accepted os
+
+unfoldable pub rejected : List Outcome → ℕ
+rejected [] = 0
+rejected (Leak s ∷ os) = rejected os
+rejected (Refused n at ∷ os) = suc (rejected os)
+
+-- how many leak this permission
+unfoldable pub leaking : List Outcome → (permission : ℕ) → ℕ
+leaking [] i = 0
+leaking (Leak s ∷ os) i = elim (member (s .bits) i) [ true ↦ suc (leaking os i) | false ↦ leaking os i ]
+leaking (Refused n at ∷ os) i = leaking os i
+
+unfoldable pub permissionLine : (permission leaks of : ℕ) → List ℕ
+permissionLine i leaks of =
+    (bytes "permission " ++ decimal i) ++ (bytes " leaks " ++ decimal leaks) ++ (bytes " of " ++ decimal of) ++ bytes "\n"
+
+-- the lines of so many permissions from i on
+unfoldable pub permissionLines : (count i of : ℕ) → (ℕ → ℕ) → List ℕ
+unfolding permissionLine
+permissionLines zero i of leaks = []
+permissionLines (suc n) i of leaks = permissionLine i (leaks i) of ++ permissionLines n (suc i) of leaks
+
+unfoldable pub totals : (accepted refused : ℕ) → (ℕ → ℕ) → List ℕ
+unfolding permissionLines
+totals n m leaks = (bytes "accepted " ++ decimal n) ++ (bytes " refused " ++ decimal m) ++ bytes "\n" ++ permissionLines width 0 n leaks
+
+-- ---- the report
+
+-- what follows the lines of these systems
+unfoldable pub conclusion : List System → Ending → List ℕ
+unfolding totals accepted rejected leaking outcome
+conclusion ss whole = totals (accepted (map outcome ss)) (rejected (map outcome ss)) (leaking (map outcome ss))
+conclusion ss (broken f) = refusalLine (number f) (length ss)
+
+unfoldable pub report : List ℕ → List ℕ
+unfolding cut lines conclusion
+report stream = lines 0 (cut mostSystems stream .systems) ++ conclusion (cut mostSystems stream .systems) (cut mostSystems stream .ending)
