@@ -1,2 +1,4 @@
 pub mod Fronts
+pub mod Counting
+pub mod Permissions
 pub mod Samples

@@ -1,2 +1,4 @@
 pub mod Stream
 pub mod Report
+pub mod Tally
+pub mod Writing

@@ -40,7 +40,7 @@ outcomeText (Refused n at) = refusalLine n at
 -- position, fingerprint, outcome
 unfoldable pub line : (position fingerprint : ℕ) → Outcome → List ℕ
 unfolding outcomeText
-line position fingerprint o = (bytes "" ++ decimal position) ++ (bytes " " ++ hexWord fingerprint) ++ bytes " " ++ outcomeText o
+line position fingerprint o = decimal position ++ (bytes " " ++ hexWord fingerprint) ++ bytes " " ++ outcomeText o
 
 -- the lines of systems, the first at this position
 unfoldable pub lines : (position : ℕ) → List System → List ℕ
@@ -76,9 +76,12 @@ unfolding permissionLine
 permissionLines zero i of leaks = []
 permissionLines (suc n) i of leaks = permissionLine i (leaks i) of ++ permissionLines n (suc i) of leaks
 
+unfoldable pub countLine : (accepted refused : ℕ) → List ℕ
+countLine n m = (bytes "accepted " ++ decimal n) ++ (bytes " refused " ++ decimal m) ++ bytes "\n"
+
 unfoldable pub totals : (accepted refused : ℕ) → (ℕ → ℕ) → List ℕ
-unfolding permissionLines
-totals n m leaks = (bytes "accepted " ++ decimal n) ++ (bytes " refused " ++ decimal m) ++ bytes "\n" ++ permissionLines width 0 n leaks
+unfolding countLine permissionLines
+totals n m leaks = countLine n m ++ permissionLines width 0 n leaks
 
 -- ---- the report
 

@@ -1,4 +1,6 @@
 // The report on a class: a stream of systems in, a line for each and the totals out.
+pub mod counts;
+pub mod lines;
 pub mod stream;
 
 use permset::PermSet;
@@ -21,4 +23,11 @@ pub enum Front {
     Nothing,
     Broken(Fault),
     Whole(usize),
+}
+
+// How many systems were accepted and refused so far, and how many of the accepted leak each permission.
+pub struct Tally {
+    pub accepted: u32,
+    pub refused: u32,
+    pub leaks: [u32; 24],
 }
