@@ -1,4 +1,5 @@
 pub mod Fronts
 pub mod Counting
 pub mod Permissions
+pub mod Tasks
 pub mod Samples

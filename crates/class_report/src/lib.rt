@@ -1,6 +1,7 @@
 // The report on a class: a stream of systems in, a line for each and the totals out.
 pub mod counts;
 pub mod lines;
+pub mod steps;
 pub mod stream;
 
 use permset::PermSet;
@@ -30,4 +31,27 @@ pub struct Tally {
     pub accepted: u32,
     pub refused: u32,
     pub leaks: [u32; 24],
+}
+
+// What a piece of a stream calls for: more bytes, the totals, the line of a fault, or the line of a system of so many words.
+pub enum Task {
+    More,
+    Totals,
+    Refusal(Fault),
+    System(usize),
+}
+
+// What the caller does next: it comes again with more bytes, or behind those that were used, or not at all.
+pub enum Status {
+    More,
+    Line,
+    Done,
+}
+
+// What a step says: the counts after it, the bytes of the piece that were used, and those that were written.
+pub struct Step {
+    pub status: Status,
+    pub tally: Tally,
+    pub used: usize,
+    pub size: usize,
 }

@@ -1,0 +1,110 @@
+-- One step of the report on a stream that comes in pieces: what is written for the bytes at its front, and what a caller prints who steps through it.
+use Prim.Native.Nat.{ℕ, zero, suc, _+_}
+use mathlib.Core.Bool.{Bool, true, false}
+use mathlib.Core.List.{List, [], _∷_, _++_}
+use lib.Dec.{eqb, ltb}
+use lib.ListN.{length, drop}
+use Rattle.fingerprint.specs.Fnv.{fnv1a}
+use Rattle.report.specs.Lines.{refusalLine}
+use Rattle.class_report.specs.declared.Fault.{Fault}
+use Rattle.class_report.specs.declared.Fault.the-variants.{TooMany, TooLong, CutShort}
+use Rattle.class_report.specs.declared.Front.{Front}
+use Rattle.class_report.specs.declared.Front.the-variants.{Nothing, Broken, Whole}
+use Rattle.class_report.specs.declared.Tally.{Tally}
+use Rattle.class_report.specs.declared.Task.{Task}
+use Rattle.class_report.specs.declared.Task.the-variants as tasks
+use Rattle.class_report.specs.declared.Status.{Status}
+use Rattle.class_report.specs.declared.Status.the-variants as statuses
+use Rattle.class_report.specs.declared.Step.{Step}
+use Rattle.class_report.specs.Stream.{mostSystems, number, span, front, systemAt}
+use Rattle.class_report.specs.Report.{outcome, line, totals}
+use Rattle.class_report.specs.Tally.{fresh, position, tallied}
+use Rattle.class_report.specs.Writing.{countIn}
+
+-- ---- what a piece calls for: the bytes at the front of a stream, all that are left of it where it has ended
+
+-- what is known only where the stream has ended
+unfoldable pub atEnd : Bool → Task → Task
+atEnd true t = t
+atEnd false t = tasks.More
+
+unfoldable pub brokenTask : (ended : Bool) → Fault → Task
+unfolding atEnd
+brokenTask ended TooMany = tasks.Refusal TooMany
+brokenTask ended TooLong = tasks.Refusal TooLong
+brokenTask ended CutShort = atEnd ended (tasks.Refusal CutShort)
+
+unfoldable pub frontTask : (ended : Bool) → Front → Task
+unfolding atEnd brokenTask
+frontTask ended Nothing = atEnd ended tasks.Totals
+frontTask ended (Broken f) = brokenTask ended f
+frontTask ended (Whole size) = tasks.System size
+
+-- after the last system that a stream may have
+unfoldable pub fullTask : (ended : Bool) → List ℕ → Task
+unfolding atEnd
+fullTask ended piece = elim (eqb (length piece) 0) [ true ↦ atEnd ended tasks.Totals | false ↦ tasks.Refusal TooMany ]
+
+unfoldable pub taskFor : (position : ℕ) (ended : Bool) → List ℕ → Task
+unfolding frontTask front fullTask
+taskFor p ended piece = elim (ltb p mostSystems) [ true ↦ frontTask ended (front piece) | false ↦ fullTask ended piece ]
+
+-- ---- a step
+
+module _ (t : Tally) (piece : List ℕ) where
+  unfoldable pub textFor : Task → List ℕ
+  textFor tasks.More = []
+  textFor tasks.Totals = totals (t .accepted) (t .refused) (countIn (t .leaks))
+  textFor (tasks.Refusal f) = refusalLine (number f) (position t)
+  textFor (tasks.System size) = line (position t) (fnv1a (systemAt piece size .bytes)) (outcome (systemAt piece size))
+
+  unfoldable pub stepFor : Task → Step
+  unfolding textFor
+  stepFor tasks.More = record { status = statuses.More; tally = t; used = 0; size = 0 }
+  stepFor tasks.Totals = record { status = statuses.Done; tally = t; used = 0; size = length (textFor tasks.Totals) }
+  stepFor (tasks.Refusal f) = record { status = statuses.Done; tally = t; used = 0; size = length (textFor (tasks.Refusal f)) }
+  stepFor (tasks.System size) =
+      record {
+        status = statuses.Line;
+        tally = tallied t (outcome (systemAt piece size));
+        used = span size;
+        size = length (textFor (tasks.System size));
+      }
+
+  unfoldable pub text : (ended : Bool) → List ℕ
+  unfolding taskFor textFor
+  text ended = textFor (taskFor (position t) ended piece)
+
+  unfoldable pub step : (ended : Bool) → Step
+  unfolding taskFor stepFor
+  step ended = stepFor (taskFor (position t) ended piece)
+
+-- ---- a caller
+
+-- the stream has ended where no piece is to come
+abbrev pub last : List (List ℕ) → Bool
+last [] = true
+last (p ∷ ps) = false
+
+-- what is printed in so many steps by a caller that holds these bytes while these pieces are to come: the next piece is put behind them where a
+-- step asks for more
+unfoldable pub run : (steps : ℕ) → Tally → (held : List ℕ) → (pieces : List (List ℕ)) → List ℕ
+unfolding step text
+run zero t held pieces = []
+run (suc n) t held pieces =
+    elim (step t held (last pieces) .status) [
+      | statuses.More ↦ elim pieces [ [] ↦ [] | p ∷ ps ↦ run n t (held ++ p) ps ]
+      | statuses.Line ↦ text t held (last pieces)
+          ++ run n (step t held (last pieces) .tally) (drop (step t held (last pieces) .used) held) pieces
+      | statuses.Done ↦ text t held (last pieces)
+    ]
+
+-- a step for each system, one for each piece, and one for the end
+unfoldable pub printed : (pieces : List (List ℕ)) → List ℕ
+unfolding run
+printed pieces = run (suc (mostSystems + length pieces)) fresh [] pieces
+
+-- the stream that comes in these pieces
+unfoldable pub joined : List (List ℕ) → List ℕ
+joined [] = []
+joined (p ∷ ps) = p ++ joined ps
