@@ -1,6 +1,6 @@
 -- The report on a class (document 02, wish 14): a line for each system of the stream, then the totals, or the line of the fault that ends the stream.
 use Prim.Native.Nat.{ℕ, zero, suc}
-use mathlib.Core.Bool.{true, false}
+use mathlib.Core.Bool.{Bool, true, false}
 use mathlib.Core.List.{List, [], _∷_, _++_, map}
 use lib.ListN.{length}
 use Rattle.permset.specs.Sets.{width, member}
@@ -50,21 +50,22 @@ lines position (s ∷ ss) = line position (fnv1a (s .bytes)) (outcome s) ++ line
 
 -- ---- the totals
 
-unfoldable pub accepted : List Outcome → ℕ
-accepted [] = 0
-accepted (Leak s ∷ os) = suc (accepted os)
-accepted (Refused n at ∷ os) = accepted os
+unfoldable pub isAccepted : Outcome → Bool
+isAccepted (Leak s) = true
+isAccepted (Refused n at) = false
 
-unfoldable pub rejected : List Outcome → ℕ
-rejected [] = 0
-rejected (Leak s ∷ os) = rejected os
-rejected (Refused n at ∷ os) = suc (rejected os)
+unfoldable pub isRefused : Outcome → Bool
+isRefused (Leak s) = false
+isRefused (Refused n at) = true
 
--- how many leak this permission
-unfoldable pub leaking : List Outcome → (permission : ℕ) → ℕ
-leaking [] i = 0
-leaking (Leak s ∷ os) i = elim (member (s .bits) i) [ true ↦ suc (leaking os i) | false ↦ leaking os i ]
-leaking (Refused n at ∷ os) i = leaking os i
+unfoldable pub leaksIt : (permission : ℕ) → Outcome → Bool
+leaksIt i (Leak s) = member (s .bits) i
+leaksIt i (Refused n at) = false
+
+-- how many pass a test
+unfoldable pub howMany : (Outcome → Bool) → List Outcome → ℕ
+howMany q [] = 0
+howMany q (o ∷ os) = elim (q o) [ true ↦ suc (howMany q os) | false ↦ howMany q os ]
 
 unfoldable pub permissionLine : (permission leaks of : ℕ) → List ℕ
 permissionLine i leaks of =
@@ -83,12 +84,16 @@ unfoldable pub totals : (accepted refused : ℕ) → (ℕ → ℕ) → List ℕ
 unfolding countLine permissionLines
 totals n m leaks = countLine n m ++ permissionLines width 0 n leaks
 
+unfoldable pub totalsOf : List Outcome → List ℕ
+unfolding totals howMany isAccepted isRefused leaksIt
+totalsOf os = totals (howMany isAccepted os) (howMany isRefused os) (λ i. howMany (leaksIt i) os)
+
 -- ---- the report
 
 -- what follows the lines of these systems
 unfoldable pub conclusion : List System → Ending → List ℕ
-unfolding totals accepted rejected leaking outcome
-conclusion ss whole = totals (accepted (map outcome ss)) (rejected (map outcome ss)) (leaking (map outcome ss))
+unfolding totalsOf outcome
+conclusion ss whole = totalsOf (map outcome ss)
 conclusion ss (broken f) = refusalLine (number f) (length ss)
 
 unfoldable pub report : List ℕ → List ℕ
