@@ -27,8 +27,9 @@ use Rattle.calculus.proofs.Makers.{is-block, block-is}
 abbrev pub sentFrom : Code → ℕ → Rule
 sentFrom c p = each (c .blocks) (λ b. sender c b p (c .node p))
 
-module _ (c : Code) (k : Linked c) (e : Sets) where
-  listed-node : (b : ℕ) (n : Node) → NodeLinked c b n → T (isBlock n) → List·Memᴰ b (c .blocks)
+module _ (c : Code) where
+  -- a block is listed
+  pub listed-node : (b : ℕ) (n : Node) → NodeLinked c b n → T (isBlock n) → List·Memᴰ b (c .blocks)
   unfolding isBlock
   listed-node b gap l t = absurd t
   listed-node b (block n s g) l t = l .4
@@ -40,13 +41,14 @@ module _ (c : Code) (k : Linked c) (e : Sets) where
   listed-node b (branch a d n) l t = absurd t
   listed-node b (update a d n) l t = absurd t
 
+module _ (c : Code) (k : Linked c) (e : Sets) where
   pub senders-from : ((b : ℕ) → b < c .size → Obeys e (senders c b)) → (p : ℕ) → p < c .size → Obeys e (sentFrom c p)
   unfolding senders
   senders-from o p h = λ b m. let l = k .listed b m in o b (l .0) (is-block (c .node b) (l .1)) p (below-in h)
 
   pub from-senders : ((p : ℕ) → p < c .size → Obeys e (sentFrom c p)) → (b : ℕ) → b < c .size → Obeys e (senders c b)
   unfolding senders
-  from-senders o b h = λ t p m. o p (in-below m) b (listed-node b (c .node b) (k .nodes b h) t)
+  from-senders o b h = λ t p m. o p (in-below m) b (listed-node c b (c .node b) (k .nodes b h) t)
 
   -- an estimate obeys what each word asks of its receivers
   pub estimate-sent : (ρ : ℕ) → Estimate c ρ e → (p : ℕ) → p < c .size → Obeys e (sentFrom c p)

@@ -65,9 +65,9 @@ fn show(rho: u32, ceiling: usize) {
 
 fn main() {
     show(0, 0);
-    show(0, 68);
     show(0, 69);
     show(0, 70);
+    show(0, 71);
     show(0, 814);
     show(0, 815);
     show(0x01000000, 0);

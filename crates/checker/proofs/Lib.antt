@@ -5,6 +5,7 @@ pub mod Guards
 pub mod Laid
 pub mod Laws
 pub mod Placed
+pub mod Receivers
 pub mod Rows
 pub mod Samples
-pub mod Receivers
+pub mod Sent

@@ -24,11 +24,11 @@ use Rattle.calculus.specs.Layout.{sets, WellFormed}
 use Rattle.rows.specs.declared.layout.Layout.{Layout}
 use Rattle.rows.specs.Laid.{LaidOut, Sized}
 use Rattle.clauses.specs.Asks.{rowAt}
-use Rattle.calculus.proofs.Permissions.{permissions-are}
 use Rattle.clauses.proofs.OfWord.{sited}
 use Rattle.clauses.proofs.ByKind.{byKind, item-by}
 use Rattle.queries.specs.Ready.{Ready}
 use Rattle.queries.proofs.Given.{linked-code, size-is, sized}
+use Rattle.queries.proofs.Home.{sender}
 use Rattle.checker.specs.Decides.{Decides, MasksOf, Term}
 use Rattle.checker.specs.declared.sends.Sending.{Sending}
 use Rattle.checker.specs.Sends.{Sent}
@@ -81,7 +81,7 @@ module _ (ws links masks : List ℕ) (l : Layout) (y : Ready ws links masks l) w
 
     module _ (t : TableTerm) (i : itemAt ws p ≡ items.Term t) where
       module _ (d : ℕ) (q : d ≡ linkAt links (p + 1) .end) (n : ℕ) (z : n ≡ linkAt links d .end) where
-        same-node : c .node p ≡ termNode t (p + 1) d n
+        pub same-node : c .node p ≡ termNode t (p + 1) d n
         same-node =
             node-is t i
             ∙ ap (λ (x : ℕ). termNode t (p + 1) x (linkAt links x .end)) (sym q)
@@ -109,8 +109,7 @@ module _ (ws links masks : List ℕ) (l : Layout) (y : Ready ws links masks l) w
       one-flow x = two-flow _ refl x
 
       pub own-perms : (x : ℕ) → x ≡ itemPerms (itemAt ws (linkAt links p .home)) → x ≡ permissions c p
-      own-perms x q =
-          q ∙ ap (λ (ls : List ℕ). itemPerms (itemAt ws (linkAt ls p .home))) (y .from) ∙ permissions-are ws (y .readable) (y .slice) (y .room) p t i
+      own-perms x q = sender ws links masks l y p t i x q
 
     -- ---- a variable
 

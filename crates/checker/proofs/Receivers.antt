@@ -6,21 +6,24 @@ use mathlib.Core.Bool.{Bool, true, false}
 use mathlib.Core.List.{List, [], _∷_, List·Memᴰ, List·Memᴰ·cases-cons, List·Memᴰ·not-nil}
 use native.Mathlib.Decide.{decLt, ℕ-discrete}
 use native.Mathlib.Omega.{arith}
-use lib.Dec.{T}
 use lib.ListN.{length, drop}
 use Rattle.table.specs.Scan.{Task, head, name, perms, guard, term, accepted, reading}
-use Rattle.table.specs.Code.{Code, Node, NodeLinked, Linked, gap, block, leaf, one, two, bind, while, branch, update, code, tasks, taskAt, blocksFrom, endOf}
+use Rattle.table.specs.Code.{Code, Linked, code, tasks, taskAt, blocksFrom, endOf}
 use Rattle.table.proofs.Linked.{linked as code-linked}
 use Rattle.table.proofs.Blocks.{Follows, block-listed, blocks-first, blocks-next, blocks-end}
 use Rattle.table.proofs.BlockLoop.{blocksOn}
 use Rattle.calculus.specs.Constraint.{C, L, Sets, Rule, Obeys, _and_}
-use Rattle.calculus.specs.Rules.{isBlock, sender, senders, rule}
+use Rattle.calculus.specs.Rules.{sender, senders, rule}
 use Rattle.calculus.proofs.Makers.{is-block}
 use Rattle.calculus.proofs.Ranges.{below-in, in-below}
+use Rattle.calculus.proofs.Senders.{listed-node}
 use Rattle.rows.specs.declared.layout.Layout.{Layout}
 use Rattle.rows.specs.Laid.{LaidOut}
+use Rattle.calculus.specs.Layout.{sets}
 use Rattle.checker.specs.Decides.{Decides}
+use Rattle.checker.specs.Obeyed.{obeys, firstBroken}
 use Rattle.checker.specs.Senders.{First, Unsent, ownRule}
+use Rattle.checker.proofs.Laws.{obeys-is, broken-at, broken-none}
 
 module _ (c : Code) (e : Sets) where
   pub first-all : (k : ℕ → Rule) (below : ℕ) → ((b : ℕ) → Obeys e (k b)) → First c e k below below
@@ -78,19 +81,6 @@ module _ (ws : List ℕ) (q : reading ws ≡ accepted) (e : Sets) (k : ℕ → R
 
 -- ---- the sends in turn
 
--- a block is listed
-listed : (c : Code) (b : ℕ) (n : Node) → NodeLinked c b n → T (isBlock n) → List·Memᴰ b (c .blocks)
-unfolding isBlock
-listed c b gap l t = absurd t
-listed c b (block n s g) l t = l .4
-listed c b (leaf m) l t = absurd t
-listed c b (one m a) l t = absurd t
-listed c b (two m a d) l t = absurd t
-listed c b (bind a d) l t = absurd t
-listed c b (while a d) l t = absurd t
-listed c b (branch a d n) l t = absurd t
-listed c b (update a d n) l t = absurd t
-
 module _ (c : Code) (e : Sets) where
   -- the words below p have been looked at, and `below` is the lowest block that lacks one of them
   pub record Looked (p below : ℕ) : Type 0 where
@@ -126,7 +116,7 @@ module _ (c : Code) (l : Linked c) (e : Sets) where
   looked-all p r h x =
       record {
         most = x .most;
-        obeyed = λ b i t q m. x .obeyed q (let z : q < c .size = in-below m in omega arith) b (listed c b (c .node b) (l .nodes b (omega (arith, x .most))) t) i;
+        obeyed = λ b i t q m. x .obeyed q (let z : q < c .size = in-below m in omega arith) b (listed-node c b (c .node b) (l .nodes b (omega (arith, x .most))) t) i;
         broken = x .broken;
       }
 
@@ -144,3 +134,16 @@ module _ (c : Code) (e : Sets) (ρ p : ℕ) where
   pub rule-unsent : (Obeys e (senders c p) → ⊥) → Decides e (rule c ρ p) false
   unfolding rule
   rule-unsent n = record { yes = λ t. absurd t; no = λ o. absurd (n (o .0 .1)) }
+
+-- where all words below the lowest block that lacks a sender obey their rules, it is the lowest word whose rule is broken
+pub broken-limit : (c : Code) (est : List ℕ) (ρ limit p : ℕ) → p ≡ limit → Unsent c (sets c est) limit
+    → ((q : ℕ) → q < p → obeys c (rule c ρ q) est ≡ true) → p ≡ firstBroken c ρ est
+broken-limit c est ρ limit p z u o = go (decLt p (c .size))
+  where
+    go : Dec (p < c .size) → p ≡ firstBroken c ρ est
+    go (yes h) =
+        broken-at c ρ est p h o
+        (obeys-is c est (rule-unsent c (sets c est) ρ p (subst (λ (q : ℕ). Obeys (sets c est) (senders c q) → ⊥) (sym z) (u .broken (omega arith)))))
+    go (no h) =
+        let y : p ≡ c .size = omega (arith, u .most) in
+        y ∙ broken-none c ρ est (λ q i. o q (omega arith))

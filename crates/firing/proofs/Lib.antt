@@ -6,7 +6,6 @@ pub mod Fitted
 pub mod Full
 pub mod Operated
 pub mod Poured
-pub mod Sender
 pub mod Steps
 pub mod Suited
 pub mod Tags

@@ -85,17 +85,17 @@ module _ (ws links masks : List ℕ) (l : Layout) (y : Ready ws links masks l) (
       λ t. clauses-sent ws (y .readable) (y .slice) (y .room) (sets (code ws) est) p in-code
       (λ k. subst (λ (xs : List ℕ). Obeys (sets (code ws) est) (stepAt ws xs p k 0)) (y .from) (fire-obeys (code ws) (stepAt ws links p k 0) (step-fits k 0) est w (s k)) t)
 
--- words to which no step of any word adds anything, and in which the entries are obeyed, obey every rule
+-- where no step of any word adds anything, a word whose entry is obeyed obeys its rule
 pub steps-rules : (ws links masks : List ℕ) (l : Layout) → Ready ws links masks l → (ρ : ℕ) (est : List ℕ) → WellFormed (code ws) est
-    → ((p : ℕ) → p < l .size → (k : ℕ) → fire (code ws) (stepAt ws links p k 0) est ≡ est)
-    → ((p : ℕ) → p < l .size → Obeys (sets (code ws) est) (entry (code ws) ρ p)) → Estimate (code ws) ρ (sets (code ws) est)
+    → ((p : ℕ) → p < l .size → (k : ℕ) → fire (code ws) (stepAt ws links p k 0) est ≡ est) → (p : ℕ) → p < l .size
+    → Obeys (sets (code ws) est) (entry (code ws) ρ p) → Obeys (sets (code ws) est) (rule (code ws) ρ p)
 unfolding rule
-steps-rules ws links masks l y ρ est w s i p h =
+steps-rules ws links masks l y ρ est w s p h o =
     let inside : (q : ℕ) → q < code ws .size → q < l .size = λ q g. omega (arith, y .laid .size) in (
       (
-        i p (inside p h),
+        o,
         from-senders (code ws) (linked-code ws (y .readable)) (sets (code ws) est)
-            (λ q g. sent-live (code ws) (sets (code ws) est) q (steps-sent ws links masks l y q (inside q g) est w (s q (inside q g)))) p h,
+            (λ q g. sent-live (code ws) (sets (code ws) est) q (steps-sent ws links masks l y q (inside q g) est w (s q (inside q g)))) p (in-code ws links masks l y p h),
       ),
-      steps-rule ws links masks l y p (inside p h) est w (s p (inside p h)),
+      steps-rule ws links masks l y p h est w (s p h),
     )

@@ -1,7 +1,7 @@
 // What a send does for each block that it may start.
 use crate::targets::lift;
+use crate::targets::mark;
 use crate::targets::pass;
-use crate::targets::put;
 use crate::targets::wake;
 use clauses::Effect;
 use clauses::make::permissions_of;
@@ -75,7 +75,7 @@ fn deliver_from(
     ensures { λ x. ⌜ FiredFor l (λ c. WellFormed c (now (est .entry)) × Masked c l (now (masks .entry))) (λ c. (Put (L b) 0 and Pass c (rowAt (2 * d)) (sortAt 3 c) (rowAt (2 * b + 1)) and sub (P b) (P p)) and Put (rowAt (2 * b)) (32 * l .lead + home)) (now (est .entry)) (now (est .exit)) x ⌝ }
 {
     let started = deliver(est, masks, h, l, p, d, b);
-    started + put(est, h, l, 2 * b, 32 * l.lead + home)
+    started + mark(est, l, 2 * b, 32 * l.lead + home)
 }
 
 // What a send does for the block at b.

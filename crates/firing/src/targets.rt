@@ -91,12 +91,20 @@ fn grew_live(h: &mut [u32], q: usize, added: usize) {
     }
 }
 
-// Element v in the row r.
+// Element v in the row r. It is not noted: for a row that no rule reads.
+pub fn mark(est: &mut [u32], l: Layout, r: usize, v: usize) -> usize
+    requires { ⌜ (r * l .row + l .row ≤ length (now est)) × (v < 32 * l .row) ⌝ }
+    ensures { λ x. ⌜ FiredIn l (Put (rowAt r) v) (now (est .entry)) (now (est .exit)) x ⌝ }
+{
+    put_bits(est, l.row, r, v / 32, digit((v % 32) as u32))
+}
+
+// Element v in the row r, and the row is noted.
 pub fn put(est: &mut [u32], h: &mut [u32], l: Layout, r: usize, v: usize) -> usize
     requires { ⌜ (r * l .row + l .row ≤ length (now est)) × (v < 32 * l .row) ⌝ }
     ensures { λ x. ⌜ FiredIn l (Put (rowAt r) v) (now (est .entry)) (now (est .exit)) x ⌝ }
 {
-    let added = put_bits(est, l.row, r, v / 32, digit((v % 32) as u32));
+    let added = mark(est, l, r, v);
     grew_row(h, r, added);
     added
 }

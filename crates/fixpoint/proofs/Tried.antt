@@ -22,12 +22,12 @@ use Rattle.queries.specs.Ready.{Ready}
 use Rattle.queries.proofs.Given.{linked-code}
 use Rattle.firing.specs.Fired.{Fired}
 use Rattle.firing.specs.Step.{stepAt}
-use Rattle.firing.proofs.Steps.{step-well, steps-rule}
+use Rattle.firing.proofs.Steps.{step-well, steps-rules}
 use Rattle.checker.specs.Obeyed.{firstBroken}
 use Rattle.checker.proofs.Laws.{broken-disobeys}
 use Rattle.fixpoint.specs.declared.events.Choice.{Choice}
-use Rattle.fixpoint.specs.Grown.{Grown, Stepped, Taken, Exhausted, Repaired}
-use Rattle.fixpoint.proofs.Grows.{grown-none, grown-then, entered, entry-obeyed, fired-same}
+use Rattle.fixpoint.specs.Grown.{Grown, Stepped, Taken, Exhausted, Swept, Repaired}
+use Rattle.fixpoint.proofs.Grows.{grown-none, grown-same, grown-then, entered, entry-obeyed, fired-same}
 
 -- nothing was changed by the clauses below k
 pub record Tried (ws links : List ℕ) (p : ℕ) (old : List ℕ) (k : ℕ) (new : List ℕ) : Type 0 where
@@ -82,21 +82,32 @@ module _ (ws links masks : List ℕ) (l : Layout) (y : Ready ws links masks l) (
       go (yes b) = t .steps j b
       go (no b) = ap (λ (x : Clause). fire c (given (L p) 0 (asks c x 0)) old) (few-clauses ws links (plain c) p j (omega arith)) ∙ never-adds
 
-  -- the entry, and then all clauses
-  pub repaired : (ρ : ℕ) (mid new : List ℕ) (m n : ℕ) → Fired c (entry c ρ p) old mid m → Exhausted ws links p mid new n → Repaired c ρ p old new (m + n)
-  unfolding rule
+  -- the entry, and then all clauses of all words
+  pub repaired : (ρ : ℕ) (mid new : List ℕ) (m n : ℕ) → Fired c (entry c ρ p) old mid m → Swept ws links mid new n → Repaired c ρ p old new (m + n)
   repaired ρ mid new m n f x =
       let g : Grown c ρ old mid m = entered c ρ (linked-code ws links masks l y) p in-code f in
       record {
         grown = grown-then c ρ g (x .stepped ρ);
         obeyed =
             λ z.
-            let e : mid ≡ old = fired-same c (entry c ρ p) w (g .sound .well w) f (omega arith) in (
-              entry-obeyed c ρ (linked-code ws links masks l y) p in-code old w (sym (f .words) ∙ e),
-              steps-rule ws links masks l y p h old w
-                  (λ k. subst (λ (xs : List ℕ). fire c (stepAt ws links p k 0) xs ≡ xs) e (x .nothing in-code (omega arith) k)),
-            );
+            let e : mid ≡ old = grown-same c ρ w g (omega arith) in
+            steps-rules ws links masks l y ρ old w
+            (λ q i k. subst (λ (xs : List ℕ). fire c (stepAt ws links q k 0) xs ≡ xs) e (x .nothing (omega arith) q (omega (arith, y .laid .size)) k)) p h
+            (entry-obeyed c ρ (linked-code ws links masks l y) p in-code old w (sym (f .words) ∙ e));
       }
+
+-- ---- all words in turn
+
+-- the clauses of the words below p have nothing to add, where nothing was added
+abbrev pub SweptTo : (ws links : List ℕ) (old : List ℕ) (p added : ℕ) → Type 0
+SweptTo ws links old p added = added ≡ 0 → (q : ℕ) → q < p → (k : ℕ) → fire (code ws) (stepAt ws links q k 0) old ≡ old
+
+pub swept-more : (ws links : List ℕ) (old mid new : List ℕ) (p m n : ℕ) → WellFormed (code ws) old → p < code ws .size → Stepped ws old mid m
+    → SweptTo ws links old p m → Exhausted ws links p mid new n → SweptTo ws links old (p + 1) (m + n)
+swept-more ws links old mid new p m n w h s t x z =
+    let e : mid ≡ old = grown-same (code ws) 0 w (s 0) (omega arith) in
+    below-more (λ q. (k : ℕ) → fire (code ws) (stepAt ws links q k 0) old ≡ old) _ (t (omega arith))
+    (λ k. subst (λ (xs : List ℕ). fire (code ws) (stepAt ws links p k 0) xs ≡ xs) e (x .nothing h (omega arith) k))
 
 -- ---- the clauses of a word first, then other steps
 

@@ -11,9 +11,10 @@ use Rattle.firing.specs.Fired.{Fired}
 use Rattle.firing.specs.Step.{stepAt}
 use Rattle.fixpoint.specs.declared.events.Choice.{Choice}
 
--- what any step of any solver keeps: the layout of the estimate, and that it lies inside every estimate that obeys the rules
+-- what any step of any solver keeps: the layout of the estimate, its elements, and that it lies inside every estimate that obeys the rules
 pub record Sound (c : Code) (ρ : ℕ) (old new : List ℕ) : Type 0 where
   pub well : WellFormed c old → WellFormed c new
+  pub kept : LiesIn c old (sets c new)
   pub inside : WellFormed c old → (e : Sets) → Estimate c ρ e → LiesIn c old e → LiesIn c new e
 
 -- a sound step that added so many facts
@@ -34,6 +35,11 @@ pub record Taken (ws links : List ℕ) (size : ℕ) (x : Choice) (old new : List
 pub record Exhausted (ws links : List ℕ) (p : ℕ) (old new : List ℕ) (added : ℕ) : Type 0 where
   pub stepped : Stepped ws old new added
   pub nothing : p < code ws .size → added ≡ 0 → (k : ℕ) → fire (code ws) (stepAt ws links p k 0) old ≡ old
+
+-- all clauses of all words were fired: where that added nothing, none of them has anything to add
+pub record Swept (ws links : List ℕ) (old new : List ℕ) (added : ℕ) : Type 0 where
+  pub stepped : Stepped ws old new added
+  pub nothing : added ≡ 0 → (p : ℕ) → p < code ws .size → (k : ℕ) → fire (code ws) (stepAt ws links p k 0) old ≡ old
 
 -- all that the rule of p asks was tried: where that added nothing, the rule was obeyed
 pub record Repaired (c : Code) (ρ p : ℕ) (old new : List ℕ) (added : ℕ) : Type 0 where

@@ -1,9 +1,10 @@
-// Steps until every rule is obeyed or more than `room` facts are added: where the worklist has missed something, all clauses of the lowest word
-// whose rule is broken add a fact.
+// Steps until every rule is obeyed or more than `room` facts are added: where the worklist has missed something, the entry of a word whose rule
+// is broken or some clause adds a fact. A sender is added by a clause of its send, so the clauses of all words are tried.
 use crate::entry::enter;
 use crate::entry::enter_all;
 use crate::events::LISTED;
 use crate::events::follow;
+use crate::events::follow_all;
 use checker::broken;
 use permset::PermSet;
 use rows::layout::Layout;
@@ -14,7 +15,7 @@ ghost use Rattle.calculus.specs.Layout.{WellFormed};
 ghost use Rattle.queries.specs.Ready.{Ready};
 ghost use Rattle.fixpoint.specs.Grown.{Grown, Repaired, Closed};
 
-// All that the rule of p asks, and what follows from it.
+// The entry of p, all clauses, and what follows from them.
 fn mend(
     words: &[u32],
     links: &[u32],
@@ -34,7 +35,7 @@ fn mend(
     if room < entered {
         return entered;
     }
-    entered + follow(words, links, masks, est, h, out, l, p, room - entered)
+    entered + follow_all(words, links, masks, est, h, out, l, room - entered)
 }
 
 // The checker's rounds. It answers how many facts were added.

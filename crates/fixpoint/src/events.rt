@@ -13,7 +13,7 @@ ghost use Prim.Native.Nat.{_<_};
 ghost use Rattle.table.specs.Code.{code};
 ghost use Rattle.calculus.specs.Layout.{WellFormed};
 ghost use Rattle.queries.specs.Ready.{Ready};
-ghost use Rattle.fixpoint.specs.Grown.{Taken, Exhausted};
+ghost use Rattle.fixpoint.specs.Grown.{Taken, Exhausted, Swept};
 
 // So many events are followed at most, so that it ends whatever the memory of the worklist holds.
 const EVENTS: usize = 16777216;
@@ -140,6 +140,33 @@ pub fn follow(
             return added;
         }
         left -= 1;
+    }
+    added
+}
+
+// All clauses of every word, and what follows from them, until more than `room` facts are added.
+pub fn follow_all(
+    words: &[u32],
+    links: &[u32],
+    masks: &[u32],
+    est: &mut [u32],
+    h: &mut [u32],
+    out: &mut [u32],
+    l: Layout,
+    room: usize,
+) -> usize
+    requires { ⌜ Ready (now words) (now links) (now masks) l × WellFormed (code (now words)) (now est) ⌝ }
+    ensures { λ r. ⌜ Swept (now (words .entry)) (now (links .entry)) (now (est .entry)) (now (est .exit)) r ⌝ }
+{
+    let size = l.size;
+    let mut added = 0;
+    let mut p = 0;
+    while p < size {
+        added += follow(words, links, masks, est, h, out, l, p, room - added);
+        if room < added {
+            return added;
+        }
+        p += 1;
     }
     added
 }

@@ -5,7 +5,7 @@ use Rattle.table.specs.Code.{code}
 use Rattle.clauses.specs.Asks.{blocks}
 use Rattle.queries.proofs.Given.{sized}
 use Rattle.firing.proofs.Effects.{all-blocks, one-block}
-use Rattle.firing.proofs.Sender.{sender, sender-home, sender-inside}
+use Rattle.queries.proofs.Home.{sender, sender-home, sender-inside}
 use borrow.Author.Needs.{needs}
 use Rattle.firing.proofs.fire.fire_send.Statement.{statement}
 use Rattle.firing.proofs.fire.fire_send.Tie as tie

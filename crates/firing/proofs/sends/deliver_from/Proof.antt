@@ -16,24 +16,24 @@ use Rattle.firing.proofs.sends.deliver_from.Tie as tie
 deliver-requires : tie.Need-deliver-requires
 deliver-requires c κs = search needs
 
-mul-put : tie.Need-mul-put
-mul-put c = search needs
+mul-mark : tie.Need-mul-mark
+mul-mark c = search needs
 
-mul-put-2 : tie.Need-mul-put-2
-mul-put-2 c = search needs
+mul-mark-2 : tie.Need-mul-mark-2
+mul-mark-2 c = search needs
 
-add-put : tie.Need-add-put
-add-put c = search needs
+add-mark : tie.Need-add-mark
+add-mark c = search needs
 
-put-requires : tie.Need-put-requires
-put-requires c κs =
-    let s = c .before .before .before .before .before .before .before .before .before .before .before .before .before in let a = s .args in
-    (omega (arith, value-in (a .l) (a .est .now) (s .pre .0) (a .b) (s .pre .3), c .before .before .before .before .before .before .before .deliver .kept .0), omega (arith, s .pre .0 .wide, s .pre .5))
+mark-requires : tie.Need-mark-requires
+mark-requires c κs =
+    let s = c .before .before .before .before .before .before .before .before .before .before .before .before in let a = s .args in
+    (omega (arith, value-in (a .l) (a .est .now) (s .pre .0) (a .b) (s .pre .3), c .before .before .before .before .before .before .deliver .kept .0), omega (arith, s .pre .0 .wide, s .pre .5))
 
 add-result : tie.Need-add-result
 add-result c =
-    let s = c .before .before .before .before .before .before .before .before .before .before .before .before .before .before .before .before .before .before in let d = c .before .before .before .before .before .before .before .before .before .before .before .before .deliver in let p = c .before .before .before .before .put in
-    omega (arith, d .ensures .count, p .ensures .count, facts-most (p .last .0), p .kept .0, d .kept .0, s .pre .0 .short)
+    let s = c .before .before .before .before .before .before .before .before .before .before .before .before .before .before .before in let d = c .before .before .before .before .before .before .before .before .before .deliver in let m = c .before .before .mark in
+    omega (arith, d .ensures .count, m .ensures .count, facts-most (m .last .0), m .kept .0, d .kept .0, s .pre .0 .short)
 
 same-length : tie.Need-same-length
 same-length c = search needs
@@ -43,20 +43,20 @@ same-length-2 c = search needs
 
 returns : tie.Need-returns
 returns c =
-    let a = c .before .before .before .before .before .before .before .before .before .before .before .before .before .before .before .before .before .before .args in
+    let a = c .before .before .before .before .before .before .before .before .before .before .before .before .before .before .before .args in
     and-for (a .l) (a .est .now) _ _ _ _ (λ k. WellFormed k (a .est .now) × Masked k (a .l) (a .masks .now)) (λ k. Unit {0})
     (λ k. put (L (a .b)) 0 and pass k (rowAt (2 * a .d)) (sortAt 3 k) (rowAt (2 * a .b + 1)) and sub (P (a .b)) (P (a .p))) (λ k. put (rowAt (2 * a .b)) (32 * a .l .lead + a .home))
-    (c .before .before .before .before .before .before .before .before .before .before .before .before .deliver .ensures) (c .before .before .before .before .put .ensures) (λ k o x e. tt)
+    (c .before .before .before .before .before .before .before .before .before .deliver .ensures) (c .before .before .mark .ensures) (λ k o x e. tt)
 
 pub deliver-from-spec : {M : Type 1} → statement M
 deliver-from-spec =
     tie.close
     (tie.spec
     deliver-requires
-    mul-put
-    mul-put-2
-    add-put
-    put-requires
+    mul-mark
+    mul-mark-2
+    add-mark
+    mark-requires
     add-result
     same-length
     same-length-2

@@ -1,12 +1,13 @@
 -- `fixpoint::entry::let_in` meets its contract. Assumes nothing.
 use Prim.Native.Nat.{_+_, _*_}
 use native.Mathlib.Omega.{arith}
-use Rattle.calculus.specs.Constraint.{L, put}
+use Rattle.calculus.specs.Constraint.{L, put, _and_}
 use Rattle.calculus.specs.Rules.{fill}
 use Rattle.calculus.specs.Layout.{WellFormed}
 use Rattle.clauses.specs.Asks.{rowAt}
 use Rattle.firing.proofs.Fires.{in-for, and-for, sum-fits}
 use Rattle.firing.proofs.Deliver.{live-well}
+use Rattle.fixpoint.proofs.Grows.{sized-again}
 use borrow.Author.Needs.{needs}
 use Rattle.fixpoint.proofs.entry.let_in.Statement.{statement}
 use Rattle.fixpoint.proofs.entry.let_in.Tie as tie
@@ -14,17 +15,15 @@ use Rattle.fixpoint.proofs.entry.let_in.Tie as tie
 wake-requires : tie.Need-wake-requires
 wake-requires c κs = search needs
 
-mul-fill : tie.Need-mul-fill
-mul-fill c = omega (arith, c .before .before .before .before .before .before .before .before .before .before .before .pre .0 .size, c .before .before .before .before .before .before .before .before .before .before .before .pre .1)
-
-add-fill : tie.Need-add-fill
-add-fill c = omega (arith, c .before .before .before .before .before .before .before .before .before .before .before .pre .0 .size, c .before .before .before .before .before .before .before .before .before .before .before .pre .1)
-
-fill-requires : tie.Need-fill-requires
-fill-requires c κs = search needs
+admit-requires : tie.Need-admit-requires
+admit-requires c κs =
+    let s = c .before .before .before .before .before .before .before .before .before .before .before in
+    (sized-again (s .args .l) (s .args .est .now) _ (s .pre .0) (c .before .before .before .before .before .before .wake .kept .0), s .pre .1)
 
 add-result : tie.Need-add-result
-add-result c = omega (arith, sum-fits (c .before .before .before .before .before .before .before .before .before .before .before .before .before .before .before .before .args .est .now) _ _ _ _ (c .before .before .before .before .before .before .before .before .before .before .before .wake .ensures .count) (c .before .before .before .before .fill .ensures .count), c .before .before .before .before .fill .kept .0, c .before .before .before .before .before .before .before .before .before .before .before .wake .kept .0, c .before .before .before .before .before .before .before .before .before .before .before .before .before .before .before .before .pre .0 .short)
+add-result c =
+    let s = c .before .before .before .before .before .before .before .before .before .before .before .before .before .before .before .before in let w = c .before .before .before .before .before .before .before .before .before .before .before .wake in let a = c .before .before .before .before .admit in
+    omega (arith, sum-fits (s .args .est .now) _ _ _ _ (w .ensures .count) (a .ensures .count), a .kept .0, w .kept .0, s .pre .0 .short)
 
 same-length : tie.Need-same-length
 same-length c = search needs
@@ -35,8 +34,9 @@ same-length-2 c = search needs
 returns : tie.Need-returns
 returns c =
     let s = c .before .before .before .before .before .before .before .before .before .before .before .before .before .before .before .before in let a = s .args in
-    and-for (a .l) (a .est .now) _ _ _ _ (λ k. WellFormed k (a .est .now)) (λ k. WellFormed k _) (λ k. put (L (a .p)) 0) (λ k. fill k (rowAt (2 * a .p + 1)))
-    (in-for (a .l) _ (put (L (a .p)) 0) (a .est .now) _ _ (c .before .before .before .before .before .before .before .before .before .before .before .wake .ensures)) (c .before .before .before .before .fill .ensures)
+    and-for (a .l) (a .est .now) _ _ _ _ (λ k. WellFormed k (a .est .now)) (λ k. WellFormed k _) (λ k. put (L (a .p)) 0)
+    (λ k. fill k (rowAt (2 * a .p + 1)) and put (rowAt (2 * a .p)) 7)
+    (in-for (a .l) _ (put (L (a .p)) 0) (a .est .now) _ _ (c .before .before .before .before .before .before .before .before .before .before .before .wake .ensures)) (c .before .before .before .before .admit .ensures)
     (λ k o x e. live-well k (a .p) (omega (arith, s .pre .1, o .size)) (a .est .now) _ x e)
 
 pub let-in-spec : {M : Type 1} → statement M
@@ -44,9 +44,7 @@ let-in-spec =
     tie.close
     (tie.spec
     wake-requires
-    mul-fill
-    add-fill
-    fill-requires
+    admit-requires
     add-result
     same-length
     same-length-2

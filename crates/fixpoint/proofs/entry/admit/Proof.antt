@@ -1,0 +1,60 @@
+-- `fixpoint::entry::admit` meets its contract. Assumes nothing.
+use Prim.Native.Nat.{_+_, _*_}
+use native.Mathlib.Omega.{arith}
+use Rattle.calculus.specs.Constraint.{put}
+use Rattle.calculus.specs.Rules.{fill}
+use Rattle.calculus.specs.Layout.{WellFormed}
+use Rattle.clauses.specs.Asks.{rowAt}
+use Rattle.queries.proofs.Laws.{value-in}
+use Rattle.firing.proofs.Fires.{and-for, sum-fits}
+use borrow.Author.Needs.{needs}
+use Rattle.fixpoint.proofs.entry.admit.Statement.{statement}
+use Rattle.fixpoint.proofs.entry.admit.Tie as tie
+
+mul-fill : tie.Need-mul-fill
+mul-fill c = search needs
+
+add-fill : tie.Need-add-fill
+add-fill c = search needs
+
+fill-requires : tie.Need-fill-requires
+fill-requires c κs = search needs
+
+mul-mark : tie.Need-mul-mark
+mul-mark c = search needs
+
+mark-requires : tie.Need-mark-requires
+mark-requires c κs =
+    let s = c .before .before .before .before .before .before .before .before .before .before in let a = s .args in
+    (omega (arith, value-in (a .l) (a .est .now) (s .pre .0) (a .p) (s .pre .1), c .before .before .before .before .before .fill .kept .0), omega (arith, s .pre .0 .wide, s .pre .0 .lead))
+
+add-result : tie.Need-add-result
+add-result c =
+    let s = c .before .before .before .before .before .before .before .before .before .before .before .before .before in let f = c .before .before .before .before .before .before .before .before .fill in let m = c .before .before .mark in
+    omega (arith, sum-fits (s .args .est .now) _ _ _ _ (f .ensures .count) (m .ensures .count), m .kept .0, f .kept .0, s .pre .0 .short)
+
+same-length : tie.Need-same-length
+same-length c = search needs
+
+same-length-2 : tie.Need-same-length-2
+same-length-2 c = search needs
+
+returns : tie.Need-returns
+returns c =
+    let a = c .before .before .before .before .before .before .before .before .before .before .before .before .before .args in
+    and-for (a .l) (a .est .now) _ _ _ _ (λ k. WellFormed k (a .est .now)) (λ k. Unit {0}) (λ k. fill k (rowAt (2 * a .p + 1))) (λ k. put (rowAt (2 * a .p)) 7)
+    (c .before .before .before .before .before .before .before .before .fill .ensures) (c .before .before .mark .ensures) (λ k o x e. tt)
+
+pub admit-spec : {M : Type 1} → statement M
+admit-spec =
+    tie.close
+    (tie.spec
+    mul-fill
+    add-fill
+    fill-requires
+    mul-mark
+    mark-requires
+    add-result
+    same-length
+    same-length-2
+    returns)
