@@ -5,4 +5,6 @@ pub mod Tallies
 pub mod Permissions
 pub mod Tasks
 pub mod Pieces
+pub mod Judged
+pub mod Stepped
 pub mod Samples

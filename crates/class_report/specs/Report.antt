@@ -21,15 +21,14 @@ unfoldable pub outcomeOf : Answer → Outcome
 outcomeOf (refused n at) = Refused n at
 outcomeOf (verdict v) = Leak (record { bits = v .leak })
 
--- the answer to a system: its slices are never short, and no bound is asked about
-unfoldable pub answerTo : System → Answer
+-- the answer to the words of a system: its slices are never short, and no bound is asked about
+unfoldable pub answerOn : List ℕ → (ρ : ℕ) → Answer
 unfolding answer
-answerTo s =
-    answer (wordsOf (s .bytes)) (s .rho) standingBound (estimateWords (code (wordsOf (s .bytes)))) (workWords (length (wordsOf (s .bytes))))
+answerOn ws ρ = answer ws ρ standingBound (estimateWords (code ws)) (workWords (length ws))
 
 unfoldable pub outcome : System → Outcome
-unfolding outcomeOf answerTo
-outcome s = outcomeOf (answerTo s)
+unfolding outcomeOf answerOn
+outcome s = outcomeOf (answerOn (wordsOf (s .bytes)) (s .rho))
 
 -- ---- the line of a system
 

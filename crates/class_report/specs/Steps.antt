@@ -1,22 +1,30 @@
 -- One step of the report on a stream that comes in pieces: what is written for the bytes at its front, and what a caller prints who steps through it.
-use Prim.Native.Nat.{ℕ, zero, suc, _+_}
+use Prim.Native.Nat.{ℕ, zero, suc, _+_, _≤_}
+use mathlib.Core.Path.{_≡_}
 use mathlib.Core.Bool.{Bool, true, false}
 use mathlib.Core.List.{List, [], _∷_, _++_}
 use lib.Dec.{eqb, ltb}
 use lib.ListN.{length, drop}
+use Rattle.table.specs.Code.{code}
+use Rattle.calculus.specs.Estimate.{estimate}
+use Rattle.calculus.specs.Guarantee.{Covers}
+use Rattle.calculus.specs.Correct.{Least}
+use Rattle.little_endian.specs.LittleEndian.{wordsOf}
 use Rattle.fingerprint.specs.Fnv.{fnv1a}
 use Rattle.report.specs.Lines.{refusalLine}
 use Rattle.class_report.specs.declared.Fault.{Fault}
 use Rattle.class_report.specs.declared.Fault.the-variants.{TooMany, TooLong, CutShort}
 use Rattle.class_report.specs.declared.Front.{Front}
 use Rattle.class_report.specs.declared.Front.the-variants.{Nothing, Broken, Whole}
+use Rattle.class_report.specs.declared.Outcome.{Outcome}
+use Rattle.class_report.specs.declared.Outcome.the-variants.{Leak, Refused}
 use Rattle.class_report.specs.declared.Tally.{Tally}
 use Rattle.class_report.specs.declared.Task.{Task}
 use Rattle.class_report.specs.declared.Task.the-variants as tasks
 use Rattle.class_report.specs.declared.Status.{Status}
 use Rattle.class_report.specs.declared.Status.the-variants as statuses
 use Rattle.class_report.specs.declared.Step.{Step}
-use Rattle.class_report.specs.Stream.{mostSystems, number, span, front, systemAt}
+use Rattle.class_report.specs.Stream.{System, mostSystems, number, span, front, systemAt}
 use Rattle.class_report.specs.Report.{outcome, line, totals}
 use Rattle.class_report.specs.Tally.{fresh, position, tallied}
 use Rattle.class_report.specs.Writing.{countIn}
@@ -78,6 +86,29 @@ module _ (t : Tally) (piece : List ℕ) where
   unfoldable pub step : (ended : Bool) → Step
   unfolding taskFor stepFor
   step ended = stepFor (taskFor (position t) ended piece)
+
+-- room for the text of every step: 25 lines of at most 96 bytes
+abbrev pub room : ℕ
+room = 2400
+
+-- what was asked for is done: what the step says, and the bytes of the output from those before
+pub record Done (t : Tally) (piece : List ℕ) (k : Task) (before : List ℕ) (r : Step) (after : List ℕ) : Type 0 where
+  pub says : r ≡ stepFor t piece k
+  pub bytes : after ≡ textFor t piece k ++ drop (length (textFor t piece k)) before
+  pub fits : r .size ≤ room
+
+-- ---- what a leak means
+
+-- demands 2 and 3 of an outcome: the leak is that of the least estimate, and covers every run
+unfoldable pub Sound : System → Outcome → Type 0
+Sound s (Refused n at) = Unit {0}
+Sound s (Leak l) =
+    Least (code (wordsOf (s .bytes))) (s .rho) (estimate (code (wordsOf (s .bytes))) (s .rho)) (l .bits)
+    × Covers (code (wordsOf (s .bytes))) (s .rho) (l .bits)
+
+-- of the system at the front of a piece
+abbrev pub SoundFor : List ℕ → Type 0
+SoundFor piece = (size : ℕ) → front piece ≡ Whole size → Sound (systemAt piece size) (outcome (systemAt piece size))
 
 -- ---- a caller
 

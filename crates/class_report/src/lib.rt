@@ -1,8 +1,9 @@
 // The report on a class: a stream of systems in, a line for each and the totals out.
 pub mod counts;
-pub mod lines;
+mod judge;
+mod lines;
 pub mod steps;
-pub mod stream;
+mod stream;
 
 use permset::PermSet;
 

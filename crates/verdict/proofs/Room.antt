@@ -71,12 +71,18 @@ pub work-room : (ws : List ℕ) → length ws ≤ 256 → workWords (code ws .si
 unfolding code
 work-room ws h = omega arith
 
--- arrays for 256 words answer as slices that are just long enough
+-- slices that are long enough answer as slices that are just long enough
+pub answer-roomy : (ws : List ℕ) (ρ bound est work : ℕ) → estimateWords (code ws) ≤ est → workWords (length ws) ≤ work
+    → answer ws ρ bound est work ≡ answer ws ρ bound (estimateWords (code ws)) (workWords (length ws))
+unfolding code
+answer-roomy ws ρ bound est work h k =
+    let e : min est (estimateWords (code ws)) ≡ estimateWords (code ws) = omega arith in
+    let w : min work (workWords (length ws)) ≡ workWords (length ws) = omega arith in
+    sym (answer-capped ws ρ bound est work (estimateWords (code ws)) (workWords (length ws)) (omega arith) (omega arith))
+    ∙ ap₂ (answer ws ρ bound) e w
+
+-- so do arrays for 256 words
 pub answer-exact : (ws : List ℕ) (ρ bound : ℕ) → length ws ≤ 256
     → answer ws ρ bound 5376 1024 ≡ answer ws ρ bound (estimateWords (code ws)) (workWords (length ws))
 unfolding code
-answer-exact ws ρ bound h =
-    let e : min 5376 (estimateWords (code ws)) ≡ estimateWords (code ws) = omega (arith, estimate-room ws h) in
-    let w : min 1024 (workWords (length ws)) ≡ workWords (length ws) = omega (arith, work-room ws h) in
-    sym (answer-capped ws ρ bound 5376 1024 (estimateWords (code ws)) (workWords (length ws)) (omega arith) (omega arith))
-    ∙ ap₂ (answer ws ρ bound) e w
+answer-exact ws ρ bound h = answer-roomy ws ρ bound 5376 1024 (estimate-room ws h) (work-room ws h)
