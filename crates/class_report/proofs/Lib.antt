@@ -7,4 +7,5 @@ pub mod Tasks
 pub mod Pieces
 pub mod Judged
 pub mod Stepped
+pub mod Windows
 pub mod Samples

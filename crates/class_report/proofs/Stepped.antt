@@ -74,24 +74,9 @@ module _ (t : Tally) (piece before after : List ℕ) (n : ℕ) (fits : n ≤ roo
       (done-by (tasks.System words) (λ m. record { status = statuses.Line; tally = tallied t (outcome s); used = span words; size = m }) refl refl
       (subst (λ (l : List ℕ). Wrote before 0 l after n) (ap₂ (λ (x y : ℕ). line x y o) a b′ ∙ ap (line (position t) (fnv1a (s .bytes))) q) w))
 
--- ---- the whole step
-
 pub more-done : (t : Tally) (piece before : List ℕ) → Done t piece tasks.More before (record { status = statuses.More; tally = t; used = 0; size = 0 }) before
 unfolding textFor stepFor
 more-done t piece before = record { says = refl; bytes = refl; fits = omega arith }
-
-pub stepped : (t : Tally) (piece : List ℕ) (ended : Bool) (k j : Task) (before after : List ℕ) (r : Step) → k ≡ taskFor (position t) ended piece → k ≡ j
-    → Done t piece j before r after
-    → (r ≡ step t piece ended) × ((after ≡ text t piece ended ++ drop (length (text t piece ended)) before) × ((r .size ≤ room) × SoundFor piece))
-unfolding step text
-stepped t piece ended k j before after r e f d =
-    let q : j ≡ taskFor (position t) ended piece = sym f ∙ e in (
-      d .says ∙ ap (stepFor t piece) q,
-      (
-        d .bytes ∙ ap (λ (x : Task). textFor t piece x ++ drop (length (textFor t piece x)) before) q,
-        (d .fits, λ size w. outcome-sound (systemAt piece size)),
-      ),
-    )
 
 -- ---- a system that a piece calls for is there whole
 
@@ -130,3 +115,25 @@ system-there p ended s n e = here (ltb p mostSystems) refl
     here : (b : Bool) → ltb p mostSystems ≡ b → Sized s n
     here true h = there (sym (task-front ended s p (ltb-true p mostSystems h)) ∙ e)
     here false h = beyond (eqb (length s) 0) (sym (task-full ended s p (ltb-false p mostSystems h)) ∙ e)
+
+used-fits : (t : Tally) (piece : List ℕ) (ended : Bool) (k : Task) → taskFor (position t) ended piece ≡ k → stepFor t piece k .used ≤ length piece
+unfolding stepFor
+used-fits t piece ended tasks.More e = omega arith
+used-fits t piece ended tasks.Totals e = omega arith
+used-fits t piece ended (tasks.Refusal f) e = omega arith
+used-fits t piece ended (tasks.System n) e = system-there (position t) ended piece n e .fits
+
+-- ---- what a step promises
+
+pub stepped : (t : Tally) (piece : List ℕ) (ended : Bool) (k j : Task) (before after : List ℕ) (r : Step) → k ≡ taskFor (position t) ended piece → k ≡ j
+    → Done t piece j before r after
+    → (r ≡ step t piece ended) × ((after ≡ text t piece ended ++ drop (length (text t piece ended)) before) × ((r .size ≤ room) × ((r .used ≤ length piece) × SoundFor piece)))
+unfolding step text
+stepped t piece ended k j before after r e f d =
+    let q : j ≡ taskFor (position t) ended piece = sym f ∙ e in (
+      d .says ∙ ap (stepFor t piece) q,
+      (
+        d .bytes ∙ ap (λ (x : Task). textFor t piece x ++ drop (length (textFor t piece x)) before) q,
+        (d .fits, (subst (λ (x : Step). x .used ≤ length piece) (sym (d .says)) (used-fits t piece ended j (sym q)), λ size w. outcome-sound (systemAt piece size))),
+      ),
+    )

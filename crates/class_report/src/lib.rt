@@ -4,6 +4,7 @@ mod judge;
 mod lines;
 pub mod steps;
 mod stream;
+pub mod window;
 
 use permset::PermSet;
 

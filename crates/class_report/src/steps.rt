@@ -133,6 +133,7 @@ pub fn step(tally: Tally, piece: &[u8], ended: bool, out: &mut [u8; 2400]) -> St
     ensures says { λ r. ⌜ r ≡ Steps·step tally (now (piece .entry)) ended ⌝ }
     ensures text { λ _. ⌜ now (out .exit) ≡ Steps·text tally (now (piece .entry)) ended ++ drop (length (Steps·text tally (now (piece .entry)) ended)) (now (out .entry)) ⌝ }
     ensures fits { λ r. ⌜ r .size ≤ room ⌝ }
+    ensures used { λ r. ⌜ r .used ≤ length (now (piece .entry)) ⌝ }
     ensures sound { λ _. ⌜ SoundFor (now (piece .entry)) ⌝ }
 {
     match task_for(position(tally), ended, piece) {
