@@ -96,6 +96,10 @@ uint64_t wiphosega_lookup(const uint8_t *base, size_t base_bytes, const uint8_t 
 
 uint64_t wiphosega_join(const uint8_t *base, size_t base_bytes, const uint8_t *overlay, size_t overlay_bytes, uint8_t *out, size_t out_bytes);
 
+/* The fingerprint of a system, as the report on a class has it, in the library of listings: the published hash FNV-1a of 32 bits, of the bytes of
+   its words. For the pointer the same holds as above. */
+uint32_t wiphosega_fingerprint(const uint8_t *system, size_t system_bytes);
+
 #ifdef __cplusplus
 }
 #endif

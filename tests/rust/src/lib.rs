@@ -4,6 +4,7 @@
 
 pub mod audit;
 pub mod check;
+pub mod class;
 pub mod estimate;
 pub mod generate;
 pub mod inputs;
