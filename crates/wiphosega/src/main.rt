@@ -5,6 +5,7 @@ mod explain;
 mod input;
 mod leaks;
 mod printing;
+mod receivers;
 mod sends;
 
 use crate::arguments::Command;
@@ -14,6 +15,7 @@ fn main() {
     match read_command() {
         Command::Leak => leaks::leak(),
         Command::Deliveries => sends::deliveries(),
+        Command::Senders => receivers::senders(),
         Command::Check => checking::check(),
         Command::WithInput => printing::with_input(),
         Command::WithoutInput => printing::without_input(),
