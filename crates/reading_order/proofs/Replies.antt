@@ -17,6 +17,8 @@ use Rattle.calculus.specs.Estimate.{estimate, facts}
 use Rattle.calculus.specs.Answer.{Answer, verdict, standingBound, judge, answer, workAfter}
 use Rattle.calculus.specs.Answer as answers
 use Rattle.calculus.proofs.Least.{estimate-well}
+use Rattle.calls.specs.declared.Fault.{Fault}
+use Rattle.calls.specs.Faults.{faultNumber, faultPlace}
 use Rattle.calls.specs.Calls.{Fits}
 use Rattle.calls.proofs.Answers.{after-solved, after-refused}
 use Rattle.comparison.specs.declared.Findings.{Findings}
@@ -144,18 +146,22 @@ module _ (ws : List ℕ) (ρ n : ℕ) (est work positions : List ℕ) (f : Fits 
 
 -- ---- a refusal of document 01
 
-module _ (ws : List ℕ) (ρ n : ℕ) (est work positions : List ℕ) (k at : ℕ) (e : answer ws ρ standingBound (length est) (length work) ≡ answers.refused k at) where
-  same-either : {A : Type 0} (b : Bool) (x y : A) → x ≡ y → x ≡ elim b [ true ↦ x | false ↦ y ]
-  same-either true x y q = refl
-  same-either false x y q = q
+same-either : {A : Type 0} (b : Bool) (x y : A) → x ≡ y → x ≡ elim b [ true ↦ x | false ↦ y ]
+same-either true x y q = refl
+same-either false x y q = q
 
-  pub refused-in : (r : Ordering) → replyOf r ≡ refused k at → OrderedIn ws ρ n est work positions est work positions r
-  unfolding reply estimateAfterOrder workAfterOrder positionsAfter answerWithin under
-  refused-in r q =
-      record {
-        replies = q ∙ sym (rw (e, reply));
-        estimates = same-either (ltb (length positions) (length (code ws .blocks))) est (estimateWithin ws ρ n est work) (words-kept ws ρ n est work k at e);
-        works = same-either (ltb (length positions) (length (code ws .blocks))) work (workAfter ws ρ standingBound est work) (after-refused ws ρ standingBound est work k at e .1);
-        writes = sym (rw (e, positionsAfter));
-        means = subst (λ (x : Reply). ReplyMeans ws ρ x positions) (sym q) tt;
-      }
+pub refused-in : (ws : List ℕ) (ρ n : ℕ) (est work positions : List ℕ) (f : Fault)
+    → answer ws ρ standingBound (length est) (length work) ≡ answers.refused (faultNumber f) (faultPlace f)
+    → OrderedIn ws ρ n est work positions est work positions (orderings.Refused f)
+unfolding replyOf reply estimateAfterOrder workAfterOrder positionsAfter answerWithin under
+refused-in ws ρ n est work positions f e =
+    let short = ltb (length positions) (length (code ws .blocks)) in
+    record {
+      replies = sym (rw (e, reply));
+      estimates = same-either short est (estimateWithin ws ρ n est work) (words-kept ws ρ n est work (faultNumber f) (faultPlace f) e);
+      works =
+          same-either short work (workAfter ws ρ standingBound est work)
+          (after-refused ws ρ standingBound est work (faultNumber f) (faultPlace f) e .1);
+      writes = sym (rw (e, positionsAfter));
+      means = tt;
+    }

@@ -1,12 +1,31 @@
 -- Who may send to whom, by position, as an estimate says it (document 02, wishes 8 and 9): the senders' set of a block is the value set of its first
 -- word. The opponent's element stands for no position.
-use Prim.Native.Nat.{ℕ, _+_, _*_}
+use Prim.Native.Nat.{ℕ, _+_, _*_, _<_}
 use mathlib.Core.Bool.{Bool, true, false}
 use mathlib.Core.List.{List, [], _∷_, map}
+use lib.Dec.{T}
+use lib.ListN.{length, getD}
 use Rattle.table.specs.Code.{Code}
 use Rattle.calculus.specs.Elements.{made}
-use Rattle.calculus.specs.Constraint.{C, L}
+use Rattle.calculus.specs.Constraint.{C, L, Sets}
 use Rattle.calculus.specs.Layout.{sets}
+
+-- ---- of blocks by their positions, in the sets e
+
+-- the first word of the block at a position
+abbrev pub blockAt : Code → ℕ → ℕ
+blockAt c p = getD (c .blocks) p 0
+
+abbrev pub LiveAt : Code → Sets → ℕ → Type 0
+LiveAt c e p = (p < length (c .blocks)) × T (e (L (blockAt c p)) 0)
+
+-- both are live, and s is among the senders of t
+pub record MaySend (c : Code) (e : Sets) (s t : ℕ) : Type 0 where
+  pub sender : LiveAt c e s
+  pub receiver : LiveAt c e t
+  pub element : T (e (C (blockAt c t)) (made c (blockAt c s)))
+
+-- ---- the same as rows of digits, from the words of an estimate (proofs/Meaning.antt: it is the same)
 
 unfoldable pub digit : Bool → ℕ
 digit true = 1

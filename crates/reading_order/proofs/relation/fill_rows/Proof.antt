@@ -69,7 +69,7 @@ loop-again c =
       search needs,
       simp length-set (i .inv .1),
       λ k o. partly-on _ _ (i .rows) (i .t) (c .senders-to .result) _ _
-      (row-next (sendersTo k (a .est .now) (a .blocks .now)) (a .blocks .now) (i .t) _ h (c .senders-to .ensures k o)) (i .inv .2 k o),
+          (row-next (sendersTo k (a .est .now) (a .blocks .now)) (a .blocks .now) (i .t) _ h (c .senders-to .ensures k o)) (i .inv .2 k o),
     )
 
 same-length : tie.Need-same-length Inv-loop μ-loop
