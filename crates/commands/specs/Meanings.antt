@@ -35,7 +35,7 @@ pub record Behind (text : List ℕ) (start k place : ℕ) : Type 0 where
 
 -- the numbers that have a meaning, in the order of the page
 unfoldable pub numbers : List ℕ
-numbers = 1 ∷ 2 ∷ 3 ∷ 4 ∷ 5 ∷ 6 ∷ 7 ∷ 8 ∷ 9 ∷ 10 ∷ 11 ∷ 12 ∷ 20 ∷ 21 ∷ 22 ∷ 23 ∷ 30 ∷ 31 ∷ 40 ∷ 41 ∷ 42 ∷ 43 ∷ 44 ∷ 45 ∷ 46 ∷ 47 ∷ 48 ∷ 49 ∷ 50 ∷ []
+numbers = 1 ∷ 2 ∷ 3 ∷ 4 ∷ 5 ∷ 6 ∷ 7 ∷ 8 ∷ 9 ∷ 10 ∷ 11 ∷ 12 ∷ 20 ∷ 21 ∷ 22 ∷ 23 ∷ 30 ∷ 31 ∷ 40 ∷ 41 ∷ 42 ∷ 43 ∷ 44 ∷ 45 ∷ 46 ∷ 47 ∷ 48 ∷ 49 ∷ 50 ∷ 51 ∷ []
 
 -- a line for each of them, and one for every other number
 unfoldable pub page : List ℕ
@@ -69,6 +69,7 @@ page =
     ++ bytes "The joined system has more than 32 handlers.\n"
     ++ bytes "The joined system has more than 1,024 words.\n"
     ++ bytes "The output has no room for the joined system.\n"
+    ++ bytes "The slice for positions is shorter than the number of handlers.\n"
     ++ bytes "No refusal has this number.\n"
 
 -- the place of a number in a list, the length of the list where it is not there
@@ -94,6 +95,7 @@ help =
     ++ bytes "wiphosega leak RHO BOUND CEILING   a listing in, its leak out; sets in hexadecimal digits, BOUND 0 if left out, CEILING on facts\n"
     ++ bytes "wiphosega deliveries       a listing in, for each send and each handler whether it is delivered, and if not, why\n"
     ++ bytes "wiphosega senders RHO      a listing in, for each handler who may have sent to it: handlers by position, opponent\n"
+    ++ bytes "wiphosega order RHO        a listing in, an order of its live handlers, each after all that may send to it, or else a loop: by position\n"
     ++ bytes "wiphosega check            a listing in, what is wrong with it out\n"
     ++ bytes "wiphosega join             two listings in, the second laid over the first; the joined listing out\n"
     ++ bytes "wiphosega block NAME SET   the same in, that handler's lines out, the second listing's if it has it\n"

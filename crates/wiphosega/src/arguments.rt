@@ -6,6 +6,7 @@ pub enum Command {
     Leak,
     Deliveries,
     Senders,
+    Order,
     Check,
     WithInput,
     WithoutInput,
@@ -45,6 +46,9 @@ fn command_of(word: &[u8]) -> Command {
     }
     if check::same(word, b"senders") {
         return Command::Senders;
+    }
+    if check::same(word, b"order") {
+        return Command::Order;
     }
     if check::same(word, b"check") {
         return Command::Check;

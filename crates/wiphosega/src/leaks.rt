@@ -15,7 +15,7 @@ use solver::Bounded;
 use solver::analyse::analyse_within;
 
 // More than any estimate has.
-const NO_CEILING: usize = 4294967296;
+pub const NO_CEILING: usize = 4294967296;
 
 pub fn refusal(r: Refusal) {
     console::refusal(refusal_number(r), refusal_place(r));

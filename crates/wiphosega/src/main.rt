@@ -4,6 +4,7 @@ mod checking;
 mod explain;
 mod input;
 mod leaks;
+mod ordering;
 mod printing;
 mod receivers;
 mod sends;
@@ -16,6 +17,7 @@ fn main() {
         Command::Leak => leaks::leak(),
         Command::Deliveries => sends::deliveries(),
         Command::Senders => receivers::senders(),
+        Command::Order => ordering::order(),
         Command::Check => checking::check(),
         Command::WithInput => printing::with_input(),
         Command::WithoutInput => printing::without_input(),
