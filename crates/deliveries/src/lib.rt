@@ -73,7 +73,8 @@ fn put_receiver(
     at: usize,
 ) -> usize
     requires { ⌜ (p < 1024) × (home < length (now words)) × (q < length (now words)) × (at ≤ 1000000000) ⌝ }
-    ensures { λ r. ⌜ Added (now (out .entry)) at (receiver (now (words .entry)) p home from q to (getD (now (words .entry)) q 0)) (now (out .exit)) r × (r ≤ at + 96) ⌝ }
+    ensures { λ r. ⌜ Added (now (out .entry)) at (receiver (now (words .entry)) p home from q to (getD (now (words .entry)) q 0)) (now (out .exit)) r ⌝ }
+    ensures { λ r. ⌜ r ≤ at + 96 ⌝ }
 {
     if kind_of(words[q]) == 2 {
         add_line(out, at, p, from, to, answer(words, p, home, q))
@@ -92,7 +93,8 @@ fn put_receivers(
     at: usize,
 ) -> usize
     requires { ⌜ (p < length (now words)) × (home < length (now words)) × (length (now words) ≤ 1024) × (at ≤ 200000000) ⌝ }
-    ensures { λ r. ⌜ Added (now (out .entry)) at (receivers (now (words .entry)) p home from) (now (out .exit)) r × (r ≤ at + 96 * length (now (words .entry))) ⌝ }
+    ensures { λ r. ⌜ Added (now (out .entry)) at (receivers (now (words .entry)) p home from) (now (out .exit)) r ⌝ }
+    ensures { λ r. ⌜ r ≤ at + 96 * length (now (words .entry)) ⌝ }
 {
     let mut next = at;
     let mut to = 0;
@@ -108,7 +110,8 @@ fn put_receivers(
 // The lines of the word at p, as far as there is room, and the place after them.
 fn put_word(words: &[u32], p: usize, home: usize, from: usize, out: &mut [u8], at: usize) -> usize
     requires { ⌜ (p < length (now words)) × (home < length (now words)) × (length (now words) ≤ 1024) × (at ≤ 200000000) ⌝ }
-    ensures { λ r. ⌜ Added (now (out .entry)) at (linesOf (now (words .entry)) p home from (getD (now (words .entry)) p 0)) (now (out .exit)) r × (r ≤ at + 98304) ⌝ }
+    ensures { λ r. ⌜ Added (now (out .entry)) at (linesOf (now (words .entry)) p home from (getD (now (words .entry)) p 0)) (now (out .exit)) r ⌝ }
+    ensures { λ r. ⌜ r ≤ at + 98304 ⌝ }
 {
     if kind_of(words[p]) == 35 {
         put_receivers(words, p, home, from, out, at)

@@ -35,7 +35,8 @@ fn put_outcome(out: &mut [u8], at: usize, d: Delivery) -> usize
 
 // The line, at the start of out, and its length.
 fn delivery_line(out: &mut [u8; 96], p: usize, from: usize, to: usize, d: Delivery) -> usize
-    ensures { λ r. ⌜ Line (now (out .entry)) (Text·line p from to d) (now (out .exit)) r × (r ≤ 96) ⌝ }
+    ensures { λ r. ⌜ Line (now (out .entry)) (Text·line p from to d) (now (out .exit)) r ⌝ }
+    ensures { λ r. ⌜ r ≤ 96 ⌝ }
 {
     let a = number_field(out, 0, b"send ", p as u64);
     let b = number_field(out, a, b" from ", from as u64);
@@ -46,7 +47,8 @@ fn delivery_line(out: &mut [u8; 96], p: usize, from: usize, to: usize, d: Delive
 // The line, where it has room, and the place after it.
 pub fn add_line(out: &mut [u8], at: usize, p: usize, from: usize, to: usize, d: Delivery) -> usize
     requires { ⌜ at ≤ 1000000000 ⌝ }
-    ensures { λ r. ⌜ Added (now (out .entry)) at (Text·line p from to d) (now (out .exit)) r × (r ≤ at + 96) ⌝ }
+    ensures { λ r. ⌜ Added (now (out .entry)) at (Text·line p from to d) (now (out .exit)) r ⌝ }
+    ensures { λ r. ⌜ r ≤ at + 96 ⌝ }
 {
     let mut line = [0u8; 96];
     let n = delivery_line(&mut line, p, from, to, d);

@@ -39,19 +39,33 @@ module _ (ws est : List ℕ) where
   unfolding sets
   sender b s position v = choice (eqb (kind v) 2 && holds b (made (code ws) s)) (bytes " " ++ decimal position) []
 
+  abbrev pub senderAt : (b : ℕ) → (s position : ℕ) → List ℕ
+  senderAt b s position = sender b s position (getD ws s 0)
+
   unfoldable pub opponent : (b : ℕ) → List ℕ
   unfolding sets
   opponent b = choice (holds b opponentRecord) (bytes " opponent") []
 
-  -- all who may have sent to the block at b, the opponent last
-  unfoldable pub senders : (b : ℕ) → List ℕ
-  unfolding sender opponent eachWord
-  senders b = eachWord (sender b) 0 0 ws ++ opponent b
+  -- all blocks that may have sent to the block at b
+  abbrev pub blocks : (b : ℕ) → List ℕ
+  blocks b = eachWord (sender b) 0 0 ws
 
-  -- the line of the word w at b, if a block starts there, which then has this position
+  -- all who may have sent to it, the opponent last
+  unfoldable pub senders : (b : ℕ) → List ℕ
+  unfolding sender eachWord opponent
+  senders b = blocks b ++ opponent b
+
+  -- the line of the block at b, which has this position
+  abbrev pub handlerLine : (b position : ℕ) → List ℕ
+  handlerLine b position = line position (argument (getD ws b 0)) (senders b)
+
+  -- the line of the word w at b, if a block starts there
   unfoldable pub blockLine : (b position w : ℕ) → List ℕ
   unfolding line senders
-  blockLine b position w = choice (eqb (kind w) 2) (line position (argument w) (senders b)) []
+  blockLine b position w = choice (eqb (kind w) 2) (handlerLine b position) []
+
+  abbrev pub lineAt : (b position : ℕ) → List ℕ
+  lineAt b position = blockLine b position (getD ws b 0)
 
   -- of an accepted table
   unfoldable pub text : List ℕ

@@ -13,13 +13,12 @@ use table::words::kind_of;
 use text::room::put_room;
 ghost use mathlib.Core.Path.{_≡_};
 ghost use Prim.Native.Nat.{_+_, _*_, _≤_, _<_};
-ghost use lib.ListN.{length, getD};
+ghost use lib.ListN.{length};
 ghost use Rattle.table.specs.Scan.{accepted, reading};
-ghost use Rattle.table.specs.Words.{argument};
 ghost use Rattle.listing.specs.Answer.{answered};
 ghost use Rattle.text.specs.Added.{Added};
-ghost use Rattle.deliveries.specs.Positions.{eachWord};
-ghost use Rattle.senders.specs.Text.{orNobody, holds as Text·holds, line, sender, opponent, senders, blockLine, written, textAfter};
+ghost use Rattle.senders.specs.Text.{orNobody, senderAt, opponent, blocks, senders, handlerLine, lineAt, written, textAfter};
+ghost use Rattle.senders.specs.Text.{holds as Text·holds};
 ghost use Rattle.senders.specs.Text.{text as Text·text};
 
 // Whether the element v is in C(b).
@@ -43,7 +42,8 @@ fn put_sender(
     at: usize,
 ) -> usize
     requires { ⌜ (length (now words) ≤ 1024) × (b < length (now words)) × (s < length (now words)) × (at ≤ 1000000000) ⌝ }
-    ensures { λ r. ⌜ Added (now (out .entry)) at (sender (now (words .entry)) (now (est .entry)) b s position (getD (now (words .entry)) s 0)) (now (out .exit)) r × (r ≤ at + 64) ⌝ }
+    ensures { λ r. ⌜ Added (now (out .entry)) at (senderAt (now (words .entry)) (now (est .entry)) b s position) (now (out .exit)) r ⌝ }
+    ensures { λ r. ⌜ r ≤ at + 64 ⌝ }
 {
     if kind_of(words[s]) != 2 {
         return at;
@@ -58,7 +58,8 @@ fn put_sender(
 // The positions of all blocks that may have sent to b.
 fn put_senders(words: &[u32], est: &[u32], b: usize, out: &mut [u8], at: usize) -> usize
     requires { ⌜ (length (now words) ≤ 1024) × (b < length (now words)) × (at ≤ 200000000) ⌝ }
-    ensures { λ r. ⌜ Added (now (out .entry)) at (eachWord (sender (now (words .entry)) (now (est .entry)) b) 0 0 (now (words .entry))) (now (out .exit)) r × (r ≤ at + 65536) ⌝ }
+    ensures { λ r. ⌜ Added (now (out .entry)) at (blocks (now (words .entry)) (now (est .entry)) b) (now (out .exit)) r ⌝ }
+    ensures { λ r. ⌜ r ≤ at + 65536 ⌝ }
 {
     let mut next = at;
     let mut position = 0;
@@ -74,7 +75,8 @@ fn put_senders(words: &[u32], est: &[u32], b: usize, out: &mut [u8], at: usize) 
 // The opponent, if it may have sent to b.
 fn put_opponent(words: &[u32], est: &[u32], b: usize, out: &mut [u8], at: usize) -> usize
     requires { ⌜ (length (now words) ≤ 1024) × (b < length (now words)) × (at ≤ 1000000000) ⌝ }
-    ensures { λ r. ⌜ Added (now (out .entry)) at (opponent (now (words .entry)) (now (est .entry)) b) (now (out .exit)) r × (r ≤ at + 64) ⌝ }
+    ensures { λ r. ⌜ Added (now (out .entry)) at (opponent (now (words .entry)) (now (est .entry)) b) (now (out .exit)) r ⌝ }
+    ensures { λ r. ⌜ r ≤ at + 64 ⌝ }
 {
     if holds(words, est, b, 7) {
         put_room(out, at, b" opponent")
@@ -86,7 +88,8 @@ fn put_opponent(words: &[u32], est: &[u32], b: usize, out: &mut [u8], at: usize)
 // All who may have sent to b, or a dash.
 fn put_all(words: &[u32], est: &[u32], b: usize, out: &mut [u8], at: usize) -> usize
     requires { ⌜ (length (now words) ≤ 1024) × (b < length (now words)) × (at ≤ 200000000) ⌝ }
-    ensures { λ r. ⌜ Added (now (out .entry)) at (orNobody (senders (now (words .entry)) (now (est .entry)) b)) (now (out .exit)) r × (r ≤ at + 65600) ⌝ }
+    ensures { λ r. ⌜ Added (now (out .entry)) at (orNobody (senders (now (words .entry)) (now (est .entry)) b)) (now (out .exit)) r ⌝ }
+    ensures { λ r. ⌜ r ≤ at + 65600 ⌝ }
 {
     let next = put_senders(words, est, b, out, at);
     let end = put_opponent(words, est, b, out, next);
@@ -107,7 +110,8 @@ fn put_line(
     at: usize,
 ) -> usize
     requires { ⌜ (length (now words) ≤ 1024) × (b < length (now words)) × (at ≤ 100000000) ⌝ }
-    ensures { λ r. ⌜ Added (now (out .entry)) at (line position (argument (getD (now (words .entry)) b 0)) (senders (now (words .entry)) (now (est .entry)) b)) (now (out .exit)) r × (r ≤ at + 66000) ⌝ }
+    ensures { λ r. ⌜ Added (now (out .entry)) at (handlerLine (now (words .entry)) (now (est .entry)) b position) (now (out .exit)) r ⌝ }
+    ensures { λ r. ⌜ r ≤ at + 66000 ⌝ }
 {
     let name = argument_of(words[b]);
     let a = add_number(out, at, b"handler ", position);
@@ -127,7 +131,8 @@ fn put_block(
     at: usize,
 ) -> usize
     requires { ⌜ (length (now words) ≤ 1024) × (b < length (now words)) × (at ≤ 100000000) ⌝ }
-    ensures { λ r. ⌜ Added (now (out .entry)) at (blockLine (now (words .entry)) (now (est .entry)) b position (getD (now (words .entry)) b 0)) (now (out .exit)) r × (r ≤ at + 66000) ⌝ }
+    ensures { λ r. ⌜ Added (now (out .entry)) at (lineAt (now (words .entry)) (now (est .entry)) b position) (now (out .exit)) r ⌝ }
+    ensures { λ r. ⌜ r ≤ at + 66000 ⌝ }
 {
     if kind_of(words[b]) == 2 {
         put_line(words, est, b, position, out, at)

@@ -8,6 +8,7 @@ mod ordering;
 mod printing;
 mod receivers;
 mod sends;
+mod systems;
 
 use crate::arguments::Command;
 use crate::arguments::read_command;

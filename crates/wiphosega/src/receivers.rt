@@ -1,13 +1,13 @@
-// The command `senders`: for each handler of a listing's system who may have sent to it, by the least estimate.
+// The command `senders`: for each handler of a system who may have sent to it, by the least estimate.
 use crate::arguments::Value;
 use crate::arguments::set;
 use crate::explain::help;
-use crate::input::read_input;
-use crate::leaks::refusal;
+use crate::systems::Request;
+use crate::systems::refusal;
+use crate::systems::run;
 use calls::numbers::fault_number;
 use calls::numbers::fault_place;
 use listing::Answer;
-use listing::read::read;
 use solver::Analysis;
 use solver::analyse::analyse;
 
@@ -20,7 +20,7 @@ fn senders_by(words: &[u32], est: &[u32]) {
     }
 }
 
-fn senders_of(words: &[u32], rho: u32) {
+pub fn senders_of(words: &[u32], rho: u32) {
     let mut est = [0u32; 70656];
     let mut work = [0u32; 4096];
     match analyse(words, rho, &mut est, &mut work) {
@@ -29,23 +29,9 @@ fn senders_of(words: &[u32], rho: u32) {
     }
 }
 
-fn senders_in(text: &[u8], rho: u32) {
-    let mut words = [0u32; 1024];
-    match read(text, &mut words) {
-        Answer::Done(n) => senders_of(&words[..n], rho),
-        Answer::Refused(r) => refusal(r),
-    }
-}
-
-fn senders_with(rho: u32) {
-    let mut input = [0u8; 65537];
-    let n = read_input(&mut input);
-    senders_in(&input[..n], rho);
-}
-
 pub fn senders() {
     match set(2) {
-        Value::Number(rho) => senders_with(rho),
+        Value::Number(rho) => run(Request::Senders(rho)),
         Value::Missing => help(),
         Value::Wrong => help(),
     }

@@ -251,7 +251,7 @@ fn senders(table: &Table, rho: u32) -> String {
 fn who_may_have_sent() {
     let mut random = Random(53);
     let mut counts = [0; 3];
-    let tables: Vec<Vec<u32>> = (0..150).map(|k| if k % 3 == 0 { table(&mut random) } else { sensible_table(&mut random, 120, 8) }).collect();
+    let tables: Vec<Vec<u32>> = (0..400).map(|k| if k % 3 == 0 { table(&mut random) } else { sensible_table(&mut random, 120, 8) }).collect();
     for words in samples().into_iter().map(|sample| sample.words).chain(tables) {
         let (Ok(listing), Ok(table)) = (write(&words, 65_536), peer::table::read(&words)) else { continue };
         let rho = random.permissions(4);
@@ -270,6 +270,9 @@ fn who_may_have_sent() {
     assert_eq!(printed(&["senders", "8"], relay), "handler 0 name 0 from opponent\nhandler 1 name 1 from 0 opponent\n");
     let required = include_bytes!("../../../examples/relay-required.listing");
     assert_eq!(printed(&["senders", "0"], required), "handler 0 name 0 from opponent\nhandler 1 name 1 from -\n");
+    let ports = printed(&["senders", "1"], include_bytes!("../../../examples/cookies-ports.listing"));
+    let lines: String = ports.lines().map(|line| format!("    {line}\n")).collect();
+    assert!(include_str!("../../../docs/EXAMPLES.md").contains(&lines), "{ports}");
     assert_eq!(printed(&["senders", "0"], b"system 1\n"), "refused 4 at 1\n");
     assert_eq!(printed(&["senders", "0"], b"system x\n"), "refused 40 at 1\n");
     assert_eq!(printed(&["senders", "1000000"], relay), "refused 20 at 0\n");
