@@ -37,7 +37,7 @@ pub record Behind (text : List ℕ) (start k place : ℕ) : Type 0 where
 unfoldable pub numbers : List ℕ
 numbers =
     1 ∷ 2 ∷ 3 ∷ 4 ∷ 5 ∷ 6 ∷ 7 ∷ 8 ∷ 9 ∷ 10 ∷ 11 ∷ 12 ∷ 20 ∷ 21 ∷ 22 ∷ 23 ∷ 30 ∷ 31 ∷ 40 ∷ 41 ∷ 42 ∷ 43 ∷ 44 ∷ 45 ∷ 46 ∷ 47 ∷ 48 ∷ 49 ∷ 50
-    ∷ 52 ∷ 53 ∷ 54 ∷ []
+    ∷ 51 ∷ 52 ∷ 53 ∷ 54 ∷ []
 
 -- a line for each of them, and one for every other number
 unfoldable pub page : List ℕ
@@ -71,6 +71,7 @@ page =
     ++ bytes "The joined system has more than 32 handlers.\n"
     ++ bytes "The joined system has more than 1,024 words.\n"
     ++ bytes "The output has no room for the joined system.\n"
+    ++ bytes "The slice for positions is shorter than the number of handlers.\n"
     ++ bytes "The estimate has more or fewer words than the system asks for.\n"
     ++ bytes "The estimate has a bit set that stands for nothing.\n"
     ++ bytes "The estimate breaks a rule of this word.\n"
@@ -99,6 +100,7 @@ help =
     ++ bytes "wiphosega leak RHO BOUND CEILING   a listing in, its leak out; sets in hexadecimal digits, BOUND 0 if left out, CEILING on facts\n"
     ++ bytes "wiphosega deliveries       a listing in, for each send and each handler whether it is delivered, and if not, why\n"
     ++ bytes "wiphosega senders RHO      a listing in, for each handler who may have sent to it: handlers by position, opponent\n"
+    ++ bytes "wiphosega order RHO        a listing in, an order of its live handlers, each after all that may send to it, or else a loop: by position\n"
     ++ bytes "wiphosega estimate RHO     a listing in, the words of its least estimate out\n"
     ++ bytes "wiphosega audit RHO        words in: how many the system has, the system, an estimate; whether the estimate obeys every rule out\n"
     ++ bytes "wiphosega check            a listing in, what is wrong with it out\n"

@@ -7,6 +7,7 @@ pub enum Command {
     Leak,
     Deliveries,
     Senders,
+    Order,
     Estimate,
     Audit,
     WithInput,
@@ -43,6 +44,9 @@ fn command_of(word: &[u8]) -> Command {
     }
     if check::same(word, b"senders") {
         return Command::Senders;
+    }
+    if check::same(word, b"order") {
+        return Command::Order;
     }
     if check::same(word, b"estimate") {
         return Command::Estimate;

@@ -3,6 +3,7 @@ mod arguments;
 mod estimates;
 mod explain;
 mod input;
+mod ordering;
 mod printing;
 mod receivers;
 mod sends;
@@ -16,6 +17,7 @@ fn main() {
         Command::Leak => printing::leak(),
         Command::Deliveries => sends::deliveries(),
         Command::Senders => receivers::senders(),
+        Command::Order => ordering::order(),
         Command::Estimate => estimates::estimate(),
         Command::Audit => estimates::audited(),
         Command::WithInput => printing::with_input(),

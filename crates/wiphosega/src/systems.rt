@@ -1,6 +1,7 @@
 // What the commands ask of a listing's system: the listing is read, and the answer or a refusal is printed.
 use crate::estimates::estimate_of;
 use crate::input::read_input;
+use crate::ordering::order_of;
 use crate::receivers::senders_of;
 use crate::sends::deliveries_of;
 use listing::Answer;
@@ -14,6 +15,7 @@ pub enum Request {
     // The opponent's set.
     Senders(u32),
     Estimate(u32),
+    Order(u32),
 }
 
 pub fn refusal(r: Refusal) {
@@ -25,6 +27,7 @@ fn answer(words: &[u32], request: Request) {
         Request::Deliveries => deliveries_of(words),
         Request::Senders(rho) => senders_of(words, rho),
         Request::Estimate(rho) => estimate_of(words, rho),
+        Request::Order(rho) => order_of(words, rho),
     }
 }
 
