@@ -3,7 +3,7 @@
 
 use peer::estimate::{made, Layout, OPPONENT};
 use peer::generate::{sensible_table, table, Random};
-use peer::listing::{read, text, write};
+use peer::listing::{check, meaning, read, text, write};
 use peer::manifest::Manifest;
 use peer::manifest_inputs::{manifests, of_length, random_damage, random_manifest};
 use peer::overlay::{join, lookup};
@@ -68,15 +68,69 @@ fn text_or_nothing(words: &[u32]) -> Vec<u8> {
     write(words, 65_536).unwrap_or_default()
 }
 
+/// What `check` prints for each number, in full.
 #[test]
 fn what_is_wrong() {
     let head = "system 1\nhandler 0\npermissions 000003\nguard 000000\n";
-    let check = |body: &str| printed(&["check"], format!("{head}{body}").as_bytes());
-    assert!(check("  variable 1\n").starts_with("refused 10 at 4\nline 5:   variable 1\n"));
-    assert!(check("variable 0\n").starts_with("refused 40 at 5\nline 5: variable 0\nright, line 5:   variable 0\nThe line"));
-    assert!(check("  variable 0").starts_with("refused 40 at 5\nline 5:   variable 0\nThe line"));
-    assert!(check("  apply\n    unit\n").starts_with("refused 40 at 6\nline 6:     unit\n"));
-    assert!(check("").starts_with("refused 8 at 4\nThe system ends"));
+    let whole = format!("{head}  variable 0\n");
+    let deep: Vec<String> = (1..=65).map(|depth| format!("{}function\n", "  ".repeat(depth))).collect();
+    let long = "a".repeat(65_536);
+    let cases = [
+        (whole.clone(), "accepted 5\n".to_string()),
+        (String::new(), format!("refused 1 at 0\n{}\n", meaning(1))),
+        ("handler 0\n".to_string(), format!("refused 1 at 0\nline 1: handler 0\n{}\n", meaning(1))),
+        ("system 0\n".repeat(1025), format!("refused 2 at 0\nline 1: system 0\n{}\n", meaning(2))),
+        ("system 33\n".to_string(), format!("refused 3 at 0\nline 1: system 33\n{}\n", meaning(3))),
+        ("system 1\npermissions 000000\n".to_string(), format!("refused 4 at 1\nline 2: permissions 000000\n{}\n", meaning(4))),
+        ("system 1\n".to_string(), format!("refused 4 at 1\n{}\n", meaning(4))),
+        ("system 1\nhandler 32\n".to_string(), format!("refused 5 at 1\nline 2: handler 32\n{}\n", meaning(5))),
+        (format!("{}{}", whole.replace("system 1", "system 2"), &whole[9..]), format!("refused 6 at 6\nline 7: permissions 000003\n{}\n", meaning(6))),
+        (format!("{head}handler 0\n"), format!("refused 7 at 4\nline 5: handler 0\n{}\n", meaning(7))),
+        (head.to_string(), format!("refused 8 at 4\n{}\n", meaning(8))),
+        (format!("{head}  constant 99\n"), format!("refused 9 at 4\nline 5:   constant 99\n{}\n", meaning(9))),
+        (format!("{head}  variable 1\n"), format!("refused 10 at 4\nline 5:   variable 1\n{}\n", meaning(10))),
+        (format!("{head}{}", deep.concat()), format!("refused 11 at 68\nline 69: {}{}\n", deep[64], meaning(11))),
+        (format!("{whole}guard 000000\n"), format!("refused 12 at 5\nline 6: guard 000000\n{}\n", meaning(12))),
+        (format!("{head}variable 0\n"), format!("refused 40 at 5\nline 5: variable 0\nright, line 5:   variable 0\n{}\n", meaning(40))),
+        (format!(" {whole}"), format!("refused 40 at 1\nline 1:  system 1\nright, line 1: system 1\n{}\n", meaning(40))),
+        (format!("{head}  variable 0"), format!("refused 40 at 5\nline 5:   variable 0\n{}\n", meaning(40))),
+        (format!("{head}  apply\n    unit\n"), format!("refused 40 at 6\nline 6:     unit\n{}\n", meaning(40))),
+        ("\n".to_string(), format!("refused 40 at 1\nline 1: \n{}\n", meaning(40))),
+        (long.clone(), format!("refused 40 at 1\nline 1: {long}\n{}\n", meaning(40))),
+        (format!("{long}a"), format!("refused 41 at 0\n{}\n", meaning(41))),
+        ("\n".repeat(200_000), format!("refused 41 at 0\n{}\n", meaning(41))),
+    ];
+    for (text, expected) in cases {
+        assert_eq!(printed(&["check"], text.as_bytes()), expected);
+        assert_eq!(check(text.as_bytes()), expected.as_bytes());
+    }
+}
+
+/// What `check` prints of damaged texts, against the independent implementation.
+#[test]
+fn what_is_wrong_with_damaged_texts() {
+    let mut random = Random(47);
+    let mut right = 0;
+    for round in 0..300 {
+        let Ok(text) = write(&table(&mut random), 65_536) else { continue };
+        let damaged = if round % 2 == 0 { random_damage(&mut random, text) } else { respaced(&mut random, text) };
+        let output = run(&["check"], &damaged);
+        assert_eq!(output, check(&damaged));
+        right += usize::from(output.windows(7).any(|bytes| bytes == b"\nright,"));
+    }
+    assert!(right > 50, "{right}");
+}
+
+/// The text with a leading space more, or one less, in a line.
+fn respaced(random: &mut Random, text: Vec<u8>) -> Vec<u8> {
+    let mut lines: Vec<Vec<u8>> = text.split_inclusive(|&b| b == b'\n').map(<[u8]>::to_vec).collect();
+    let place = random.below(lines.len());
+    if lines[place][0] == b' ' && random.below(2) == 0 {
+        lines[place].remove(0);
+    } else {
+        lines[place].insert(0, b' ');
+    }
+    lines.concat()
 }
 
 /// The sentences of docs/REFUSALS.md are the program's.
@@ -93,7 +147,7 @@ fn explained() {
     assert_eq!(printed(&["explain", "13"], b""), "No refusal has this number.\n");
     let help = printed(&[], b"");
     assert!(["text", "words", "leak RHO BOUND CEILING", "deliveries", "senders RHO", "check", "join", "block NAME SET", "manifest", "explain NUMBER"].iter().all(|command| help.contains(&format!("wiphosega {command}"))));
-    for arguments in [&["leaks"][..], &["senders"], &["senders", "x"], &["explain"], &["explain", "1x"], &["explain", "123456789"], &["block"], &["block", "1"], &["block", "0a", "2"]] {
+    for arguments in [&["leaks"][..], &["leak"], &["leak", "x"], &["leak", "0", "x"], &["leak", "0", "0", "a"], &["leak", "0", "0", "123456789"], &["senders"], &["senders", "x"], &["explain"], &["explain", "1x"], &["explain", "123456789"], &["block"], &["block", "1"], &["block", "0a", "2"]] {
         assert_eq!(printed(arguments, b""), help);
     }
 }
