@@ -1,6 +1,7 @@
 // What the commands ask of a listing's system: the listing is read, and the answer or a refusal is printed.
 use crate::input::read_input;
 use crate::leaks::leak_under;
+use crate::ordering::order_of;
 use crate::receivers::senders_of;
 use crate::sends::deliveries_of;
 use listing::Answer;
@@ -15,6 +16,8 @@ pub enum Request {
     Deliveries,
     // The opponent's set.
     Senders(u32),
+    // The opponent's set.
+    Order(u32),
 }
 
 pub fn refusal(r: Refusal) {
@@ -26,6 +29,7 @@ fn answer(words: &[u32], request: Request) {
         Request::Leak(rho, bound, ceiling) => leak_under(words, rho, bound, ceiling),
         Request::Deliveries => deliveries_of(words),
         Request::Senders(rho) => senders_of(words, rho),
+        Request::Order(rho) => order_of(words, rho),
     }
 }
 
