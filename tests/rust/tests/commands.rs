@@ -143,11 +143,11 @@ fn explained() {
         assert_eq!(printed(&["explain", cells[0]], b""), format!("{}\n", cells[1]));
         count += 1;
     }
-    assert_eq!(count, 44);
+    assert_eq!(count, 45);
     assert_eq!(printed(&["explain", "13"], b""), "No refusal has this number.\n");
     let help = printed(&[], b"");
-    assert!(["text", "words", "leak RHO BOUND CEILING", "deliveries", "senders RHO", "check", "join", "block NAME SET", "manifest", "explain NUMBER"].iter().all(|command| help.contains(&format!("wiphosega {command}"))));
-    for arguments in [&["leaks"][..], &["leak"], &["leak", "x"], &["leak", "0", "x"], &["leak", "0", "0", "a"], &["leak", "0", "0", "123456789"], &["senders"], &["senders", "x"], &["explain"], &["explain", "1x"], &["explain", "123456789"], &["block"], &["block", "1"], &["block", "0a", "2"]] {
+    assert!(["text", "words", "leak RHO BOUND CEILING", "deliveries", "senders RHO", "order RHO", "estimate RHO", "audit RHO", "check", "join", "block NAME SET", "manifest", "explain NUMBER"].iter().all(|command| help.contains(&format!("wiphosega {command}"))));
+    for arguments in [&["leaks"][..], &["leak"], &["leak", "x"], &["leak", "0", "x"], &["leak", "0", "0", "a"], &["leak", "0", "0", "123456789"], &["senders"], &["senders", "x"], &["order"], &["order", "x"], &["estimate"], &["audit", "x"], &["explain"], &["explain", "1x"], &["explain", "123456789"], &["block"], &["block", "1"], &["block", "0a", "2"]] {
         assert_eq!(printed(arguments, b""), help);
     }
 }
