@@ -3,3 +3,4 @@ pub mod Meant
 pub mod Texts
 pub mod PairLaws
 pub mod Runs
+pub mod Packed

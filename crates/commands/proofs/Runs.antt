@@ -9,7 +9,7 @@ use lib.Dec.{eqb, leb}
 use lib.ListN.{length, drop}
 use Rattle.text.specs.Text.{bytes}
 use Rattle.text.specs.Writing.{Wrote}
-use Rattle.commands.specs.Printed.{textText, wordsText, joinText, blockText, manifestText, explainText, room, same, printed, fits, printedSize, outAfter}
+use Rattle.commands.specs.Printed.{textText, wordsText, joinText, blockText, manifestText, explainText, otherText, room, same, printed, fits, printedSize, outAfter}
 use Rattle.commands.specs.Meanings.{help}
 
 same-refl : (l : List ℕ) → same l l ≡ true
@@ -101,6 +101,6 @@ module _ (command first second input : List ℕ) where
             printed-explain e = rw (printed, not-text, not-words, not-join, not-block, not-manifest, e)
 
             module _ (not-explain : same command (bytes "explain") ≡ false) where
-              pub printed-help : help ≡ printed command first second input
+              pub printed-other : otherText command first input ≡ printed command first second input
               unfolding printed
-              printed-help = rw (printed, not-text, not-words, not-join, not-block, not-manifest, not-explain)
+              printed-other = rw (printed, not-text, not-words, not-join, not-block, not-manifest, not-explain)

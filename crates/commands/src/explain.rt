@@ -8,7 +8,7 @@ ghost use Rattle.text.specs.Writing.{Wrote};
 ghost use Rattle.commands.specs.Meanings.{numbers, position, meaning as Meanings·meaning};
 ghost use Rattle.commands.specs.Meanings.{sentence as Meanings·sentence, help as Meanings·help};
 
-const NUMBERS: [u32; 29] = [
+const NUMBERS: [u32; 32] = [
     1,
     2,
     3,
@@ -38,6 +38,9 @@ const NUMBERS: [u32; 29] = [
     48,
     49,
     50,
+    58,
+    59,
+    61,
 ];
 
 // The line of the page that has the meaning of a number.
@@ -46,7 +49,7 @@ fn row(n: u32) -> usize
 {
     let listed = NUMBERS;
     let mut i = 0;
-    while i < 29 {
+    while i < 32 {
         if listed[i] == n {
             return i;
         }
@@ -92,6 +95,9 @@ fn meaning(out: &mut [u8], at: usize, n: u32) -> usize
            The joined system has more than 32 handlers.\n\
            The joined system has more than 1,024 words.\n\
            The output has no room for the joined system.\n\
+           The stream ends inside a system.\n\
+           A system of a stream has more than 256 words.\n\
+           The stream goes on after 10,000 systems.\n\
            No refusal has this number.\n",
         k,
     )
@@ -124,6 +130,7 @@ pub fn help(out: &mut [u8]) -> usize
            wiphosega join             two listings in, the second laid over the first; the joined listing out\n\
            wiphosega block NAME SET   the same in, that handler's lines out, the second listing's if it has it\n\
            wiphosega manifest         a manifest in, its version and permission set out\n\
+           wiphosega pack RHO         a listing in, a system of the stream of a class out; RHO in hexadecimal digits\n\
            wiphosega explain NUMBER   the meaning of a refusal's number\n",
     )
 }
