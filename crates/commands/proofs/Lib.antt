@@ -5,3 +5,4 @@ pub mod Texts
 pub mod Checks
 pub mod PairLaws
 pub mod Runs
+pub mod Packed

@@ -9,7 +9,7 @@ use lib.Dec.{eqb}
 use lib.ListN.{length, drop}
 use Rattle.text.specs.Text.{bytes}
 use Rattle.text.specs.Writing.{Wrote}
-use Rattle.commands.specs.Printed.{textText, wordsText, joinText, blockText, manifestText, explainText, room, same, printed, fits, printedSize, outAfter}
+use Rattle.commands.specs.Printed.{textText, wordsText, joinText, blockText, manifestText, explainText, otherText, room, same, printed, fits, printedSize, outAfter}
 use Rattle.commands.specs.Meanings.{help}
 use Rattle.commands.specs.Checked.{checkText}
 
@@ -89,6 +89,6 @@ module _ (command first second input : List ℕ) where
               unfolding printed
               printed-check e = rw (printed, not-text, not-words, not-join, not-block, not-manifest, not-explain, e)
 
-              pub printed-help : same command (bytes "check") ≡ false → help ≡ printed command first second input
+              pub printed-other : same command (bytes "check") ≡ false → otherText command first input ≡ printed command first second input
               unfolding printed
-              printed-help e = rw (printed, not-text, not-words, not-join, not-block, not-manifest, not-explain, e)
+              printed-other e = rw (printed, not-text, not-words, not-join, not-block, not-manifest, not-explain, e)

@@ -1,8 +1,8 @@
--- What the program prints, from the bytes of its arguments and of its input (document 02, wishes 1, 4 and 5).
+-- What the program prints, from the bytes of its arguments and of its input (document 02, wishes 1, 4, 5 and 14).
 use Prim.Native.Nat.{ℕ, zero, suc, _+_, _-_, _%_}
 use mathlib.Core.Bool.{Bool, true, false, _&&_}
 use mathlib.Core.List.{List, [], _∷_, _++_}
-use lib.Dec.{eqb, leb}
+use lib.Dec.{eqb, leb, ltb}
 use lib.ListN.{length, getD, take, drop}
 use Rattle.text.specs.Text.{bytes, decimal, set}
 use Rattle.little_endian.specs.LittleEndian.{wordsOf, bytesOf}
@@ -129,6 +129,25 @@ keyText Other permissions input = help
 abbrev pub blockText : (name permissions input : List ℕ) → List ℕ
 blockText name permissions input = keyText (valueOf 10 name) (valueOf 16 permissions) input
 
+-- ---- pack RHO: a listing in, a system of the stream of a class out
+
+-- the length, ρ and the words
+abbrev pub packed : (ρ : ℕ) (words : List ℕ) → List ℕ
+packed ρ words = bytesOf (length words ∷ ρ ∷ words)
+
+-- a system of more than 256 words is none of a stream
+unfoldable pub systemText : (ρ : ℕ) (words : List ℕ) → List ℕ
+systemText ρ words = elim (ltb 256 (length words)) [ true ↦ refusalLine 59 0 | false ↦ packed ρ words ]
+
+unfoldable pub packText : (ρ : ℕ) (input : List ℕ) → List ℕ
+unfolding answerText systemText
+packText ρ input = answerText (readAs input 1024) (systemText ρ (Listing·wordsOf input))
+
+unfoldable pub packedFor : (ρ : Value) (input : List ℕ) → List ℕ
+unfolding packText
+packedFor (Number ρ) input = packText ρ input
+packedFor Other input = help
+
 -- ---- the program
 
 -- so many bytes more than the input has are room for the text of every command
@@ -141,9 +160,14 @@ same [] (b ∷ bs) = false
 same (a ∷ l) [] = false
 same (a ∷ l) (b ∷ bs) = eqb a b && same l bs
 
+-- the commands that stand after the others, and the help where none is named
+unfoldable pub otherText : (command first input : List ℕ) → List ℕ
+unfolding packedFor same
+otherText command first input = elim (same command (bytes "pack")) [ true ↦ packedFor (valueOf 16 first) input | false ↦ help ]
+
 -- what is printed for a command, its two arguments and the input
 unfoldable pub printed : (command first second input : List ℕ) → List ℕ
-unfolding textText wordsText joinText keyText outcomeText valueText checkText same
+unfolding textText wordsText joinText keyText outcomeText valueText checkText same otherText
 printed command first second input =
     elim (same command (bytes "text")) [
       | true ↦ textText input
@@ -157,7 +181,7 @@ printed command first second input =
               | true ↦ manifestText input
               | false ↦ elim (same command (bytes "explain")) [
                 | true ↦ explainText first
-                | false ↦ elim (same command (bytes "check")) [ true ↦ checkText input | false ↦ help ]
+                | false ↦ elim (same command (bytes "check")) [ true ↦ checkText input | false ↦ otherText command first input ]
               ]
             ]
           ]

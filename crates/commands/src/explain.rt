@@ -8,7 +8,7 @@ ghost use Rattle.text.specs.Writing.{Wrote};
 ghost use Rattle.commands.specs.Meanings.{numbers, position, meaning as Meanings·meaning};
 ghost use Rattle.commands.specs.Meanings.{sentence as Meanings·sentence, help as Meanings·help};
 
-const NUMBERS: [u33; 33] = [
+const NUMBERS: [u32; 36] = [
     1,
     2,
     3,
@@ -42,6 +42,9 @@ const NUMBERS: [u33; 33] = [
     52,
     53,
     54,
+    58,
+    59,
+    61,
 ];
 
 // The line of the page that has the meaning of a number.
@@ -50,7 +53,7 @@ fn row(n: u32) -> usize
 {
     let listed = NUMBERS;
     let mut i = 0;
-    while i < 33 {
+    while i < 36 {
         if listed[i] == n {
             return i;
         }
@@ -100,6 +103,9 @@ fn meaning(out: &mut [u8], at: usize, n: u32) -> usize
            The estimate has more or fewer words than the system asks for.\n\
            The estimate has a bit set that stands for nothing.\n\
            The estimate breaks a rule of this word.\n\
+           The stream ends inside a system.\n\
+           A system of a stream has more than 256 words.\n\
+           The stream goes on after 10,000 systems.\n\
            No refusal has this number.\n",
         k,
     )
@@ -136,6 +142,7 @@ pub fn help(out: &mut [u8]) -> usize
            wiphosega join             two listings in, the second laid over the first; the joined listing out\n\
            wiphosega block NAME SET   the same in, that handler's lines out, the second listing's if it has it\n\
            wiphosega manifest         a manifest in, its version and permission set out\n\
+           wiphosega pack RHO         a listing in, a system of the stream of a class out; RHO in hexadecimal digits\n\
            wiphosega explain NUMBER   the meaning of a refusal's number\n",
     )
 }

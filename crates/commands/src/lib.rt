@@ -6,6 +6,7 @@ mod lines;
 mod listings;
 mod manifests;
 mod overlays;
+mod packing;
 
 use crate::arguments::Value;
 use crate::arguments::value_of;
@@ -17,11 +18,12 @@ use crate::listings::words_text;
 use crate::manifests::manifest_text;
 use crate::overlays::found_text;
 use crate::overlays::join_text;
+use crate::packing::pack_text;
 ghost use mathlib.Core.Path.{_≡_};
 ghost use Prim.Native.Nat.{_+_, _≤_};
 ghost use lib.ListN.{length};
 ghost use Rattle.text.specs.Writing.{Wrote};
-ghost use Rattle.commands.specs.Printed.{keyText, explainText, blockText, room, printed, printedSize, outAfter};
+ghost use Rattle.commands.specs.Printed.{keyText, explainText, blockText, packedFor, otherText, room, printed, printedSize, outAfter};
 
 // The meaning of a number.
 fn explain_text(number: &[u8], out: &mut [u8]) -> usize
@@ -57,6 +59,27 @@ fn block_text(name: &[u8], perms: &[u8], input: &[u8], out: &mut [u8]) -> usize
     key_text(n, s, input, out)
 }
 
+fn packed_for(rho: Value, input: &[u8], out: &mut [u8]) -> usize
+    requires { ⌜ room ≤ length (now out) ⌝ }
+    ensures { λ r. ⌜ Wrote (now (out .entry)) 0 (packedFor rho (now (input .entry))) (now (out .exit)) r ⌝ }
+{
+    match rho {
+        Value::Number(n) => pack_text(n, input, out),
+        Value::Other => help(out),
+    }
+}
+
+// The text of a command that stands after the others.
+fn other_text(command: &[u8], first: &[u8], input: &[u8], out: &mut [u8]) -> usize
+    requires { ⌜ room ≤ length (now out) ⌝ }
+    ensures { λ r. ⌜ Wrote (now (out .entry)) 0 (otherText (now (command .entry)) (now (first .entry)) (now (input .entry))) (now (out .exit)) r ⌝ }
+{
+    if check::same(command, b"pack") {
+        return packed_for(value_of(first, 16), input, out);
+    }
+    help(out)
+}
+
 // The text of a command.
 fn print(command: &[u8], first: &[u8], second: &[u8], input: &[u8], out: &mut [u8]) -> usize
     requires { ⌜ room + length (now input) ≤ length (now out) ⌝ }
@@ -83,7 +106,7 @@ fn print(command: &[u8], first: &[u8], second: &[u8], input: &[u8], out: &mut [u
     if check::same(command, b"check") {
         return check_text(input, out);
     }
-    help(out)
+    other_text(command, first, input, out)
 }
 
 // The text of a command with its two arguments and its input, at the start of the output, and how many bytes it has. Nothing is written

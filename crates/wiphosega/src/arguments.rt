@@ -31,7 +31,10 @@ fn has_input(word: &[u8]) -> bool {
     if check::same(word, b"manifest") {
         return true;
     }
-    check::same(word, b"check")
+    if check::same(word, b"check") {
+        return true;
+    }
+    check::same(word, b"pack")
 }
 
 // The command that a word names.

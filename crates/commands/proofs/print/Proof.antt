@@ -2,7 +2,7 @@
 use mathlib.Core.Path.{_≡_, refl, sym, ap, ap₂, subst, _∙_}
 use native.Mathlib.Omega.{arith}
 use Rattle.text.proofs.Writing.{reworded}
-use Rattle.commands.proofs.Runs.{decided, printed-text, printed-words, printed-join, printed-block, printed-manifest, printed-explain, printed-check, printed-help}
+use Rattle.commands.proofs.Runs.{decided, printed-text, printed-words, printed-join, printed-block, printed-manifest, printed-explain, printed-check, printed-other}
 use borrow.Author.Needs.{needs}
 use Rattle.commands.proofs.print.Statement.{statement}
 use Rattle.commands.proofs.print.Tie as tie
@@ -126,8 +126,8 @@ returns-7 c =
     let s = c .before .before .before .before .before .before .before .before .before .before .before .before .before .before .before .before .before .before .before .before .before .before .before .before .before .before .before .before .before .before in
     reworded (printed-check (s .args .command .now) (s .args .first .now) (s .args .second .now) (s .args .input .now) (decided _ _ _ (c .before .before .before .before .before .before .before .before .before .before .before .before .before .before .before .before .before .before .before .before .before .before .before .same .ensures) ∙ c .before .before .before .before .before .before .before .before .before .before .before .before .before .before .before .before .before .before .before .before .before .before .if1 .left) (decided _ _ _ (c .before .before .before .before .before .before .before .before .before .before .before .before .before .before .before .before .before .before .before .before .same2 .ensures) ∙ c .before .before .before .before .before .before .before .before .before .before .before .before .before .before .before .before .before .before .before .if2 .left) (decided _ _ _ (c .before .before .before .before .before .before .before .before .before .before .before .before .before .before .before .before .before .same3 .ensures) ∙ c .before .before .before .before .before .before .before .before .before .before .before .before .before .before .before .before .if3 .left) (decided _ _ _ (c .before .before .before .before .before .before .before .before .before .before .before .before .before .before .same4 .ensures) ∙ c .before .before .before .before .before .before .before .before .before .before .before .before .before .if4 .left) (decided _ _ _ (c .before .before .before .before .before .before .before .before .before .before .before .same5 .ensures) ∙ c .before .before .before .before .before .before .before .before .before .before .if5 .left) (decided _ _ _ (c .before .before .before .before .before .before .before .before .same6 .ensures) ∙ c .before .before .before .before .before .before .before .if6 .left) (decided _ _ _ (c .before .before .before .before .before .same7 .ensures) ∙ c .before .before .before .before .if7 .taken)) (c .before .before .check-text .ensures)
 
-help-requires : tie.Need-help-requires
-help-requires c κs = search needs
+other-text-requires : tie.Need-other-text-requires
+other-text-requires c κs = search needs
 
 same-length-8 : tie.Need-same-length-8
 same-length-8 c = search needs
@@ -135,7 +135,7 @@ same-length-8 c = search needs
 returns-8 : tie.Need-returns-8
 returns-8 c =
     let s = c .before .before .before .before .before .before .before .before .before .before .before .before .before .before .before .before .before .before .before .before .before .before .before .before .before .before .before .before .before .before in
-    reworded (printed-help (s .args .command .now) (s .args .first .now) (s .args .second .now) (s .args .input .now) (decided _ _ _ (c .before .before .before .before .before .before .before .before .before .before .before .before .before .before .before .before .before .before .before .before .before .before .before .same .ensures) ∙ c .before .before .before .before .before .before .before .before .before .before .before .before .before .before .before .before .before .before .before .before .before .before .if1 .left) (decided _ _ _ (c .before .before .before .before .before .before .before .before .before .before .before .before .before .before .before .before .before .before .before .before .same2 .ensures) ∙ c .before .before .before .before .before .before .before .before .before .before .before .before .before .before .before .before .before .before .before .if2 .left) (decided _ _ _ (c .before .before .before .before .before .before .before .before .before .before .before .before .before .before .before .before .before .same3 .ensures) ∙ c .before .before .before .before .before .before .before .before .before .before .before .before .before .before .before .before .if3 .left) (decided _ _ _ (c .before .before .before .before .before .before .before .before .before .before .before .before .before .before .same4 .ensures) ∙ c .before .before .before .before .before .before .before .before .before .before .before .before .before .if4 .left) (decided _ _ _ (c .before .before .before .before .before .before .before .before .before .before .before .same5 .ensures) ∙ c .before .before .before .before .before .before .before .before .before .before .if5 .left) (decided _ _ _ (c .before .before .before .before .before .before .before .before .same6 .ensures) ∙ c .before .before .before .before .before .before .before .if6 .left) (decided _ _ _ (c .before .before .before .before .before .same7 .ensures) ∙ c .before .before .before .before .if7 .left)) (c .before .before .help .ensures)
+    reworded (printed-other (s .args .command .now) (s .args .first .now) (s .args .second .now) (s .args .input .now) (decided _ _ _ (c .before .before .before .before .before .before .before .before .before .before .before .before .before .before .before .before .before .before .before .before .before .before .before .same .ensures) ∙ c .before .before .before .before .before .before .before .before .before .before .before .before .before .before .before .before .before .before .before .before .before .before .if1 .left) (decided _ _ _ (c .before .before .before .before .before .before .before .before .before .before .before .before .before .before .before .before .before .before .before .before .same2 .ensures) ∙ c .before .before .before .before .before .before .before .before .before .before .before .before .before .before .before .before .before .before .before .if2 .left) (decided _ _ _ (c .before .before .before .before .before .before .before .before .before .before .before .before .before .before .before .before .before .same3 .ensures) ∙ c .before .before .before .before .before .before .before .before .before .before .before .before .before .before .before .before .if3 .left) (decided _ _ _ (c .before .before .before .before .before .before .before .before .before .before .before .before .before .before .same4 .ensures) ∙ c .before .before .before .before .before .before .before .before .before .before .before .before .before .if4 .left) (decided _ _ _ (c .before .before .before .before .before .before .before .before .before .before .before .same5 .ensures) ∙ c .before .before .before .before .before .before .before .before .before .before .if5 .left) (decided _ _ _ (c .before .before .before .before .before .before .before .before .same6 .ensures) ∙ c .before .before .before .before .before .before .before .if6 .left) (decided _ _ _ (c .before .before .before .before .before .same7 .ensures) ∙ c .before .before .before .before .if7 .left)) (c .before .before .other-text .ensures)
 
 pub print-spec : {M : Type 1} → statement M
 print-spec =
@@ -176,6 +176,6 @@ print-spec =
     check-text-requires
     same-length-7
     returns-7
-    help-requires
+    other-text-requires
     same-length-8
     returns-8)
