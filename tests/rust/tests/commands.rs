@@ -305,7 +305,7 @@ fn senders(table: &Table, rho: u32) -> String {
 fn who_may_have_sent() {
     let mut random = Random(53);
     let mut counts = [0; 3];
-    let tables: Vec<Vec<u32>> = (0..150).map(|k| if k % 3 == 0 { table(&mut random) } else { sensible_table(&mut random, 120, 8) }).collect();
+    let tables: Vec<Vec<u32>> = (0..400).map(|k| if k % 3 == 0 { table(&mut random) } else { sensible_table(&mut random, 120, 8) }).collect();
     for words in samples().into_iter().map(|sample| sample.words).chain(tables) {
         let (Ok(listing), Ok(table)) = (write(&words, 65_536), peer::table::read(&words)) else { continue };
         let rho = random.permissions(4);
