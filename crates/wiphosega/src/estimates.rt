@@ -18,8 +18,21 @@ use solver::analyse::analyse;
 use text::put;
 use text::set_field;
 
+// So many words, as bytes.
+fn first_words(bytes: &[u8], count: usize) {
+    if count <= 70656 {
+        console::first(bytes, 4 * count);
+    }
+}
+
+fn print_words(est: &[u32]) {
+    let mut out = [0u8; 282624];
+    let n = bytes_of(est, &mut out);
+    first_words(&out, n);
+}
+
 // The first words of a slice: those of an estimate of a system of so many words.
-fn print_words(est: &[u32], size: usize) {
+fn print_estimate(est: &[u32], size: usize) {
     if 1024 < size {
         return;
     }
@@ -27,11 +40,7 @@ fn print_words(est: &[u32], size: usize) {
     if est.len() < n {
         return;
     }
-    let mut out = [0u8; 282624];
-    let k = bytes_of(&est[..n], &mut out);
-    if k <= 70656 {
-        console::first(&out, 4 * k);
-    }
+    print_words(&est[..n]);
 }
 
 pub fn estimate_of(words: &[u32], rho: u32) {
@@ -39,7 +48,7 @@ pub fn estimate_of(words: &[u32], rho: u32) {
     let mut work = [0u32; 4096];
     match analyse(words, rho, &mut est, &mut work) {
         Analysis::Refused(f) => console::refusal(fault_number(f), fault_place(f)),
-        Analysis::Solved(_) => print_words(&est, words.len()),
+        Analysis::Solved(_) => print_estimate(&est, words.len()),
     }
 }
 
@@ -66,13 +75,17 @@ fn said(a: Audit) {
     console::refusal(audit_number(a), audit_place(a));
 }
 
+fn size_of(w: u32) -> usize {
+    w as usize
+}
+
 // The first word says how many the system has; the others are the system and the estimate.
 fn audit_words(words: &[u32], rho: u32) {
     if words.len() == 0 {
         console::refusal(30, 0);
         return;
     }
-    let size = words[0] as usize;
+    let size = size_of(words[0]);
     if words.len() <= size {
         console::refusal(30, 0);
         return;
@@ -81,14 +94,19 @@ fn audit_words(words: &[u32], rho: u32) {
     said(audit::judge::audit(&words[1..end], rho, &words[end..]));
 }
 
+// The words of the input, over words that are lent.
+fn audit_room(input: &[u8], rho: u32, room: &mut [u32]) {
+    let n = words_of(input, room);
+    audit_words(&room[..n], rho);
+}
+
 fn audit_in(input: &[u8], rho: u32) {
     if input.len() % 4 != 0 {
         console::refusal(30, 0);
         return;
     }
     let mut words = [0u32; 71682];
-    let n = words_of(input, &mut words);
-    audit_words(&words[..n], rho);
+    audit_room(input, rho, &mut words);
 }
 
 // Of a longer input 286,728 bytes are kept: a word more than the largest system and its estimate, which decides.
