@@ -91,10 +91,14 @@ module _ (t : Tally) (piece : List ℕ) where
 abbrev pub room : ℕ
 room = 2400
 
+-- the bytes of the output after a text was written to its start
+abbrev pub outAfter : (text before : List ℕ) → List ℕ
+outAfter text before = text ++ drop (length text) before
+
 -- what was asked for is done: what the step says, and the bytes of the output from those before
 pub record Done (t : Tally) (piece : List ℕ) (k : Task) (before : List ℕ) (r : Step) (after : List ℕ) : Type 0 where
   pub says : r ≡ stepFor t piece k
-  pub bytes : after ≡ textFor t piece k ++ drop (length (textFor t piece k)) before
+  pub bytes : after ≡ outAfter (textFor t piece k) before
   pub fits : r .size ≤ room
 
 -- ---- what a leak means

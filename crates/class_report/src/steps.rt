@@ -15,11 +15,10 @@ use crate::stream::word_at;
 use fingerprint::fingerprint;
 use report::refusal_line;
 ghost use mathlib.Core.Path.{_≡_};
-ghost use mathlib.Core.List.{_++_};
 ghost use Prim.Native.Nat.{_+_, _*_, _≤_};
-ghost use lib.ListN.{length, drop};
+ghost use lib.ListN.{length};
 ghost use Rattle.class_report.specs.Stream.{number};
-ghost use Rattle.class_report.specs.Steps.{atEnd, brokenTask, frontTask, fullTask, taskFor, room, Done, SoundFor};
+ghost use Rattle.class_report.specs.Steps.{atEnd, brokenTask, frontTask, fullTask, taskFor, room, outAfter, Done, SoundFor};
 ghost use Rattle.class_report.specs.Steps.{text as Steps·text, step as Steps·step};
 
 // What is known only where the stream has ended.
@@ -131,7 +130,7 @@ fn system_step(tally: Tally, piece: &[u8], words: usize, out: &mut [u8; 2400]) -
 // the fault; and nothing where more bytes are needed.
 pub fn step(tally: Tally, piece: &[u8], ended: bool, out: &mut [u8; 2400]) -> Step
     ensures says { λ r. ⌜ r ≡ Steps·step tally (now (piece .entry)) ended ⌝ }
-    ensures text { λ _. ⌜ now (out .exit) ≡ Steps·text tally (now (piece .entry)) ended ++ drop (length (Steps·text tally (now (piece .entry)) ended)) (now (out .entry)) ⌝ }
+    ensures text { λ _. ⌜ now (out .exit) ≡ outAfter (Steps·text tally (now (piece .entry)) ended) (now (out .entry)) ⌝ }
     ensures fits { λ r. ⌜ r .size ≤ room ⌝ }
     ensures used { λ r. ⌜ r .used ≤ length (now (piece .entry)) ⌝ }
     ensures sound { λ _. ⌜ SoundFor (now (piece .entry)) ⌝ }

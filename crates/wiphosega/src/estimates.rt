@@ -1,5 +1,4 @@
 // The commands `estimate`, the words of a system's least estimate, and `audit`, the check of an estimate from elsewhere.
-use crate::arguments::Value;
 use crate::arguments::set;
 use crate::explain::help;
 use crate::input::read_input;
@@ -10,6 +9,7 @@ use audit::numbers::audit_number;
 use audit::numbers::audit_place;
 use calls::numbers::fault_number;
 use calls::numbers::fault_place;
+use commands::arguments::Value;
 use little_endian::bytes_of;
 use little_endian::words_of;
 use rows::layout::Layout;
@@ -55,8 +55,7 @@ pub fn estimate_of(words: &[u32], rho: u32) {
 pub fn estimate() {
     match set(2) {
         Value::Number(rho) => run(Request::Estimate(rho)),
-        Value::Missing => help(),
-        Value::Wrong => help(),
+        Value::Other => help(),
     }
 }
 
@@ -119,7 +118,6 @@ fn audit_with(rho: u32) {
 pub fn audited() {
     match set(2) {
         Value::Number(rho) => audit_with(rho),
-        Value::Missing => help(),
-        Value::Wrong => help(),
+        Value::Other => help(),
     }
 }

@@ -1,9 +1,9 @@
 // The command `order`: an order of a system's live handlers in which each follows all that may send to it, or else a loop.
-use crate::arguments::Value;
 use crate::arguments::set;
 use crate::explain::help;
 use crate::systems::Request;
 use crate::systems::run;
+use commands::arguments::Value;
 
 // More than any estimate has.
 const NO_CEILING: usize = 4294967296;
@@ -22,7 +22,6 @@ pub fn order_of(words: &[u32], rho: u32) {
 pub fn order() {
     match set(2) {
         Value::Number(rho) => run(Request::Order(rho)),
-        Value::Missing => help(),
-        Value::Wrong => help(),
+        Value::Other => help(),
     }
 }

@@ -1,6 +1,7 @@
 //! The program for listings, run as a user runs it. WIPHOSEGA_LISTINGS names it.
 #![cfg(proved)]
 
+use peer::class::record;
 use peer::estimate::{made, Layout, OPPONENT};
 use peer::generate::{sensible_table, table, Random};
 use peer::listing::{check, meaning, read, text, write};
@@ -48,6 +49,25 @@ fn words_and_text() {
     assert_eq!(printed(&["text"], &[0; 5000]), "refused 1 at 0\n");
     assert_eq!(printed(&["words"], &[b'\n'; 65_537]), "refused 41 at 0\n");
     assert_eq!(printed(&["words"], &vec![b'\n'; 200_000]), "refused 41 at 0\n");
+}
+
+/// A system of the stream of a class: its length, ρ and its words. Over 256 words it is none.
+#[test]
+fn packed() {
+    let mut random = Random(42);
+    let tables = (0..100).map(|_| table(&mut random));
+    for words in samples().into_iter().map(|sample| sample.words).chain(tables) {
+        let Ok(text) = write(&words, 65_536) else { continue };
+        let rho = words.len() as u32 * 0x0100_0193;
+        let output = run(&["pack", &format!("{rho:x}")], &text);
+        if words.len() <= 256 {
+            assert_eq!(output, record(rho, &words));
+        } else {
+            assert_eq!(output, b"refused 59 at 0\n");
+        }
+    }
+    assert_eq!(printed(&["pack", "0"], b"system 1\nhandle 0\n"), "refused 40 at 2\n");
+    assert_eq!(printed(&["pack", "0"], b""), "refused 1 at 0\n");
 }
 
 #[test]
@@ -143,11 +163,11 @@ fn explained() {
         assert_eq!(printed(&["explain", cells[0]], b""), format!("{}\n", cells[1]));
         count += 1;
     }
-    assert_eq!(count, 45);
+    assert_eq!(count, 51);
     assert_eq!(printed(&["explain", "13"], b""), "No refusal has this number.\n");
     let help = printed(&[], b"");
-    assert!(["text", "words", "leak RHO BOUND CEILING", "deliveries", "senders RHO", "order RHO", "estimate RHO", "audit RHO", "check", "join", "block NAME SET", "manifest", "explain NUMBER"].iter().all(|command| help.contains(&format!("wiphosega {command}"))));
-    for arguments in [&["leaks"][..], &["leak"], &["leak", "x"], &["leak", "0", "x"], &["leak", "0", "0", "a"], &["leak", "0", "0", "123456789"], &["senders"], &["senders", "x"], &["order"], &["order", "x"], &["estimate"], &["audit", "x"], &["explain"], &["explain", "1x"], &["explain", "123456789"], &["block"], &["block", "1"], &["block", "0a", "2"]] {
+    assert!(["text", "words", "leak RHO BOUND CEILING", "deliveries", "senders RHO", "order RHO", "estimate RHO", "audit RHO", "check", "join", "block NAME SET", "manifest", "pack RHO", "explain NUMBER"].iter().all(|command| help.contains(&format!("wiphosega {command}"))));
+    for arguments in [&["leaks"][..], &["leak"], &["leak", "x"], &["leak", "0", "x"], &["leak", "0", "0", "a"], &["leak", "0", "0", "123456789"], &["senders"], &["senders", "x"], &["order"], &["order", "x"], &["estimate"], &["audit", "x"], &["explain"], &["explain", "1x"], &["explain", "123456789"], &["block"], &["block", "1"], &["block", "0a", "2"], &["pack"], &["pack", "g"], &["pack", "123456789"]] {
         assert_eq!(printed(arguments, b""), help);
     }
 }
