@@ -14,8 +14,8 @@ pub fn order_of(words: &[u32], rho: u32) {
     let mut work = [0u32; 4096];
     let mut positions = [0u32; 64];
     let mut out = [0u8; 1440];
-    let r = reading_order::order(words, rho, NO_CEILING, &mut est, &mut work, &mut positions);
-    let n = order_text::write(r, &positions, &mut out);
+    let reply = reading_order::order(words, rho, NO_CEILING, &mut est, &mut work, &mut positions);
+    let n = order_text::write(reply, &positions, &mut out);
     console::first(&out, n);
 }
 
