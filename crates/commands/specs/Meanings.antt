@@ -96,6 +96,7 @@ help =
     ++ bytes "wiphosega words            a listing in, its words out\n"
     ++ bytes "wiphosega leak RHO BOUND CEILING   a listing in, its leak out; sets in hexadecimal digits, BOUND 0 if left out, CEILING on facts\n"
     ++ bytes "wiphosega deliveries       a listing in, for each send and each handler whether it is delivered, and if not, why\n"
+    ++ bytes "wiphosega senders RHO      a listing in, for each handler who may have sent to it: handlers by position, opponent\n"
     ++ bytes "wiphosega check            a listing in, what is wrong with it out\n"
     ++ bytes "wiphosega join             two listings in, the second laid over the first; the joined listing out\n"
     ++ bytes "wiphosega block NAME SET   the same in, that handler's lines out, the second listing's if it has it\n"

@@ -126,6 +126,7 @@ pub fn help(out: &mut [u8]) -> usize
            wiphosega words            a listing in, its words out\n\
            wiphosega leak RHO BOUND CEILING   a listing in, its leak out; sets in hexadecimal digits, BOUND 0 if left out, CEILING on facts\n\
            wiphosega deliveries       a listing in, for each send and each handler whether it is delivered, and if not, why\n\
+           wiphosega senders RHO      a listing in, for each handler who may have sent to it: handlers by position, opponent\n\
            wiphosega check            a listing in, what is wrong with it out\n\
            wiphosega join             two listings in, the second laid over the first; the joined listing out\n\
            wiphosega block NAME SET   the same in, that handler's lines out, the second listing's if it has it\n\

@@ -1,4 +1,6 @@
 // Text in a lent slice of bytes. A writer takes the place to write at and answers the place after its text.
+pub mod room;
+
 ghost use mathlib.Core.Path.{_≡_};
 ghost use mathlib.Core.List.{_++_};
 ghost use Prim.Native.Nat.{_+_, _<_, _≤_, max};

@@ -5,6 +5,7 @@ ghost use Prim.Native.Nat.{_<_, _^_, _≤_};
 pub enum Command {
     Leak,
     Deliveries,
+    Senders,
     Check,
     WithInput,
     WithoutInput,
@@ -44,6 +45,9 @@ fn command_of(word: &[u8]) -> Command {
     }
     if check::same(word, b"deliveries") {
         return Command::Deliveries;
+    }
+    if check::same(word, b"senders") {
+        return Command::Senders;
     }
     if check::same(word, b"check") {
         return Command::Check;

@@ -1,25 +1,17 @@
-// The command `leak`: the leak of a listing's system, under a ceiling on facts if there is one.
+// The command `leak`: the leak of a system, under a ceiling on facts if there is one.
 use crate::arguments::Value;
 use crate::arguments::number;
 use crate::arguments::set;
 use crate::explain::help;
-use crate::input::read_input;
+use crate::systems::Request;
+use crate::systems::run;
 use calls::checks::stray_bound;
-use listing::Answer;
-use listing::Refusal;
-use listing::numbers::refusal_number;
-use listing::numbers::refusal_place;
-use listing::read::read;
 use printout::system::system_text;
 use solver::Bounded;
 use solver::analyse::analyse_within;
 
 // More than any estimate has.
 const NO_CEILING: usize = 4294967296;
-
-pub fn refusal(r: Refusal) {
-    console::refusal(refusal_number(r), refusal_place(r));
-}
 
 fn leak_of(words: &[u32], rho: u32, bound: u32) {
     let mut est = [0u32; 70656];
@@ -30,7 +22,7 @@ fn leak_of(words: &[u32], rho: u32, bound: u32) {
 }
 
 // The same under a ceiling, which is looked at after the bound.
-fn leak_under(words: &[u32], rho: u32, bound: u32, ceiling: usize) {
+pub fn leak_under(words: &[u32], rho: u32, bound: u32, ceiling: usize) {
     if stray_bound(bound) {
         leak_of(words, rho, bound);
         return;
@@ -44,24 +36,10 @@ fn leak_under(words: &[u32], rho: u32, bound: u32, ceiling: usize) {
     }
 }
 
-fn leak_in(text: &[u8], rho: u32, bound: u32, ceiling: usize) {
-    let mut words = [0u32; 1024];
-    match read(text, &mut words) {
-        Answer::Done(n) => leak_under(&words[..n], rho, bound, ceiling),
-        Answer::Refused(r) => refusal(r),
-    }
-}
-
-fn leak_with(rho: u32, bound: u32, ceiling: usize) {
-    let mut input = [0u8; 65537];
-    let n = read_input(&mut input);
-    leak_in(&input[..n], rho, bound, ceiling);
-}
-
 fn leak_within(rho: u32, bound: u32) {
     match number(4) {
-        Value::Number(ceiling) => leak_with(rho, bound, ceiling as usize),
-        Value::Missing => leak_with(rho, bound, NO_CEILING),
+        Value::Number(ceiling) => run(Request::Leak(rho, bound, ceiling as usize)),
+        Value::Missing => run(Request::Leak(rho, bound, NO_CEILING)),
         Value::Wrong => help(),
     }
 }

@@ -2,7 +2,8 @@
 #![cfg(proved)]
 
 use peer::class::record;
-use peer::generate::{table, Random};
+use peer::estimate::{made, Layout, OPPONENT};
+use peer::generate::{sensible_table, table, Random};
 use peer::listing::{read, text, write};
 use peer::manifest::Manifest;
 use peer::manifest_inputs::{manifests, of_length, random_damage, random_manifest};
@@ -10,7 +11,7 @@ use peer::overlay::{join, lookup};
 use peer::overlay_inputs::{keys, pair, relay};
 use peer::samples::samples;
 use peer::table::{kind, Table};
-use peer::terms::system;
+use peer::terms::{block, send, system, term, variable};
 use peer::verdict::{bytes_of, program};
 use std::io::Write;
 use std::process::{Command, Stdio};
@@ -111,8 +112,10 @@ fn explained() {
     assert_eq!(count, 47);
     assert_eq!(printed(&["explain", "13"], b""), "No refusal has this number.\n");
     let help = printed(&[], b"");
-    assert!(["text", "words", "leak RHO BOUND CEILING", "deliveries", "check", "join", "block NAME SET", "manifest", "pack RHO", "explain NUMBER"].iter().all(|command| help.contains(&format!("wiphosega {command}"))));
-    for arguments in [&["leaks"][..], &["explain"], &["explain", "1x"], &["explain", "123456789"], &["block"], &["block", "1"], &["block", "0a", "2"], &["pack"], &["pack", "g"], &["pack", "123456789"]] {
+    let commands = ["text", "words", "leak RHO BOUND CEILING", "deliveries", "senders RHO", "check", "join", "block NAME SET", "manifest", "pack RHO", "explain NUMBER"];
+    assert!(commands.iter().all(|command| help.contains(&format!("wiphosega {command}"))));
+    let wrong = [&["leaks"][..], &["senders"], &["senders", "x"], &["explain"], &["explain", "1x"], &["explain", "123456789"], &["block"], &["block", "1"], &["block", "0a", "2"]];
+    for arguments in wrong.into_iter().chain([&["pack"][..], &["pack", "g"], &["pack", "123456789"]]) {
         assert_eq!(printed(arguments, b""), help);
     }
 }
@@ -248,6 +251,64 @@ fn why_a_send_is_not_delivered() {
     assert_eq!(to_one(handlers("000000", "000000", 1)), "send 4 from 0 to 1 needs 000008");
     assert_eq!(to_one(handlers("000000", "000008", 1)), "send 4 from 0 to 1 delivered");
     assert_eq!(printed(&["deliveries"], b"system 1\n"), "refused 4 at 1\n");
+}
+
+/// The lines of every block, from the independent implementation's value sets of the blocks.
+fn senders(table: &Table, rho: u32) -> String {
+    let estimate = peer::naive::solve(table, rho);
+    let row = Layout::of(table.size()).row;
+    let mut lines = String::new();
+    for (position, block) in table.blocks.iter().enumerate() {
+        let has = |x: usize| estimate[2 * block.start * row + x / 32] >> (x % 32) & 1 != 0;
+        let mut from: Vec<String> = Vec::new();
+        from.extend((0..table.blocks.len()).filter(|&s| has(made(table.blocks[s].start))).map(|s| s.to_string()));
+        from.extend(has(OPPONENT).then(|| "opponent".to_string()));
+        from.extend(from.is_empty().then(|| "-".to_string()));
+        lines += &format!("handler {position} name {} from {}\n", block.name, from.join(" "));
+    }
+    lines
+}
+
+#[test]
+fn who_may_have_sent() {
+    let mut random = Random(53);
+    let mut counts = [0; 3];
+    let tables: Vec<Vec<u32>> = (0..400).map(|k| if k % 3 == 0 { table(&mut random) } else { sensible_table(&mut random, 120, 8) }).collect();
+    for words in samples().into_iter().map(|sample| sample.words).chain(tables) {
+        let (Ok(listing), Ok(table)) = (write(&words, 65_536), peer::table::read(&words)) else { continue };
+        let rho = random.permissions(4);
+        let expected = senders(&table, rho);
+        assert_eq!(printed(&["senders", &format!("{rho:x}")], &listing), expected, "{words:08x?} rho {rho:x}");
+        for line in expected.lines() {
+            let from: Vec<&str> = line.split(" from ").nth(1).unwrap().split(' ').collect();
+            counts[0] += u32::from(from == ["-"]);
+            counts[1] += u32::from(from.contains(&"opponent"));
+            counts[2] += u32::from(from.len() > 2);
+        }
+    }
+    assert!(counts.iter().all(|&count| count > 20), "{counts:?}");
+    let relay = include_bytes!("../../../examples/relay.listing");
+    assert_eq!(printed(&["senders", "0"], relay), "handler 0 name 0 from opponent\nhandler 1 name 1 from 0\n");
+    assert_eq!(printed(&["senders", "8"], relay), "handler 0 name 0 from opponent\nhandler 1 name 1 from 0 opponent\n");
+    let required = include_bytes!("../../../examples/relay-required.listing");
+    assert_eq!(printed(&["senders", "0"], required), "handler 0 name 0 from opponent\nhandler 1 name 1 from -\n");
+    let ports = printed(&["senders", "1"], include_bytes!("../../../examples/cookies-ports.listing"));
+    let lines: String = ports.lines().map(|line| format!("    {line}\n")).collect();
+    assert!(include_str!("../../../docs/EXAMPLES.md").contains(&lines), "{ports}");
+    assert_eq!(printed(&["senders", "0"], b"system 1\n"), "refused 4 at 1\n");
+    assert_eq!(printed(&["senders", "0"], b"system x\n"), "refused 40 at 1\n");
+    assert_eq!(printed(&["senders", "1000000"], relay), "refused 20 at 0\n");
+}
+
+/// 32 handlers that all send to one another: every line has every position and the opponent.
+#[test]
+fn the_longest_text_of_senders() {
+    let body = |i: u32| send(0, variable(0), term(kind::CONSTANT, i % 4, []));
+    let words = system(&(0..32).map(|i| block(i, 1, 0, body(i))).collect::<Vec<_>>());
+    let listing = write(&words, 65_536).expect("a listing");
+    let everybody: String = (0..32).map(|i| format!(" {i}")).collect();
+    let expected: String = (0..32).map(|i| format!("handler {i} name {i} from{everybody} opponent\n")).collect();
+    assert_eq!(printed(&["senders", "0"], &listing), expected);
 }
 
 /// The ceiling comes after the bound, and 23 at the ceiling stands alone.

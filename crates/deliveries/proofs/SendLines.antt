@@ -1,14 +1,12 @@
--- Texts added one after the other, and the lines that are left at each word.
-use Prim.Native.Nat.{ℕ, zero, suc, _+_, _-_, _≤_, _<_}
-use mathlib.Core.Path.{_≡_, refl, sym, ap, _∙_, subst}
+-- What a send is compared with, and the lines that are left at each word.
+use Prim.Native.Nat.{ℕ, _+_, _-_, _≤_, _<_}
+use mathlib.Core.Path.{_≡_, refl, ap, _∙_}
 use mathlib.Core.Bool.{Bool, true, false}
-use mathlib.Core.List.{List, [], _∷_, _++_, append-nil, append-assoc}
-use native.Mathlib.Nat.{add-zero}
+use mathlib.Core.List.{List, [], _++_}
 use native.Mathlib.Numerals.{add-one}
-use native.Mathlib.Omega.{arith}
 use borrow.Author.Tests.{eq-eqb, ne-eqb}
 use lib.Dec.{eqb}
-use lib.ListN.{length, getD, drop, length-append, length-drop}
+use lib.ListN.{length, getD, drop}
 use lib.Seq.{drop-cons}
 use Rattle.permset.specs.declared.PermSet.{PermSet}
 use Rattle.delivery.specs.declared.Delivery.{Delivery}
@@ -17,10 +15,9 @@ use Rattle.table.specs.declared.Handler.{Handler}
 use Rattle.table.specs.Item.{handlerAt}
 use Rattle.table.specs.Links.{blockAt}
 use Rattle.table.specs.Words.{kind, argument}
-use Rattle.text.specs.Writing.{Wrote}
-use Rattle.text.proofs.Writing.{wrote-nothing, then}
-use Rattle.deliveries.specs.Added.{Added}
-use Rattle.deliveries.specs.Text.{nameFor, line, counted, answerAt, receiver, receivers, linesOf, sends}
+use Rattle.deliveries.specs.Positions.{counted}
+use Rattle.deliveries.specs.Text.{nameFor, line, answerAt, receiver, receivers, linesOf, sends}
+use Rattle.deliveries.proofs.Positions.{past-end}
 
 -- the name that is compared
 pub target-name : (t own : ℕ) → kind t ≡ 19 → nameFor t own ≡ argument t
@@ -43,42 +40,7 @@ answer-is ws p home q h g w a v n r d e f i j k l m o =
     ∙ ap (λ (z : Handler). judged (nameFor (getD ws (p + 1) 0) (h .name)) (argument (getD ws p 0)) (z .perms .bits) h) f
     ∙ ap (λ (z : Handler). judged (nameFor (getD ws (p + 1) 0) (z .name)) (argument (getD ws p 0)) (handlerAt ws home .perms .bits) z) e
 
-pub added-nothing : (l : List ℕ) (at : ℕ) → Added l at [] l at
-added-nothing l at = record { ends = sym (add-zero at); same = refl; bytes = λ h. wrote-nothing l at h }
-
-pub added-then : {before first middle second after : List ℕ} {at mid next : ℕ} → Added before at first middle mid → Added middle mid second after next
-    → Added before at (first ++ second) after next
-added-then {before} {first} {middle} {second} {after} {at} {mid} {next} x y =
-    record {
-      ends = omega (arith, x .ends, y .ends, length-append first second);
-      same = y .same ∙ x .same;
-      bytes = λ h. then (x .bytes (omega (arith, y .ends))) (y .bytes (omega (arith, x .same)));
-    }
-
-pub added-as : {before text other after : List ℕ} {at next : ℕ} → text ≡ other → Added before at text after next → Added before at other after next
-added-as {before} {text} {other} {after} {at} {next} e w = subst (λ (l : List ℕ). Added before at l after next) e w
-
-past-end : (ws : List ℕ) (q : ℕ) → length ws ≤ q → drop q ws ≡ []
-past-end ws q h = go (drop q ws) (length-drop q ws)
-  where
-    go : (l : List ℕ) → length l ≡ length ws - q → l ≡ []
-    go [] e = refl
-    go (x ∷ xs) e = absurd (omega arith)
-
 module _ (ws : List ℕ) where
-  module _ (p home from : ℕ) where
-    -- the lines that are left of a send
-    abbrev pub rest : (q to : ℕ) → List ℕ
-    rest q to = receivers ws p home from q to (drop q ws)
-
-    pub rest-end : (q to : ℕ) → length ws ≤ q → rest q to ≡ []
-    unfolding receivers
-    rest-end q to h = ap (receivers ws p home from q to) (past-end ws q h)
-
-    pub rest-here : (q to : ℕ) → q < length ws → rest q to ≡ receiver ws p home from q to (getD ws q 0) ++ rest (q + 1) (counted (getD ws q 0) to)
-    unfolding receivers
-    rest-here q to h = ap (receivers ws p home from q to) (drop-cons ws q 0 h) ∙ rw add-one refl
-
   pub receiver-block : (p home from q to : ℕ) → kind (getD ws q 0) ≡ 2 → receiver ws p home from q to (getD ws q 0) ≡ line p from to (answerAt ws p home q)
   unfolding receiver
   receiver-block p home from q to k = rw (eq-eqb (kind (getD ws q 0)) 2 k, receiver)
@@ -87,7 +49,7 @@ module _ (ws : List ℕ) where
   unfolding receiver
   receiver-none p home from q to k = rw (ne-eqb (kind (getD ws q 0)) 2 k, receiver)
 
-  pub lines-send : (p home from : ℕ) → kind (getD ws p 0) ≡ 35 → linesOf ws p home from (getD ws p 0) ≡ receivers ws p home from 0 0 ws
+  pub lines-send : (p home from : ℕ) → kind (getD ws p 0) ≡ 35 → linesOf ws p home from (getD ws p 0) ≡ receivers ws p home from
   unfolding linesOf
   lines-send p home from k = rw (eq-eqb (kind (getD ws p 0)) 35 k, linesOf)
 
@@ -107,24 +69,6 @@ module _ (ws : List ℕ) where
       → sent p home count ≡ linesOf ws p home (count - 1) (getD ws p 0) ++ sent (p + 1) (blockAt (getD ws p 0) p home) (counted (getD ws p 0) count)
   unfolding sends
   sent-here p home count h = ap (sends ws p home count) (drop-cons ws p 0 h) ∙ rw add-one refl
-
--- ---- counting blocks
-
-pub counted-block : (w count : ℕ) → kind w ≡ 2 → counted w count ≡ count + 1
-unfolding counted
-counted-block w count k = rw (eq-eqb (kind w) 2 k, counted)
-
-pub counted-none : (w count : ℕ) → (kind w ≡ 2 → ⊥) → counted w count ≡ count
-unfolding counted
-counted-none w count k = rw (ne-eqb (kind w) 2 k, counted)
-
-pub counted-most : (w count : ℕ) → counted w count ≤ count + 1
-unfolding counted
-counted-most w count = go (eqb (kind w) 2)
-  where
-    go : (b : Bool) → elim b [ true ↦ count + 1 | false ↦ count ] ≤ count + 1
-    go true = omega arith
-    go false = omega arith
 
 pub block-in : (w p home n : ℕ) → p < n → home < n → blockAt w p home < n
 unfolding blockAt

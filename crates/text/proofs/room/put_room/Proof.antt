@@ -1,9 +1,9 @@
--- `deliveries::lines::put_room` meets its contract. Assumes nothing.
+-- `text::room::put_room` meets its contract. Assumes nothing.
 use mathlib.Core.Path.{refl}
 use native.Mathlib.Omega.{arith}
 use borrow.Author.Needs.{needs}
-use Rattle.deliveries.proofs.lines.put_room.Statement.{statement}
-use Rattle.deliveries.proofs.lines.put_room.Tie as tie
+use Rattle.text.proofs.room.put_room.Statement.{statement}
+use Rattle.text.proofs.room.put_room.Tie as tie
 
 add-if1 : tie.Need-add-if1
 add-if1 c = search needs
