@@ -12,7 +12,8 @@ ghost use Rattle.graph.specs.Answer.{startingWith};
 // By the links of the words.
 fn list_linked(words: &[u32], links: &[u32], firsts: &mut [u32]) -> usize
     requires { ⌜ (reading (now words) ≡ accepted) × LinksOf (now words) (now links) × (length (code (now words) .blocks) ≤ length (now firsts)) ⌝ }
-    ensures { λ r. ⌜ (r ≡ length (code (now (words .entry)) .blocks)) × (now (firsts .exit) ≡ startingWith (code (now (words .entry)) .blocks) (now (firsts .entry))) ⌝ }
+    ensures { λ r. ⌜ (r ≡ length (code (now (words .entry)) .blocks))
+        × (now (firsts .exit) ≡ startingWith (code (now (words .entry)) .blocks) (now (firsts .entry))) ⌝ }
 {
     let mut n = 0;
     let mut b = 1;
@@ -27,7 +28,8 @@ fn list_linked(words: &[u32], links: &[u32], firsts: &mut [u32]) -> usize
 // From the start of a slice, and how many there are.
 pub fn list_firsts(words: &[u32], firsts: &mut [u32]) -> usize
     requires { ⌜ (reading (now words) ≡ accepted) × (length (code (now words) .blocks) ≤ length (now firsts)) ⌝ }
-    ensures { λ r. ⌜ (r ≡ length (code (now (words .entry)) .blocks)) × (now (firsts .exit) ≡ startingWith (code (now (words .entry)) .blocks) (now (firsts .entry))) ⌝ }
+    ensures { λ r. ⌜ (r ≡ length (code (now (words .entry)) .blocks))
+        × (now (firsts .exit) ≡ startingWith (code (now (words .entry)) .blocks) (now (firsts .entry))) ⌝ }
 {
     let mut links = [0u32; 1024];
     link(words, &mut links);

@@ -59,7 +59,8 @@ fn answered(a: Arrangement) -> Ordering
 // The order or loop by the estimate in the first words of a slice.
 fn arranged_in(words: &[u32], est: &[u32], blocks: &[u32], positions: &mut [u32]) -> Arrangement
     requires { ⌜ (reading (now words) ≡ accepted) × (estimateWords (code (now words)) ≤ length (now est)) × (now blocks ≡ code (now words) .blocks) ⌝ }
-    ensures { λ r. ⌜ ArrangedBy (code (now (words .entry))) (take (estimateWords (code (now (words .entry)))) (now (est .entry))) (now (positions .entry)) (now (positions .exit)) r ⌝ }
+    ensures { λ r. ⌜ ArrangedBy (code (now (words .entry))) (take (estimateWords (code (now (words .entry)))) (now (est .entry)))
+        (now (positions .entry)) (now (positions .exit)) r ⌝ }
 {
     let need = words_needed(words);
     arranged(words, &est[..need], blocks, positions)
@@ -77,7 +78,8 @@ fn solved(
 ) -> Ordering
     requires { ⌜ Fits (now words) rho standingBound (length (now est)) (length (now work)) ⌝ }
     requires { ⌜ (now blocks ≡ code (now words) .blocks) × (length (now blocks) ≤ length (now positions)) ⌝ }
-    ensures { λ r. ⌜ OrderedIn (now (words .entry)) rho ceiling (now (est .entry)) (now (work .entry)) (now (positions .entry)) (now (est .exit)) (now (work .exit)) (now (positions .exit)) r ⌝ }
+    ensures { λ r. ⌜ OrderedIn (now (words .entry)) rho ceiling (now (est .entry)) (now (work .entry)) (now (positions .entry))
+        (now (est .exit)) (now (work .exit)) (now (positions .exit)) r ⌝ }
 {
     let found = solve_in(words, PermSet { bits: rho }, ceiling, est, work);
     if ceiling < found.facts {
@@ -96,7 +98,8 @@ fn checked(
     positions: &mut [u32],
 ) -> Ordering
     requires { ⌜ Fits (now words) rho standingBound (length (now est)) (length (now work)) ⌝ }
-    ensures { λ r. ⌜ OrderedIn (now (words .entry)) rho ceiling (now (est .entry)) (now (work .entry)) (now (positions .entry)) (now (est .exit)) (now (work .exit)) (now (positions .exit)) r ⌝ }
+    ensures { λ r. ⌜ OrderedIn (now (words .entry)) rho ceiling (now (est .entry)) (now (work .entry)) (now (positions .entry))
+        (now (est .exit)) (now (work .exit)) (now (positions .exit)) r ⌝ }
 {
     let mut blocks = [0u32; 64];
     let n = firsts::list_firsts(words, &mut blocks);
@@ -116,10 +119,14 @@ pub fn order(
     work: &mut [u32],
     positions: &mut [u32],
 ) -> Ordering
-    ensures answer { λ r. ⌜ replyOf r ≡ reply (now (words .entry)) rho ceiling (length (now (est .entry))) (length (now (work .entry))) (length (now (positions .entry))) ⌝ }
-    ensures estimate { λ _. ⌜ now (est .exit) ≡ estimateAfterOrder (now (words .entry)) rho ceiling (now (est .entry)) (now (work .entry)) (now (positions .entry)) ⌝ }
-    ensures work { λ _. ⌜ now (work .exit) ≡ workAfterOrder (now (words .entry)) rho (now (est .entry)) (now (work .entry)) (now (positions .entry)) ⌝ }
-    ensures positions { λ _. ⌜ now (positions .exit) ≡ positionsAfter (now (words .entry)) rho ceiling (now (est .entry)) (now (work .entry)) (now (positions .entry)) ⌝ }
+    ensures answer { λ r. ⌜ replyOf r
+        ≡ reply (now (words .entry)) rho ceiling (length (now (est .entry))) (length (now (work .entry))) (length (now (positions .entry))) ⌝ }
+    ensures estimate { λ _. ⌜ now (est .exit)
+        ≡ estimateAfterOrder (now (words .entry)) rho ceiling (now (est .entry)) (now (work .entry)) (now (positions .entry)) ⌝ }
+    ensures work { λ _. ⌜ now (work .exit)
+        ≡ workAfterOrder (now (words .entry)) rho (now (est .entry)) (now (work .entry)) (now (positions .entry)) ⌝ }
+    ensures positions { λ _. ⌜ now (positions .exit)
+        ≡ positionsAfter (now (words .entry)) rho ceiling (now (est .entry)) (now (work .entry)) (now (positions .entry)) ⌝ }
     ensures meaning { λ r. ⌜ ReplyMeans (now (words .entry)) rho (replyOf r) (now (positions .exit)) ⌝ }
 {
     match check(words, rho, 0x80000000, est.len(), work.len()) {

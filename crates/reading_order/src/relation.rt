@@ -51,7 +51,8 @@ pub fn live_among(est: &[u32], l: Layout, blocks: &[u32]) -> u64
 // A row for each block, from the start of a slice: those that may have sent to it.
 pub fn fill_rows(est: &[u32], l: Layout, blocks: &[u32], rows: &mut [u64])
     requires { ⌜ Sized l (now est) × Firsts l (now blocks) × (length (now blocks) ≤ length (now rows)) ⌝ }
-    ensures { λ _. ⌜ ((c : Code) → LaidOut c l → now (rows .exit) ≡ startingWith (map (sendersTo c (now (est .entry)) (now (blocks .entry))) (now (blocks .entry))) (now (rows .entry))) ⌝ }
+    ensures { λ _. ⌜ ((c : Code) → LaidOut c l → now (rows .exit)
+        ≡ startingWith (map (sendersTo c (now (est .entry)) (now (blocks .entry))) (now (blocks .entry))) (now (rows .entry))) ⌝ }
 {
     let mut t = 0;
     while t < blocks.len() {

@@ -112,13 +112,13 @@ fn random_relations() {
     let mut counts = [0; 4];
     for round in 0..rounds(600) {
         let blocks = 1 + random.below(7);
-        let mut edges = 0;
-        // every third system has a ring of three or more blocks, and few other sends, which may cut it short
-        let ring = if round % 3 == 2 && blocks > 2 { 3 + random.below(blocks - 2) } else { 0 };
-        for s in 0..ring {
-            edges |= 1 << (8 * ((s + 1) % ring) + s);
+        let mut edges = 0u64;
+        if round % 3 == 0 {
+            // a ring through all, in a random order
+            let ring = random.pick(&lists(&(0..blocks).collect::<Vec<_>>(), blocks)).clone();
+            edges = (0..blocks).fold(0, |edges, i| edges | 1 << (8 * ring[(i + 1) % blocks] + ring[i]));
         }
-        for _ in 0..random.below(if ring > 0 { 3 } else { blocks * 2 + 1 }) {
+        for _ in 0..random.below(if round % 3 == 0 { 3 } else { blocks * 2 + 1 }) {
             let (s, t) = (random.below(blocks), random.below(blocks));
             // more often from lower to higher, so that loops do not always come early
             let (s, t) = if round % 2 == 0 && s > t { (t, s) } else { (s, t) };
