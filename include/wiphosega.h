@@ -42,6 +42,13 @@ static inline uint64_t wiphosega_verdict_nullable(const uint8_t *system, size_t 
                              work_bytes ? work : &none[2], work_bytes);
 }
 
+/* Whether an estimate from elsewhere, of `system` where the opponent holds `rho`, has no stray bit and obeys every rule. The answer is the leak
+   read from it: every permission that can be exercised is in it, and it contains the leak that wiphosega_verdict finds. Refused: 2^32 + number *
+   65536 + place, by 31 and 30 as above, the numbers 1 to 12 of the table, 20, 52 (the bytes are not exactly those of 2WR + W words), 53 (a stray
+   bit; the place is the first word of the estimate with one), 54 (a rule is broken; the place is the lowest word of the system whose rule it is).
+   Nothing is written, and for pointers the same holds as above. */
+uint64_t wiphosega_check(const uint8_t *system, size_t system_bytes, uint32_t rho, const uint8_t *estimate, size_t estimate_bytes);
+
 /* Listings: `rt staticlib capi_text` makes their library, target/staticlib/libcapi_text.a. docs/LISTING.md says what a listing is.
 
    An answer below 2^32 is how many bytes were written to the output, from its start. Refused: 2^32 + number * 65536 + place, by the numbers
@@ -89,6 +96,10 @@ uint64_t wiphosega_manifest(const uint8_t *json, size_t json_bytes);
 uint64_t wiphosega_lookup(const uint8_t *base, size_t base_bytes, const uint8_t *overlay, size_t overlay_bytes, uint32_t name, uint32_t set);
 
 uint64_t wiphosega_join(const uint8_t *base, size_t base_bytes, const uint8_t *overlay, size_t overlay_bytes, uint8_t *out, size_t out_bytes);
+
+/* The fingerprint of a system, as the report on a class has it, in the library of listings: the published hash FNV-1a of 32 bits, of the bytes of
+   its words. For the pointer the same holds as above. */
+uint32_t wiphosega_fingerprint(const uint8_t *system, size_t system_bytes);
 
 #ifdef __cplusplus
 }

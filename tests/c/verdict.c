@@ -153,12 +153,13 @@ static void slices(void) {
     calls += 4;
 }
 
-/* The estimate of `direct`: the block holds all 64, its body has unit, and both have permission 1 and the flag. */
+/* The estimate of `direct`: the opponent may have sent to the block, which holds all 64, its body has unit, and both have permission 1 and the flag. */
 static void estimate_of_direct(void) {
     uint8_t system[20], estimate[4 * 35], work[4 * 20], expected[4 * 35] = {0};
     size_t bytes = bytes_of(HANDLER "24000002", system);
     memset(estimate, FILL, sizeof estimate);
     if (wiphosega_verdict(system, bytes, 0, 0, estimate, sizeof estimate, work, sizeof work) != 2 + OVER) fail("direct", "another answer");
+    expected[4 * (2 * 1 * 3)] = 1 << 7;
     memset(expected + 4 * (2 * 1 * 3 + 3), 0xff, 8);
     expected[4 * (2 * 4 * 3)] = 1 << 1;
     expected[4 * (30 + 1)] = expected[4 * (30 + 4)] = 2;

@@ -13,7 +13,7 @@ use Rattle.table.specs.Code.{apply, sequence, get, delete, assign, operation, s
 use Rattle.calculus.specs.Elements.{plain, made, undefined, unit, opponentRecord, Making, nothing, aFunction, aRecord, aCell, makes, leafMakes, oneMakes, making}
 use Rattle.calculus.specs.Constraint.{C, B, P, L, Sets, Obeys}
 use Rattle.calculus.specs.Rules.{isBlock, guarded, leafRule, oneRule, twoRule, flow, entry, twoSender, sender, senders, rule, Estimate}
-use Rattle.calculus.specs.Layout.{sets}
+use Rattle.calculus.specs.Layout.{sets, LiesIn}
 use Rattle.calculus.specs.Estimate.{estimate}
 use Rattle.calculus.proofs.Digits.{T-or-left, T-or-right, T-and}
 use Rattle.calculus.proofs.Ranges.{range-bound, in-below}
@@ -132,7 +132,7 @@ module _ (c : Code) where
   sending v = eqb v opponentRecord || (leb (plain c) v && isBlock (c .node (v - plain c)))
 
   -- the sets with every proper element, in a block's value set the opponent and every block, every permission and every flag
-  full : Sets
+  unfoldable pub full : Sets
   full (C i) v = chosen (c .node i) (sending v) (proper v)
   full (B i) v = proper v
   full (P i) v = true
@@ -299,3 +299,7 @@ module _ (c : Code) where
     pub held-proper : (i v : ℕ) → T (sets c (estimate c ρ) (B i) v) → T (proper v)
     unfolding full
     held-proper i v h = estimate-least c k ρ full full-obeys (B i) v h
+
+    -- each set of the least estimate
+    pub estimate-full : LiesIn c (estimate c ρ) full
+    estimate-full = estimate-least c k ρ full full-obeys

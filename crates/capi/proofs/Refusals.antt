@@ -21,7 +21,7 @@ use Rattle.comparison.specs.declared.Verdict.the-variants as variants
 use Rattle.comparison.specs.Values.{answerOf}
 use Rattle.interface.specs.Places.{PlaceFits}
 
-scan-place : (names : ℕ) (ws keys : List ℕ) (at : ℕ) (ts : List Task) (n p : ℕ) → scan names ws keys at ts ≡ unreadable n p → p ≤ at + length ws
+pub scan-place : (names : ℕ) (ws keys : List ℕ) (at : ℕ) (ts : List Task) (n p : ℕ) → scan names ws keys at ts ≡ unreadable n p → p ≤ at + length ws
 unfolding scan
 scan-place names [] keys at [] n p e = let z : _≡_ {A = ℕ} 0 1 = cc in absurd (omega arith)
 scan-place names [] keys at (t ∷ ts) n p e = let q : at ≡ p = cc in omega arith

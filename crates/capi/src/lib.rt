@@ -1,4 +1,5 @@
 // The verdict for programs in C, over bytes.
+pub mod check;
 mod slices;
 
 use crate::slices::with_bytes;

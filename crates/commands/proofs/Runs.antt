@@ -1,16 +1,17 @@
 -- Laws of the program: the test of a command, and the room.
-use Prim.Native.Nat.{ℕ, _<_, _≤_}
+use Prim.Native.Nat.{ℕ, _+_, _<_, _≤_}
 use mathlib.Core.Path.{_≡_, refl, sym, ap, ap₂, _∙_, subst}
 use mathlib.Core.Bool.{Bool, true, false, _&&_, false≢true}
 use mathlib.Core.List.{List, [], _∷_, _++_}
 use native.Mathlib.Omega.{arith}
 use borrow.Author.Tests.{eqb-true, eq-eqb, le-leb, lt-leb}
-use lib.Dec.{eqb, leb}
+use lib.Dec.{eqb}
 use lib.ListN.{length, drop}
 use Rattle.text.specs.Text.{bytes}
 use Rattle.text.specs.Writing.{Wrote}
-use Rattle.commands.specs.Printed.{textText, wordsText, joinText, blockText, manifestText, explainText, room, same, printed, fits, printedSize, outAfter}
+use Rattle.commands.specs.Printed.{textText, wordsText, joinText, blockText, manifestText, explainText, otherText, room, same, printed, fits, printedSize, outAfter}
 use Rattle.commands.specs.Meanings.{help}
+use Rattle.commands.specs.Checked.{checkText}
 
 same-refl : (l : List ℕ) → same l l ≡ true
 unfolding same
@@ -40,34 +41,17 @@ decided l m false h = go (same l m) refl
     go true e = absurd (false≢true (h .1 (same-is l m e)))
 
 module _ (text : List ℕ) (input : ℕ) (out : List ℕ) where
-  module _ (h : room ≤ length out) (g : input ≤ length out) where
-    yes-fits : fits input (length out) ≡ true
-    unfolding fits
-    yes-fits = ap₂ (λ (x y : Bool). x && y) (le-leb room (length out) h) (le-leb input (length out) g)
+  pub run-written : room + input ≤ length out → (after : List ℕ) (n : ℕ) → Wrote out 0 text after n
+      → (n ≡ printedSize text input (length out)) × (after ≡ outAfter text input out) × (n ≤ length out)
+  unfolding printedSize outAfter fits
+  run-written h after n w =
+      let e : fits input (length out) ≡ true = le-leb (room + input) (length out) h in
+      let k : n ≡ length text = omega (arith, w .ends) in
+      (k ∙ rw (printedSize, e), w .bytes ∙ ap (λ (i : ℕ). text ++ drop i out) k ∙ rw (outAfter, e), w .fits)
 
-    pub run-written : (after : List ℕ) (n : ℕ) → Wrote out 0 text after n
-        → (n ≡ printedSize text input (length out)) × (after ≡ outAfter text input out) × (n ≤ length out)
-    unfolding printedSize outAfter
-    run-written after n w =
-        let e = yes-fits in
-        let k : n ≡ length text = omega (arith, w .ends) in
-        (k ∙ rw (printedSize, e), w .bytes ∙ ap (λ (i : ℕ). text ++ drop i out) k ∙ rw (outAfter, e), w .fits)
-
-  pub run-short : fits input (length out) ≡ false → (0 ≡ printedSize text input (length out)) × (out ≡ outAfter text input out) × (0 ≤ length out)
-  unfolding printedSize outAfter
-  run-short e = (rw (printedSize, e), rw (outAfter, e), omega arith)
-
-pub no-room : (input size : ℕ) → size < room → fits input size ≡ false
-unfolding fits
-no-room input size h = ap (λ (x : Bool). x && leb input size) (lt-leb room size h)
-
-pub long-input : (input size : ℕ) → size < input → fits input size ≡ false
-unfolding fits
-long-input input size h = go (leb room size) (lt-leb input size h)
-  where
-    go : (a : Bool) → leb input size ≡ false → (a && leb input size) ≡ false
-    go true e = e
-    go false e = refl
+  pub run-short : length out < room + input → (0 ≡ printedSize text input (length out)) × (out ≡ outAfter text input out) × (0 ≤ length out)
+  unfolding printedSize outAfter fits
+  run-short h = let e : fits input (length out) ≡ false = lt-leb (room + input) (length out) h in (rw (printedSize, e), rw (outAfter, e), omega arith)
 
 -- the text of each command
 module _ (command first second input : List ℕ) where
@@ -101,6 +85,10 @@ module _ (command first second input : List ℕ) where
             printed-explain e = rw (printed, not-text, not-words, not-join, not-block, not-manifest, e)
 
             module _ (not-explain : same command (bytes "explain") ≡ false) where
-              pub printed-help : help ≡ printed command first second input
+              pub printed-check : same command (bytes "check") ≡ true → checkText input ≡ printed command first second input
               unfolding printed
-              printed-help = rw (printed, not-text, not-words, not-join, not-block, not-manifest, not-explain)
+              printed-check e = rw (printed, not-text, not-words, not-join, not-block, not-manifest, not-explain, e)
+
+              pub printed-other : same command (bytes "check") ≡ false → otherText command first input ≡ printed command first second input
+              unfolding printed
+              printed-other e = rw (printed, not-text, not-words, not-join, not-block, not-manifest, not-explain, e)

@@ -73,7 +73,7 @@ module _ (ws : List ℕ) where
           let m : length (listing ws) ≤ room = omega arith in
           ap (answer (ltb most (length (listing ws)))) (le-ltb room (length (listing ws)) m ∙ sym (le-ltb most (length (listing ws)) k))
 
-  write-count : (room n : ℕ) → written ws room ≡ done n → n ≡ length (listing ws)
+  pub write-count : (room n : ℕ) → written ws room ≡ done n → n ≡ length (listing ws)
   write-count room n e = go (narrowReading ws) (sym (written-by room) ∙ e)
     where
       go : (o : Outcome) → by room o ≡ done n → n ≡ length (listing ws)
@@ -98,16 +98,19 @@ module _ (ws : List ℕ) where
       unfolding left
       listing-left = q ∙ ap (λ (a : Answered). left a (listing ws) out) e
 
--- of more than 1,024 words the first 1,025 decide
+-- of more than 1,024 words the first 1,025 decide what a refusal decides
+pub first-decides : (f : List ℕ → List ℕ) (g : (n p : ℕ) → List ℕ) → ((vs : List ℕ) (n p : ℕ) → written vs most ≡ refusal n p → f vs ≡ g n p)
+    → (ws : List ℕ) → f (take 1025 ws) ≡ f ws
+first-decides f g h ws = go (narrowReading ws) refl
+  where
+    go : (o : Outcome) → narrowReading ws ≡ o → f (take 1025 ws) ≡ f ws
+    go (refused n p) e =
+        h (take 1025 ws) n p (write-refused (take 1025 ws) most n p (reading-first ws ∙ e)) ∙ sym (h ws n p (write-refused ws most n p e))
+    go accepted e = ap f (take-all 1025 ws (omega (arith, narrow-size ws e)))
+
 pub listing-first : (ws : List ℕ) → listingText (take 1025 ws) ≡ listingText ws
 unfolding listingText answerText
-listing-first ws = go (narrowReading ws) refl
-  where
-    go : (o : Outcome) → narrowReading ws ≡ o → listingText (take 1025 ws) ≡ listingText ws
-    go (refused n p) e =
-        ap (λ (a : Answered). answerText a (listing (take 1025 ws))) (write-refused (take 1025 ws) most n p (reading-first ws ∙ e))
-        ∙ sym (ap (λ (a : Answered). answerText a (listing ws)) (write-refused ws most n p e))
-    go accepted e = ap listingText (take-all 1025 ws (omega (arith, narrow-size ws e)))
+listing-first ws = first-decides listingText refusalLine (λ vs n p e. ap (λ (a : Answered). answerText a (listing vs)) e) ws
 
 module _ (input : List ℕ) where
   pub text-even : length input % 4 ≡ 0 → listingText (wordsOf input) ≡ textText input

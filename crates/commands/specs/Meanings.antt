@@ -35,7 +35,9 @@ pub record Behind (text : List ℕ) (start k place : ℕ) : Type 0 where
 
 -- the numbers that have a meaning, in the order of the page
 unfoldable pub numbers : List ℕ
-numbers = 1 ∷ 2 ∷ 3 ∷ 4 ∷ 5 ∷ 6 ∷ 7 ∷ 8 ∷ 9 ∷ 10 ∷ 11 ∷ 12 ∷ 20 ∷ 21 ∷ 22 ∷ 23 ∷ 30 ∷ 31 ∷ 40 ∷ 41 ∷ 42 ∷ 43 ∷ 44 ∷ 45 ∷ 46 ∷ 47 ∷ 48 ∷ 49 ∷ 50 ∷ []
+numbers =
+    1 ∷ 2 ∷ 3 ∷ 4 ∷ 5 ∷ 6 ∷ 7 ∷ 8 ∷ 9 ∷ 10 ∷ 11 ∷ 12 ∷ 20 ∷ 21 ∷ 22 ∷ 23 ∷ 30 ∷ 31 ∷ 40 ∷ 41 ∷ 42 ∷ 43 ∷ 44 ∷ 45 ∷ 46 ∷ 47 ∷ 48 ∷ 49 ∷ 50
+    ∷ 51 ∷ 52 ∷ 53 ∷ 54 ∷ 58 ∷ 59 ∷ 61 ∷ []
 
 -- a line for each of them, and one for every other number
 unfoldable pub page : List ℕ
@@ -69,6 +71,13 @@ page =
     ++ bytes "The joined system has more than 32 handlers.\n"
     ++ bytes "The joined system has more than 1,024 words.\n"
     ++ bytes "The output has no room for the joined system.\n"
+    ++ bytes "The slice for positions is shorter than the number of handlers.\n"
+    ++ bytes "The estimate has more or fewer words than the system asks for.\n"
+    ++ bytes "The estimate has a bit set that stands for nothing.\n"
+    ++ bytes "The estimate breaks a rule of this word.\n"
+    ++ bytes "The stream ends inside a system.\n"
+    ++ bytes "A system of a stream has more than 256 words.\n"
+    ++ bytes "The stream goes on after 10,000 systems.\n"
     ++ bytes "No refusal has this number.\n"
 
 -- the place of a number in a list, the length of the list where it is not there
@@ -93,8 +102,13 @@ help =
     ++ bytes "wiphosega words            a listing in, its words out\n"
     ++ bytes "wiphosega leak RHO BOUND CEILING   a listing in, its leak out; sets in hexadecimal digits, BOUND 0 if left out, CEILING on facts\n"
     ++ bytes "wiphosega deliveries       a listing in, for each send and each handler whether it is delivered, and if not, why\n"
+    ++ bytes "wiphosega senders RHO      a listing in, for each handler who may have sent to it: handlers by position, opponent\n"
+    ++ bytes "wiphosega order RHO        a listing in, an order of its live handlers, each after all that may send to it, or else a loop: by position\n"
+    ++ bytes "wiphosega estimate RHO     a listing in, the words of its least estimate out\n"
+    ++ bytes "wiphosega audit RHO        words in: how many the system has, the system, an estimate; whether the estimate obeys every rule out\n"
     ++ bytes "wiphosega check            a listing in, what is wrong with it out\n"
     ++ bytes "wiphosega join             two listings in, the second laid over the first; the joined listing out\n"
     ++ bytes "wiphosega block NAME SET   the same in, that handler's lines out, the second listing's if it has it\n"
     ++ bytes "wiphosega manifest         a manifest in, its version and permission set out\n"
+    ++ bytes "wiphosega pack RHO         a listing in, a system of the stream of a class out; RHO in hexadecimal digits\n"
     ++ bytes "wiphosega explain NUMBER   the meaning of a refusal's number\n"

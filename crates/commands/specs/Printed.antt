@@ -1,8 +1,8 @@
--- What the program prints, from the bytes of its arguments and of its input (document 02, wishes 1, 4 and 5).
+-- What the program prints, from the bytes of its arguments and of its input (document 02, wishes 1, 4, 5 and 14).
 use Prim.Native.Nat.{ℕ, zero, suc, _+_, _-_, _%_}
 use mathlib.Core.Bool.{Bool, true, false, _&&_}
 use mathlib.Core.List.{List, [], _∷_, _++_}
-use lib.Dec.{eqb, leb}
+use lib.Dec.{eqb, leb, ltb}
 use lib.ListN.{length, getD, take, drop}
 use Rattle.text.specs.Text.{bytes, decimal, set}
 use Rattle.little_endian.specs.LittleEndian.{wordsOf, bytesOf}
@@ -19,6 +19,7 @@ use Rattle.commands.specs.declared.arguments.Value.{Value}
 use Rattle.commands.specs.declared.arguments.Value.the-variants.{Number, Other}
 use Rattle.commands.specs.Arguments.{valueOf}
 use Rattle.commands.specs.Meanings.{linesAt, sentence, help}
+use Rattle.commands.specs.Checked.{checkText}
 
 -- a text, or the line of the refusal
 unfoldable pub answerText : Answered → List ℕ → List ℕ
@@ -128,11 +129,30 @@ keyText Other permissions input = help
 abbrev pub blockText : (name permissions input : List ℕ) → List ℕ
 blockText name permissions input = keyText (valueOf 10 name) (valueOf 16 permissions) input
 
+-- ---- pack RHO: a listing in, a system of the stream of a class out
+
+-- the length, ρ and the words
+abbrev pub packed : (ρ : ℕ) (words : List ℕ) → List ℕ
+packed ρ words = bytesOf (length words ∷ ρ ∷ words)
+
+-- a system of more than 256 words is none of a stream
+unfoldable pub systemText : (ρ : ℕ) (words : List ℕ) → List ℕ
+systemText ρ words = elim (ltb 256 (length words)) [ true ↦ refusalLine 59 0 | false ↦ packed ρ words ]
+
+unfoldable pub packText : (ρ : ℕ) (input : List ℕ) → List ℕ
+unfolding answerText systemText
+packText ρ input = answerText (readAs input 1024) (systemText ρ (Listing·wordsOf input))
+
+unfoldable pub packedFor : (ρ : Value) (input : List ℕ) → List ℕ
+unfolding packText
+packedFor (Number ρ) input = packText ρ input
+packedFor Other input = help
+
 -- ---- the program
 
--- room for the text of every command: a listing, or no more than the input has
+-- so many bytes more than the input has are room for the text of every command
 abbrev pub room : ℕ
-room = 65536
+room = 81920
 
 unfoldable pub same : List ℕ → List ℕ → Bool
 same [] [] = true
@@ -140,9 +160,14 @@ same [] (b ∷ bs) = false
 same (a ∷ l) [] = false
 same (a ∷ l) (b ∷ bs) = eqb a b && same l bs
 
+-- the commands that stand after the others, and the help where none is named
+unfoldable pub otherText : (command first input : List ℕ) → List ℕ
+unfolding packedFor same
+otherText command first input = elim (same command (bytes "pack")) [ true ↦ packedFor (valueOf 16 first) input | false ↦ help ]
+
 -- what is printed for a command, its two arguments and the input
 unfoldable pub printed : (command first second input : List ℕ) → List ℕ
-unfolding textText wordsText joinText keyText outcomeText valueText same
+unfolding textText wordsText joinText keyText outcomeText valueText checkText same otherText
 printed command first second input =
     elim (same command (bytes "text")) [
       | true ↦ textText input
@@ -154,7 +179,10 @@ printed command first second input =
             | true ↦ blockText first second input
             | false ↦ elim (same command (bytes "manifest")) [
               | true ↦ manifestText input
-              | false ↦ elim (same command (bytes "explain")) [ true ↦ explainText first | false ↦ help ]
+              | false ↦ elim (same command (bytes "explain")) [
+                | true ↦ explainText first
+                | false ↦ elim (same command (bytes "check")) [ true ↦ checkText input | false ↦ otherText command first input ]
+              ]
             ]
           ]
         ]
@@ -163,9 +191,9 @@ printed command first second input =
 
 -- ---- lent bytes
 
--- the output has the room, and no fewer bytes than the input
+-- the output has the room
 unfoldable pub fits : (input size : ℕ) → Bool
-fits input size = leb room size && leb input size
+fits input size = leb (room + input) size
 
 -- how many bytes are written, where the input and the output have so many
 unfoldable pub printedSize : List ℕ → (input size : ℕ) → ℕ

@@ -8,7 +8,7 @@ ghost use Rattle.text.specs.Writing.{Wrote};
 ghost use Rattle.commands.specs.Meanings.{numbers, position, meaning as Meanings·meaning};
 ghost use Rattle.commands.specs.Meanings.{sentence as Meanings·sentence, help as Meanings·help};
 
-const NUMBERS: [u32; 29] = [
+const NUMBERS: [u32; 36] = [
     1,
     2,
     3,
@@ -38,6 +38,13 @@ const NUMBERS: [u32; 29] = [
     48,
     49,
     50,
+    51,
+    52,
+    53,
+    54,
+    58,
+    59,
+    61,
 ];
 
 // The line of the page that has the meaning of a number.
@@ -46,7 +53,7 @@ fn row(n: u32) -> usize
 {
     let listed = NUMBERS;
     let mut i = 0;
-    while i < 29 {
+    while i < 36 {
         if listed[i] == n {
             return i;
         }
@@ -92,6 +99,13 @@ fn meaning(out: &mut [u8], at: usize, n: u32) -> usize
            The joined system has more than 32 handlers.\n\
            The joined system has more than 1,024 words.\n\
            The output has no room for the joined system.\n\
+           The slice for positions is shorter than the number of handlers.\n\
+           The estimate has more or fewer words than the system asks for.\n\
+           The estimate has a bit set that stands for nothing.\n\
+           The estimate breaks a rule of this word.\n\
+           The stream ends inside a system.\n\
+           A system of a stream has more than 256 words.\n\
+           The stream goes on after 10,000 systems.\n\
            No refusal has this number.\n",
         k,
     )
@@ -120,10 +134,15 @@ pub fn help(out: &mut [u8]) -> usize
            wiphosega words            a listing in, its words out\n\
            wiphosega leak RHO BOUND CEILING   a listing in, its leak out; sets in hexadecimal digits, BOUND 0 if left out, CEILING on facts\n\
            wiphosega deliveries       a listing in, for each send and each handler whether it is delivered, and if not, why\n\
+           wiphosega senders RHO      a listing in, for each handler who may have sent to it: handlers by position, opponent\n\
+           wiphosega order RHO        a listing in, an order of its live handlers, each after all that may send to it, or else a loop: by position\n\
+           wiphosega estimate RHO     a listing in, the words of its least estimate out\n\
+           wiphosega audit RHO        words in: how many the system has, the system, an estimate; whether the estimate obeys every rule out\n\
            wiphosega check            a listing in, what is wrong with it out\n\
            wiphosega join             two listings in, the second laid over the first; the joined listing out\n\
            wiphosega block NAME SET   the same in, that handler's lines out, the second listing's if it has it\n\
            wiphosega manifest         a manifest in, its version and permission set out\n\
+           wiphosega pack RHO         a listing in, a system of the stream of a class out; RHO in hexadecimal digits\n\
            wiphosega explain NUMBER   the meaning of a refusal's number\n",
     )
 }

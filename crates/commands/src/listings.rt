@@ -1,5 +1,4 @@
 // The commands `text` and `words`.
-use crate::refusals::refusal_line;
 use listing::Answer;
 use listing::numbers::refusal_number;
 use listing::numbers::refusal_place;
@@ -7,6 +6,7 @@ use listing::read::read;
 use listing::write::write;
 use little_endian::bytes_of;
 use little_endian::words_of;
+use report::refusal_line;
 ghost use mathlib.Core.Path.{_≡_};
 ghost use Prim.Native.Nat.{_+_, _≤_};
 ghost use lib.ListN.{length};

@@ -1,8 +1,8 @@
 // The command `manifest`.
-use crate::refusals::refusal_line;
 use manifest::Reading;
 use manifest::numbers::refusal_number;
 use manifest::read::read;
+use report::refusal_line;
 use text::number_field;
 use text::put;
 use text::set_field;

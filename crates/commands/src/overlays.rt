@@ -1,7 +1,6 @@
 // The commands `join` and `block`: two listings, one after the other.
 use crate::lines::put_lines;
 use crate::listings::listing_text;
-use crate::refusals::refusal_line;
 use listing::Answer;
 use listing::numbers::refusal_number;
 use listing::numbers::refusal_place;
@@ -12,6 +11,7 @@ use overlay::join::join;
 use overlay::lookup::find;
 use overlay::numbers::fault_number;
 use overlay::numbers::fault_place;
+use report::refusal_line;
 ghost use mathlib.Core.Path.{_≡_};
 ghost use mathlib.Core.Bool.{false};
 ghost use Prim.Native.Nat.{_+_, _≤_};

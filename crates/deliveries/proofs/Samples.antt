@@ -7,7 +7,8 @@ use Rattle.delivery.specs.Delivery.{judged}
 use Rattle.table.specs.Item.{handlerAt}
 use Rattle.table.specs.Links.{blockAt}
 use Rattle.text.specs.Text.{bytes, decimal, set}
-use Rattle.deliveries.specs.Text.{outcome, line, nameFor, counted, answerAt, receiver, receivers, linesOf, sends, text}
+use Rattle.deliveries.specs.Positions.{counted, eachWord}
+use Rattle.deliveries.specs.Text.{outcome, line, nameFor, answerAt, receiver, receivers, linesOf, sends, text}
 
 -- relay with this send and target
 abbrev relay : (perms send target : ℕ) → List ℕ
@@ -37,5 +38,5 @@ pub texts :
     ∷ (bytes "send 4 from 0 to 0 other name\n" ++ bytes "send 4 from 0 to 1 lacks 000004\n" ++ bytes "send 4 from 0 to 2 delivered\n")
     ∷ []
     ∷ []
-unfolding within difference judged handlerAt decimal set outcome line nameFor counted answerAt receiver receivers linesOf blockAt sends text
+unfolding within difference judged handlerAt decimal set outcome line nameFor counted eachWord answerAt receiver receivers linesOf blockAt sends text
 texts = refl

@@ -1,2 +1,3 @@
-pub mod Added
+pub mod Answers
+pub mod Positions
 pub mod Text

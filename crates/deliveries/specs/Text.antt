@@ -2,17 +2,19 @@
 use Prim.Native.Nat.{ℕ, suc, _+_, _-_}
 use mathlib.Core.Bool.{true, false}
 use mathlib.Core.List.{List, [], _∷_, _++_}
-use lib.Dec.{eqb, ltb}
-use lib.ListN.{length, getD}
+use lib.Dec.{eqb}
+use lib.ListN.{getD}
 use Rattle.delivery.specs.declared.Delivery.{Delivery}
 use Rattle.delivery.specs.declared.Delivery.the-variants as deliveries
 use Rattle.delivery.specs.Delivery.{judged}
 use Rattle.table.specs.Words.{kind, argument}
-use Rattle.table.specs.Scan.{accepted, refused, reading}
+use Rattle.table.specs.Scan.{reading}
 use Rattle.table.specs.Item.{handlerAt}
 use Rattle.table.specs.Links.{blockAt}
 use Rattle.text.specs.Text.{bytes, decimal, set}
-use Rattle.listing.specs.Listing.{Answered, done, refusal, left}
+use Rattle.listing.specs.Listing.{Answered}
+use Rattle.deliveries.specs.Answers.{answerFor, bytesAfter}
+use Rattle.deliveries.specs.Positions.{counted, eachWord}
 
 -- ---- one line
 
@@ -39,10 +41,6 @@ line p from to d =
 unfoldable pub nameFor : (target own : ℕ) → ℕ
 nameFor target own = elim (eqb (kind target) 19) [ true ↦ argument target | false ↦ own ]
 
--- how many blocks there are with the word w
-unfoldable pub counted : (w count : ℕ) → ℕ
-counted w count = elim (eqb (kind w) 2) [ true ↦ count + 1 | false ↦ count ]
-
 module _ (ws : List ℕ) where
   -- the send at p, in the block whose first word is `home`, to the block whose first word is q
   unfoldable pub answerAt : (p home q : ℕ) → Delivery
@@ -55,16 +53,15 @@ module _ (ws : List ℕ) where
   unfolding line answerAt
   receiver p home from q to v = elim (eqb (kind v) 2) [ true ↦ line p from to (answerAt p home q) | false ↦ [] ]
 
-  -- the lines of a send for the words vs, which stand from q on, after `to` blocks
-  unfoldable pub receivers : (p home from : ℕ) → (q to : ℕ) → List ℕ → List ℕ
-  unfolding receiver counted
-  receivers p home from q to [] = []
-  receivers p home from q to (v ∷ vs) = receiver p home from q to v ++ receivers p home from (suc q) (counted v to) vs
+  -- the lines of a send
+  unfoldable pub receivers : (p home from : ℕ) → List ℕ
+  unfolding receiver eachWord
+  receivers p home from = eachWord (receiver p home from) 0 0 ws
 
   -- the lines of a word
   unfoldable pub linesOf : (p home from : ℕ) → (w : ℕ) → List ℕ
   unfolding receivers
-  linesOf p home from w = elim (eqb (kind w) 35) [ true ↦ receivers p home from 0 0 ws | false ↦ [] ]
+  linesOf p home from w = elim (eqb (kind w) 35) [ true ↦ receivers p home from | false ↦ [] ]
 
   -- the lines of the words vs, which stand from p on, after `count` blocks, the last of them at `home`
   unfoldable pub sends : (p home count : ℕ) → List ℕ → List ℕ
@@ -79,15 +76,10 @@ text ws = sends ws 0 0 0 ws
 
 -- ---- the call
 
--- the table's numbers, then 42 where the text has no room
 unfoldable pub written : List ℕ → ℕ → Answered
-unfolding text
-written ws room =
-    elim (reading ws) [
-      | refused n p ↦ refusal n p
-      | accepted ↦ elim (ltb room (length (text ws))) [ true ↦ refusal 42 0 | false ↦ done (length (text ws)) ]
-    ]
+unfolding text answerFor
+written ws room = answerFor (reading ws) (text ws) room
 
 -- the bytes of the output slice after the call, from those before it
 abbrev pub textAfter : List ℕ → List ℕ → List ℕ
-textAfter ws out = left (written ws (length out)) (text ws) out
+textAfter ws out = bytesAfter (reading ws) (text ws) out

@@ -18,9 +18,9 @@ ghost use lib.ListN.{length, getD};
 ghost use Rattle.table.specs.Scan.{accepted, reading};
 ghost use Rattle.listing.specs.Answer.{answered};
 ghost use Rattle.deliveries.specs.Text.{nameFor, answerAt, receiver, receivers, linesOf, written, textAfter};
-ghost use Rattle.deliveries.specs.Text.{counted as Text·counted};
+ghost use Rattle.deliveries.specs.Positions.{counted as Positions·counted};
 ghost use Rattle.deliveries.specs.Text.{text as Text·text};
-ghost use Rattle.deliveries.specs.Added.{Added};
+ghost use Rattle.text.specs.Added.{Added};
 
 // The name that a send to this target is compared with, where the receiver has the name `own`.
 fn name_for(target: u32, own: u32) -> u32
@@ -34,7 +34,7 @@ fn name_for(target: u32, own: u32) -> u32
 }
 
 // The word at a place, 0 past the end.
-fn word_at(words: &[u32], p: usize) -> u32
+pub fn word_at(words: &[u32], p: usize) -> u32
     ensures { λ r. ⌜ r ≡ getD (now (words .entry)) p 0 ⌝ }
 {
     if p < words.len() { words[p] } else { 0 }
@@ -54,9 +54,9 @@ fn answer(words: &[u32], p: usize, home: usize, q: usize) -> Delivery
 }
 
 // How many blocks there are with the word w.
-fn counted(w: u32, count: usize) -> usize
+pub fn counted(w: u32, count: usize) -> usize
     requires { ⌜ count < 1024 ⌝ }
-    ensures { λ r. ⌜ r ≡ Text·counted w count ⌝ }
+    ensures { λ r. ⌜ r ≡ Positions·counted w count ⌝ }
 {
     if kind_of(w) == 2 { count + 1 } else { count }
 }
@@ -73,7 +73,8 @@ fn put_receiver(
     at: usize,
 ) -> usize
     requires { ⌜ (p < 1024) × (home < length (now words)) × (q < length (now words)) × (at ≤ 1000000000) ⌝ }
-    ensures { λ r. ⌜ Added (now (out .entry)) at (receiver (now (words .entry)) p home from q to (getD (now (words .entry)) q 0)) (now (out .exit)) r × (r ≤ at + 96) ⌝ }
+    ensures { λ r. ⌜ Added (now (out .entry)) at (receiver (now (words .entry)) p home from q to (getD (now (words .entry)) q 0)) (now (out .exit)) r ⌝ }
+    ensures { λ r. ⌜ r ≤ at + 96 ⌝ }
 {
     if kind_of(words[q]) == 2 {
         add_line(out, at, p, from, to, answer(words, p, home, q))
@@ -92,7 +93,8 @@ fn put_receivers(
     at: usize,
 ) -> usize
     requires { ⌜ (p < length (now words)) × (home < length (now words)) × (length (now words) ≤ 1024) × (at ≤ 200000000) ⌝ }
-    ensures { λ r. ⌜ Added (now (out .entry)) at (receivers (now (words .entry)) p home from 0 0 (now (words .entry))) (now (out .exit)) r × (r ≤ at + 96 * length (now (words .entry))) ⌝ }
+    ensures { λ r. ⌜ Added (now (out .entry)) at (receivers (now (words .entry)) p home from) (now (out .exit)) r ⌝ }
+    ensures { λ r. ⌜ r ≤ at + 96 * length (now (words .entry)) ⌝ }
 {
     let mut next = at;
     let mut to = 0;
@@ -108,7 +110,8 @@ fn put_receivers(
 // The lines of the word at p, as far as there is room, and the place after them.
 fn put_word(words: &[u32], p: usize, home: usize, from: usize, out: &mut [u8], at: usize) -> usize
     requires { ⌜ (p < length (now words)) × (home < length (now words)) × (length (now words) ≤ 1024) × (at ≤ 200000000) ⌝ }
-    ensures { λ r. ⌜ Added (now (out .entry)) at (linesOf (now (words .entry)) p home from (getD (now (words .entry)) p 0)) (now (out .exit)) r × (r ≤ at + 98304) ⌝ }
+    ensures { λ r. ⌜ Added (now (out .entry)) at (linesOf (now (words .entry)) p home from (getD (now (words .entry)) p 0)) (now (out .exit)) r ⌝ }
+    ensures { λ r. ⌜ r ≤ at + 98304 ⌝ }
 {
     if kind_of(words[p]) == 35 {
         put_receivers(words, p, home, from, out, at)

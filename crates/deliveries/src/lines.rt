@@ -2,13 +2,14 @@
 use delivery::Delivery;
 use text::number_field;
 use text::put;
+use text::room::put_room;
 use text::set_field;
 ghost use mathlib.Core.Path.{_≡_};
 ghost use Prim.Native.Nat.{_+_, _≤_};
 ghost use lib.ListN.{length};
 ghost use Rattle.text.specs.Writing.{Wrote, Line};
 ghost use Rattle.deliveries.specs.Text.{field, outcome, line as Text·line};
-ghost use Rattle.deliveries.specs.Added.{Added};
+ghost use Rattle.text.specs.Added.{Added};
 
 // A label, a set and a line feed.
 fn set_line(out: &mut [u8], at: usize, label: &[u8], s: u32) -> usize
@@ -34,7 +35,8 @@ fn put_outcome(out: &mut [u8], at: usize, d: Delivery) -> usize
 
 // The line, at the start of out, and its length.
 fn delivery_line(out: &mut [u8; 96], p: usize, from: usize, to: usize, d: Delivery) -> usize
-    ensures { λ r. ⌜ Line (now (out .entry)) (Text·line p from to d) (now (out .exit)) r × (r ≤ 96) ⌝ }
+    ensures { λ r. ⌜ Line (now (out .entry)) (Text·line p from to d) (now (out .exit)) r ⌝ }
+    ensures { λ r. ⌜ r ≤ 96 ⌝ }
 {
     let a = number_field(out, 0, b"send ", p as u64);
     let b = number_field(out, a, b" from ", from as u64);
@@ -42,22 +44,11 @@ fn delivery_line(out: &mut [u8; 96], p: usize, from: usize, to: usize, d: Delive
     put_outcome(out, c, d)
 }
 
-// The bytes of s, where they have room, and the place after them.
-fn put_room(out: &mut [u8], at: usize, s: &[u8]) -> usize
-    requires { ⌜ (at ≤ 1000000000) × (length (now s) ≤ 96) ⌝ }
-    ensures { λ r. ⌜ Added (now (out .entry)) at (now (s .entry)) (now (out .exit)) r ⌝ }
-{
-    if at + s.len() <= out.len() {
-        put(out, at, s)
-    } else {
-        at + s.len()
-    }
-}
-
 // The line, where it has room, and the place after it.
 pub fn add_line(out: &mut [u8], at: usize, p: usize, from: usize, to: usize, d: Delivery) -> usize
     requires { ⌜ at ≤ 1000000000 ⌝ }
-    ensures { λ r. ⌜ Added (now (out .entry)) at (Text·line p from to d) (now (out .exit)) r × (r ≤ at + 96) ⌝ }
+    ensures { λ r. ⌜ Added (now (out .entry)) at (Text·line p from to d) (now (out .exit)) r ⌝ }
+    ensures { λ r. ⌜ r ≤ at + 96 ⌝ }
 {
     let mut line = [0u8; 96];
     let n = delivery_line(&mut line, p, from, to, d);

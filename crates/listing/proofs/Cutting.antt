@@ -177,7 +177,7 @@ behind l n = take-all (length l - n) (drop n l) (omega (arith, length-drop n l))
 
 -- from the byte `at` on, where so many lines are before it
 module _ (text : List ℕ) (n at e : ℕ) (more : at < length text) (ends : e ≡ at + lineSize (drop at text)) where
-  rest-lines : cut (drop at text) ≡ take (e - at) (drop at text) ∷ cut (drop e text)
+  pub rest-lines : cut (drop at text) ≡ take (e - at) (drop at text) ∷ cut (drop e text)
   rest-lines =
       let size : e - at ≡ lineSize (drop at text) = omega arith in
       cut-line (drop at text) (omega (arith, length-drop at text))

@@ -11,7 +11,8 @@ fn least(a: usize, b: usize) -> usize
     if a < b { a } else { b }
 }
 
-fn word(a: u8, b: u8, c: u8, d: u8) -> u32
+// The word of four bytes.
+pub fn word(a: u8, b: u8, c: u8, d: u8) -> u32
     ensures { λ r. ⌜ r ≡ number (a ∷ b ∷ c ∷ d ∷ []) ⌝ }
 {
     a as u32 + 256 * (b as u32 + 256 * (c as u32 + 256 * (d as u32)))

@@ -31,7 +31,7 @@ fn set_digit(masks: &mut [u32], n: usize)
 }
 
 // Sets digit n if it is told to.
-fn set_if(masks: &mut [u32], n: usize, told: bool)
+pub fn set_if(masks: &mut [u32], n: usize, told: bool)
     requires { ⌜ n < 32 * length (now masks) ⌝ }
     ensures { λ _. ⌜ now (masks .exit) ≡ markIf told (now (masks .entry)) n ⌝ }
 {
@@ -43,7 +43,7 @@ fn set_if(masks: &mut [u32], n: usize, told: bool)
 // What a word makes, two bits for the place of its kind among those of terms: 1 a function, 2 a record, 3 a cell.
 const MAKES: u64 = 13455328256;
 
-fn word_makes(w: u32) -> u32
+pub fn word_makes(w: u32) -> u32
     ensures { λ r. ⌜ r ≡ wordMakes w ⌝ }
 {
     let kind = kind_of(w);

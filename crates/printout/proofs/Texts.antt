@@ -21,6 +21,8 @@ use Rattle.calculus.proofs.Firing.{whole-is}
 use Rattle.calculus.proofs.Least.{estimate-well}
 use Rattle.calculus.proofs.Covers.{answer-judged}
 use Rattle.calls.proofs.Answers.{after-solved}
+use Rattle.verdict.specs.Limits.{answerUnder, estimateUnder}
+use Rattle.verdict.proofs.Limits.{under-verdict}
 use Rattle.verdict.proofs.Room.{answer-exact}
 use Rattle.text.specs.Writing.{Wrote}
 use Rattle.text.proofs.Writing.{reworded, then, wrote-length}
@@ -44,6 +46,14 @@ held-after ws ρ bound est work est′ f (verdict v) e u =
       long = omega (arith, ap length s, length-append (estimate (code ws) ρ) rest);
       starts = ap (take (estimateWords (code ws))) s ∙ take-at (estimate (code ws) ρ) rest (estimateWords (code ws)) n;
     }
+
+-- the same under the ceiling n
+pub held-under : (ws : List ℕ) (ρ bound n : ℕ) (est work est′ : List ℕ) (a : Answer) → a ≡ answerUnder ws ρ bound n (length est) (length work)
+    → est′ ≡ estimateUnder ws ρ bound n est work → HeldFor ws ρ est′ a
+held-under ws ρ bound n est work est′ (refused number place) e u = tt
+held-under ws ρ bound n est work est′ (verdict v) e u =
+    let q = under-verdict ws ρ bound n est work v est′ e u in
+    held-after ws ρ bound est work est′ (verdict v) (q .0) (q .1)
 
 -- ---- an answer's text
 

@@ -10,6 +10,7 @@ use Rattle.calculus.specs.Layout.{estimateWords}
 use Rattle.calculus.specs.Estimate.{estimate}
 use Rattle.calculus.specs.Answer.{Answer, refused, verdict, answer, estimateAfter, workAfter}
 use Rattle.text.specs.Writing.{Wrote}
+use Rattle.verdict.specs.Limits.{answerUnder, estimateUnder}
 use Rattle.printout.specs.Program.{answerText, unlessWide}
 
 -- an accepted narrow table, with its least estimate in the first words of the slice
@@ -27,4 +28,10 @@ HeldFor ws ρ est (verdict v) = Held ws ρ est
 pub record Told (ws : List ℕ) (ρ bound : ℕ) (est work out : List ℕ) (r : ℕ) (est′ work′ out′ : List ℕ) : Type 0 where
   pub wrote : Wrote out 0 (answerText ρ ws (unlessWide ws (refused 1 0) (answer ws ρ bound (length est) (length work)))) out′ r
   pub estimates : est′ ≡ unlessWide ws est (estimateAfter ws ρ bound est work)
+  pub works : work′ ≡ unlessWide ws work (workAfter ws ρ bound est work)
+
+-- the same under the ceiling n
+pub record ToldUnder (ws : List ℕ) (ρ bound n : ℕ) (est work out : List ℕ) (r : ℕ) (est′ work′ out′ : List ℕ) : Type 0 where
+  pub wrote : Wrote out 0 (answerText ρ ws (unlessWide ws (refused 1 0) (answerUnder ws ρ bound n (length est) (length work)))) out′ r
+  pub estimates : est′ ≡ unlessWide ws est (estimateUnder ws ρ bound n est work)
   pub works : work′ ≡ unlessWide ws work (workAfter ws ρ bound est work)

@@ -1,4 +1,5 @@
 // What the program prints, as a definition with examples, and in code.
 mod handlers;
+pub mod limit;
 pub mod program;
 pub mod system;

@@ -57,7 +57,7 @@ fn handlers_of(words: &[u32], rho: u32, est: &[u32], out: &mut [u8], at: usize) 
 }
 
 // All lines of an answer.
-fn answer_text(v: Verdict, words: &[u32], rho: u32, est: &[u32], out: &mut [u8]) -> usize
+pub fn answer_text(v: Verdict, words: &[u32], rho: u32, est: &[u32], out: &mut [u8]) -> usize
     requires { ⌜ HeldFor (now words) rho (now est) (answerOf v) × (room ≤ length (now out)) ⌝ }
     ensures { λ r. ⌜ Wrote (now (out .entry)) 0 (answerText rho (now (words .entry)) (answerOf v)) (now (out .exit)) r ⌝ }
 {

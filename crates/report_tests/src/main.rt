@@ -18,7 +18,7 @@ fn show_handler(position: usize, name: u32, entry: bool, live: bool, permissions
 }
 
 fn main() {
-    show_verdict(2, 0, true, 1, 205);
+    show_verdict(2, 0, true, 1, 207);
     show_handler(0, 0, true, true, 2);
     show_handler(1, 1, false, true, 2);
     show_refusal(10, 4);

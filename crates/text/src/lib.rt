@@ -1,9 +1,11 @@
 // Text in a lent slice of bytes. A writer takes the place to write at and answers the place after its text.
+pub mod room;
+
 ghost use mathlib.Core.Path.{_≡_};
 ghost use mathlib.Core.List.{_++_};
 ghost use Prim.Native.Nat.{_+_, _<_, _≤_, max};
 ghost use lib.ListN.{length};
-ghost use Rattle.text.specs.Text.{leftOut, decimal, set, choice};
+ghost use Rattle.text.specs.Text.{leftOut, decimal, set, hexWord, choice};
 ghost use Rattle.text.specs.Text.{glyph as Text·glyph};
 ghost use Rattle.text.specs.Text.{numeral as Text·numeral};
 ghost use Rattle.text.specs.Writing.{Wrote};
@@ -92,4 +94,14 @@ pub fn set_field(out: &mut [u8], at: usize, label: &[u8], s: u32) -> usize
 {
     let next = put(out, at, label);
     numeral(out, next, 16, 0, 6, s as u64)
+}
+
+// A label and a word in eight hexadecimal digits.
+pub fn hex_field(out: &mut [u8], at: usize, label: &[u8], w: u32) -> usize
+    requires { ⌜ at + length (now label) + 8 ≤ length (now out) ⌝ }
+    ensures { λ r. ⌜ Wrote (now (out .entry)) at (now (label .entry) ++ hexWord w) (now (out .exit)) r ⌝ }
+    ensures { λ r. ⌜ r ≤ at + length (now (label .entry)) + 8 ⌝ }
+{
+    let next = put(out, at, label);
+    numeral(out, next, 16, 0, 8, w as u64)
 }

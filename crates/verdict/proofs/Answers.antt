@@ -24,7 +24,7 @@ use Rattle.verdict.specs.Values.{Judged}
 
 -- ---- a leak compared with a bound
 
-compare-judge : (ws : List ℕ) (ρ bound : ℕ) (us : List ℕ)
+pub compare-judge : (ws : List ℕ) (ρ bound : ℕ) (us : List ℕ)
     → compare (leak (code ws) ρ us) (boundUsed bound) (facts us) ≡ verdict (judge (code ws) ρ bound us)
 unfolding compare judge
 compare-judge ws ρ bound us = refl

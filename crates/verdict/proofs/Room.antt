@@ -60,25 +60,41 @@ work-capped ws ρ bound est work most room =
     let same : min est (est + estimateWords (code ws)) ≡ est = omega arith in
     rw same at (answer-capped ws ρ bound est work (est + estimateWords (code ws)) most (omega arith) room)
 
+-- slices with room answer as slices that are just long enough
+pub answer-enough : (ws : List ℕ) (ρ bound est work : ℕ) → estimateWords (code ws) ≤ est → workWords (length ws) ≤ work
+    → answer ws ρ bound est work ≡ answer ws ρ bound (estimateWords (code ws)) (workWords (length ws))
+unfolding code
+answer-enough ws ρ bound est work roomEst roomWork =
+    let e : min est (estimateWords (code ws)) ≡ estimateWords (code ws) = omega arith in
+    let w : min work (workWords (length ws)) ≡ workWords (length ws) = omega arith in
+    sym (answer-capped ws ρ bound est work (estimateWords (code ws)) (workWords (length ws)) (omega arith) (omega arith))
+    ∙ ap₂ (answer ws ρ bound) e w
+
+-- ---- the words that an estimate needs
+
+-- of a table of at most m words, a set of which takes at most r words
+estimate-most : (ws : List ℕ) (m r : ℕ) → length ws ≤ m → (32 + namesOf (getD ws 0 0) + length ws + 31) / 32 ≤ r → estimateWords (code ws) ≤ 2 * m * r + m
+unfolding estimateWords rowWords code
+estimate-most ws m r h row =
+    let twice : 2 * length ws ≤ 2 * m = omega arith in
+    let all : 2 * length ws * ((32 + namesOf (getD ws 0 0) + length ws + 31) / 32) ≤ 2 * m * r = mul-le-mul twice row in
+    omega arith
+
 -- 256 words, the most that 1,024 bytes hold
 pub estimate-room : (ws : List ℕ) → length ws ≤ 256 → estimateWords (code ws) ≤ 5888
-unfolding estimateWords rowWords code
-estimate-room ws h =
-    let row : (32 + namesOf (getD ws 0 0) + length ws + 31) / 32 ≤ 11 = omega (arith, names-most (getD ws 0 0)) in
-    let twice : 2 * length ws ≤ 512 = omega arith in
-    let all : 2 * length ws * ((32 + namesOf (getD ws 0 0) + length ws + 31) / 32) ≤ 512 * 11 = mul-le-mul twice row in
-    omega arith
+estimate-room ws h = estimate-most ws 256 11 h (omega (arith, names-most (getD ws 0 0)))
 
 pub work-room : (ws : List ℕ) → length ws ≤ 256 → workWords (code ws .size) ≤ 1024
 unfolding code
 work-room ws h = omega arith
 
--- arrays for 256 words answer as slices that are just long enough
+-- arrays for 256 words
 pub answer-exact : (ws : List ℕ) (ρ bound : ℕ) → length ws ≤ 256
     → answer ws ρ bound 5888 1024 ≡ answer ws ρ bound (estimateWords (code ws)) (workWords (length ws))
-unfolding code
-answer-exact ws ρ bound h =
-    let e : min 5888 (estimateWords (code ws)) ≡ estimateWords (code ws) = omega (arith, estimate-room ws h) in
-    let w : min 1024 (workWords (length ws)) ≡ workWords (length ws) = omega (arith, work-room ws h) in
-    sym (answer-capped ws ρ bound 5888 1024 (estimateWords (code ws)) (workWords (length ws)) (omega arith) (omega arith))
-    ∙ ap₂ (answer ws ρ bound) e w
+answer-exact ws ρ bound h = answer-enough ws ρ bound 5888 1024 (estimate-room ws h) (omega arith)
+
+-- arrays for every table
+pub answer-largest : (ws : List ℕ) (ρ bound : ℕ) → length ws ≤ 1024
+    → answer ws ρ bound 72704 4096 ≡ answer ws ρ bound (estimateWords (code ws)) (workWords (length ws))
+answer-largest ws ρ bound h =
+    answer-enough ws ρ bound 72704 4096 (estimate-most ws 1024 35 h (omega (arith, names-most (getD ws 0 0)))) (omega arith)

@@ -1,20 +1,25 @@
 // The program: its first argument is the command, standard input is the input.
 mod arguments;
-mod checking;
+mod estimates;
 mod explain;
 mod input;
-mod leaks;
+mod ordering;
 mod printing;
+mod receivers;
 mod sends;
+mod systems;
 
 use crate::arguments::Command;
 use crate::arguments::read_command;
 
 fn main() {
     match read_command() {
-        Command::Leak => leaks::leak(),
+        Command::Leak => printing::leak(),
         Command::Deliveries => sends::deliveries(),
-        Command::Check => checking::check(),
+        Command::Senders => receivers::senders(),
+        Command::Order => ordering::order(),
+        Command::Estimate => estimates::estimate(),
+        Command::Audit => estimates::audited(),
         Command::WithInput => printing::with_input(),
         Command::WithoutInput => printing::without_input(),
     }

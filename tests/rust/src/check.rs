@@ -108,42 +108,71 @@ impl Checker<'_> {
         }
     }
 
-    fn send(&self, p: usize) -> bool {
+    /// Is x in the message of the send at p, and no function or cell?
+    fn sent(&self, p: usize, x: usize) -> bool {
+        let forbidden = x >= FIRST_MADE && matches!(self.table.kind(x - FIRST_MADE), FUNCTION | CELL);
+        self.c(self.table.part(p, 1), x) && !forbidden
+    }
+
+    /// By the send rule: does the send at p, if it is live, deliver to the block at b?
+    fn delivers(&self, p: usize, b: usize) -> bool {
         let table = self.table;
-        let (target, message) = (table.part(p, 0), table.part(p, 1));
-        let forbidden = |x: usize| x >= FIRST_MADE && matches!(table.kind(x - FIRST_MADE), FUNCTION | CELL);
-        let sent = |x| self.c(message, x) && !forbidden(x);
-        let could_start = |name: u32, permissions: u32, guard: u32| {
-            self.c(target, FIRST_NAME + name as usize) && within(table.argument(p), permissions) && within(guard, table.permissions(p))
-        };
-        !self.elements().any(sent)
-            || table.blocks.iter().all(|h| {
-                !could_start(h.name, h.permissions, h.guard)
-                    || self.live(h.start) && self.sub(sent, |x| self.b(h.start, x)) && within(self.p(h.start), self.p(p))
-            })
+        let [name, permissions, guard] = [0, 1, 2].map(|k| table.argument(b + k));
+        self.elements().any(|x| self.sent(p, x))
+            && self.c(table.part(p, 0), FIRST_NAME + name as usize)
+            && within(table.argument(p), permissions)
+            && within(guard, table.permissions(p))
+    }
+
+    fn send(&self, p: usize) -> bool {
+        self.table.blocks.iter().all(|h| {
+            !self.delivers(p, h.start)
+                || self.live(h.start) && self.sub(|x| self.sent(p, x), |x| self.b(h.start, x)) && within(self.p(h.start), self.p(p))
+        })
     }
 
     fn entry(&self, b: usize) -> bool {
-        !within(self.table.argument(b + 2), self.rho) || self.live(b) && (0..64).all(|x| self.b(b, x))
+        !within(self.table.argument(b + 2), self.rho) || self.live(b) && (0..64).all(|x| self.b(b, x)) && self.c(b, OPPONENT)
     }
 
-    /// Does every set bit stand for an element that some word makes, a permission or a flag?
-    fn no_stray_bit(&self) -> bool {
-        let makes = |x: usize| matches!(self.table.kind(x - FIRST_MADE), FUNCTION | EMPTY | SET | CELL);
-        let stands = |x| x < FIRST_MADE || x < FIRST_MADE + self.layout.size && makes(x);
-        (0..2 * self.layout.size).all(|row| (0..32 * self.layout.row).all(|x| !self.bit(row, x) || stands(x)))
-            && self.estimate[self.layout.rows()..].iter().all(|&word| within(word, LIVE | PERMISSIONS_MASK))
+    /// Each block with a live send that delivers to b stands in C(b).
+    fn senders(&self, b: usize) -> bool {
+        let sends = (0..self.layout.size).filter(|&p| self.table.kind(p) == SEND && self.live(p));
+        sends.into_iter().all(|p| !self.delivers(p, b) || self.c(b, made(self.table.home(p))))
     }
+
+    /// May the element stand in this row? Past the plain ones it is a block in C of a block, and else what some word makes.
+    fn stands(&self, row: usize, x: usize) -> bool {
+        let of_block = row % 2 == 0 && self.table.kind(row / 2) == BLOCK;
+        let named = |kind| if of_block { kind == BLOCK } else { matches!(kind, FUNCTION | EMPTY | SET | CELL) };
+        x < FIRST_MADE || x < FIRST_MADE + self.layout.size && named(self.table.kind(x - FIRST_MADE))
+    }
+
+    /// Does every set bit of word k of the estimate stand for an element, a permission or a flag?
+    fn clean(&self, k: usize) -> bool {
+        let (word, row) = (self.estimate[k], self.layout.row);
+        if k < self.layout.rows() {
+            (0..32).all(|d| word >> d & 1 == 0 || self.stands(k / row, 32 * (k % row) + d))
+        } else {
+            within(word, LIVE | PERMISSIONS_MASK)
+        }
+    }
+}
+
+/// The first word of the estimate with a stray bit, if any.
+pub fn first_stray(table: &Table, estimate: &[u32]) -> Option<usize> {
+    let checker = Checker { table, rho: 0, layout: Layout::of(table.size()), estimate };
+    (0..estimate.len()).find(|&k| !checker.clean(k))
 }
 
 /// The lowest word with a broken rule, if any; a stray bit is the table's word 0.
 pub fn broken(table: &Table, rho: u32, estimate: &[u32]) -> Option<usize> {
     let checker = Checker { table, rho, layout: Layout::of(table.size()), estimate };
-    if !checker.no_stray_bit() {
+    if first_stray(table, estimate).is_some() {
         return Some(0);
     }
     (0..table.size()).find(|&p| {
-        let entry = table.kind(p) != BLOCK || checker.entry(p);
-        !entry || checker.live(p) && !(checker.live_parts(p) && checker.rule(p))
+        let block = table.kind(p) != BLOCK || checker.entry(p) && checker.senders(p);
+        !block || checker.live(p) && !(checker.live_parts(p) && checker.rule(p))
     })
 }

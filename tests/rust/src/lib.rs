@@ -2,7 +2,9 @@
 //!
 //! `cargo test --release --offline` runs all tests; PEER_ROUNDS=20 before it makes the random ones 20 times as long.
 
+pub mod audit;
 pub mod check;
+pub mod class;
 pub mod estimate;
 pub mod generate;
 pub mod inputs;

@@ -1,7 +1,7 @@
 //! The least estimate as directly as it can be said: apply every rule at every word until nothing changes.
 
 use crate::estimate::*;
-use crate::table::{kind::*, within, Table};
+use crate::table::{kind::*, within, Block, Table};
 
 type Set = Vec<u64>;
 
@@ -47,6 +47,8 @@ pub fn pair(operation: u32, x: usize, y: usize) -> Vec<usize> {
 struct Naive<'a> {
     table: &'a Table,
     rho: u32,
+    /// Do the senders' rules apply too?
+    senders: bool,
     e: Sets,
 }
 
@@ -86,6 +88,20 @@ impl Naive<'_> {
         if within(self.table.argument(b + 2), self.rho) {
             self.e.live[b] = true;
             (0..64).for_each(|x| put(&mut self.e.b[b], x));
+            if self.senders {
+                self.put_c(b, OPPONENT);
+            }
+        }
+    }
+
+    /// Who may have sent to the block at b, live or not.
+    fn senders_rule(&mut self, b: usize) {
+        let table = self.table;
+        let block = *table.blocks.iter().find(|block| block.start == b).expect("a block starts here");
+        for p in (0..table.size()).filter(|&p| table.kind(p) == SEND) {
+            if self.e.live[p] && self.message(p).iter().any(|&word| word != 0) && self.may_start(p, &block) {
+                self.put_c(b, made(table.home(p)));
+            }
         }
     }
 
@@ -201,20 +217,31 @@ impl Naive<'_> {
         }
     }
 
-    fn send_rule(&mut self, p: usize) {
-        let table = self.table;
-        self.put_c(p, UNIT);
-        let (target, message) = (table.part(p, 0), table.part(p, 1));
+    /// C(message) of the send at p, less functions and cells.
+    fn message(&self, p: usize) -> Set {
+        let message = self.table.part(p, 1);
         let mut m = self.e.c[message].clone();
         for i in self.made_in(message, |kind| kind == FUNCTION || kind == CELL) {
             m[made(i) / 64] &= !(1 << (made(i) % 64));
         }
+        m
+    }
+
+    /// Could the machine start the block for a name in C(target), the message aside?
+    fn may_start(&self, p: usize, block: &Block) -> bool {
+        let named = has(&self.e.c[self.table.part(p, 0)], FIRST_NAME + block.name as usize);
+        named && block.admits(self.table.argument(p), self.table.permissions(p))
+    }
+
+    fn send_rule(&mut self, p: usize) {
+        let table = self.table;
+        self.put_c(p, UNIT);
+        let m = self.message(p);
         if m.iter().all(|&word| word == 0) {
             return;
         }
         for block in &table.blocks {
-            let named = has(&self.e.c[target], FIRST_NAME + block.name as usize);
-            if named && block.admits(table.argument(p), table.permissions(p)) {
+            if self.may_start(p, block) {
                 self.e.live[block.start] = true;
                 put_all(&mut self.e.b[block.start], &m);
                 self.p_in_p(block.start, p);
@@ -225,16 +252,28 @@ impl Naive<'_> {
 
 /// The least estimate in document 01's layout.
 pub fn solve(table: &Table, rho: u32) -> Vec<u32> {
+    solve_by(table, rho, true)
+}
+
+/// The least estimate by document 01's rules alone, where C of a block is empty.
+pub fn without_senders(table: &Table, rho: u32) -> Vec<u32> {
+    solve_by(table, rho, false)
+}
+
+fn solve_by(table: &Table, rho: u32, senders: bool) -> Vec<u32> {
     let size = table.size();
     let Layout { row, .. } = Layout::of(size);
     let empty = vec![vec![0; row.div_ceil(2)]; size];
     let e = Sets { c: empty.clone(), b: empty, p: vec![0; size], live: vec![false; size] };
-    let mut naive = Naive { table, rho, e };
+    let mut naive = Naive { table, rho, senders, e };
     loop {
         let before = naive.e.clone();
         for p in 0..size {
             if table.kind(p) == BLOCK {
                 naive.entry(p);
+                if senders {
+                    naive.senders_rule(p);
+                }
             }
             if naive.e.live[p] {
                 naive.rule(p);

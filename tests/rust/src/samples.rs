@@ -1,4 +1,4 @@
-//! Document 01's samples, starred or not, with what it says of them.
+//! Document 01's samples, starred or not, with what it says of them; the facts are those with the senders' sets (document 02, wish 8).
 
 use crate::table::{kind::*, STANDING_BOUND};
 use crate::terms::*;
@@ -51,20 +51,20 @@ pub fn samples() -> Vec<Sample> {
     let body = |text: &str| hex(&format!("01000001 02000000 03000003 04000000 {text}"));
 
     add("no handlers", hex("01000000"), 0, Leak(0, Some(0)));
-    add("direct", body("24000002"), 0, Leak(2, Some(69)));
+    add("direct", body("24000002"), 0, Leak(2, Some(70)));
     let guarded = hex("01000001 02000000 03000003 04000004 24000002");
     add("direct with guard 4", guarded.clone(), 0, Leak(0, Some(0)));
     add("direct with guard 4 and rho 4", guarded, 4, Leak(2, None));
-    add("exercise outside", body("24000004"), 0, Leak(0, Some(66)));
+    add("exercise outside", body("24000004"), 0, Leak(0, Some(67)));
     add("if true", body("19000000 10000002 24000001 24000002"), 0, Leak(1, None));
     add("if message", body("19000000 14000000 24000001 24000002"), 0, Leak(3, None));
-    add("applied function", body("16000000 15000000 24000001 10000000"), 0, Leak(1, None));
-    add("function alone", body("15000000 24000001"), 0, Leak(0, None));
+    add("applied function", body("16000000 15000000 24000001 10000000"), 0, Leak(1, Some(78)));
+    add("function alone", body("15000000 24000001"), 0, Leak(0, Some(68)));
     add("unbound variable", body("14000001"), 0, Refused(10, 4));
-    add("relay", hex(RELAY), 0, Leak(2, Some(205)));
+    add("relay", hex(RELAY), 0, Leak(2, Some(207)));
     add("relay with required set 1", hex(&RELAY.replace("23000000", "23000001")), 0, Leak(0, None));
     let twins = RELAY.replace("01000002", "01000003").replace("23000000", "23000004") + " 02000001 03000004 04000008 24000004";
-    add("twins", hex(&twins), 0, Leak(4, None));
+    add("twins", hex(&twins), 0, Leak(4, Some(207)));
     add("no words", vec![], 0, Refused(1, 0));
     add("32 handlers and no words", hex("01000020"), 0, Refused(4, 1));
     add("33 handlers", hex("01000021"), 0, Refused(3, 0));

@@ -429,6 +429,7 @@ impl<'a> Solver<'a> {
                         *followed |= bit;
                         self.link(block.start, p);
                         self.wake(block.start);
+                        self.note_sender(block.start, made(table.home(p)));
                     }
                     self.flow_kept(c(message), b(block.start), keep);
                 }
@@ -436,6 +437,11 @@ impl<'a> Solver<'a> {
         }
         self.made[Made::Functions as usize] = functions;
         self.made[Made::Cells as usize] = cells;
+    }
+
+    /// C(b) of a block says who may have sent to it. Nothing reads it, so it does not wait.
+    fn note_sender(&mut self, b: usize, element: usize) {
+        self.rows[c(b) * self.row + element / 32] |= 1 << (element % 32);
     }
 
     /// B(i) has grown: the live variables of a binder, the followers of a record or cell.
@@ -463,6 +469,7 @@ impl<'a> Solver<'a> {
         for block in table.blocks.iter().filter(|block| within(block.guard, rho)) {
             self.put_low(b(block.start), ALL);
             self.wake(block.start);
+            self.note_sender(block.start, OPPONENT);
         }
     }
 

@@ -139,9 +139,14 @@ impl Table {
         self.nodes[p].binder.into()
     }
 
+    /// The first word of the block in which word p stands.
+    pub fn home(&self, p: usize) -> usize {
+        self.nodes[p].home.into()
+    }
+
     /// The permissions of the block in which word p stands.
     pub fn permissions(&self, p: usize) -> u32 {
-        self.argument(usize::from(self.nodes[p].home) + 1)
+        self.argument(self.home(p) + 1)
     }
 
     /// The value of the whole number at word p.

@@ -1,15 +1,17 @@
 //! The program for listings, run as a user runs it. WIPHOSEGA_LISTINGS names it.
 #![cfg(proved)]
 
-use peer::generate::{table, Random};
-use peer::listing::{read, text, write};
+use peer::class::record;
+use peer::estimate::{made, Layout, OPPONENT};
+use peer::generate::{sensible_table, table, Random};
+use peer::listing::{check, meaning, read, text, write};
 use peer::manifest::Manifest;
 use peer::manifest_inputs::{manifests, of_length, random_damage, random_manifest};
 use peer::overlay::{join, lookup};
 use peer::overlay_inputs::{keys, pair, relay};
 use peer::samples::samples;
 use peer::table::{kind, Table};
-use peer::terms::system;
+use peer::terms::{block, send, system, term, variable};
 use peer::verdict::{bytes_of, program};
 use std::io::Write;
 use std::process::{Command, Stdio};
@@ -49,6 +51,25 @@ fn words_and_text() {
     assert_eq!(printed(&["words"], &vec![b'\n'; 200_000]), "refused 41 at 0\n");
 }
 
+/// A system of the stream of a class: its length, ρ and its words. Over 256 words it is none.
+#[test]
+fn packed() {
+    let mut random = Random(42);
+    let tables = (0..100).map(|_| table(&mut random));
+    for words in samples().into_iter().map(|sample| sample.words).chain(tables) {
+        let Ok(text) = write(&words, 65_536) else { continue };
+        let rho = words.len() as u32 * 0x0100_0193;
+        let output = run(&["pack", &format!("{rho:x}")], &text);
+        if words.len() <= 256 {
+            assert_eq!(output, record(rho, &words));
+        } else {
+            assert_eq!(output, b"refused 59 at 0\n");
+        }
+    }
+    assert_eq!(printed(&["pack", "0"], b"system 1\nhandle 0\n"), "refused 40 at 2\n");
+    assert_eq!(printed(&["pack", "0"], b""), "refused 1 at 0\n");
+}
+
 #[test]
 fn leak_as_document_01s_program() {
     for sample in samples() {
@@ -67,15 +88,69 @@ fn text_or_nothing(words: &[u32]) -> Vec<u8> {
     write(words, 65_536).unwrap_or_default()
 }
 
+/// What `check` prints for each number, in full.
 #[test]
 fn what_is_wrong() {
     let head = "system 1\nhandler 0\npermissions 000003\nguard 000000\n";
-    let check = |body: &str| printed(&["check"], format!("{head}{body}").as_bytes());
-    assert!(check("  variable 1\n").starts_with("refused 10 at 4\nline 5:   variable 1\n"));
-    assert!(check("variable 0\n").starts_with("refused 40 at 5\nline 5: variable 0\nright, line 5:   variable 0\nThe line"));
-    assert!(check("  variable 0").starts_with("refused 40 at 5\nline 5:   variable 0\nThe line"));
-    assert!(check("  apply\n    unit\n").starts_with("refused 40 at 6\nline 6:     unit\n"));
-    assert!(check("").starts_with("refused 8 at 4\nThe system ends"));
+    let whole = format!("{head}  variable 0\n");
+    let deep: Vec<String> = (1..=65).map(|depth| format!("{}function\n", "  ".repeat(depth))).collect();
+    let long = "a".repeat(65_536);
+    let cases = [
+        (whole.clone(), "accepted 5\n".to_string()),
+        (String::new(), format!("refused 1 at 0\n{}\n", meaning(1))),
+        ("handler 0\n".to_string(), format!("refused 1 at 0\nline 1: handler 0\n{}\n", meaning(1))),
+        ("system 0\n".repeat(1025), format!("refused 2 at 0\nline 1: system 0\n{}\n", meaning(2))),
+        ("system 33\n".to_string(), format!("refused 3 at 0\nline 1: system 33\n{}\n", meaning(3))),
+        ("system 1\npermissions 000000\n".to_string(), format!("refused 4 at 1\nline 2: permissions 000000\n{}\n", meaning(4))),
+        ("system 1\n".to_string(), format!("refused 4 at 1\n{}\n", meaning(4))),
+        ("system 1\nhandler 32\n".to_string(), format!("refused 5 at 1\nline 2: handler 32\n{}\n", meaning(5))),
+        (format!("{}{}", whole.replace("system 1", "system 2"), &whole[9..]), format!("refused 6 at 6\nline 7: permissions 000003\n{}\n", meaning(6))),
+        (format!("{head}handler 0\n"), format!("refused 7 at 4\nline 5: handler 0\n{}\n", meaning(7))),
+        (head.to_string(), format!("refused 8 at 4\n{}\n", meaning(8))),
+        (format!("{head}  constant 99\n"), format!("refused 9 at 4\nline 5:   constant 99\n{}\n", meaning(9))),
+        (format!("{head}  variable 1\n"), format!("refused 10 at 4\nline 5:   variable 1\n{}\n", meaning(10))),
+        (format!("{head}{}", deep.concat()), format!("refused 11 at 68\nline 69: {}{}\n", deep[64], meaning(11))),
+        (format!("{whole}guard 000000\n"), format!("refused 12 at 5\nline 6: guard 000000\n{}\n", meaning(12))),
+        (format!("{head}variable 0\n"), format!("refused 40 at 5\nline 5: variable 0\nright, line 5:   variable 0\n{}\n", meaning(40))),
+        (format!(" {whole}"), format!("refused 40 at 1\nline 1:  system 1\nright, line 1: system 1\n{}\n", meaning(40))),
+        (format!("{head}  variable 0"), format!("refused 40 at 5\nline 5:   variable 0\n{}\n", meaning(40))),
+        (format!("{head}  apply\n    unit\n"), format!("refused 40 at 6\nline 6:     unit\n{}\n", meaning(40))),
+        ("\n".to_string(), format!("refused 40 at 1\nline 1: \n{}\n", meaning(40))),
+        (long.clone(), format!("refused 40 at 1\nline 1: {long}\n{}\n", meaning(40))),
+        (format!("{long}a"), format!("refused 41 at 0\n{}\n", meaning(41))),
+        ("\n".repeat(200_000), format!("refused 41 at 0\n{}\n", meaning(41))),
+    ];
+    for (text, expected) in cases {
+        assert_eq!(printed(&["check"], text.as_bytes()), expected);
+        assert_eq!(check(text.as_bytes()), expected.as_bytes());
+    }
+}
+
+/// What `check` prints of damaged texts, against the independent implementation.
+#[test]
+fn what_is_wrong_with_damaged_texts() {
+    let mut random = Random(47);
+    let mut right = 0;
+    for round in 0..300 {
+        let Ok(text) = write(&table(&mut random), 65_536) else { continue };
+        let damaged = if round % 2 == 0 { random_damage(&mut random, text) } else { respaced(&mut random, text) };
+        let output = run(&["check"], &damaged);
+        assert_eq!(output, check(&damaged));
+        right += usize::from(output.windows(7).any(|bytes| bytes == b"\nright,"));
+    }
+    assert!(right > 50, "{right}");
+}
+
+/// The text with a leading space more, or one less, in a line.
+fn respaced(random: &mut Random, text: Vec<u8>) -> Vec<u8> {
+    let mut lines: Vec<Vec<u8>> = text.split_inclusive(|&b| b == b'\n').map(<[u8]>::to_vec).collect();
+    let place = random.below(lines.len());
+    if lines[place][0] == b' ' && random.below(2) == 0 {
+        lines[place].remove(0);
+    } else {
+        lines[place].insert(0, b' ');
+    }
+    lines.concat()
 }
 
 /// The sentences of docs/REFUSALS.md are the program's.
@@ -88,11 +163,11 @@ fn explained() {
         assert_eq!(printed(&["explain", cells[0]], b""), format!("{}\n", cells[1]));
         count += 1;
     }
-    assert_eq!(count, 44);
+    assert_eq!(count, 51);
     assert_eq!(printed(&["explain", "13"], b""), "No refusal has this number.\n");
     let help = printed(&[], b"");
-    assert!(["text", "words", "leak RHO BOUND CEILING", "deliveries", "check", "join", "block NAME SET", "manifest", "explain NUMBER"].iter().all(|command| help.contains(&format!("wiphosega {command}"))));
-    for arguments in [&["leaks"][..], &["explain"], &["explain", "1x"], &["explain", "123456789"], &["block"], &["block", "1"], &["block", "0a", "2"]] {
+    assert!(["text", "words", "leak RHO BOUND CEILING", "deliveries", "senders RHO", "order RHO", "estimate RHO", "audit RHO", "check", "join", "block NAME SET", "manifest", "pack RHO", "explain NUMBER"].iter().all(|command| help.contains(&format!("wiphosega {command}"))));
+    for arguments in [&["leaks"][..], &["leak"], &["leak", "x"], &["leak", "0", "x"], &["leak", "0", "0", "a"], &["leak", "0", "0", "123456789"], &["senders"], &["senders", "x"], &["order"], &["order", "x"], &["estimate"], &["audit", "x"], &["explain"], &["explain", "1x"], &["explain", "123456789"], &["block"], &["block", "1"], &["block", "0a", "2"], &["pack"], &["pack", "g"], &["pack", "123456789"]] {
         assert_eq!(printed(arguments, b""), help);
     }
 }
@@ -228,6 +303,64 @@ fn why_a_send_is_not_delivered() {
     assert_eq!(to_one(handlers("000000", "000000", 1)), "send 4 from 0 to 1 needs 000008");
     assert_eq!(to_one(handlers("000000", "000008", 1)), "send 4 from 0 to 1 delivered");
     assert_eq!(printed(&["deliveries"], b"system 1\n"), "refused 4 at 1\n");
+}
+
+/// The lines of every block, from the independent implementation's value sets of the blocks.
+fn senders(table: &Table, rho: u32) -> String {
+    let estimate = peer::naive::solve(table, rho);
+    let row = Layout::of(table.size()).row;
+    let mut lines = String::new();
+    for (position, block) in table.blocks.iter().enumerate() {
+        let has = |x: usize| estimate[2 * block.start * row + x / 32] >> (x % 32) & 1 != 0;
+        let mut from: Vec<String> = Vec::new();
+        from.extend((0..table.blocks.len()).filter(|&s| has(made(table.blocks[s].start))).map(|s| s.to_string()));
+        from.extend(has(OPPONENT).then(|| "opponent".to_string()));
+        from.extend(from.is_empty().then(|| "-".to_string()));
+        lines += &format!("handler {position} name {} from {}\n", block.name, from.join(" "));
+    }
+    lines
+}
+
+#[test]
+fn who_may_have_sent() {
+    let mut random = Random(53);
+    let mut counts = [0; 3];
+    let tables: Vec<Vec<u32>> = (0..400).map(|k| if k % 3 == 0 { table(&mut random) } else { sensible_table(&mut random, 120, 8) }).collect();
+    for words in samples().into_iter().map(|sample| sample.words).chain(tables) {
+        let (Ok(listing), Ok(table)) = (write(&words, 65_536), peer::table::read(&words)) else { continue };
+        let rho = random.permissions(4);
+        let expected = senders(&table, rho);
+        assert_eq!(printed(&["senders", &format!("{rho:x}")], &listing), expected, "{words:08x?} rho {rho:x}");
+        for line in expected.lines() {
+            let from: Vec<&str> = line.split(" from ").nth(1).unwrap().split(' ').collect();
+            counts[0] += u32::from(from == ["-"]);
+            counts[1] += u32::from(from.contains(&"opponent"));
+            counts[2] += u32::from(from.len() > 2);
+        }
+    }
+    assert!(counts.iter().all(|&count| count > 20), "{counts:?}");
+    let relay = include_bytes!("../../../examples/relay.listing");
+    assert_eq!(printed(&["senders", "0"], relay), "handler 0 name 0 from opponent\nhandler 1 name 1 from 0\n");
+    assert_eq!(printed(&["senders", "8"], relay), "handler 0 name 0 from opponent\nhandler 1 name 1 from 0 opponent\n");
+    let required = include_bytes!("../../../examples/relay-required.listing");
+    assert_eq!(printed(&["senders", "0"], required), "handler 0 name 0 from opponent\nhandler 1 name 1 from -\n");
+    let ports = printed(&["senders", "1"], include_bytes!("../../../examples/cookies-ports.listing"));
+    let lines: String = ports.lines().map(|line| format!("    {line}\n")).collect();
+    assert!(include_str!("../../../docs/EXAMPLES.md").contains(&lines), "{ports}");
+    assert_eq!(printed(&["senders", "0"], b"system 1\n"), "refused 4 at 1\n");
+    assert_eq!(printed(&["senders", "0"], b"system x\n"), "refused 40 at 1\n");
+    assert_eq!(printed(&["senders", "1000000"], relay), "refused 20 at 0\n");
+}
+
+/// 32 handlers that all send to one another: every line has every position and the opponent.
+#[test]
+fn the_longest_text_of_senders() {
+    let body = |i: u32| send(0, variable(0), term(kind::CONSTANT, i % 4, []));
+    let words = system(&(0..32).map(|i| block(i, 1, 0, body(i))).collect::<Vec<_>>());
+    let listing = write(&words, 65_536).expect("a listing");
+    let everybody: String = (0..32).map(|i| format!(" {i}")).collect();
+    let expected: String = (0..32).map(|i| format!("handler {i} name {i} from{everybody} opponent\n")).collect();
+    assert_eq!(printed(&["senders", "0"], &listing), expected);
 }
 
 /// The ceiling comes after the bound, and 23 at the ceiling stands alone.

@@ -42,12 +42,12 @@ fn printed(rho: u32, bound: u32, words: &[u32]) -> String {
 fn lines_of_the_program() {
     let relay = sample("relay").words;
     let handlers = "handler 0 name 0 entry yes live yes set 000002\nhandler 1 name 1 entry no live yes set 000002\n";
-    let first = "leak 000002 bound 000000 verdict over first 1 facts 205\n";
+    let first = "leak 000002 bound 000000 verdict over first 1 facts 207\n";
     assert_eq!(printed(0, 0, &relay), format!("{first}{handlers}"));
     assert_eq!(printed(3, 0x8000_0000, &relay), format!("{first}{handlers}"));
-    let first = "leak 000002 bound 000003 verdict within first - facts 205\n";
+    let first = "leak 000002 bound 000003 verdict within first - facts 207\n";
     assert_eq!(printed(3, 3, &relay), format!("{first}{handlers}"));
-    let lines = "leak 000002 bound 000000 verdict over first 1 facts 69\nhandler 0 name 0 entry yes live yes set 000002\n";
+    let lines = "leak 000002 bound 000000 verdict over first 1 facts 70\nhandler 0 name 0 entry yes live yes set 000002\n";
     for rho in [0, 2] {
         assert_eq!(printed(rho, 0x8000_0000, &sample("direct").words), lines);
     }

@@ -2,7 +2,7 @@
 use mathlib.Core.Path.{_≡_, refl, sym, ap, ap₂, subst, _∙_}
 use native.Mathlib.Omega.{arith}
 use Rattle.text.proofs.Writing.{reworded}
-use Rattle.commands.proofs.Runs.{decided, printed-text, printed-words, printed-join, printed-block, printed-manifest, printed-explain, printed-help}
+use Rattle.commands.proofs.Runs.{decided, printed-text, printed-words, printed-join, printed-block, printed-manifest, printed-explain, printed-check, printed-other}
 use borrow.Author.Needs.{needs}
 use Rattle.commands.proofs.print.Statement.{statement}
 use Rattle.commands.proofs.print.Tie as tie
@@ -109,16 +109,33 @@ returns-6 c =
     let s = c .before .before .before .before .before .before .before .before .before .before .before .before .before .before .before .before .before .before .before .before .before .before .before .before .before .before .before in
     reworded (printed-explain (s .args .command .now) (s .args .first .now) (s .args .second .now) (s .args .input .now) (decided _ _ _ (c .before .before .before .before .before .before .before .before .before .before .before .before .before .before .before .before .before .before .before .before .same .ensures) ∙ c .before .before .before .before .before .before .before .before .before .before .before .before .before .before .before .before .before .before .before .if1 .left) (decided _ _ _ (c .before .before .before .before .before .before .before .before .before .before .before .before .before .before .before .before .before .same2 .ensures) ∙ c .before .before .before .before .before .before .before .before .before .before .before .before .before .before .before .before .if2 .left) (decided _ _ _ (c .before .before .before .before .before .before .before .before .before .before .before .before .before .before .same3 .ensures) ∙ c .before .before .before .before .before .before .before .before .before .before .before .before .before .if3 .left) (decided _ _ _ (c .before .before .before .before .before .before .before .before .before .before .before .same4 .ensures) ∙ c .before .before .before .before .before .before .before .before .before .before .if4 .left) (decided _ _ _ (c .before .before .before .before .before .before .before .before .same5 .ensures) ∙ c .before .before .before .before .before .before .before .if5 .left) (decided _ _ _ (c .before .before .before .before .before .same6 .ensures) ∙ c .before .before .before .before .if6 .taken)) (c .before .before .explain-text .ensures)
 
-help-requires : tie.Need-help-requires
-help-requires c κs = search needs
+slice-aggregate-same-7 : tie.Need-slice-aggregate-same-7
+slice-aggregate-same-7 c = search needs
+
+same-requires-7 : tie.Need-same-requires-7
+same-requires-7 c κs = search needs
+
+check-text-requires : tie.Need-check-text-requires
+check-text-requires c κs = search needs
 
 same-length-7 : tie.Need-same-length-7
 same-length-7 c = search needs
 
 returns-7 : tie.Need-returns-7
 returns-7 c =
-    let s = c .before .before .before .before .before .before .before .before .before .before .before .before .before .before .before .before .before .before .before .before .before .before .before .before .before .before .before in
-    reworded (printed-help (s .args .command .now) (s .args .first .now) (s .args .second .now) (s .args .input .now) (decided _ _ _ (c .before .before .before .before .before .before .before .before .before .before .before .before .before .before .before .before .before .before .before .before .same .ensures) ∙ c .before .before .before .before .before .before .before .before .before .before .before .before .before .before .before .before .before .before .before .if1 .left) (decided _ _ _ (c .before .before .before .before .before .before .before .before .before .before .before .before .before .before .before .before .before .same2 .ensures) ∙ c .before .before .before .before .before .before .before .before .before .before .before .before .before .before .before .before .if2 .left) (decided _ _ _ (c .before .before .before .before .before .before .before .before .before .before .before .before .before .before .same3 .ensures) ∙ c .before .before .before .before .before .before .before .before .before .before .before .before .before .if3 .left) (decided _ _ _ (c .before .before .before .before .before .before .before .before .before .before .before .same4 .ensures) ∙ c .before .before .before .before .before .before .before .before .before .before .if4 .left) (decided _ _ _ (c .before .before .before .before .before .before .before .before .same5 .ensures) ∙ c .before .before .before .before .before .before .before .if5 .left) (decided _ _ _ (c .before .before .before .before .before .same6 .ensures) ∙ c .before .before .before .before .if6 .left)) (c .before .before .help .ensures)
+    let s = c .before .before .before .before .before .before .before .before .before .before .before .before .before .before .before .before .before .before .before .before .before .before .before .before .before .before .before .before .before .before in
+    reworded (printed-check (s .args .command .now) (s .args .first .now) (s .args .second .now) (s .args .input .now) (decided _ _ _ (c .before .before .before .before .before .before .before .before .before .before .before .before .before .before .before .before .before .before .before .before .before .before .before .same .ensures) ∙ c .before .before .before .before .before .before .before .before .before .before .before .before .before .before .before .before .before .before .before .before .before .before .if1 .left) (decided _ _ _ (c .before .before .before .before .before .before .before .before .before .before .before .before .before .before .before .before .before .before .before .before .same2 .ensures) ∙ c .before .before .before .before .before .before .before .before .before .before .before .before .before .before .before .before .before .before .before .if2 .left) (decided _ _ _ (c .before .before .before .before .before .before .before .before .before .before .before .before .before .before .before .before .before .same3 .ensures) ∙ c .before .before .before .before .before .before .before .before .before .before .before .before .before .before .before .before .if3 .left) (decided _ _ _ (c .before .before .before .before .before .before .before .before .before .before .before .before .before .before .same4 .ensures) ∙ c .before .before .before .before .before .before .before .before .before .before .before .before .before .if4 .left) (decided _ _ _ (c .before .before .before .before .before .before .before .before .before .before .before .same5 .ensures) ∙ c .before .before .before .before .before .before .before .before .before .before .if5 .left) (decided _ _ _ (c .before .before .before .before .before .before .before .before .same6 .ensures) ∙ c .before .before .before .before .before .before .before .if6 .left) (decided _ _ _ (c .before .before .before .before .before .same7 .ensures) ∙ c .before .before .before .before .if7 .taken)) (c .before .before .check-text .ensures)
+
+other-text-requires : tie.Need-other-text-requires
+other-text-requires c κs = search needs
+
+same-length-8 : tie.Need-same-length-8
+same-length-8 c = search needs
+
+returns-8 : tie.Need-returns-8
+returns-8 c =
+    let s = c .before .before .before .before .before .before .before .before .before .before .before .before .before .before .before .before .before .before .before .before .before .before .before .before .before .before .before .before .before .before in
+    reworded (printed-other (s .args .command .now) (s .args .first .now) (s .args .second .now) (s .args .input .now) (decided _ _ _ (c .before .before .before .before .before .before .before .before .before .before .before .before .before .before .before .before .before .before .before .before .before .before .before .same .ensures) ∙ c .before .before .before .before .before .before .before .before .before .before .before .before .before .before .before .before .before .before .before .before .before .before .if1 .left) (decided _ _ _ (c .before .before .before .before .before .before .before .before .before .before .before .before .before .before .before .before .before .before .before .before .same2 .ensures) ∙ c .before .before .before .before .before .before .before .before .before .before .before .before .before .before .before .before .before .before .before .if2 .left) (decided _ _ _ (c .before .before .before .before .before .before .before .before .before .before .before .before .before .before .before .before .before .same3 .ensures) ∙ c .before .before .before .before .before .before .before .before .before .before .before .before .before .before .before .before .if3 .left) (decided _ _ _ (c .before .before .before .before .before .before .before .before .before .before .before .before .before .before .same4 .ensures) ∙ c .before .before .before .before .before .before .before .before .before .before .before .before .before .if4 .left) (decided _ _ _ (c .before .before .before .before .before .before .before .before .before .before .before .same5 .ensures) ∙ c .before .before .before .before .before .before .before .before .before .before .if5 .left) (decided _ _ _ (c .before .before .before .before .before .before .before .before .same6 .ensures) ∙ c .before .before .before .before .before .before .before .if6 .left) (decided _ _ _ (c .before .before .before .before .before .same7 .ensures) ∙ c .before .before .before .before .if7 .left)) (c .before .before .other-text .ensures)
 
 pub print-spec : {M : Type 1} → statement M
 print-spec =
@@ -154,6 +171,11 @@ print-spec =
     explain-text-requires
     same-length-6
     returns-6
-    help-requires
+    slice-aggregate-same-7
+    same-requires-7
+    check-text-requires
     same-length-7
-    returns-7)
+    returns-7
+    other-text-requires
+    same-length-8
+    returns-8)

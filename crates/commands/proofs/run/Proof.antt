@@ -3,16 +3,19 @@ use mathlib.Core.Path.{_≡_, refl, sym, ap, ap₂, subst, _∙_}
 use native.Mathlib.Omega.{arith}
 use lib.ListN.{length}
 use Rattle.commands.specs.Printed.{printed}
-use Rattle.commands.proofs.Runs.{run-written, run-short, no-room, long-input}
+use Rattle.commands.proofs.Runs.{run-written, run-short}
 use borrow.Author.Needs.{needs}
 use Rattle.commands.proofs.run.Statement.{statement}
 use Rattle.commands.proofs.run.Tie as tie
 
 returns : tie.Need-returns
-returns c = let s = c .before .before .before .before .before .before in let r = run-short (printed (s .args .command .now) (s .args .first .now) (s .args .second .now) (s .args .input .now)) (length (s .args .input .now)) (s .args .out .now) (no-room (length (s .args .input .now)) (length (s .args .out .now)) (omega arith)) in (r .0, (r .1, r .2))
+returns c = let s = c .before .before .before .before .before .before in let r = run-short (printed (s .args .command .now) (s .args .first .now) (s .args .second .now) (s .args .input .now)) (length (s .args .input .now)) (s .args .out .now) (omega arith) in (r .0, (r .1, r .2))
+
+sub-if2 : tie.Need-sub-if2
+sub-if2 c = search needs
 
 returns-2 : tie.Need-returns-2
-returns-2 c = let s = c .before .before .before .before .before .before .before in let r = run-short (printed (s .args .command .now) (s .args .first .now) (s .args .second .now) (s .args .input .now)) (length (s .args .input .now)) (s .args .out .now) (long-input (length (s .args .input .now)) (length (s .args .out .now)) (omega arith)) in (r .0, (r .1, r .2))
+returns-2 c = let s = c .before .before .before .before .before .before .before in let r = run-short (printed (s .args .command .now) (s .args .first .now) (s .args .second .now) (s .args .input .now)) (length (s .args .input .now)) (s .args .out .now) (omega arith) in (r .0, (r .1, r .2))
 
 print-requires : tie.Need-print-requires
 print-requires c κs = search needs
@@ -21,13 +24,14 @@ same-length : tie.Need-same-length
 same-length c = search needs
 
 returns-3 : tie.Need-returns-3
-returns-3 c = let s = c .before .before .before .before .before .before .before .before .before .before .before in let r = run-written (printed (s .args .command .now) (s .args .first .now) (s .args .second .now) (s .args .input .now)) (length (s .args .input .now)) (s .args .out .now) (omega arith) (omega arith) _ _ (c .before .before .print .ensures) in (r .0, (r .1, r .2))
+returns-3 c = let s = c .before .before .before .before .before .before .before .before .before .before .before in let r = run-written (printed (s .args .command .now) (s .args .first .now) (s .args .second .now) (s .args .input .now)) (length (s .args .input .now)) (s .args .out .now) (omega arith) _ _ (c .before .before .print .ensures) in (r .0, (r .1, r .2))
 
 pub run-spec : {M : Type 1} → statement M
 run-spec =
     tie.close
     (tie.spec
     returns
+    sub-if2
     returns-2
     print-requires
     same-length

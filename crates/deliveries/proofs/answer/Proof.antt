@@ -1,5 +1,5 @@
 -- `deliveries::answer` meets its contract. Assumes nothing.
-use Rattle.deliveries.proofs.Adding.{answer-is}
+use Rattle.deliveries.proofs.SendLines.{answer-is}
 use borrow.Author.Needs.{needs}
 use Rattle.deliveries.proofs.answer.Statement.{statement}
 use Rattle.deliveries.proofs.answer.Tie as tie

@@ -1,6 +1,6 @@
 -- `deliveries::counted` meets its contract. Assumes nothing.
 use mathlib.Core.Path.{sym, _∙_}
-use Rattle.deliveries.proofs.Adding.{counted-block, counted-none}
+use Rattle.deliveries.proofs.Positions.{counted-block, counted-none}
 use borrow.Author.Needs.{needs}
 use Rattle.deliveries.proofs.counted.Statement.{statement}
 use Rattle.deliveries.proofs.counted.Tie as tie

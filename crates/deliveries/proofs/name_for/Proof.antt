@@ -1,6 +1,6 @@
 -- `deliveries::name_for` meets its contract. Assumes nothing.
 use mathlib.Core.Path.{sym, _∙_}
-use Rattle.deliveries.proofs.Adding.{target-name, own-name}
+use Rattle.deliveries.proofs.SendLines.{target-name, own-name}
 use borrow.Author.Needs.{needs}
 use Rattle.deliveries.proofs.name_for.Statement.{statement}
 use Rattle.deliveries.proofs.name_for.Tie as tie

@@ -2,7 +2,8 @@
 use mathlib.Core.Path.{sym, ap, _∙_}
 use native.Mathlib.Omega.{arith}
 use Rattle.deliveries.specs.Text.{line}
-use Rattle.deliveries.proofs.Adding.{added-nothing, added-as, receiver-block, receiver-none}
+use Rattle.text.proofs.Adding.{added-nothing, added-as}
+use Rattle.deliveries.proofs.SendLines.{receiver-block, receiver-none}
 use borrow.Author.Needs.{needs}
 use Rattle.deliveries.proofs.put_receiver.Statement.{statement}
 use Rattle.deliveries.proofs.put_receiver.Tie as tie

@@ -1,26 +1,21 @@
 -- `deliveries::put_receivers` meets its contract. The loop's invariant: what is written and what is left make the whole. Assumes nothing.
 use borrow.Author.Needs.{needs}
-use Prim.Native.Nat.{ℕ, _+_, _-_, _*_, _≤_}
-use mathlib.Core.Path.{_≡_, refl, sym, ap, _∙_}
-use mathlib.Core.List.{List, [], _++_, append-nil, append-assoc}
+use Prim.Native.Nat.{_-_}
 use native.Mathlib.Omega.{arith}
-use lib.ListN.{length, getD}
-use Rattle.deliveries.specs.Added.{Added}
+use lib.ListN.{length}
 use Rattle.deliveries.specs.Text.{receiver, receivers}
-use Rattle.deliveries.proofs.Adding.{added-nothing, added-then, added-as, rest, rest-end, rest-here, counted-most}
+use Rattle.deliveries.proofs.Positions.{Filled, filled-start, filled-step, filled-end}
 use Rattle.deliveries.proofs.put_receivers.Statement.{statement}
 use Rattle.deliveries.proofs.put_receivers.Tie as tie
 
 abbrev Inv-loop : tie.InvT-loop
-Inv-loop words p home from out₀ at next₀ to₀ q₀ out next to q =
-    (q ≤ length words) × (next ≤ at + 96 * q) × (to ≤ q)
-    × ((done : List ℕ) × Added out₀ at done out next × (done ++ rest words p home from q to ≡ receivers words p home from 0 0 words))
+Inv-loop words p home from out₀ at next₀ to₀ q₀ out next to q = Filled (receiver words p home from) words 96 out₀ at q to out next
 
 abbrev μ-loop : tie.MeasureT-loop
 μ-loop words p home from out₀ at next₀ to₀ q₀ out next to q = length words - q
 
 loop-holds : tie.Need-loop-holds Inv-loop μ-loop
-loop-holds c = (omega arith, omega arith, omega arith, ([], added-nothing _ _, refl))
+loop-holds c = filled-start _ _ _ _
 
 put-receiver-requires : tie.Need-put-receiver-requires Inv-loop μ-loop
 put-receiver-requires c κs = search needs
@@ -42,30 +37,15 @@ loop-less c = search needs
 
 loop-again : tie.Need-loop-again Inv-loop μ-loop
 loop-again c =
-    let a = c .before .before .before .before .before .before .before .before .before .before .args in let i = c .before .before .before .before .before .before .before .loop in let w = a .words .now in let f = c .before .before .before .before .put-receiver .ensures in
-    let d = i .inv .3 .0 in let r = receiver w (a .p) (a .home) (a .from) (i .q) (i .to) (getD w (i .q) 0) in (
-      omega arith,
-      omega (arith, f .1, i .inv .1),
-      omega (arith, c .counted .ensures, counted-most (getD w (i .q) 0) (i .to), i .inv .2),
-      (
-        d ++ r,
-        added-then (i .inv .3 .1) (f .0),
-        ap (λ (t : ℕ). (d ++ r) ++ rest w (a .p) (a .home) (a .from) (i .q + 1) t) (c .counted .ensures)
-            ∙ append-assoc d r _
-            ∙ ap (λ (l : List ℕ). d ++ l) (sym (rest-here w (a .p) (a .home) (a .from) (i .q) (i .to) (omega arith)))
-            ∙ i .inv .3 .2,
-      ),
-    )
+    let i = c .before .before .before .before .before .before .before .loop in let f = c .before .before .before .before .put-receiver .ensures in
+    filled-step _ _ (i .inv) (omega arith) (f .0) (f .1) (c .counted .ensures)
 
 same-length : tie.Need-same-length Inv-loop μ-loop
-same-length c = c .before .loop .inv .3 .1 .same
+same-length c = c .before .loop .inv .added .same
 
 returns : tie.Need-returns Inv-loop μ-loop
-returns c =
-    let a = c .before .before .before .before .args in let i = c .before .loop in let w = a .words .now in let d = i .inv .3 .0 in
-    let whole : d ≡ receivers w (a .p) (a .home) (a .from) 0 0 w =
-    sym (append-nil d) ∙ ap (λ (l : List ℕ). d ++ l) (sym (rest-end w (a .p) (a .home) (a .from) (i .q) (i .to) (c .loop-test .left))) ∙ i .inv .3 .2 in
-    (added-as whole (i .inv .3 .1), omega (arith, i .inv .0, i .inv .1))
+unfolding receivers
+returns c = let i = c .before .loop .inv in (filled-end _ _ i (c .loop-test .left), omega (arith, i .near, i .inside))
 
 pub put-receivers-spec : {M : Type 1} → statement M
 put-receivers-spec =

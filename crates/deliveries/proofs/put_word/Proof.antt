@@ -1,7 +1,8 @@
 -- `deliveries::put_word` meets its contract. Assumes nothing.
 use mathlib.Core.Path.{sym, _∙_}
 use native.Mathlib.Omega.{arith}
-use Rattle.deliveries.proofs.Adding.{added-nothing, added-as, lines-send, lines-none}
+use Rattle.text.proofs.Adding.{added-nothing, added-as}
+use Rattle.deliveries.proofs.SendLines.{lines-send, lines-none}
 use borrow.Author.Needs.{needs}
 use Rattle.deliveries.proofs.put_word.Statement.{statement}
 use Rattle.deliveries.proofs.put_word.Tie as tie

@@ -5,9 +5,11 @@ use mathlib.Core.Path.{_≡_, refl, sym, ap, ap₂, _∙_}
 use mathlib.Core.List.{List, [], _++_, append-nil, append-assoc}
 use native.Mathlib.Omega.{arith}
 use lib.ListN.{length, getD}
-use Rattle.deliveries.specs.Added.{Added}
+use Rattle.text.specs.Added.{Added}
 use Rattle.deliveries.specs.Text.{linesOf, text}
-use Rattle.deliveries.proofs.Adding.{added-nothing, added-then, added-as, sent, sent-end, sent-here, counted-most, block-in}
+use Rattle.text.proofs.Adding.{added-nothing, added-then, added-as}
+use Rattle.deliveries.proofs.Positions.{counted-most}
+use Rattle.deliveries.proofs.SendLines.{sent, sent-end, sent-here, block-in}
 use Rattle.deliveries.proofs.put_words.Statement.{statement}
 use Rattle.deliveries.proofs.put_words.Tie as tie
 

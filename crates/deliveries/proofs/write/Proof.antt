@@ -1,13 +1,9 @@
 -- `deliveries::write` meets its contract. Assumes nothing.
-use Prim.Native.Nat.{ℕ}
-use mathlib.Core.Path.{refl, sym, ap, _∙_}
-use mathlib.Core.List.{_++_}
-use native.Mathlib.Omega.{arith}
-use lib.ListN.{length, drop}
+use mathlib.Core.Path.{sym, ap, _∙_}
 use Rattle.table.specs.Answer.{outcome}
-use Rattle.listing.specs.Listing.{Answered, left}
 use Rattle.listing.specs.Answer.{number, place, answered}
-use Rattle.deliveries.specs.Text.{text}
+use Rattle.table.specs.Scan.{reading}
+use Rattle.deliveries.specs.Text.{text, written}
 use Rattle.deliveries.proofs.Answers.{refused-table}
 use borrow.Author.Needs.{needs}
 use Rattle.deliveries.proofs.write.Statement.{statement}
@@ -20,12 +16,11 @@ enum-known-r : tie.Need-enum-known-r
 enum-known-r c = search needs
 
 returns : tie.Need-returns
-unfolding answered left number place outcome
+unfolding answered number place outcome written
 returns c =
     let s = c .before .before .before .before .before .before in
     let ws = s .args .words .now in
-    let e = refused-table ws (length (s .args .out .now)) _ _ (sym (c .before .before .before .read .ensures) ∙ ap outcome (c .before .r .given .1)) in
-    (sym e, sym (ap (λ (a : Answered). left a (text ws) (s .args .out .now)) e))
+    refused-table (reading ws) (text ws) (s .args .out .now) _ _ (sym (c .before .before .before .read .ensures) ∙ ap outcome (c .before .r .given .1))
 
 enum-told : tie.Need-enum-told
 enum-told c = search needs

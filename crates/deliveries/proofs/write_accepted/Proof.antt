@@ -6,7 +6,10 @@ use native.Mathlib.Omega.{arith}
 use lib.ListN.{length}
 use Rattle.table.proofs.Limits.{size-le}
 use Rattle.listing.specs.Answer.{answered, number, place}
-use Rattle.deliveries.proofs.Answers.{nothing-before, room-lacking, room-there}
+use Rattle.table.specs.Scan.{reading}
+use Rattle.deliveries.specs.Text.{text, written}
+use Rattle.text.proofs.Adding.{nothing-before}
+use Rattle.deliveries.proofs.Answers.{room-lacking, room-there}
 use borrow.Author.Needs.{needs}
 use Rattle.deliveries.proofs.write_accepted.Statement.{statement}
 use Rattle.deliveries.proofs.write_accepted.Tie as tie
@@ -24,11 +27,11 @@ same-length : tie.Need-same-length
 same-length c = search needs
 
 returns : tie.Need-returns
-unfolding answered number place
+unfolding answered number place written
 returns c =
     let s = c .before .before .before .before .before .before .before in let a = s .args in let f = c .before .before .before .put-words .ensures in
     let z = nothing-before (c .before .before .before .put-words .last .1 .0) (a .out .now) (f .same) in
-    let w = room-lacking (a .words .now) (s .pre) (a .out .now) _ (f .ends) (omega (arith, c .if1 .taken, ap length z)) in
+    let w = room-lacking (reading (a .words .now)) (text (a .words .now)) (a .out .now) (s .pre) _ (f .ends) (omega (arith, c .if1 .taken, ap length z)) in
     (w .0, z ∙ w .1)
 
 put-words-requires-2 : tie.Need-put-words-requires-2
@@ -38,11 +41,11 @@ same-length-2 : tie.Need-same-length-2
 same-length-2 c = search needs
 
 returns-2 : tie.Need-returns-2
-unfolding answered
+unfolding answered written
 returns-2 c =
     let s = c .before .before .before .before .before .before .before .before .before .before .before in let a = s .args in let f = c .before .before .before .before .before .before .before .put-words .ensures in
     let z = nothing-before (c .before .before .before .before .before .before .before .put-words .last .1 .0) (a .out .now) (f .same) in
-    room-there (a .words .now) (s .pre) (a .out .now) _ (f .ends) (omega (arith, c .before .before .before .before .if1 .left, ap length z)) _ _ _ z (c .before .before .put-words2 .ensures)
+    room-there (reading (a .words .now)) (text (a .words .now)) (a .out .now) (s .pre) _ (f .ends) (omega (arith, c .before .before .before .before .if1 .left, ap length z)) _ _ _ z (c .before .before .put-words2 .ensures)
 
 pub write-accepted-spec : {M : Type 1} → statement M
 write-accepted-spec =

@@ -1,7 +1,7 @@
 -- `deliveries::lines::add_line` meets its contract. Assumes nothing.
 use native.Mathlib.Omega.{arith}
 use Rattle.text.proofs.Writing.{line-taken}
-use Rattle.deliveries.proofs.Adding.{added-as}
+use Rattle.text.proofs.Adding.{added-as}
 use borrow.Author.Needs.{needs}
 use Rattle.deliveries.proofs.lines.add_line.Statement.{statement}
 use Rattle.deliveries.proofs.lines.add_line.Tie as tie

@@ -1,0 +1,45 @@
+-- `audit::judge::with_masks` meets its contract. Four rows fit into 144 words. Assumes nothing.
+use mathlib.Core.Path.{sym}
+use native.Mathlib.Omega.{arith}
+use Rattle.calls.proofs.Bounds.{row-bound}
+use Rattle.solver.proofs.Zeros.{zeros-at}
+use Rattle.solver.proofs.Begun.{ready-of}
+use borrow.Author.Needs.{needs}
+use Rattle.audit.proofs.judge.with_masks.Statement.{statement}
+use Rattle.audit.proofs.judge.with_masks.Tie as tie
+
+slice-aggregate-fill-masks : tie.Need-slice-aggregate-fill-masks
+slice-aggregate-fill-masks c = search needs
+
+fill-masks-requires : tie.Need-fill-masks-requires
+fill-masks-requires c κs =
+    let s = c .before .before .before .before in
+    let b = row-bound (s .args .words .now) (s .pre .0 .readable) in
+    (s .pre .0 .readable, (sym (s .pre .0 .laid .row), (zeros-at 144, (omega (arith, s .pre .0 .laid .row, b), omega arith))))
+
+slice-aggregate-ruled : tie.Need-slice-aggregate-ruled
+slice-aggregate-ruled c = search needs
+
+ruled-requires : tie.Need-ruled-requires
+ruled-requires c κs =
+    let s = c .before .before .before .before .before .before .before in
+    let a = s .args in
+    let b = row-bound (a .words .now) (s .pre .0 .readable) in (
+      ready-of (a .words .now) (a .links .now) _ (a .est .now) (a .l) (s .pre .0) (omega (arith, c .before .before .fill-masks .kept .1 .0, s .pre .0 .laid .row, b))
+          (c .before .before .fill-masks .ensures),
+      s .pre .0,
+      s .pre .1,
+    )
+
+returns : tie.Need-returns
+returns c = search needs
+
+pub with-masks-spec : {M : Type 1} → statement M
+with-masks-spec =
+    tie.close
+    (tie.spec
+    slice-aggregate-fill-masks
+    fill-masks-requires
+    slice-aggregate-ruled
+    ruled-requires
+    returns)

@@ -1,0 +1,2 @@
+pub mod Audited
+pub mod Passes

@@ -1,0 +1,11 @@
+pub mod Fronts
+pub mod Prefixes
+pub mod Counting
+pub mod Tallies
+pub mod Permissions
+pub mod Tasks
+pub mod Pieces
+pub mod Judged
+pub mod Stepped
+pub mod Windows
+pub mod Samples

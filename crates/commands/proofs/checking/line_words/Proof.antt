@@ -1,0 +1,106 @@
+-- `commands::checking::line_words` meets its contract. Assumes nothing.
+use Prim.Native.Nat.{ℕ, _+_, _-_, _<_, _≤_}
+use mathlib.Core.Path.{_≡_, refl, sym, ap, _∙_}
+use mathlib.Core.List.{List}
+use native.Mathlib.Omega.{arith}
+use lib.ListN.{length, take, drop, length-set}
+use lib.Seq.{take-all}
+use Rattle.text.specs.Writing.{Wrote}
+use Rattle.text.proofs.Writing.{reworded, wrote-nothing}
+use Rattle.listing.specs.Listing.{wordsOf}
+use Rattle.commands.proofs.Checks.{words-behind, word-written, words-end}
+use borrow.Author.Needs.{needs}
+use Rattle.commands.proofs.checking.line_words.Statement.{statement}
+use Rattle.commands.proofs.checking.line_words.Tie as tie
+
+abbrev Inv-loop : tie.InvT-loop
+Inv-loop text words₀ at₀ n₀ words at n =
+    (at ≤ length text) × (length words ≡ length words₀) × (drop n (wordsOf text) ≡ wordsOf (drop at text)) × Wrote words₀ 0 (take n (wordsOf text)) words n
+
+abbrev μ-loop : tie.MeasureT-loop
+μ-loop text words₀ at₀ n₀ words at n = length words₀ - n
+
+loop-holds : tie.Need-loop-holds Inv-loop μ-loop
+loop-holds c = (search needs, refl, refl, wrote-nothing _ 0 (omega arith))
+
+same-length : tie.Need-same-length Inv-loop μ-loop
+same-length c = search needs
+
+returns : tie.Need-returns Inv-loop μ-loop
+returns c =
+    let s = c .before .before .before .before .before in
+    let l = c .before .before .loop in
+    let few = words-end (s .args .text .now) (l .n) (l .at) (c .if1 .taken) (l .inv .2) in
+    reworded (take-all (l .n) (wordsOf (s .args .text .now)) few ∙ sym (take-all (length (s .args .words .now)) (wordsOf (s .args .text .now)) (omega (arith, few, l .inv .3 .fits)))) (l .inv .3)
+
+line-end-requires : tie.Need-line-end-requires Inv-loop μ-loop
+line-end-requires c κs = search needs
+
+sub-word-of-line : tie.Need-sub-word-of-line Inv-loop μ-loop
+sub-word-of-line c = search needs
+
+part-word-of-line-start : tie.Need-part-word-of-line-start Inv-loop μ-loop
+part-word-of-line-start c = search needs
+
+part-word-of-line-end : tie.Need-part-word-of-line-end Inv-loop μ-loop
+part-word-of-line-end c = search needs
+
+word-of-line-requires : tie.Need-word-of-line-requires Inv-loop μ-loop
+word-of-line-requires c κs = search needs
+
+mul-words : tie.Need-mul-words Inv-loop μ-loop
+mul-words c = search needs
+
+slice-write-words : tie.Need-slice-write-words Inv-loop μ-loop
+slice-write-words c = search needs
+
+add-n : tie.Need-add-n Inv-loop μ-loop
+add-n c = search needs
+
+loop-less : tie.Need-loop-less Inv-loop μ-loop
+loop-less c = search needs
+
+loop-again : tie.Need-loop-again Inv-loop μ-loop
+loop-again c =
+    let s = c .before .before .before .before .before .before .before .before in
+    let l = c .before .before .before .before .before .loop in
+    let e = c .before .before .line-end in
+    let w = c .word-of-line in
+    let more = c .before .before .before .if1 .left in (
+      e .ensures .1,
+      simp length-set (l .inv .1),
+      words-behind (s .args .text .now) (l .n) (l .at) (e .result) (omega arith) (e .ensures .0) (l .inv .2),
+      word-written (s .args .text .now) (l .n) (l .at) (e .result) (omega arith) (e .ensures .0) (l .inv .2) (w .result) (w .ensures) (omega arith) (l .inv .3),
+    )
+
+same-length-2 : tie.Need-same-length-2 Inv-loop μ-loop
+same-length-2 c = search needs
+
+returns-2 : tie.Need-returns-2 Inv-loop μ-loop
+returns-2 c =
+    let s = c .before .before .before .before in
+    let l = c .before .loop in
+    let e : l .n ≡ length (s .args .words .now) = omega (arith, l .inv .3 .fits) in
+    reworded (ap (λ (k : ℕ). take k (wordsOf (s .args .text .now))) e) (l .inv .3)
+
+pub line-words-spec : {M : Type 1} → statement M
+line-words-spec =
+    tie.close
+    (tie.spec
+    Inv-loop
+    μ-loop
+    loop-holds
+    same-length
+    returns
+    line-end-requires
+    sub-word-of-line
+    part-word-of-line-start
+    part-word-of-line-end
+    word-of-line-requires
+    mul-words
+    slice-write-words
+    add-n
+    loop-less
+    loop-again
+    same-length-2
+    returns-2)

@@ -1,0 +1,91 @@
+-- `commands::packing::pack_text` meets its contract. Assumes nothing.
+use mathlib.Core.Path.{sym, ap, ap₂, _∙_}
+use native.Mathlib.Omega.{arith}
+use lib.ListN.{replicate}
+use lib.Seq.{length-take-le}
+use Rattle.listing.specs.Answer.{answered}
+use Rattle.listing.proofs.Places.{read-few}
+use Rattle.report.specs.Lines.{refusalLine}
+use Rattle.text.proofs.Writing.{reworded}
+use Rattle.commands.proofs.Packed.{pack-done, pack-refused}
+use borrow.Author.Needs.{needs}
+use Rattle.commands.proofs.packing.pack_text.Statement.{statement}
+use Rattle.commands.proofs.packing.pack_text.Tie as tie
+
+slice-aggregate-read : tie.Need-slice-aggregate-read
+slice-aggregate-read c = search needs
+
+read-requires : tie.Need-read-requires
+read-requires c κs = search needs
+
+enum-known-n : tie.Need-enum-known-n
+enum-known-n c = search needs
+
+array-share-prefix-words : tie.Need-array-share-prefix-words
+unfolding answered
+array-share-prefix-words c =
+    let s = c .before .before .before .before .before .before .before .before in
+    let r = c .before .before .before .before .read in
+    omega (arith, read-few (s .args .input .now) _ (sym (r .ensures .0) ∙ ap answered (c .before .n .given .1)), r .kept .1 .0)
+
+slice-aggregate-put-system : tie.Need-slice-aggregate-put-system
+unfolding answered
+slice-aggregate-put-system c =
+    let s = c .before .before .before .before .before .before .before .before .before in
+    let r = c .before .before .before .before .before .read in
+    sym (length-take-le _ _ (omega (arith, read-few (s .args .input .now) _ (sym (r .ensures .0) ∙ ap answered (c .before .before .n .given .1)), r .kept .1 .0)))
+
+put-system-requires : tie.Need-put-system-requires
+put-system-requires c κs = search needs
+
+enum-known-r : tie.Need-enum-known-r
+enum-known-r c = search needs
+
+refusal-number-requires : tie.Need-refusal-number-requires
+refusal-number-requires c κs = search needs
+
+refusal-place-requires : tie.Need-refusal-place-requires
+refusal-place-requires c κs = search needs
+
+refusal-line-requires : tie.Need-refusal-line-requires
+refusal-line-requires c κs = search needs
+
+same-length : tie.Need-same-length
+same-length c = search needs
+
+returns : tie.Need-returns
+unfolding answered
+returns c =
+    let s = c .before .before .before .before .before .before .before .before .before .before .before .before .before in
+    let r = c .before .before .before .before .before .before .before .before .before .read in
+    reworded (pack-done (s .args .rho) (s .args .input .now) (r .last .1 .0) (replicate 1024 0) _ (sym (r .ensures .0) ∙ ap answered (c .before .before .before .before .before .before .n .given .1)) (r .ensures .1)) (c .before .before .put-system .ensures)
+
+same-length-2 : tie.Need-same-length-2
+same-length-2 c = search needs
+
+returns-2 : tie.Need-returns-2
+unfolding answered
+returns-2 c =
+    let s = c .before .before .before .before .before .before .before .before .before .before .before .before .before .before in
+    let r = c .before .before .before .before .before .before .before .before .before .before .read in
+    let e = sym (r .ensures .0) ∙ ap answered (c .before .before .before .before .before .before .before .r .given .1) in
+    reworded (ap₂ refusalLine (c .before .before .before .before .refusal-number .ensures) (c .before .before .before .refusal-place .ensures) ∙ pack-refused (s .args .rho) (s .args .input .now) _ _ e) (c .before .before .refusal-line .ensures .0)
+
+pub pack-text-spec : {M : Type 1} → statement M
+pack-text-spec =
+    tie.close
+    (tie.spec
+    slice-aggregate-read
+    read-requires
+    enum-known-n
+    array-share-prefix-words
+    slice-aggregate-put-system
+    put-system-requires
+    enum-known-r
+    refusal-number-requires
+    refusal-place-requires
+    refusal-line-requires
+    same-length
+    returns
+    same-length-2
+    returns-2)

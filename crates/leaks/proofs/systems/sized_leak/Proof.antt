@@ -1,0 +1,35 @@
+-- `leaks::systems::sized_leak` meets its contract. Assumes nothing.
+use Prim.Native.Nat.{ℕ}
+use mathlib.Core.Path.{ap₂, _∙_}
+use Rattle.verdict.specs.Limits.{answerUnder}
+use Rattle.text.proofs.Writing.{reworded}
+use Rattle.printout.specs.Program.{answerText}
+use Rattle.leaks.proofs.Laws.{leak-largest}
+use borrow.Author.Needs.{needs}
+use Rattle.leaks.proofs.systems.sized_leak.Statement.{statement}
+use Rattle.leaks.proofs.systems.sized_leak.Tie as tie
+
+tell-within-requires : tie.Need-tell-within-requires
+tell-within-requires c κs = search needs
+
+same-length : tie.Need-same-length
+same-length c = search needs
+
+same-length-2 : tie.Need-same-length-2
+same-length-2 c = search needs
+
+same-length-3 : tie.Need-same-length-3
+same-length-3 c = search needs
+
+returns : tie.Need-returns
+returns c =
+    let s = c .before .before .before .before .before .before .before .before .before .before .before .before .before .before in
+    let a = s .args in
+    reworded
+    (ap₂ (λ (m n : ℕ). answerText (a .rho) (a .words .now) (answerUnder (a .words .now) (a .rho) (a .bound) (a .ceiling) m n)) (s .pre .1) (s .pre .2)
+    ∙ leak-largest (a .words .now) (a .rho) (a .bound) (a .ceiling) (s .pre .0))
+    (c .before .before .before .before .before .before .tell-within .ensures .wrote)
+
+pub sized-leak-spec : {M : Type 1} → statement M
+sized-leak-spec =
+    tie.close (tie.spec tell-within-requires same-length same-length-2 same-length-3 returns)

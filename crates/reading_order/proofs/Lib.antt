@@ -1,0 +1,5 @@
+pub mod Places
+pub mod Elements
+pub mod Replies
+pub mod Meaning
+pub mod Samples

@@ -1,0 +1,3 @@
+pub mod Relation
+pub mod Reply
+pub mod Parts

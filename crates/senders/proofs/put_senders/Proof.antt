@@ -1,0 +1,64 @@
+-- `senders::put_senders` meets its contract. Assumes nothing.
+use borrow.Author.Needs.{needs}
+use Prim.Native.Nat.{_-_}
+use native.Mathlib.Omega.{arith}
+use lib.ListN.{length}
+use Rattle.deliveries.proofs.Positions.{Filled, filled-start, filled-step, filled-end}
+use Rattle.senders.specs.Text.{sender}
+use Rattle.senders.proofs.put_senders.Statement.{statement}
+use Rattle.senders.proofs.put_senders.Tie as tie
+
+abbrev Inv-loop : tie.InvT-loop
+Inv-loop words est b out₀ at next₀ position₀ s₀ out next position s = Filled (sender words est b) words 64 out₀ at s position out next
+
+abbrev μ-loop : tie.MeasureT-loop
+μ-loop words est b out₀ at next₀ position₀ s₀ out next position s = length words - s
+
+loop-holds : tie.Need-loop-holds Inv-loop μ-loop
+loop-holds c = filled-start _ _ _ _
+
+put-sender-requires : tie.Need-put-sender-requires Inv-loop μ-loop
+put-sender-requires c κs = search needs
+
+mul-counted : tie.Need-mul-counted Inv-loop μ-loop
+mul-counted c = search needs
+
+shared-slice-read-counted : tie.Need-shared-slice-read-counted Inv-loop μ-loop
+shared-slice-read-counted c = search needs
+
+counted-requires : tie.Need-counted-requires Inv-loop μ-loop
+counted-requires c κs = search needs
+
+add-s : tie.Need-add-s Inv-loop μ-loop
+add-s c = search needs
+
+loop-less : tie.Need-loop-less Inv-loop μ-loop
+loop-less c = search needs
+
+loop-again : tie.Need-loop-again Inv-loop μ-loop
+loop-again c =
+    let i = c .before .before .before .before .before .before .before .loop in let f = c .before .before .before .before .put-sender .ensures in
+    filled-step _ _ (i .inv) (omega arith) (f .0) (f .1) (c .counted .ensures)
+
+same-length : tie.Need-same-length Inv-loop μ-loop
+same-length c = c .before .loop .inv .added .same
+
+returns : tie.Need-returns Inv-loop μ-loop
+returns c = let i = c .before .loop .inv in (filled-end _ _ i (c .loop-test .left), omega (arith, i .near, i .inside))
+
+pub put-senders-spec : {M : Type 1} → statement M
+put-senders-spec =
+    tie.close
+    (tie.spec
+    Inv-loop
+    μ-loop
+    loop-holds
+    put-sender-requires
+    mul-counted
+    shared-slice-read-counted
+    counted-requires
+    add-s
+    loop-less
+    loop-again
+    same-length
+    returns)

@@ -1,0 +1,36 @@
+-- `stray::allowed::named` meets its contract: a case for each.
+-- Assumes nothing.
+use mathlib.Core.Path.{sym, ap, ap₂, _∙_}
+use mathlib.Core.Bool.{Bool, not}
+use Prim.Native.Nat.{ℕ}
+use lib.Dec.{eqb}
+use Rattle.stray.specs.declared.Holding.{Holding}
+use Rattle.stray.specs.Allowed.{wordNamed}
+use borrow.Author.Needs.{needs}
+use Rattle.stray.proofs.allowed.named.Statement.{statement}
+use Rattle.stray.proofs.allowed.named.Tie as tie
+
+enum-told : tie.Need-enum-told
+enum-told c = search needs
+
+word-makes-requires : tie.Need-word-makes-requires
+word-makes-requires c κs = search needs
+
+enum-told-2 : tie.Need-enum-told-2
+enum-told-2 c = search needs
+
+kind-of-requires : tie.Need-kind-of-requires
+kind-of-requires c κs = search needs
+
+returns : tie.Need-returns
+unfolding wordNamed
+returns c = ap (λ (n : ℕ). not (eqb n 0)) (c .word-makes .ensures) ∙ sym (ap (λ (s : Holding). wordNamed s (c .before .before .before .args .w)) (c .before .enum-told .given .1))
+
+returns-2 : tie.Need-returns-2
+unfolding wordNamed
+returns-2 c = ap (λ (n : ℕ). eqb n 2) (c .kind-of .ensures) ∙ sym (ap (λ (s : Holding). wordNamed s (c .before .before .before .args .w)) (c .before .enum-told2 .given .1))
+
+pub named-spec : {M : Type 1} → statement M
+named-spec =
+    tie.close
+    (tie.spec enum-told word-makes-requires enum-told-2 kind-of-requires returns returns-2)
