@@ -48,12 +48,12 @@ held-after ws ρ bound est work est′ f (verdict v) e u =
     }
 
 -- the same under the ceiling n
-pub held-under : (ws : List ℕ) (ρ bound n : ℕ) (est work est′ : List ℕ) (a : Answer) → a ≡ answerUnder ws ρ bound n (length est) (length work)
+pub held-under : (ws : List ℕ) (ρ bound n : ℕ) (est work est′ : List ℕ) → eqb (kind (getD ws 0 0)) 5 ≡ false → (a : Answer) → a ≡ answerUnder ws ρ bound n (length est) (length work)
     → est′ ≡ estimateUnder ws ρ bound n est work → HeldFor ws ρ est′ a
-held-under ws ρ bound n est work est′ (refused number place) e u = tt
-held-under ws ρ bound n est work est′ (verdict v) e u =
+held-under ws ρ bound n est work est′ f (refused number place) e u = tt
+held-under ws ρ bound n est work est′ f (verdict v) e u =
     let q = under-verdict ws ρ bound n est work v est′ e u in
-    held-after ws ρ bound est work est′ (verdict v) (q .0) (q .1)
+    held-after ws ρ bound est work est′ f (verdict v) (q .0) (q .1)
 
 -- ---- an answer's text
 
