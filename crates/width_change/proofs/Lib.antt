@@ -1,0 +1,4 @@
+pub mod Origins
+pub mod Results
+pub mod Transferred
+pub mod Leaks
