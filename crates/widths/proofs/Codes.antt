@@ -5,13 +5,13 @@ use Prim.Native.Nat.{ℕ, zero, suc, _<_}
 use native.Mathlib.Omega.{arith}
 use native.Mathlib.Numerals.{unary-clauses}
 use lib.ListN.{length, getD, replicate}
-use Rattle.table.specs.Words.{kind, argument, wordOf, wide, narrow}
+use Rattle.table.specs.Words.{argument, wordOf, wide, narrow}
 use Rattle.table.specs.Scan.{Task, head, name, perms, guard, term, next, accepted, reading, namesAt}
 use Rattle.table.specs.Code.{part, trace, tasks, taskAt, nodeFor, code}
-use Rattle.table.proofs.TermWords.{argument-lt, argument-wordOf, kind-wordOf}
 use Rattle.table.proofs.Widths.{wide-names, narrow-names}
 use Rattle.table.proofs.Stack.{at-start, at-step}
 use Rattle.widths.specs.Converters.{rekinded, widened, narrowed, withNames}
+use Rattle.widths.proofs.Words.{length-kept, kind-given, argument-kept}
 
 module _ (k : ℕ) where
   -- each word meets the same task
@@ -19,7 +19,7 @@ module _ (k : ℕ) where
   unfolding tasks trace next rekinded
   tasks-kept [] = refl
   tasks-kept (w ∷ ws) =
-      ap (λ (n : ℕ). head (suc (length ws)) ∷ trace ws 1 (replicate n name ++ [])) (argument-wordOf k (argument w) (argument-lt w))
+      ap (λ (n : ℕ). head (suc (length ws)) ∷ trace ws 1 (replicate n name ++ [])) (argument-kept k w)
 
   task-kept : (ws : List ℕ) (p : ℕ) → taskAt (rekinded k ws) p ≡ taskAt ws p
   unfolding taskAt
@@ -40,19 +40,11 @@ module _ (k : ℕ) where
   node-kept (w ∷ ws) zero = refl
   node-kept (w ∷ ws) (suc p) = node-later w ws p (taskAt (w ∷ ws) (suc p))
 
-  pub length-kept : (ws : List ℕ) → length (rekinded k ws) ≡ length ws
-  unfolding rekinded
-  length-kept [] = refl
-  length-kept (w ∷ ws) = refl
-
   pub code-rekinded : (ws : List ℕ) → code (rekinded k ws) ≡ withNames (namesAt (rekinded k ws)) (code ws)
   unfolding code
-  code-rekinded ws = simp (length-kept, tasks-kept, task-kept, node-kept)
+  code-rekinded ws = simp (length-kept k, tasks-kept, task-kept, node-kept)
 
 -- ---- how many names the converted words have
-
-kind-given : (k w : ℕ) → kind (wordOf k (argument w)) ≡ k
-kind-given k w = kind-wordOf k (argument w) (argument-lt w)
 
 pub names-widened : (ws : List ℕ) → 0 < length ws → namesAt (widened ws) ≡ wide
 unfolding rekinded

@@ -1,2 +1,4 @@
 pub mod Samples
+pub mod Words
 pub mod Codes
+pub mod Refusals

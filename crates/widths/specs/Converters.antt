@@ -39,7 +39,7 @@ readAs k ws = elim (eqb (kind (getD ws 0 0)) k) [ true ↦ reading ws | false �
 
 -- a word with a name that no narrow table has
 unfoldable pub wideName : ℕ → Bool
-wideName w = (eqb (kind w) 2 || eqb (kind w) 19) && leb narrow (argument w)
+wideName w = leb narrow (argument w) && (eqb (kind w) 2 || eqb (kind w) 19)
 
 -- 56 at the first word with such a name, of the words from the place `at` on
 unfoldable pub namesFit : List ℕ → (at : ℕ) → Outcome

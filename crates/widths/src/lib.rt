@@ -1,4 +1,8 @@
 // Narrow tables made wide and wide tables made narrow.
+pub mod convert;
+mod fit;
+pub mod numbers;
+
 use table::Refusal;
 
 // Why a converter refuses: the table, or a word 0 of the other kind; more handlers than a narrow table has, a name that it does not
