@@ -9,7 +9,7 @@ use Rattle.table.specs.Words.{argument, wordOf, wide, narrow}
 use Rattle.table.specs.Scan.{Task, head, name, perms, guard, term, next, accepted, reading, namesAt}
 use Rattle.table.specs.Code.{part, trace, tasks, taskAt, nodeFor, code}
 use Rattle.table.proofs.Widths.{wide-names, narrow-names}
-use Rattle.table.proofs.Stack.{at-start, at-step}
+use Rattle.table.proofs.Blocks.{head-word}
 use Rattle.widths.specs.Converters.{rekinded, widened, narrowed, withNames}
 use Rattle.widths.proofs.Words.{length-kept, kind-given, argument-kept}
 
@@ -58,7 +58,7 @@ names-narrowed (w ∷ ws) h = narrow-names (wordOf 1 (argument w)) (λ e. let k 
 
 module _ (ws : List ℕ) (e : reading ws ≡ accepted) where
   pub some-words : 0 < length ws
-  some-words = at-step ws 0 [] (head (length ws)) [] (at-start ws e) .inside
+  some-words = head-word ws e .inside
 
   pub code-widened : code (widened ws) ≡ withNames wide (code ws)
   code-widened = rw (code-rekinded, names-widened ws some-words)

@@ -1,11 +1,11 @@
 -- Samples of the two converters, computed: *direct* of document 01, what is written up and down, and each refusal.
 use Prim.Native.Nat.{ℕ, zero, suc}
 use mathlib.Core.Path.{_≡_, refl}
-use mathlib.Core.List.{List, [], _∷_, map}
-use lib.ListN.{length, replicate}
+use mathlib.Core.List.{List, [], _∷_}
+use lib.ListN.{replicate}
 use Rattle.table.specs.Words.{wordOf, parts, partsByKind, limit, limitsByKind, namesOf}
 use Rattle.table.specs.Scan.{firstOf, has, tests, fault, missing, keep, under, next, scan, reading}
-use Rattle.widths.specs.Converters.{rekinded, widened, narrowed, readAs, wideName, namesFit, fitsNarrow, narrowable, Answer, written, refusal}
+use Rattle.widths.specs.Converters.{rekinded, widened, narrowed, readAs, wideName, namesFit, fitsNarrow, narrowable, written, refusal}
 use Rattle.widths.specs.Converters.{answer, outAfter, widenAnswer, narrowAnswer}
 
 -- one handler with a name, the empty sets and a body, in a table of a kind

@@ -1,7 +1,6 @@
 -- `widths::convert::convert` meets its contract.
 -- Assumes nothing.
-use mathlib.Core.Path.{_≡_, sym, ap, _∙_}
-use native.Mathlib.Omega.{arith}
+use mathlib.Core.Path.{sym, ap, _∙_}
 use Rattle.widths.specs.Converters.{rekinded}
 use Rattle.widths.specs.Answers.{faultNumber, faultPlace, convertedAs, checkedAs}
 use Rattle.widths.proofs.Refusals.{stopped, no-room, all-written}

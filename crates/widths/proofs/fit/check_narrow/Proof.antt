@@ -1,7 +1,6 @@
 -- `widths::fit::check_narrow` meets its contract.
 -- Assumes nothing.
 use mathlib.Core.Path.{_≡_, sym, ap, _∙_}
-use Prim.Native.Nat.{_<_}
 use native.Mathlib.Omega.{arith}
 use Rattle.table.specs.Scan.{accepted}
 use Rattle.widths.specs.Converters.{readAs}

@@ -1,7 +1,6 @@
 -- `widths::fit::read_as` meets its contract.
 -- Assumes nothing.
 use mathlib.Core.Path.{_≡_, sym, ap, _∙_}
-use native.Mathlib.Omega.{arith}
 use lib.ListN.{getD}
 use Rattle.table.specs.Words.{kind}
 use Rattle.table.specs.Answer.{number, place, outcome}
