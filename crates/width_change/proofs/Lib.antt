@@ -2,3 +2,4 @@ pub mod Origins
 pub mod Results
 pub mod Transferred
 pub mod Leaks
+pub mod Theorems

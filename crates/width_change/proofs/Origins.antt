@@ -8,12 +8,13 @@ use native.Mathlib.Omega.{arith}
 use borrow.Author.Tests.{lt-ltb, le-ltb, lt-leb, le-leb, ne-eqb, ltb-true, ltb-false}
 use lib.Dec.{T, eqb, leb, ltb, ltb→lt, eqb→eq}
 use Rattle.table.specs.Code.{Code}
+use Rattle.widths.specs.Converters.{withNames}
 use Rattle.calculus.specs.Elements.{plain, made, elements, isString, isFunction, isRecord, isCell, makes, making}
 use Rattle.calculus.specs.Elements.{sendable, anyRecord}
 use Rattle.calculus.specs.Constraint.{range}
 use Rattle.permset.proofs.Digits.{T-snd}
 use Rattle.calculus.proofs.Ranges.{below-in, in-below}
-use Rattle.width_change.specs.Transfer.{withNames, origins}
+use Rattle.width_change.specs.Transfer.{origins}
 
 -- ---- what a code says of its elements
 
@@ -53,8 +54,9 @@ only-one m = ⊎-elim (λ e. e) (λ n. absurd (List·Memᴰ·not-nil n)) (List·
 
 module _ (c : Code) (n : ℕ) where
   abbrev d : Code
-  d = withNames c n
+  d = withNames n c
 
+  -- plain data that both codes have, a name that c has not, and what a word makes
   pub data Sort (v : ℕ) : Type 0 where
     shared : v < plain c → v < plain d → Sort v
     new : plain c ≤ v → v < plain d → Sort v
@@ -82,7 +84,7 @@ module _ (c : Code) (n : ℕ) where
       let e : made c (made d i - plain d) ≡ made c i = omega arith in
       rw (le-ltb (made d i) (plain d) (omega arith), origins) (ap (λ (x : ℕ). x ∷ []) e)
 
-  -- each element has an origin
+  -- w is an origin of v
   abbrev pub Origin : ℕ → ℕ → Type 0
   Origin v w = List·Memᴰ w (origins c d v)
 
@@ -95,6 +97,7 @@ module _ (c : Code) (n : ℕ) where
   pub by-word : (i : ℕ) → Origin (made d i) (made c i)
   by-word i = subst (List·Memᴰ (made c i)) (sym (origins-made i)) (List·Memᴰ·head refl)
 
+  -- there is one
   pub origin : (v : ℕ) → (w : ℕ) × Origin v w
   origin v = go (sort v)
     where
@@ -103,7 +106,7 @@ module _ (c : Code) (n : ℕ) where
       go (new h k) = (0, any-plain h k (omega arith))
       go (ofWord i e) = (made c i, subst (λ (x : ℕ). Origin x (made c i)) (sym e) (by-word i))
 
-  -- and what its origins are
+  -- what the origins are
   is-itself : {v w : ℕ} → v < plain c → v < plain d → Origin v w → w ≡ v
   is-itself {v} {w} h k m = only-one (subst (List·Memᴰ w) (origins-shared h k) m)
 

@@ -11,10 +11,10 @@ use lib.ListN.{getD}
 use Rattle.table.specs.declared.Operation.{Operation}
 use Rattle.table.specs.declared.Operation.the-variants as operations
 use Rattle.table.specs.Code.{Code}
+use Rattle.widths.specs.Converters.{withNames}
 use Rattle.calculus.specs.Elements.{plain, isSign, signPlace, bySigns, sumSigns, lessSigns, comparable, isMany}
 use Rattle.calculus.specs.Elements.{truth, falsehood, equalResults, results}
 use Rattle.permset.proofs.Digits.{T-fst, T-snd}
-use Rattle.width_change.specs.Transfer.{withNames}
 use Rattle.width_change.proofs.Origins.{Sort, shared, new, ofWord, sort, only-one, Origin, itself, any-plain}
 
 sign-low : (x : ℕ) → T (isSign x) → x < 7
@@ -99,7 +99,7 @@ module _ (c : Code) where
 
 module _ (c : Code) (n : ℕ) where
   abbrev d : Code
-  d = withNames c n
+  d = withNames n c
 
   -- origins of x and y on which the operation gives z
   pub record Given (o : Operation) (x y z : ℕ) : Type 0 where

@@ -10,6 +10,7 @@ use Rattle.table.specs.declared.Operation.{Operation}
 use Rattle.table.specs.Code.{Code, Node, Leaf, One, Two, gap, block, leaf, one, two, bind, while, branch, update, Linked, LeafLinked, NodeLinked}
 use Rattle.table.specs.Code.{constant, number, literal, named, variable, function, empty, exercise, cell, read}
 use Rattle.table.specs.Code.{apply, sequence, get, delete, assign, operation, send}
+use Rattle.widths.specs.Converters.{withNames}
 use Rattle.calculus.specs.Elements.{nameElement}
 use Rattle.calculus.specs.Elements.{plain, made, Making, isFunction, isRecord, isCell}
 use Rattle.calculus.specs.Constraint.{Row, C, B, P, L, Sets, Rule, Obeys, none, put, sub, given, some, only, each, _and_}
@@ -19,7 +20,7 @@ use Rattle.permset.proofs.Digits.{T-and, T-fst, T-snd}
 use Rattle.calculus.proofs.Ranges.{below-in, in-below}
 use Rattle.calculus.proofs.Makers.{is-block}
 use Rattle.calculus.proofs.Fitting.{constant-lt, sign-lt, results-lt}
-use Rattle.width_change.specs.Transfer.{withNames, allOf, originsIn, transfer}
+use Rattle.width_change.specs.Transfer.{allOf, originsIn, transfer}
 use Rattle.width_change.proofs.Origins.{only-one, origins-shared, origins-made, Origin, origin, origin-plain, origin-element, Kept, strings-kept}
 use Rattle.width_change.proofs.Origins.{sendable-kept, records-kept}
 use Rattle.width_change.proofs.Results.{results-given}
@@ -49,9 +50,9 @@ name-lt c b (while a x) l t = absurd t
 name-lt c b (branch a x y) l t = absurd t
 name-lt c b (update a x y) l t = absurd t
 
-module _ (c : Code) (n : ℕ) (k : Linked c) (l : Linked (withNames c n)) (e : Sets) where
+module _ (c : Code) (n : ℕ) (k : Linked c) (l : Linked (withNames n c)) (e : Sets) where
   abbrev d : Code
-  d = withNames c n
+  d = withNames n c
 
   abbrev f : Sets
   f = transfer c d e

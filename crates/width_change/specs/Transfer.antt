@@ -1,26 +1,11 @@
--- Codes that differ in their number of names alone (document 02, wish 13), and how the sets of an estimate of the one are read as those
--- of the other.
+-- How the sets of an estimate are read for a code that differs in its number of names alone (document 02, wish 13).
 use Prim.Native.Nat.{ℕ, _-_}
-use mathlib.Core.Path.{_≡_}
 use mathlib.Core.List.{List, [], _∷_}
 use mathlib.Core.Bool.{Bool, true, false, _&&_}
 use lib.Dec.{ltb}
 use Rattle.table.specs.Code.{Code}
 use Rattle.calculus.specs.Elements.{plain, made}
 use Rattle.calculus.specs.Constraint.{Row, C, B, P, L, Sets, range}
-
--- c with n names
-abbrev pub withNames : Code → ℕ → Code
-withNames c n =
-    record { size = c .size; names = n; blocks = c .blocks; node = c .node; scope = c .scope; home = c .home }
-
--- d is c, its number of names aside
-pub record SameButNames (c d : Code) : Type 0 where
-  pub size : d .size ≡ c .size
-  pub blocks : d .blocks ≡ c .blocks
-  pub node : (p : ℕ) → d .node p ≡ c .node p
-  pub scope : (p : ℕ) → d .scope p ≡ c .scope p
-  pub home : (p : ℕ) → d .home p ≡ c .home p
 
 -- the test holds of each number of a list
 unfoldable pub allOf : List ℕ → (ℕ → Bool) → Bool
