@@ -3,7 +3,7 @@
 #![cfg(proved)]
 
 use peer::estimate::Layout;
-use peer::generate::{call, damaged, event, random_words, sensible_table, table, Call, Random};
+use peer::generate::{call, damaged, event, exact_table, random_words, sensible_table, table, Call, Random};
 use peer::machine::World;
 use peer::samples::{samples, Expected};
 use peer::table::{read, within, NARROW, WIDE, WIDTHS};
@@ -79,6 +79,21 @@ fn every_sample() {
         match sample.expected {
             Expected::Leak(leak, _) => assert_eq!(answer & 0xff_ffff, u64::from(leak), "{}", sample.name),
             Expected::Refused(n, at) => assert_eq!(answer, (1 << 32) + u64::from(n) * 65536 + at as u64, "{}", sample.name),
+        }
+    }
+}
+
+/// A system of 256 words of either width, in slices that just fit, as include/wiphosega.h gives their bytes, and in shorter ones.
+#[test]
+fn the_largest_systems() {
+    let mut random = Random(10);
+    for (names, bytes) in [(NARROW, 21_504), (WIDE, 23_552)] {
+        for _ in 0..rounds(50) {
+            let system = bytes_of(&exact_table(&mut random, names, 256));
+            let call = |estimate, work| Call { system: system.clone(), rho: 0, bound: 0, estimate: vec![0xa5; estimate], work: vec![0x5a; work] };
+            assert_eq!(compare(&call(bytes, 4096)), 0);
+            assert_eq!(compare(&call(bytes - 1, 4096)), 21);
+            assert_eq!(compare(&call(bytes, 4095)), 22);
         }
     }
 }

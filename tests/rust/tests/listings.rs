@@ -93,8 +93,8 @@ fn wide_tables() {
 #[test]
 fn random_systems() {
     let mut random = Random(31);
-    for round in 0..rounds(20_000) {
-        let words = match round % 8 {
+    for round in 0..rounds(22_500) {
+        let words = match round % 9 {
             0 => random_words(&mut random),
             1 => {
                 let words = table(&mut random, NARROW);
