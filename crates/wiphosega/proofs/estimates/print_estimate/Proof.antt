@@ -15,7 +15,7 @@ of-requires c κs = search needs
 
 words-requires : tie.Need-words-requires
 words-requires c κs =
-    let ws = c .before .before .before .args .words .now in
+    let ws = c .before .before .before .before .args .words .now in
     (laid-size ws (c .before .if1 .left) (c .of .result) (c .of .ensures), row-few ws (c .before .if1 .left) (c .of .result) (c .of .ensures))
 
 returns-2 : tie.Need-returns-2
@@ -25,9 +25,7 @@ slice-aggregate-print-words : tie.Need-slice-aggregate-print-words
 slice-aggregate-print-words c = sym (length-take-le _ _ (omega arith))
 
 print-words-requires : tie.Need-print-words-requires
-print-words-requires c κs =
-    let ws = c .before .before .before .args .words .now in
-    (laid-size ws (c .before .if1 .left) (c .of .result) (c .of .ensures), row-few ws (c .before .if1 .left) (c .of .result) (c .of .ensures))
+print-words-requires c κs = search needs
 
 returns-3 : tie.Need-returns-3
 returns-3 c = search needs
