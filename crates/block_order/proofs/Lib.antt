@@ -4,3 +4,6 @@ pub mod Tasks
 pub mod Standing
 pub mod Nodes
 pub mod Codes
+pub mod Sets
+pub mod Injections
+pub mod Facts
