@@ -5,7 +5,6 @@ use mathlib.Core.List.{List}
 use native.Mathlib.Omega.{arith}
 use lib.Dec.{T}
 use Rattle.table.specs.Code.{Code}
-use Rattle.calculus.specs.Constraint.{Row}
 use Rattle.calculus.specs.Layout.{bit, estimateWords, place, sets}
 use Rattle.calculus.specs.Estimate.{estimate, facts}
 use Rattle.calculus.proofs.Counting.{count, facts-count}

@@ -7,3 +7,6 @@ pub mod Codes
 pub mod Sets
 pub mod Injections
 pub mod Facts
+pub mod Answers
+pub mod Reports
+pub mod Theorem
