@@ -37,7 +37,7 @@ pub record Onto (π : ℕ → ℕ) (bs cs : List (List ℕ)) : Type 0 where
   pub long : length (flatten bs) ≡ length (flatten cs)
   pub moves : Moves π 1 bs cs
 
-long-table : (k : ℕ) (bs : List (List ℕ)) → length (tableOf k bs) ≡ suc (length (flatten bs))
+pub long-table : (k : ℕ) (bs : List (List ℕ)) → length (tableOf k bs) ≡ suc (length (flatten bs))
 unfolding tableOf
 long-table k bs = refl
 
@@ -151,9 +151,9 @@ module _ (k names : ℕ) (bs cs : List (List ℕ)) (x : Sound k names bs) (y : S
       let p : taskAt ws (suc b) ≡ perms _ = ap (taskAt ws) (let z : suc b ≡ b + 1 = omega arith in z) ∙ r .perms-task in
       let g : taskAt ws (suc (suc b)) ≡ guard = ap (taskAt ws) (let z : suc (suc b) ≡ b + 2 = omega arith in z) ∙ r .guard-task in
       let u : taskAt ws (suc (suc (suc b))) ≡ term 1 b (b ∷ []) = ap (taskAt ws) (let z : suc (suc (suc b)) ≡ b + 3 = omega arith in z) ∙ r .body-task in
-      let one = consecutive b (omega arith) (λ h. perms-no-name (sym p ∙ h)) in
-      let two = consecutive (suc b) (omega arith) (λ h. guard-no-name (sym g ∙ h)) in
-      let six = consecutive (suc (suc b)) (omega arith) (λ h. term-no-name (sym u ∙ h)) in (
+      let first = consecutive b (omega arith) (λ h. perms-no-name (sym p ∙ h)) in
+      let second = consecutive (suc b) (omega arith) (λ h. guard-no-name (sym g ∙ h)) in
+      let third = consecutive (suc (suc b)) (omega arith) (λ h. term-no-name (sym u ∙ h)) in (
         ap π (let z : b + 1 ≡ suc b = omega arith in z) ∙ (let z : π (suc b) ≡ π b + 1 = omega arith in z),
         ap π (let z : b + 2 ≡ suc (suc b) = omega arith in z) ∙ (let z : π (suc (suc b)) ≡ π b + 2 = omega arith in z),
         ap π (let z : b + 3 ≡ suc (suc (suc b)) = omega arith in z) ∙ (let z : π (suc (suc (suc b))) ≡ π b + 3 = omega arith in z),

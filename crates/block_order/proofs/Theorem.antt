@@ -19,15 +19,11 @@ use Rattle.solver.specs.Ceiling.{under}
 use Rattle.block_order.specs.Lines.{reports}
 use Rattle.block_order.specs.Order.{Moves, rearranged, Independent, OrderFree}
 use Rattle.block_order.proofs.Renumbering.{Long, Rearranges, perm-length, rearranges}
-use Rattle.block_order.proofs.Codes.{Sound, Onto, rearranged-code, word-moved}
+use Rattle.block_order.proofs.Codes.{Sound, Onto, long-table, rearranged-code, word-moved}
 use Rattle.block_order.proofs.Sets.{Both, sets-same, leak-same}
 use Rattle.block_order.proofs.Facts.{facts-same}
 use Rattle.block_order.proofs.Answers.{answer-same}
 use Rattle.block_order.proofs.Reports.{reports-same}
-
-long-table : (k : ℕ) (bs : List (List ℕ)) → length (tableOf k bs) ≡ suc (length (flatten bs))
-unfolding tableOf
-long-table k bs = refl
 
 all-long : (names : ℕ) (bs : List (List ℕ)) → All (Good names) bs → All Long bs
 all-long names [] g = tt
@@ -99,9 +95,12 @@ module _ (k names : ℕ) (bs cs : List (List ℕ)) (x : Sound k names bs) (y : S
         second = linked ds (y .reads);
       }
 
+  long : length (tableOf k cs) ≡ length (tableOf k bs)
+  long = let l = r .long in omega (arith, long-table k bs, long-table k cs)
+
   same-size : code (tableOf k bs) .size ≡ code (tableOf k cs) .size
   unfolding code
-  same-size = let l = r .long in omega (arith, long-table k bs, long-table k cs)
+  same-size = sym long
 
   starts : List·Permᴰ (map (r .π) (code (tableOf k bs) .blocks)) (code (tableOf k cs) .blocks)
   starts =
@@ -122,6 +121,7 @@ module _ (k names : ℕ) (bs cs : List (List ℕ)) (x : Sound k names bs) (y : S
             record {
               there = r .there;
               back = r .back;
+              long = long;
               inside = λ q h. omega (arith, there .inside q (omega (arith, long-table k bs)), long-table k cs);
               head = there .head;
               word = word-moved k names bs cs x y (r .π) there;

@@ -39,6 +39,7 @@ Moves π at bs cs = (p : ℕ) (b : List ℕ) → Stands at bs p b → Moved π a
 pub record Renumbers (π σ : ℕ → ℕ) (ws ds : List ℕ) : Type 0 where
   pub there : (p : ℕ) → σ (π p) ≡ p
   pub back : (q : ℕ) → π (σ q) ≡ q
+  pub long : length ds ≡ length ws
   pub inside : (p : ℕ) → p < length ws → π p < length ds
   pub head : π 0 ≡ 0
   pub word : (p : ℕ) → getD ds (π p) 0 ≡ getD ws p 0
