@@ -15,10 +15,11 @@ extern "C" {
 
 /* The answer: the leak in bits 0 to 23, and 2^24 added if the leak is over the bound. Refused: 2^32 + number * 65536 + place.
 
-   system    the words of the table, low byte first; at most 1,024 bytes, a multiple of four (else refused 31 or 30)
+   system    the words of the table, narrow or wide, low byte first; at most 1,024 bytes, a multiple of four (else refused 31 or 30)
    rho       the permissions that the opponent holds: bits 0 to 23
    bound     the permissions that the leak is compared with: bits 0 to 23, or WIPHOSEGA_STANDING_BOUND
-   estimate  with W words of the system and R = (64 + W + 31) / 32, at least 2WR + W words; 21,504 bytes are enough for every system
+   estimate  with W words of the system and R = (N + W + 31) / 32, N 64 or 96 (a wide table), at least 2WR + W words; 21,504 bytes are
+             enough for every narrow system, 23,552 for every system
    work      at least 4W words; 4,096 bytes are enough for every system
 
    After an answer below 2^32 the first 2WR + W words of `estimate` are the estimate, low byte first, the first 4W words of `work` are zero,
@@ -95,6 +96,16 @@ uint64_t wiphosega_manifest(const uint8_t *json, size_t json_bytes);
 uint64_t wiphosega_lookup(const uint8_t *base, size_t base_bytes, const uint8_t *overlay, size_t overlay_bytes, uint32_t name, uint32_t set);
 
 uint64_t wiphosega_join(const uint8_t *base, size_t base_bytes, const uint8_t *overlay, size_t overlay_bytes, uint8_t *out, size_t out_bytes);
+
+/* The converters, in the library of listings: a narrow table made wide (word 0 of kind 1 becomes one of kind 5), and a wide one made narrow; the
+   other words stay. The answer is how many bytes were written, as many as the system has. Refused: 2^32 + number * 65536 + place, by 30 (the bytes
+   are no whole words), 1 at 0 (word 0 has the other kind, or there is no word), the table's numbers 1 to 12, for wiphosega_narrow 55 (over 32
+   handlers, place 0) and 56 (at the first word with a name over 31), and last 57 (the output is too short, place 0). The output counts whole words:
+   4,096 bytes are enough. A refusal leaves all bytes of the output as they were, and any other answer those behind what was written. For pointers the
+   same holds as above. */
+uint64_t wiphosega_widen(const uint8_t *system, size_t system_bytes, uint8_t *out, size_t out_bytes);
+
+uint64_t wiphosega_narrow(const uint8_t *system, size_t system_bytes, uint8_t *out, size_t out_bytes);
 
 /* The fingerprint of a system, as the report on a class has it, in the library of listings: the published hash FNV-1a of 32 bits, of the bytes of
    its words. For the pointer the same holds as above. */

@@ -10,7 +10,7 @@
 enum { SIZE = 1 << 20, FILL = 0xa5 };
 
 static uint8_t stack[SIZE] __attribute__((aligned(4096)));
-static uint32_t system_words[256], estimate[5376], work[1024];
+static uint32_t system_words[256], estimate[5888], work[1024];
 static size_t count;
 static uint64_t answer;
 
@@ -39,9 +39,11 @@ static void put(uint32_t word) {
     if (count < 256) system_words[count++] = word;
 }
 
-static void begin(uint32_t handlers) {
+enum { NARROW = 0x01000000, WIDE = 0x05000000 };
+
+static void begin(uint32_t width, uint32_t handlers) {
     count = 0;
-    put(0x01000000 + handlers);
+    put(width + handlers);
 }
 
 static void block(uint32_t name, uint32_t permissions, uint32_t guard) {
@@ -91,24 +93,31 @@ static void term(int words, int depth, uint32_t binders) {
 
 int main(void) {
     base = used(nothing);
-    begin(0);
+    begin(NARROW, 0);
     measure();
     /* the deepest body */
-    begin(1), block(0, 0, 0);
+    begin(NARROW, 1), block(0, 0, 0);
     for (int i = 0; i < 63; i++) put(0x15000000);
     put(0x10000000), measure();
-    begin(1), block(0, 0, 0);
+    begin(NARROW, 1), block(0, 0, 0);
     for (int i = 0; i < 63; i++) put(0x16000000);
     for (int i = 0; i < 64; i++) put(0x14000000);
     measure();
     /* 31 handlers, each of which sends its message to a name that the message gives */
-    begin(31);
+    begin(NARROW, 31);
     for (uint32_t i = 0; i < 31; i++) block(i, i + 1, 0), put(0x18000000), put(0x23000000), put(0x14000000), put(0x14000000), put(0x24000001 + i);
     measure();
+    /* the same of a wide table, and as many handlers as 256 words can have */
+    begin(WIDE, 31);
+    for (uint32_t i = 0; i < 31; i++) block(i + 32, i + 1, 0), put(0x18000000), put(0x23000000), put(0x14000000), put(0x14000000), put(0x24000001 + i);
+    measure();
+    begin(WIDE, 63);
+    for (uint32_t i = 0; i < 63; i++) block(i, i + 1, 0), put(0x24000001 + i);
+    measure();
     /* handlers with random bodies of up to 250 words in all */
-    for (int round = 0; round < 3000; round++) {
+    for (int round = 0; round < 6000; round++) {
         uint32_t handlers = 1 + below(4);
-        begin(handlers);
+        begin(round < 3000 ? NARROW : WIDE, handlers);
         for (uint32_t i = 0; i < handlers; i++) block(i, i + 1, 0), term((int)(240 / handlers) - 3, 1, 1);
         measure();
     }

@@ -1,5 +1,5 @@
-/* Calls the proved library as a build tool in C does: every sample of document 01, every refusal, and what becomes of the bytes of both slices.
-   Prints one line, and exits 1 at the first difference. */
+/* Calls the proved library as a build tool in C does: every sample of document 01, wide tables, every refusal, and what becomes of the bytes of both
+   slices. Prints one line, and exits 1 at the first difference. */
 #include "wiphosega.h"
 #include <stdio.h>
 #include <stdlib.h>
@@ -7,10 +7,12 @@
 
 #define REFUSED(number, place) ((UINT64_C(1) << 32) + (uint64_t)(number) * 65536 + (place))
 #define OVER (UINT64_C(1) << 24)
-#define HANDLER "01000001 02000000 03000003 04000000 "
+#define BLOCK " 02000000 03000003 04000000 "
+#define HANDLER "01000001" BLOCK
+#define WIDE_HANDLER "05000001" BLOCK
 #define RELAY(required) "01000002 02000000 03000008 04000000 " required " 13000001 14000000 02000001 03000002 04000008 24000002"
 
-enum { MOST_ESTIMATE = 4 * 5376, MOST_WORK = 4 * 1024, SPARE = 7, FILL = 0xa5 };
+enum { MOST_ESTIMATE = 4 * 5888, MOST_WORK = 4 * 1024, SPARE = 7, FILL = 0xa5 };
 
 static int calls;
 
@@ -40,7 +42,7 @@ static int filled(const uint8_t *from, const uint8_t *to, uint8_t byte) {
 static void check(const char *name, const uint8_t *system, size_t bytes, uint32_t rho, uint32_t bound, size_t estimate_bytes,
                   size_t work_bytes, uint64_t expected) {
     static uint8_t estimate[MOST_ESTIMATE + SPARE], work[MOST_WORK + SPARE];
-    size_t w = bytes / 4, changed = 4 * (2 * w * ((64 + w + 31) / 32) + w), cleared = 16 * w;
+    size_t w = bytes / 4, plain = w && system[3] == 5 ? 96 : 64, changed = 4 * (2 * w * ((plain + w + 31) / 32) + w), cleared = 16 * w;
     memset(estimate, FILL, sizeof estimate);
     memset(work, FILL, sizeof work);
     uint64_t answer = wiphosega_verdict(system, bytes, rho, bound, estimate, estimate_bytes, work, work_bytes);
@@ -81,6 +83,43 @@ static void samples(void) {
     sample(RELAY("23000001"), 0, 0, 0);
     sample("01000003 02000000 03000008 04000000 23000004 13000001 14000000 02000001 03000002 04000008 24000002 "
            "02000001 03000004 04000008 24000004", 0, 0, 4 + OVER);
+}
+
+/* 41 handlers of which each hands its message to the next; the first alone is open to the opponent, the last alone exercises. */
+static void forty_one(const char *kind, uint64_t expected) {
+    static char words[9 * 256];
+    size_t n = (size_t)sprintf(words, "%s000029", kind);
+    for (unsigned i = 0; i < 41; i++) {
+        n += (size_t)sprintf(words + n, " 020000%02x 0300000a 0400000%u", i, i ? 8u : 0u);
+        n += (size_t)(i < 40 ? sprintf(words + n, " 23000000 130000%02x 14000000", i + 1) : sprintf(words + n, " 24000002"));
+    }
+    sample(words, 0, 0, expected);
+}
+
+/* Sixty-four handlers and names 0 to 63; a narrow table keeps its limits. */
+static void wide_samples(void) {
+    sample("05000000", 0, 0, 0);
+    sample(WIDE_HANDLER "24000002", 0, 0, 2 + OVER);
+    sample(WIDE_HANDLER "24000002", 0, 2, 2);
+    sample(WIDE_HANDLER "24000004", 2, WIPHOSEGA_STANDING_BOUND, 0);
+    sample("05000002 02000000 03000008 04000000 23000000 13000001 14000000 02000001 03000002 04000008 24000002", 0, 0, 2 + OVER);
+    /* a message to name 63; the message itself may be that name; names over 31 that are equal, and that are not */
+    sample("05000002 02000000 03000008 04000000 23000000 1300003f 14000000 0200003f 03000002 04000008 24000002", 0, 0, 2 + OVER);
+    sample("05000002 02000000 03000008 04000000 23000000 14000000 10000001 0200003f 03000002 04000008 24000002", 0, 0, 2 + OVER);
+    sample(WIDE_HANDLER "19000000 1b000002 13000028 13000028 24000001 24000002", 0, 0, 1 + OVER);
+    sample(WIDE_HANDLER "19000000 1b000002 13000028 13000029 24000001 24000002", 0, 0, 2 + OVER);
+    forty_one("05", 2 + OVER);
+    forty_one("01", REFUSED(3, 0));
+    sample("05000041", 0, 0, REFUSED(3, 0));
+    sample("05000040", 0, 0, REFUSED(4, 1));
+    sample("05000001 0200003f 03000003 04000000 24000002", 0, 0, 2 + OVER);
+    sample("05000001 02000040 03000003 04000000 24000002", 0, 0, REFUSED(5, 1));
+    sample(WIDE_HANDLER "1300003f", 0, 0, 0);
+    sample(WIDE_HANDLER "13000040", 0, 0, REFUSED(9, 4));
+    sample(HANDLER "1300001f", 0, 0, 0);
+    sample(HANDLER "13000020", 0, 0, REFUSED(9, 4));
+    sample("05000000 05000000", 0, 0, REFUSED(12, 1));
+    sample(WIDE_HANDLER "24000002", 0x1000000, 0, REFUSED(20, 0));
 }
 
 /* A chain of functions, the innermost at this depth. */
@@ -132,15 +171,22 @@ static void long_samples(void) {
     check("1,025 words", system, bytes + bytes_of("20000000", system + bytes), 0, 0, MOST_ESTIMATE, MOST_WORK, REFUSED(31, 0));
 }
 
-/* Five words need 2 * 5 * 3 + 5 words of estimate and 20 of work. */
+/* Five words need 2 * 5 * 3 + 5 words of estimate, or 2 * 5 * 4 + 5 of a wide table, and 20 of work. */
+static void fitting(const char *words, size_t estimate_words) {
+    uint8_t system[20];
+    size_t bytes = bytes_of(words, system);
+    check("slices that just fit", system, bytes, 0, 0, 4 * estimate_words, 4 * 20, 2 + OVER);
+    check("odd bytes after them", system, bytes, 0, 0, 4 * estimate_words + 3, 4 * 20 + 3, 2 + OVER);
+    check("an estimate one byte short", system, bytes, 0, 0, 4 * estimate_words - 1, 4 * 20, REFUSED(21, 0));
+    check("work one byte short", system, bytes, 0, 0, 4 * estimate_words, 4 * 20 - 1, REFUSED(22, 0));
+    check("both short", system, bytes, 0, 0, 0, 0, REFUSED(21, 0));
+}
+
 static void slices(void) {
     uint8_t system[20], none = 0;
     size_t bytes = bytes_of(HANDLER "24000002", system);
-    check("slices that just fit", system, bytes, 0, 0, 4 * 35, 4 * 20, 2 + OVER);
-    check("odd bytes after them", system, bytes, 0, 0, 4 * 35 + 3, 4 * 20 + 3, 2 + OVER);
-    check("an estimate one byte short", system, bytes, 0, 0, 4 * 35 - 1, 4 * 20, REFUSED(21, 0));
-    check("work one byte short", system, bytes, 0, 0, 4 * 35, 4 * 20 - 1, REFUSED(22, 0));
-    check("both short", system, bytes, 0, 0, 0, 0, REFUSED(21, 0));
+    fitting(HANDLER "24000002", 35);
+    fitting(WIDE_HANDLER "24000002", 45);
     check("no system", &none, 0, 0, 0, 0, 0, REFUSED(1, 0));
     if (wiphosega_verdict(&none, 0, 0, 0, &none, 0, &none, 0) != REFUSED(1, 0)) fail("slices of no length", "another answer");
     if (wiphosega_verdict(system, bytes, 0, 0, &none, 0, &none, 0) != REFUSED(21, 0)) fail("slices of no length", "another answer");
@@ -153,27 +199,30 @@ static void slices(void) {
     calls += 4;
 }
 
-/* The estimate of `direct`: the opponent may have sent to the block, which holds all 64, its body has unit, and both have permission 1 and the flag. */
-static void estimate_of_direct(void) {
-    uint8_t system[20], estimate[4 * 35], work[4 * 20], expected[4 * 35] = {0};
-    size_t bytes = bytes_of(HANDLER "24000002", system);
+/* The estimate of `direct`: the opponent may have sent to the block, which holds all 64, or all 96, its body has unit, and both have permission 1 and the
+   flag. `lead` words of a row hold those elements, and one more the made ones. */
+static void estimate_of_direct(const char *words, size_t lead) {
+    uint8_t system[20], estimate[4 * 45], work[4 * 20], expected[4 * 45] = {0};
+    size_t bytes = bytes_of(words, system), row = lead + 1, flags = 2 * 5 * row, size = 4 * (flags + 5);
     memset(estimate, FILL, sizeof estimate);
-    if (wiphosega_verdict(system, bytes, 0, 0, estimate, sizeof estimate, work, sizeof work) != 2 + OVER) fail("direct", "another answer");
-    expected[4 * (2 * 1 * 3)] = 1 << 7;
-    memset(expected + 4 * (2 * 1 * 3 + 3), 0xff, 8);
-    expected[4 * (2 * 4 * 3)] = 1 << 1;
-    expected[4 * (30 + 1)] = expected[4 * (30 + 4)] = 2;
-    expected[4 * (30 + 1) + 3] = expected[4 * (30 + 4) + 3] = 1;
-    if (memcmp(estimate, expected, sizeof expected)) fail("direct", "another estimate");
+    if (wiphosega_verdict(system, bytes, 0, 0, estimate, size, work, sizeof work) != 2 + OVER) fail(words, "another answer");
+    expected[4 * (2 * 1 * row)] = 1 << 7;
+    memset(expected + 4 * (2 * 1 * row + row), 0xff, 4 * lead);
+    expected[4 * (2 * 4 * row)] = 1 << 1;
+    expected[4 * (flags + 1)] = expected[4 * (flags + 4)] = 2;
+    expected[4 * (flags + 1) + 3] = expected[4 * (flags + 4) + 3] = 1;
+    if (memcmp(estimate, expected, size)) fail(words, "another estimate");
     calls++;
 }
 
 int main(void) {
     samples();
+    wide_samples();
     refusals();
     long_samples();
     slices();
-    estimate_of_direct();
+    estimate_of_direct(HANDLER "24000002", 2);
+    estimate_of_direct(WIDE_HANDLER "24000002", 3);
     printf("C: %d calls answered as expected\n", calls);
     return 0;
 }

@@ -8,7 +8,7 @@ use lib.Count.{onesIn}
 use lib.ListN.{set, take, getD}
 use Rattle.permset.specs.Sets.{within, member, union, difference, lowest}
 use Rattle.delivery.specs.Delivery.{judged as deliveryJudged, delivered}
-use Rattle.table.specs.Words.{partsByKind, limitsByKind, parts, arity, limit, constantNumber, constantOf, operationOf, termsByKind, termOf}
+use Rattle.table.specs.Words.{partsByKind, limitsByKind, parts, arity, limit, constantNumber, constantOf, operationOf, termsByKind, termOf, namesOf}
 use Rattle.table.specs.Scan.{firstOf, has, tests, fault, missing, keep, under, next, scan, reading}
 use Rattle.table.specs.Code.{code, skip, part, trace, tasks, taskAt, termNode, nodeFor, scopeFor, homeFor, blocksFrom}
 use Rattle.calculus.specs.Elements.{constantElement, sign, isString, leafMakes, oneMakes, makes, isFunction, isRecord, isCell, making, sendable, anyRecord}
@@ -43,7 +43,7 @@ pub samples-audited :
     ≡ obeys 2 ∷ refused 52 0 ∷ refused 52 0 ∷ refused 54 1 ∷ refused 54 4 ∷ refused 54 1 ∷ refused 54 1
     ∷ refused 53 26 ∷ refused 53 34 ∷ obeys 2 ∷ obeys 3
     ∷ obeys 2 ∷ refused 54 7 ∷ []
-unfolding onesIn partsByKind limitsByKind parts arity limit constantNumber constantOf operationOf termsByKind termOf firstOf has tests
+unfolding onesIn partsByKind limitsByKind parts arity limit constantNumber constantOf operationOf termsByKind termOf namesOf firstOf has tests
     fault missing keep under next scan reading code skip part trace tasks taskAt termNode nodeFor scopeFor homeFor blocksFrom within member union
     difference lowest constantElement sign isString leafMakes oneMakes makes isFunction isRecord isCell making sendable anyRecord range nameOf permsOf
     guarded isBlock permissions deliveryTo deliveryJudged delivered leafRule oneRule twoRule flow entry twoSender sender senders rule rowWords

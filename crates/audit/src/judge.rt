@@ -67,7 +67,7 @@ fn sized(words: &[u32], est: &[u32], rho: PermSet) -> Audit
     requires { ⌜ reading (now words) ≡ accepted ⌝ }
     ensures { λ r. ⌜ said r ≡ Sized (code (now (words .entry))) (rho .bits) (now (est .entry)) ⌝ }
 {
-    let l = Layout::of(words.len());
+    let l = Layout::of(words);
     if est.len() != l.words() {
         return Audit::Length;
     }

@@ -103,7 +103,7 @@ fn run(words: &[u32], rho: u32, est: &mut [u32], work: &mut [u32]) {
 }
 
 fn with_slices(words: &[u32], rho: u32) {
-    let mut est = [0u32; 70656];
+    let mut est = [0u32; 72704];
     let mut work = [0u32; 4096];
     run(words, rho, &mut est, &mut work);
 }

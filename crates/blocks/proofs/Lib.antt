@@ -5,3 +5,4 @@ pub mod Tables
 pub mod Places
 pub mod Rearranged
 pub mod Tasks
+pub mod Narrow

@@ -6,8 +6,11 @@ use Prim.Native.Nat.{ℕ, suc, _+_}
 use native.Mathlib.Omega.{arith}
 use borrow.Author.Tests.{eqb-false, ne-eqb}
 use lib.Dec.{eqb}
-use lib.ListN.{length, length-append}
-use Rattle.table.specs.Scan.{accepted, has, reading}
+use lib.ListN.{length, getD, length-append}
+use Rattle.table.specs.Words.{kind, wordOf, namesOf}
+use Rattle.table.specs.Scan.{accepted, has, namesAt, reading}
+use Rattle.table.proofs.TermWords.{kind-wordOf}
+use Rattle.table.proofs.Widths.{names-most}
 use Rattle.blocks.specs.Blocks.{blocks, tableOf, keyOf, Good, All, Distinct}
 use Rattle.blocks.proofs.Keys.{neither}
 use Rattle.blocks.proofs.Tables.{table, blocks-good, blocks-distinct, blocks-few, blocks-whole, table-accepted, blocks-tableOf}
@@ -49,11 +52,11 @@ keys-of (List·Permᴰ·cons e p) = List·Permᴰ·cons (ap keyOf e) (keys-of p)
 keys-of (List·Permᴰ·swap e f) = List·Permᴰ·swap (ap keyOf e) (ap keyOf f)
 keys-of (List·Permᴰ·trans p q) = List·Permᴰ·trans (keys-of p) (keys-of q)
 
-still-good : {bs cs : List (List ℕ)} → List·Permᴰ bs cs → All Good bs → All Good cs
-still-good List·Permᴰ·nil g = g
-still-good (List·Permᴰ·cons e p) g = (subst Good e (g .0), still-good p (g .1))
-still-good (List·Permᴰ·swap e f) g = (subst Good f (g .1 .0), (subst Good e (g .0), g .1 .1))
-still-good (List·Permᴰ·trans p q) g = still-good q (still-good p g)
+still-good : (names : ℕ) {bs cs : List (List ℕ)} → List·Permᴰ bs cs → All (Good names) bs → All (Good names) cs
+still-good names List·Permᴰ·nil g = g
+still-good names (List·Permᴰ·cons e p) g = (subst (Good names) e (g .0), still-good names p (g .1))
+still-good names (List·Permᴰ·swap e f) g = (subst (Good names) f (g .1 .0), (subst (Good names) e (g .0), g .1 .1))
+still-good names (List·Permᴰ·trans p q) g = still-good names q (still-good names p g)
 
 -- as many blocks, and as many words
 same-size : {bs cs : List (List ℕ)} → List·Permᴰ bs cs → (length bs ≡ length cs) × (length (flatten bs) ≡ length (flatten cs))
@@ -73,17 +76,28 @@ same-size (List·Permᴰ·trans p q) = let s = same-size p in let t = same-size 
 -- ---- tables
 
 module _ (ws : List ℕ) (e : reading ws ≡ accepted) (bs : List (List ℕ)) (p : List·Permᴰ (blocks ws) bs) where
-  pub rearranged-accepted : reading (tableOf bs) ≡ accepted
+  abbrev k : ℕ
+  k = kind (getD ws 0 0)
+
+  pub rearranged-good : All (Good (namesAt ws)) bs
+  rearranged-good = still-good (namesAt ws) p (blocks-good ws e)
+
+  -- the names of a kind
+  own-names : namesAt ws ≡ namesOf (wordOf k 0)
+  unfolding namesOf
+  own-names = rw (kind-wordOf k 0 (omega arith), namesOf)
+
+  pub rearranged-accepted : reading (tableOf k bs) ≡ accepted
   unfolding tableOf
   rearranged-accepted =
       let s = same-size p in
       let few = blocks-few ws e in
       let short = table ws e .short in
       let long = ap length (blocks-whole ws e) in
-      table-accepted bs (still-good p (blocks-good ws e)) (keys-distinct (keys-of p) (blocks-distinct ws e)) (omega arith) (omega arith)
+      table-accepted k (table ws e .headed) (namesAt ws) own-names bs rearranged-good (keys-distinct (keys-of p) (blocks-distinct ws e)) (omega arith) (omega arith)
 
-  pub rearranged-blocks : blocks (tableOf bs) ≡ bs
+  pub rearranged-blocks : blocks (tableOf k bs) ≡ bs
   rearranged-blocks =
       let s = same-size p in
       let few = blocks-few ws e in
-      blocks-tableOf bs (still-good p (blocks-good ws e)) (omega arith)
+      blocks-tableOf (namesAt ws) k bs rearranged-good (omega (arith, names-most (getD ws 0 0)))

@@ -36,61 +36,61 @@ module _ (at at′ h h′ : ℕ) (s s′ : List ℕ) (l : length s ≡ length s�
   alike-next w d ts ts′ r =
       alike-append (next at w (term d h s)) (next at′ w (term d h′ s′)) ts ts′ (alike-parts (suc d) (parts w)) r
 
-  alike-fault : (keys keys′ : List ℕ) (w d : ℕ) → fault keys w (term d h s) ≡ fault keys′ w (term d h′ s′)
+  alike-fault : (names : ℕ) (keys keys′ : List ℕ) (w d : ℕ) → fault names keys w (term d h s) ≡ fault names keys′ w (term d h′ s′)
   unfolding fault tests
-  alike-fault keys keys′ w d = rw l
+  alike-fault names keys keys′ w d = rw l
 
-module _ (keys keys′ : List ℕ) (us : List Task) where
+module _ (names : ℕ) (keys keys′ : List ℕ) (us : List Task) where
   -- what is read to its end alone is read to its end before other words and other tasks
-  pub terms-before : (b ws : List ℕ) (at at′ : ℕ) (ts ts′ : List Task) → Alike ts ts′ → scan b keys at ts ≡ accepted
-      → scan (b ++ ws) keys′ at′ (ts′ ++ us) ≡ scan ws keys′ (at′ + length b) us
+  pub terms-before : (b ws : List ℕ) (at at′ : ℕ) (ts ts′ : List Task) → Alike ts ts′ → scan names b keys at ts ≡ accepted
+      → scan names (b ++ ws) keys′ at′ (ts′ ++ us) ≡ scan names ws keys′ (at′ + length b) us
   unfolding keep
-  terms-before [] ws at at′ ts ts′ none e = ap (λ (n : ℕ). scan ws keys′ n us) (sym (add-zero at′))
+  terms-before [] ws at at′ ts ts′ none e = ap (λ (n : ℕ). scan names ws keys′ n us) (sym (add-zero at′))
   terms-before [] ws at at′ ts ts′ (also {d} {h} {s} {ts = t} l r) e =
-      absurd (refused-not-accepted (sym (scan-missing keys at (term d h s) t) ∙ e))
-  terms-before (w ∷ b) ws at at′ ts ts′ none e = absurd (refused-not-accepted (sym (scan-more w b keys at) ∙ e))
+      absurd (refused-not-accepted (sym (scan-missing names keys at (term d h s) t) ∙ e))
+  terms-before (w ∷ b) ws at at′ ts ts′ none e = absurd (refused-not-accepted (sym (scan-more names w b keys at) ∙ e))
   terms-before (w ∷ b) ws at at′ ts ts′ (also {d} {h} {h′} {s} {s′} {ts = t} {ts′ = t′} l r) e =
-      let first = scan-step b keys w at (term d h s) t e in
-      scan-go (b ++ ws) keys′ w at′ (term d h′ s′) (t′ ++ us) (sym (alike-fault at at′ h h′ s s′ l keys keys′ w d) ∙ first .0)
-      ∙ ap (λ (l : List Task). scan (b ++ ws) keys′ (suc at′) l) (sym (append-assoc (next at′ w (term d h′ s′)) t′ us))
+      let first = scan-step names b keys w at (term d h s) t e in
+      scan-go names (b ++ ws) keys′ w at′ (term d h′ s′) (t′ ++ us) (sym (alike-fault at at′ h h′ s s′ l names keys keys′ w d) ∙ first .0)
+      ∙ ap (λ (l : List Task). scan names (b ++ ws) keys′ (suc at′) l) (sym (append-assoc (next at′ w (term d h′ s′)) t′ us))
       ∙ terms-before b ws (suc at) (suc at′) _ _ (alike-next at at′ h h′ s s′ l w d t t′ r) (first .1)
-      ∙ ap (λ (n : ℕ). scan ws keys′ n us) (let k : suc at′ + length b ≡ at′ + suc (length b) = omega arith in k)
+      ∙ ap (λ (n : ℕ). scan names ws keys′ n us) (let k : suc at′ + length b ≡ at′ + suc (length b) = omega arith in k)
 
   -- where terms wait and the whole is accepted, their words are read to their end alone, and the rest is accepted
-  pub terms-cut : (ws : List ℕ) (at at′ : ℕ) (ts ts′ : List Task) → Alike ts ts′ → scan ws keys at (ts ++ us) ≡ accepted
-      → (scan (take (skip ws (length ts)) ws) keys′ at′ ts′ ≡ accepted)
-      × (scan (drop (skip ws (length ts)) ws) keys (at + skip ws (length ts)) us ≡ accepted)
+  pub terms-cut : (ws : List ℕ) (at at′ : ℕ) (ts ts′ : List Task) → Alike ts ts′ → scan names ws keys at (ts ++ us) ≡ accepted
+      → (scan names (take (skip ws (length ts)) ws) keys′ at′ ts′ ≡ accepted)
+      × (scan names (drop (skip ws (length ts)) ws) keys (at + skip ws (length ts)) us ≡ accepted)
   unfolding keep skip scan
-  terms-cut [] at at′ ts ts′ none e = (refl, ap (λ (n : ℕ). scan [] keys n us) (add-zero at) ∙ e)
+  terms-cut [] at at′ ts ts′ none e = (refl, ap (λ (n : ℕ). scan names [] keys n us) (add-zero at) ∙ e)
   terms-cut [] at at′ ts ts′ (also {d} {h} {s} {ts = t} l r) e =
-      absurd (refused-not-accepted (sym (scan-missing keys at (term d h s) (t ++ us)) ∙ e))
-  terms-cut (w ∷ ws) at at′ ts ts′ none e = (refl, ap (λ (n : ℕ). scan (w ∷ ws) keys n us) (add-zero at) ∙ e)
+      absurd (refused-not-accepted (sym (scan-missing names keys at (term d h s) (t ++ us)) ∙ e))
+  terms-cut (w ∷ ws) at at′ ts ts′ none e = (refl, ap (λ (n : ℕ). scan names (w ∷ ws) keys n us) (add-zero at) ∙ e)
   terms-cut (w ∷ ws) at at′ ts ts′ (also {d} {h} {h′} {s} {s′} {ts = t} {ts′ = t′} l r) e =
-      let first = scan-step ws keys w at (term d h s) (t ++ us) e in
+      let first = scan-step names ws keys w at (term d h s) (t ++ us) e in
       let n = skip ws (length (next at w (term d h s) ++ t)) in
       let m = skip ws (arity w + length t) in
       let same : n ≡ m = ap (skip ws) (length-term-next at w d h s t) in
       let rest = terms-cut ws (suc at) (suc at′) _ _ (alike-next at at′ h h′ s s′ l w d t t′ r)
-      (ap (λ (l : List Task). scan ws keys (suc at) l) (append-assoc (next at w (term d h s)) t us) ∙ first .1) in (
-        scan-go (take m ws) keys′ w at′ (term d h′ s′) t′ (sym (alike-fault at at′ h h′ s s′ l keys keys′ w d) ∙ first .0)
-            ∙ ap (λ (k : ℕ). scan (take k ws) keys′ (suc at′) (next at′ w (term d h′ s′) ++ t′)) (sym same)
+      (ap (λ (l : List Task). scan names ws keys (suc at) l) (append-assoc (next at w (term d h s)) t us) ∙ first .1) in (
+        scan-go names (take m ws) keys′ w at′ (term d h′ s′) t′ (sym (alike-fault at at′ h h′ s s′ l names keys keys′ w d) ∙ first .0)
+            ∙ ap (λ (k : ℕ). scan names (take k ws) keys′ (suc at′) (next at′ w (term d h′ s′) ++ t′)) (sym same)
             ∙ rest .0,
-        ap (λ (k : ℕ). scan (drop m ws) keys k us) (let k : at + suc m ≡ suc at + m = omega arith in k)
-            ∙ ap (λ (k : ℕ). scan (drop k ws) keys (suc at + k) us) (sym same)
+        ap (λ (k : ℕ). scan names (drop m ws) keys k us) (let k : at + suc m ≡ suc at + m = omega arith in k)
+            ∙ ap (λ (k : ℕ). scan names (drop k ws) keys (suc at + k) us) (sym same)
             ∙ rest .1,
       )
 
 -- words that are read to their end as terms are those that `skip` counts
-pub terms-length : (b ws keys : List ℕ) (at : ℕ) (ts ts′ : List Task) → Alike ts ts′ → scan b keys at ts ≡ accepted
+pub terms-length : (names : ℕ) (b ws keys : List ℕ) (at : ℕ) (ts ts′ : List Task) → Alike ts ts′ → scan names b keys at ts ≡ accepted
     → skip (b ++ ws) (length ts) ≡ length b
 unfolding keep skip
-terms-length [] [] keys at ts ts′ none e = refl
-terms-length [] (w ∷ ws) keys at ts ts′ none e = refl
-terms-length [] ws keys at ts ts′ (also {d} {h} {s} {ts = t} l r) e =
-    absurd (refused-not-accepted (sym (scan-missing keys at (term d h s) t) ∙ e))
-terms-length (w ∷ b) ws keys at ts ts′ none e = absurd (refused-not-accepted (sym (scan-more w b keys at) ∙ e))
-terms-length (w ∷ b) ws keys at ts ts′ (also {d} {h} {h′} {s} {s′} {ts = t} {ts′ = t′} l r) e =
-    let first = scan-step b keys w at (term d h s) t e in
+terms-length names [] [] keys at ts ts′ none e = refl
+terms-length names [] (w ∷ ws) keys at ts ts′ none e = refl
+terms-length names [] ws keys at ts ts′ (also {d} {h} {s} {ts = t} l r) e =
+    absurd (refused-not-accepted (sym (scan-missing names keys at (term d h s) t) ∙ e))
+terms-length names (w ∷ b) ws keys at ts ts′ none e = absurd (refused-not-accepted (sym (scan-more names w b keys at) ∙ e))
+terms-length names (w ∷ b) ws keys at ts ts′ (also {d} {h} {h′} {s} {s′} {ts = t} {ts′ = t′} l r) e =
+    let first = scan-step names b keys w at (term d h s) t e in
     ap suc
     (ap (skip (b ++ ws)) (sym (length-term-next at w d h s t))
-    ∙ terms-length b ws keys (suc at) _ _ (alike-next at at h h′ s s′ l w d t t′ r) (first .1))
+    ∙ terms-length names b ws keys (suc at) _ _ (alike-next at at h h′ s s′ l w d t t′ r) (first .1))

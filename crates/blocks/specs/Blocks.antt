@@ -29,9 +29,9 @@ unfoldable pub places : ℕ → List (List ℕ) → List ℕ
 places at [] = []
 places at (b ∷ bs) = at ∷ places (at + length b) bs
 
--- the table that has these blocks
-unfoldable pub tableOf : List (List ℕ) → List ℕ
-tableOf bs = wordOf 1 (length bs) ∷ flatten bs
+-- the table that has these blocks, by the kind of its word 0
+unfoldable pub tableOf : ℕ → List (List ℕ) → List ℕ
+tableOf k bs = wordOf k (length bs) ∷ flatten bs
 
 -- a block's name, its permission set, and its key: the two together
 abbrev pub nameOf : List ℕ → ℕ
@@ -43,9 +43,9 @@ permsOf b = argument (getD b 1 0)
 abbrev pub keyOf : List ℕ → ℕ
 keyOf b = key (nameOf b) (permsOf b)
 
--- a block that is read to its end where it stands alone
-unfoldable pub Good : List ℕ → Type 0
-Good b = scan b [] 0 (name ∷ []) ≡ accepted
+-- a block that is read to its end where it stands alone, in a table of so many names
+unfoldable pub Good : ℕ → List ℕ → Type 0
+Good names b = scan names b [] 0 (name ∷ []) ≡ accepted
 
 -- what holds of each block
 abbrev pub All : (List ℕ → Type 0) → List (List ℕ) → Type 0

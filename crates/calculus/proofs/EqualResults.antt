@@ -1,5 +1,5 @@
--- The results of equal, from the digits of two rows without the opponent's record: true where they share a digit; false where they
--- share one that stands for more than one value, differ, or have more than one digit.
+-- The results of equal, from the digits of two sides without the opponent's record: true where they share a digit; false where they
+-- share one that stands for more than one value, differ, or have more than one digit. A side has as many words as plain elements fill.
 use Prim.Native.Nat.{ℕ, zero, suc, _+_, _-_, _*_, _/_, _%_, _^_, _≤_, _<_}
 use mathlib.Core.Path.{_≡_, refl, sym, ap, ap₂, _∙_, subst}
 use mathlib.Core.List.{List, [], _∷_, List·Memᴰ, List·Memᴰ·head, List·Memᴰ·tail, List·Memᴰ·cases-cons, List·Memᴰ·not-nil}
@@ -10,45 +10,23 @@ use native.Mathlib.Decide.{decLt, ℕ-discrete}
 use native.Mathlib.Omega.{arith}
 use lib.Dec.{T, eqb, ltb, eqb→eq, eqb-refl, ltb→lt, lt→ltb, lit<, T-not}
 use lib.Bits.{bitAnd, bitOr, and-le-l}
-use lib.Count.{ones}
-use lib.ListN.{getD}
+use lib.ListN.{getD, length}
 use Rattle.permset.specs.Sets.{member, difference, lowest}
 use Rattle.permset.proofs.Laws.{member-empty, member-and, difference-first, difference-second, difference-lt, empty-difference, within-antisym, lowest-lt, lowest-member}
 use Rattle.table.specs.declared.Operation.the-variants as operations
 use Rattle.table.specs.Code.{Code}
 use Rattle.calculus.specs.Elements.{plain, comparable, isMany, equalResults, results}
 use Rattle.calculus.specs.Layout.{bit, Words}
-use Rattle.calculus.specs.Estimate.{facts}
-unfoldable pub use Rattle.calculus.specs.ResultWords.{anyDigit, comparables, sameMask, apart, apartMask, equalMask}
+use Rattle.calculus.specs.Estimate.{same, facts}
+unfoldable pub use Rattle.calculus.specs.ResultWords.{comparables, sameMask, apart, apartMask, equalMask}
 use Rattle.calculus.proofs.Digits.{T-and, T-fst, T-snd, T-true, T-or, T-or-left, T-or-right, member-or, member-single-only}
 use Rattle.calculus.proofs.Slices.{bit-at, bit-short}
 use Rattle.calculus.proofs.Counting.{count, facts-count}
 use Rattle.calculus.proofs.Several.{Two, some-two, two-some}
-use Rattle.calculus.proofs.Facts.{ones-word}
+use Rattle.calculus.proofs.Least.{same-eq}
 use Rattle.calculus.specs.Layout.{masked}
-use Rattle.calculus.proofs.Masks.{T-false, agree, agree-below, bit-masked, nonzero, digit-nonzero, nonzero-digit, words-two}
+use Rattle.calculus.proofs.Masks.{T-false, agree, agree-below, bit-masked, masked-words, nonzero, digit-nonzero, nonzero-digit}
 use Rattle.calculus.proofs.OperationMasks.{Gives, resultMask, results-are}
-
--- ---- the digits of two words
-
-nonzero-two : (x y : ℕ) → nonzero (x ∷ y ∷ []) ≡ anyDigit x y
-unfolding nonzero anyDigit
-nonzero-two x y = go (eqb x 0) (eqb y 0)
-  where
-    go : (a b : Bool) → elim a [ true ↦ elim b [ true ↦ false | false ↦ true ] | false ↦ true ] ≡ not (a && b)
-    go true true = refl
-    go true false = refl
-    go false b = refl
-
-any-in : (x y n : ℕ) → T (bit (x ∷ y ∷ []) n) → T (anyDigit x y)
-any-in x y n h = subst T (nonzero-two x y) (digit-nonzero (x ∷ y ∷ []) n h)
-
-any-of : (x y : ℕ) → x < 2 ^ 32 → y < 2 ^ 32 → T (anyDigit x y) → (n : ℕ) × T (bit (x ∷ y ∷ []) n)
-any-of x y h k t = nonzero-digit (x ∷ y ∷ []) (words-two x y h k) (subst T (sym (nonzero-two x y)) t)
-
-count-two : (x y : ℕ) → x < 2 ^ 32 → y < 2 ^ 32 → ones x + ones y ≡ count 64 (bit (x ∷ y ∷ []))
-unfolding facts
-count-two x y h k = let e : ones x + ones y ≡ facts (x ∷ y ∷ []) = omega (arith, ones-word x h, ones-word y k) in e ∙ facts-count (x ∷ y ∷ [])
 
 -- 4, 6 and 8
 many-lt : (v : ℕ) → T (isMany v) → v < 9
@@ -152,60 +130,65 @@ reason x y z m = go (eqb x y) refl (isMany x) refl m
     go true e false f n = alike (lone 2 n) (eqb→eq x y (subst T (sym e) tt))
     go false e b f n = unlike (lone 3 n) (λ q. subst T (sym (T-true (eqb x y) (subst (λ (u : ℕ). T (eqb x u)) q (eqb-refl x))) ∙ e) tt)
 
-nonzero-one : (x : ℕ) → nonzero (x ∷ []) ≡ not (eqb x 0)
-unfolding nonzero
-nonzero-one x = go (eqb x 0)
+-- words that are not the same differ at some place
+unlike-at : (xs ys : List ℕ) → length xs ≡ length ys → T (not (same xs ys)) → (k : ℕ) × (getD xs k 0 ≡ getD ys k 0 → ⊥)
+unfolding same
+unlike-at [] [] e t = absurd t
+unlike-at [] (y ∷ ys) e t = absurd (omega arith)
+unlike-at (x ∷ xs) [] e t = absurd (omega arith)
+unlike-at (x ∷ xs) (y ∷ ys) e t = go (unlike-at xs ys (omega arith)) (eqb x y) refl t
   where
-    go : (a : Bool) → elim a [ true ↦ false | false ↦ true ] ≡ not a
-    go true = refl
-    go false = refl
+    go : (T (not (same xs ys)) → (k : ℕ) × (getD xs k 0 ≡ getD ys k 0 → ⊥)) → (b : Bool) → eqb x y ≡ b
+        → T (not (elim b [ true ↦ same xs ys | false ↦ false ])) → (k : ℕ) × (getD (x ∷ xs) k 0 ≡ getD (y ∷ ys) k 0 → ⊥)
+    go r true q u = let k : (k : ℕ) × (getD xs k 0 ≡ getD ys k 0 → ⊥) = r u in (suc (k .0), k .1)
+    go r false q u = (zero, λ z. subst T (sym (T-true (eqb x y) (subst (λ (v : ℕ). T (eqb x v)) z (eqb-refl x))) ∙ q) tt)
 
--- ---- the mask of two pairs of words
+-- ---- the mask of two sides
 
-module _ (a0 a1 d0 d1 : ℕ) (ha0 : a0 < 2 ^ 32) (ha1 : a1 < 2 ^ 32) (hd0 : d0 < 2 ^ 32) (hd1 : d1 < 2 ^ 32) where
+module _ (xs ys : List ℕ) (long : length xs ≡ length ys) (hx : Words xs) (hy : Words ys) where
   abbrev A : ℕ → Bool
-  A = bit (a0 ∷ a1 ∷ [])
+  A = bit xs
 
   abbrev D : ℕ → Bool
-  D = bit (d0 ∷ d1 ∷ [])
+  D = bit ys
 
   -- a digit that is shared
-  shared : (n : ℕ) → bit (bitAnd a0 d0 ∷ bitAnd a1 d1 ∷ []) n ≡ A n && D n
-  unfolding masked
-  shared n = bit-masked (a0 ∷ a1 ∷ []) (d0 ∷ d1 ∷ []) n
+  shared : (n : ℕ) → bit (masked xs ys) n ≡ A n && D n
+  shared n = bit-masked xs ys n
 
-  shared-many : (n : ℕ) → bit (bitAnd (bitAnd a0 d0) 0x150 ∷ []) n ≡ (A n && D n) && isMany n
-  unfolding masked
-  shared-many n =
-      bit-masked (bitAnd a0 d0 ∷ bitAnd a1 d1 ∷ []) (0x150 ∷ []) n ∙ ap₂ (λ (x y : Bool). x && y) (shared n) (many-mask n)
+  shared-many : (n : ℕ) → bit (masked (masked xs ys) (0x150 ∷ [])) n ≡ (A n && D n) && isMany n
+  shared-many n = bit-masked (masked xs ys) (0x150 ∷ []) n ∙ ap₂ (λ (x y : Bool). x && y) (shared n) (many-mask n)
 
-  same-in : (n : ℕ) → T (A n) → T (D n) → T (member (sameMask a0 a1 d0 d1) 2)
+  shared-words : Words (masked xs ys)
+  shared-words = masked-words xs ys hy
+
+  same-in : (n : ℕ) → T (A n) → T (D n) → T (member (sameMask xs ys) 2)
   unfolding sameMask member
-  same-in n h k = go (anyDigit (bitAnd a0 d0) (bitAnd a1 d1)) (any-in (bitAnd a0 d0) (bitAnd a1 d1) n (subst T (sym (shared n)) (T-and (A n) (D n) h k)))
+  same-in n h k = go (nonzero (masked xs ys)) (digit-nonzero (masked xs ys) n (subst T (sym (shared n)) (T-and (A n) (D n) h k)))
     where
       go : (b : Bool) → T b → T (member (elim b [ true ↦ 4 | false ↦ 0 ]) 2)
       go true t = tt
       go false t = absurd t
 
-  same-only : (z : ℕ) → T (member (sameMask a0 a1 d0 d1) z) → (z ≡ 2) × T (anyDigit (bitAnd a0 d0) (bitAnd a1 d1))
+  same-only : (z : ℕ) → T (member (sameMask xs ys) z) → (z ≡ 2) × T (nonzero (masked xs ys))
   unfolding sameMask
-  same-only z h = go (anyDigit (bitAnd a0 d0) (bitAnd a1 d1)) h
+  same-only z h = go (nonzero (masked xs ys)) h
     where
       go : (b : Bool) → T (member (elim b [ true ↦ 4 | false ↦ 0 ]) z) → (z ≡ 2) × T b
       go true t = (sym (member-single-only 2 z t), tt)
       go false t = absurd (subst T (member-empty z) t)
 
-  apart-in : T (apart a0 a1 d0 d1) → T (member (apartMask a0 a1 d0 d1) 3)
+  apart-in : T (apart xs ys) → T (member (apartMask xs ys) 3)
   unfolding apartMask member
-  apart-in h = go (apart a0 a1 d0 d1) h
+  apart-in h = go (apart xs ys) h
     where
       go : (b : Bool) → T b → T (member (elim b [ true ↦ 8 | false ↦ 0 ]) 3)
       go true t = tt
       go false t = absurd t
 
-  apart-only : (z : ℕ) → T (member (apartMask a0 a1 d0 d1) z) → (z ≡ 3) × T (apart a0 a1 d0 d1)
+  apart-only : (z : ℕ) → T (member (apartMask xs ys) z) → (z ≡ 3) × T (apart xs ys)
   unfolding apartMask
-  apart-only z h = go (apart a0 a1 d0 d1) h
+  apart-only z h = go (apart xs ys) h
     where
       go : (b : Bool) → T (member (elim b [ true ↦ 8 | false ↦ 0 ]) z) → (z ≡ 3) × T b
       go true t = (sym (member-single-only 3 z t), tt)
@@ -213,74 +196,67 @@ module _ (a0 a1 d0 d1 : ℕ) (ha0 : a0 < 2 ^ 32) (ha1 : a1 < 2 ^ 32) (hd0 : d0 <
 
   -- the three reasons why two values may be different
   abbrev manyTest : Bool
-  manyTest = not (eqb (bitAnd (bitAnd a0 d0) 0x150) 0)
+  manyTest = nonzero (masked (masked xs ys) (0x150 ∷ []))
 
   abbrev differTest : Bool
-  differTest = not (eqb a0 d0 && eqb a1 d1)
+  differTest = not (same xs ys)
 
   abbrev severalTest : Bool
-  severalTest = ltb 1 (ones a0 + ones a1)
+  severalTest = ltb 1 (facts xs)
 
-  by-many : (n : ℕ) → T (A n) → T (D n) → T (isMany n) → T (apart a0 a1 d0 d1)
+  by-many : (n : ℕ) → T (A n) → T (D n) → T (isMany n) → T (apart xs ys)
   unfolding apart
   by-many n h k m =
       T-or-left manyTest (differTest || severalTest)
-      (subst T (nonzero-one (bitAnd (bitAnd a0 d0) 0x150))
-      (digit-nonzero (bitAnd (bitAnd a0 d0) 0x150 ∷ []) n
-      (subst T (sym (shared-many n)) (T-and (A n && D n) (isMany n) (T-and (A n) (D n) h k) m))))
+      (digit-nonzero (masked (masked xs ys) (0x150 ∷ [])) n
+      (subst T (sym (shared-many n)) (T-and (A n && D n) (isMany n) (T-and (A n) (D n) h k) m)))
 
   several : (x y : ℕ) → (x ≡ y → ⊥) → T (A x) → T (A y) → T severalTest
-  several x y n h k = lt→ltb 1 (ones a0 + ones a1) (omega (arith, count-two a0 a1 ha0 ha1, go (decLt x y)))
+  several x y n h k = lt→ltb 1 (facts xs) (omega (arith, facts-count xs, go (decLt x y)))
     where
-      go : Dec (x < y) → 1 < count 64 A
-      go (yes l) = two-some 64 A x y l (omega (arith, bit-short (a0 ∷ a1 ∷ []) y k)) h k
-      go (no l) = two-some 64 A y x (omega arith) (omega (arith, bit-short (a0 ∷ a1 ∷ []) x h)) k h
+      go : Dec (x < y) → 1 < count (32 * length xs) A
+      go (yes l) = two-some (32 * length xs) A x y l (bit-short xs y k) h k
+      go (no l) = two-some (32 * length xs) A y x (omega arith) (bit-short xs x h) k h
 
-  by-unlike : (x y : ℕ) → (x ≡ y → ⊥) → T (A x) → T (D y) → T (apart a0 a1 d0 d1)
+  by-unlike : (x y : ℕ) → (x ≡ y → ⊥) → T (A x) → T (D y) → T (apart xs ys)
   unfolding apart
-  by-unlike x y n h k = T-or-right manyTest (differTest || severalTest) (go (eqb a0 d0 && eqb a1 d1) refl)
+  by-unlike x y n h k = T-or-right manyTest (differTest || severalTest) (go (same xs ys) refl)
     where
-      go : (b : Bool) → (eqb a0 d0 && eqb a1 d1) ≡ b → T (not b || severalTest)
-      go true e =
-          let t : T (eqb a0 d0 && eqb a1 d1) = subst T (sym e) tt in
-          let p : a0 ≡ d0 = eqb→eq a0 d0 (T-fst (eqb a0 d0) (eqb a1 d1) t) in
-          let q : a1 ≡ d1 = eqb→eq a1 d1 (T-snd (eqb a0 d0) (eqb a1 d1) t) in
-          several x y n h (subst T (ap₂ (λ (u v : ℕ). bit (u ∷ v ∷ []) y) (sym p) (sym q)) k)
+      go : (b : Bool) → same xs ys ≡ b → T (not b || severalTest)
+      go true e = several x y n h (subst (λ (zs : List ℕ). T (bit zs y)) (sym (same-eq xs ys (subst T (sym e) tt))) k)
       go false e = tt
 
-  compared-in : (z : ℕ) → Compared A D z → T (member (equalMask a0 a1 d0 d1) z)
+  compared-in : (z : ℕ) → Compared A D z → T (member (equalMask xs ys) z)
   unfolding equalMask
   compared-in z r =
       let x : ℕ = r .left in
       let y : ℕ = r .right in
-      open-mask (anyDigit a0 a1 && anyDigit d0 d1)
-      (T-and (anyDigit a0 a1) (anyDigit d0 d1) (any-in a0 a1 x (r .in-left)) (any-in d0 d1 y (r .in-right)))
-      (subst T (sym (member-or (sameMask a0 a1 d0 d1) (apartMask a0 a1 d0 d1) z)) (go (reason x y z (r .verdict))))
+      open-mask (nonzero xs && nonzero ys)
+      (T-and (nonzero xs) (nonzero ys) (digit-nonzero xs x (r .in-left)) (digit-nonzero ys y (r .in-right)))
+      (subst T (sym (member-or (sameMask xs ys) (apartMask xs ys) z)) (go (reason x y z (r .verdict))))
     where
-      open-mask : (b : Bool) → T b → T (member (bitOr (sameMask a0 a1 d0 d1) (apartMask a0 a1 d0 d1)) z)
-          → T (member (elim b [ true ↦ bitOr (sameMask a0 a1 d0 d1) (apartMask a0 a1 d0 d1) | false ↦ 0 ]) z)
+      open-mask : (b : Bool) → T b → T (member (bitOr (sameMask xs ys) (apartMask xs ys)) z)
+          → T (member (elim b [ true ↦ bitOr (sameMask xs ys) (apartMask xs ys) | false ↦ 0 ]) z)
       open-mask true t h = h
       open-mask false t h = absurd t
 
-      go : Reason (r .left) (r .right) z → T (member (sameMask a0 a1 d0 d1) z || member (apartMask a0 a1 d0 d1) z)
+      go : Reason (r .left) (r .right) z → T (member (sameMask xs ys) z || member (apartMask xs ys) z)
       go (alike e q) =
-          T-or-left (member (sameMask a0 a1 d0 d1) z) (member (apartMask a0 a1 d0 d1) z)
-          (subst (λ (u : ℕ). T (member (sameMask a0 a1 d0 d1) u)) (sym e) (same-in (r .left) (r .in-left) (subst (λ (u : ℕ). T (D u)) (sym q) (r .in-right))))
+          T-or-left (member (sameMask xs ys) z) (member (apartMask xs ys) z)
+          (subst (λ (u : ℕ). T (member (sameMask xs ys) u)) (sym e) (same-in (r .left) (r .in-left) (subst (λ (u : ℕ). T (D u)) (sym q) (r .in-right))))
       go (many e q m) =
-          T-or-right (member (sameMask a0 a1 d0 d1) z) (member (apartMask a0 a1 d0 d1) z)
-          (subst (λ (u : ℕ). T (member (apartMask a0 a1 d0 d1) u)) (sym e)
+          T-or-right (member (sameMask xs ys) z) (member (apartMask xs ys) z)
+          (subst (λ (u : ℕ). T (member (apartMask xs ys) u)) (sym e)
           (apart-in (by-many (r .left) (r .in-left) (subst (λ (u : ℕ). T (D u)) (sym q) (r .in-right)) m)))
       go (unlike e n) =
-          T-or-right (member (sameMask a0 a1 d0 d1) z) (member (apartMask a0 a1 d0 d1) z)
-          (subst (λ (u : ℕ). T (member (apartMask a0 a1 d0 d1) u)) (sym e) (apart-in (by-unlike (r .left) (r .right) n (r .in-left) (r .in-right))))
+          T-or-right (member (sameMask xs ys) z) (member (apartMask xs ys) z)
+          (subst (λ (u : ℕ). T (member (apartMask xs ys) u)) (sym e) (apart-in (by-unlike (r .left) (r .right) n (r .in-left) (r .in-right))))
 
   -- ---- the other way round
 
-  from-same : T (anyDigit (bitAnd a0 d0) (bitAnd a1 d1)) → Compared A D 2
+  from-same : T (nonzero (masked xs ys)) → Compared A D 2
   from-same t =
-      let n : (n : ℕ) × T (bit (bitAnd a0 d0 ∷ bitAnd a1 d1 ∷ []) n) =
-      any-of (bitAnd a0 d0) (bitAnd a1 d1) (lt-of-le-of-lt (and-le-l a0 d0) ha0) (lt-of-le-of-lt (and-le-l a1 d1) ha1) t
-      in
+      let n : (n : ℕ) × T (bit (masked xs ys) n) = nonzero-digit (masked xs ys) shared-words t in
       let b : T (A (n .0) && D (n .0)) = subst T (shared (n .0)) (n .1) in
       record {
         left = n .0;
@@ -292,9 +268,7 @@ module _ (a0 a1 d0 d1 : ℕ) (ha0 : a0 < 2 ^ 32) (ha1 : a1 < 2 ^ 32) (hd0 : d0 <
 
   from-many : T manyTest → Compared A D 3
   from-many t =
-      let n : (n : ℕ) × T (bit (bitAnd (bitAnd a0 d0) 0x150 ∷ []) n) =
-      nonzero-digit (bitAnd (bitAnd a0 d0) 0x150 ∷ []) words (subst T (sym (nonzero-one (bitAnd (bitAnd a0 d0) 0x150))) t)
-      in
+      let n : (n : ℕ) × T (bit (masked (masked xs ys) (0x150 ∷ [])) n) = nonzero-digit (masked (masked xs ys) (0x150 ∷ [])) words t in
       let b : T ((A (n .0) && D (n .0)) && isMany (n .0)) = subst T (shared-many (n .0)) (n .1) in
       let s : T (A (n .0) && D (n .0)) = T-fst (A (n .0) && D (n .0)) (isMany (n .0)) b in
       record {
@@ -305,9 +279,12 @@ module _ (a0 a1 d0 d1 : ℕ) (ha0 : a0 < 2 ^ 32) (ha1 : a1 < 2 ^ 32) (hd0 : d0 <
         verdict = verdict-many (n .0) (T-snd (A (n .0) && D (n .0)) (isMany (n .0)) b);
       }
     where
-      words : Words (bitAnd (bitAnd a0 d0) 0x150 ∷ [])
-      words zero = lt-of-le-of-lt (and-le-l (bitAnd a0 d0) 0x150) (lt-of-le-of-lt (and-le-l a0 d0) ha0)
-      words (suc k) = lit< tt
+      many : Words (0x150 ∷ [])
+      many zero = lit< tt
+      many (suc k) = lit< tt
+
+      words : Words (masked (masked xs ys) (0x150 ∷ []))
+      words = masked-words (masked xs ys) (0x150 ∷ []) many
 
   from-pair : (x y : ℕ) → T (A x) → T (D y) → (x ≡ y → ⊥) → Compared A D 3
   from-pair x y h k n = record { left = x; right = y; in-left = h; in-right = k; verdict = verdict-apart x y n }
@@ -326,49 +303,40 @@ module _ (a0 a1 d0 d1 : ℕ) (ha0 : a0 < 2 ^ 32) (ha1 : a1 < 2 ^ 32) (hd0 : d0 <
       go (no e) = from-pair (t .lower) y (t .at-lower) k (λ q. e (sym q))
 
   differ : T differTest → Differ A D
-  differ t = go (ℕ-discrete a0 d0) (ℕ-discrete a1 d1)
-    where
-      at : (k i : ℕ) → i < 32 → (T (member (getD (a0 ∷ a1 ∷ []) k 0) i) × (T (member (getD (d0 ∷ d1 ∷ []) k 0) i) → ⊥)) ⊎ (T (member (getD (d0 ∷ d1 ∷ []) k 0) i) × (T (member (getD (a0 ∷ a1 ∷ []) k 0) i) → ⊥)) → Differ A D
-      at k i l s =
-          record {
-            digit = 32 * k + i;
-            one-sided = rw (bit-at (a0 ∷ a1 ∷ []) k i l, bit-at (d0 ∷ d1 ∷ []) k i l) s;
-          }
+  differ t =
+      let k : (k : ℕ) × (getD xs k 0 ≡ getD ys k 0 → ⊥) = unlike-at xs ys long t in
+      let x = differ-number (getD xs (k .0) 0) (getD ys (k .0) 0) (hx (k .0)) (hy (k .0)) (k .1) in
+      record {
+        digit = 32 * k .0 + x .0;
+        one-sided = rw (bit-at xs (k .0) (x .0) (x .1), bit-at ys (k .0) (x .0) (x .1)) (x .2);
+      }
 
-      go : Dec (a0 ≡ d0) → Dec (a1 ≡ d1) → Differ A D
-      go (no n) e = let x = differ-number a0 d0 ha0 hd0 n in at 0 (x .0) (x .1) (x .2)
-      go (yes p) (no n) = let x = differ-number a1 d1 ha1 hd1 n in at 1 (x .0) (x .1) (x .2)
-      go (yes p) (yes q) =
-          absurd
-          (T-not (eqb a0 d0 && eqb a1 d1) t
-          (T-and (eqb a0 d0) (eqb a1 d1) (subst (λ (u : ℕ). T (eqb a0 u)) p (eqb-refl a0)) (subst (λ (u : ℕ). T (eqb a1 u)) q (eqb-refl a1))))
-
-  from-apart : T (anyDigit a0 a1) → T (anyDigit d0 d1) → T (apart a0 a1 d0 d1) → Compared A D 3
+  from-apart : T (nonzero xs) → T (nonzero ys) → T (apart xs ys) → Compared A D 3
   unfolding apart
   from-apart ta td h =
-      let x : (n : ℕ) × T (A n) = any-of a0 a1 ha0 ha1 ta in
-      let y : (n : ℕ) × T (D n) = any-of d0 d1 hd0 hd1 td in
+      let x : (n : ℕ) × T (A n) = nonzero-digit xs hx ta in
+      let y : (n : ℕ) × T (D n) = nonzero-digit ys hy td in
       ⊎-elim (λ t. from-many t)
       (λ r. ⊎-elim (λ t. from-differ (differ t) (x .0) (y .0) (x .1) (y .1))
-      (λ t. from-two (some-two 64 A (omega (arith, ltb→lt 1 (ones a0 + ones a1) t, count-two a0 a1 ha0 ha1))) (y .0) (y .1))
+      (λ t. from-two (some-two (32 * length xs) A (omega (arith, ltb→lt 1 (facts xs) t, facts-count xs))) (y .0) (y .1))
       (T-or differTest severalTest r))
       (T-or manyTest (differTest || severalTest) h)
 
-  compared-only : (z : ℕ) → T (member (equalMask a0 a1 d0 d1) z) → Compared A D z
+  compared-only : (z : ℕ) → T (member (equalMask xs ys) z) → Compared A D z
   unfolding equalMask
-  compared-only z h = go (anyDigit a0 a1 && anyDigit d0 d1) refl h
+  compared-only z h = go (nonzero xs && nonzero ys) refl h
     where
-      go : (b : Bool) → (anyDigit a0 a1 && anyDigit d0 d1) ≡ b
-          → T (member (elim b [ true ↦ bitOr (sameMask a0 a1 d0 d1) (apartMask a0 a1 d0 d1) | false ↦ 0 ]) z) → Compared A D z
+      go : (b : Bool) → (nonzero xs && nonzero ys) ≡ b
+          → T (member (elim b [ true ↦ bitOr (sameMask xs ys) (apartMask xs ys) | false ↦ 0 ]) z) → Compared A D z
       go true e t =
-          let both : T (anyDigit a0 a1 && anyDigit d0 d1) = subst T (sym e) tt in
+          let both : T (nonzero xs && nonzero ys) = subst T (sym e) tt in
           ⊎-elim
-          (λ s. let o : (z ≡ 2) × T (anyDigit (bitAnd a0 d0) (bitAnd a1 d1)) = same-only z s in
+          (λ s. let o : (z ≡ 2) × T (nonzero (masked xs ys)) = same-only z s in
           subst (λ (u : ℕ). Compared A D u) (sym (o .0)) (from-same (o .1)))
-          (λ s. let o : (z ≡ 3) × T (apart a0 a1 d0 d1) = apart-only z s in
+          (λ s. let o : (z ≡ 3) × T (apart xs ys) = apart-only z s in
           subst (λ (u : ℕ). Compared A D u) (sym (o .0))
-          (from-apart (T-fst (anyDigit a0 a1) (anyDigit d0 d1) both) (T-snd (anyDigit a0 a1) (anyDigit d0 d1) both) (o .1)))
-          (T-or (member (sameMask a0 a1 d0 d1) z) (member (apartMask a0 a1 d0 d1) z) (subst T (member-or (sameMask a0 a1 d0 d1) (apartMask a0 a1 d0 d1) z) t))
+          (from-apart (T-fst (nonzero xs) (nonzero ys) both) (T-snd (nonzero xs) (nonzero ys) both) (o .1)))
+          (T-or (member (sameMask xs ys) z) (member (apartMask xs ys) z) (subst T (member-or (sameMask xs ys) (apartMask xs ys) z) t))
       go false e t = absurd (subst T (member-empty z) t)
 
 -- ---- without the opponent's record
@@ -377,13 +345,16 @@ seven-mask : (v : ℕ) → v < 32 → member 0xffffff7f v ≡ not (eqb v 7)
 unfolding agree member
 seven-mask v h = agree-below 32 (member 0xffffff7f) (λ v. not (eqb v 7)) tt v h
 
-member-comparables : (x v : ℕ) → member (comparables x) v ≡ member x v && member 0xffffff7f v
+comparables-words : (xs : List ℕ) → Words xs → Words (comparables xs)
 unfolding comparables
-member-comparables x v = member-and x 0xffffff7f v
+comparables-words [] h k = h k
+comparables-words (x ∷ xs) h zero = lt-of-le-of-lt (and-le-l x 0xffffff7f) (h zero)
+comparables-words (x ∷ xs) h (suc k) = h (suc k)
 
-comparables-lt : (x : ℕ) → x < 2 ^ 32 → comparables x < 2 ^ 32
+comparables-length : (xs : List ℕ) → length (comparables xs) ≡ length xs
 unfolding comparables
-comparables-lt x h = lt-of-le-of-lt (and-le-l x 0xffffff7f) h
+comparables-length [] = refl
+comparables-length (x ∷ xs) = refl
 
 -- digits from 32 on do not depend on the first word
 later-digit : (x y : ℕ) (ws : List ℕ) (v : ℕ) → 32 ≤ v → bit (x ∷ ws) v ≡ bit (y ∷ ws) v
@@ -396,18 +367,24 @@ and-not : (b t : Bool) → t ≡ false → b ≡ b && not t
 and-not true t e = sym (ap not e)
 and-not false t e = refl
 
-without-seven : (x0 x1 v : ℕ) → bit (comparables x0 ∷ x1 ∷ []) v ≡ bit (x0 ∷ x1 ∷ []) v && not (eqb v 7)
-without-seven x0 x1 v = go (decLt v 32)
+without-seven : (xs : List ℕ) (v : ℕ) → bit (comparables xs) v ≡ bit xs v && not (eqb v 7)
+unfolding comparables
+without-seven [] v = no-digit (bit [] v) (λ h. omega (arith, bit-short [] v h))
   where
-    first : (x : ℕ) → v < 32 → bit (x ∷ x1 ∷ []) v ≡ member x v
-    first x h = let e : v ≡ 32 * 0 + v = omega arith in ap (bit (x ∷ x1 ∷ [])) e ∙ bit-at (x ∷ x1 ∷ []) 0 v h
+    no-digit : (b : Bool) → (T b → ⊥) → b ≡ b && not (eqb v 7)
+    no-digit true h = absurd (h tt)
+    no-digit false h = refl
+without-seven (x ∷ xs) v = go (decLt v 32)
+  where
+    first : (y : ℕ) → v < 32 → bit (y ∷ xs) v ≡ member y v
+    first y h = let e : v ≡ 32 * 0 + v = omega arith in ap (bit (y ∷ xs)) e ∙ bit-at (y ∷ xs) 0 v h
 
-    go : Dec (v < 32) → bit (comparables x0 ∷ x1 ∷ []) v ≡ bit (x0 ∷ x1 ∷ []) v && not (eqb v 7)
+    go : Dec (v < 32) → bit (bitAnd x 0xffffff7f ∷ xs) v ≡ bit (x ∷ xs) v && not (eqb v 7)
     go (yes h) =
-        first (comparables x0) h ∙ member-comparables x0 v ∙ ap₂ (λ (a b : Bool). a && b) (sym (first x0 h)) (seven-mask v h)
+        first (bitAnd x 0xffffff7f) h ∙ member-and x 0xffffff7f v ∙ ap₂ (λ (a b : Bool). a && b) (sym (first x h)) (seven-mask v h)
     go (no h) =
-        later-digit (comparables x0) x0 (x1 ∷ []) v (omega arith)
-        ∙ and-not (bit (x0 ∷ x1 ∷ []) v) (eqb v 7) (T-false (eqb v 7) (λ t. let e : v ≡ 7 = eqb→eq v 7 t in omega arith))
+        later-digit (bitAnd x 0xffffff7f) x xs v (omega arith)
+        ∙ and-not (bit (x ∷ xs) v) (eqb v 7) (T-false (eqb v 7) (λ t. let e : v ≡ 7 = eqb→eq v 7 t in omega arith))
 
 module _ (c : Code) (x y z : ℕ) where
   equal-in : T (comparable c x) → T (comparable c y) → List·Memᴰ z (verdicts x y) → List·Memᴰ z (results c operations.Equal x y)
@@ -426,35 +403,37 @@ module _ (c : Code) (x y z : ℕ) where
       go true n = (tt, n)
       go false n = absurd (List·Memᴰ·not-nil n)
 
--- elements that are compared are those of the words without the opponent's record
-module _ (c : Code) (n : c .names ≡ 32) (x0 x1 v : ℕ) where
-  compared-to : T (bit (comparables x0 ∷ x1 ∷ []) v) → (v < plain c) × T (bit (x0 ∷ x1 ∷ []) v) × T (comparable c v)
+-- elements that are compared are those of a side without the opponent's record
+module _ (c : Code) (lead : ℕ) (n : plain c ≡ 32 * lead) (xs : List ℕ) (long : length xs ≡ lead) (v : ℕ) where
+  compared-to : T (bit (comparables xs) v) → (v < plain c) × T (bit xs v) × T (comparable c v)
   unfolding comparable
   compared-to h =
-      let b : T (bit (x0 ∷ x1 ∷ []) v && not (eqb v 7)) = subst T (without-seven x0 x1 v) h in
-      let l : v < plain c = omega (arith, bit-short (comparables x0 ∷ x1 ∷ []) v h) in (
+      let b : T (bit xs v && not (eqb v 7)) = subst T (without-seven xs v) h in
+      let l : v < plain c = omega (arith, bit-short (comparables xs) v h, comparables-length xs) in (
         l,
-        T-fst (bit (x0 ∷ x1 ∷ []) v) (not (eqb v 7)) b,
-        T-and (ltb v (plain c)) (not (eqb v 7)) (lt→ltb v (plain c) l) (T-snd (bit (x0 ∷ x1 ∷ []) v) (not (eqb v 7)) b),
+        T-fst (bit xs v) (not (eqb v 7)) b,
+        T-and (ltb v (plain c)) (not (eqb v 7)) (lt→ltb v (plain c) l) (T-snd (bit xs v) (not (eqb v 7)) b),
       )
 
-  compared-from : T (bit (x0 ∷ x1 ∷ []) v) → T (comparable c v) → T (bit (comparables x0 ∷ x1 ∷ []) v)
+  compared-from : T (bit xs v) → T (comparable c v) → T (bit (comparables xs) v)
   unfolding comparable
   compared-from h k =
-      subst T (sym (without-seven x0 x1 v)) (T-and (bit (x0 ∷ x1 ∷ []) v) (not (eqb v 7)) h (T-snd (ltb v (plain c)) (not (eqb v 7)) k))
+      subst T (sym (without-seven xs v)) (T-and (bit xs v) (not (eqb v 7)) h (T-snd (ltb v (plain c)) (not (eqb v 7)) k))
 
-pub equal-results : (c : Code) → c .names ≡ 32 → (a0 a1 d0 d1 : ℕ) → a0 < 2 ^ 32 → a1 < 2 ^ 32 → d0 < 2 ^ 32 → d1 < 2 ^ 32
-    → resultMask c operations.Equal a0 a1 d0 d1 ≡ equalMask (comparables a0) a1 (comparables d0) d1
-equal-results c n a0 a1 d0 d1 ha0 ha1 hd0 hd1 =
-    results-are c operations.Equal a0 a1 d0 d1 (equalMask (comparables a0) a1 (comparables d0) d1)
-    (λ z h. to z (compared-only (comparables a0) a1 (comparables d0) d1 (comparables-lt a0 ha0) ha1 (comparables-lt d0 hd0) hd1 z h))
-    (λ z g. compared-in (comparables a0) a1 (comparables d0) d1 (comparables-lt a0 ha0) ha1 (comparables-lt d0 hd0) hd1 z (from z g))
+pub equal-results : (c : Code) (lead : ℕ) → plain c ≡ 32 * lead → (xs ys : List ℕ) → length xs ≡ lead → length ys ≡ lead → Words xs → Words ys
+    → resultMask c operations.Equal xs ys ≡ equalMask (comparables xs) (comparables ys)
+equal-results c lead n xs ys lx ly hx hy =
+    results-are c operations.Equal xs ys (equalMask (comparables xs) (comparables ys))
+    (λ z h. to z (compared-only (comparables xs) (comparables ys) long (comparables-words xs hx) (comparables-words ys hy) z h))
+    (λ z g. compared-in (comparables xs) (comparables ys) long (comparables-words xs hx) (comparables-words ys hy) z (from z g))
   where
-    to : (z : ℕ) → Compared (bit (comparables a0 ∷ a1 ∷ [])) (bit (comparables d0 ∷ d1 ∷ [])) z
-        → Gives c operations.Equal (bit (a0 ∷ a1 ∷ [])) (bit (d0 ∷ d1 ∷ [])) z
+    long : length (comparables xs) ≡ length (comparables ys)
+    long = omega (arith, comparables-length xs, comparables-length ys)
+
+    to : (z : ℕ) → Compared (bit (comparables xs)) (bit (comparables ys)) z → Gives c operations.Equal (bit xs) (bit ys) z
     to z r =
-        let x : (r .left < plain c) × T (bit (a0 ∷ a1 ∷ []) (r .left)) × T (comparable c (r .left)) = compared-to c n a0 a1 (r .left) (r .in-left) in
-        let y : (r .right < plain c) × T (bit (d0 ∷ d1 ∷ []) (r .right)) × T (comparable c (r .right)) = compared-to c n d0 d1 (r .right) (r .in-right) in
+        let x : (r .left < plain c) × T (bit xs (r .left)) × T (comparable c (r .left)) = compared-to c lead n xs lx (r .left) (r .in-left) in
+        let y : (r .right < plain c) × T (bit ys (r .right)) × T (comparable c (r .right)) = compared-to c lead n ys ly (r .right) (r .in-right) in
         record {
           first = r .left;
           second = r .right;
@@ -465,8 +444,7 @@ equal-results c n a0 a1 d0 d1 ha0 ha1 hd0 hd1 =
           result = equal-in c (r .left) (r .right) z (x .2) (y .2) (r .verdict);
         }
 
-    from : (z : ℕ) → Gives c operations.Equal (bit (a0 ∷ a1 ∷ [])) (bit (d0 ∷ d1 ∷ [])) z
-        → Compared (bit (comparables a0 ∷ a1 ∷ [])) (bit (comparables d0 ∷ d1 ∷ [])) z
+    from : (z : ℕ) → Gives c operations.Equal (bit xs) (bit ys) z → Compared (bit (comparables xs)) (bit (comparables ys)) z
     from z g =
         let m : T (comparable c (g .first) && comparable c (g .second)) × List·Memᴰ z (verdicts (g .first) (g .second)) =
         equal-only c (g .first) (g .second) z (g .result)
@@ -474,7 +452,7 @@ equal-results c n a0 a1 d0 d1 ha0 ha1 hd0 hd1 =
         record {
           left = g .first;
           right = g .second;
-          in-left = compared-from c n a0 a1 (g .first) (g .in-first) (T-fst (comparable c (g .first)) (comparable c (g .second)) (m .0));
-          in-right = compared-from c n d0 d1 (g .second) (g .in-second) (T-snd (comparable c (g .first)) (comparable c (g .second)) (m .0));
+          in-left = compared-from c lead n xs lx (g .first) (g .in-first) (T-fst (comparable c (g .first)) (comparable c (g .second)) (m .0));
+          in-right = compared-from c lead n ys ly (g .second) (g .in-second) (T-snd (comparable c (g .first)) (comparable c (g .second)) (m .0));
           verdict = m .1;
         }

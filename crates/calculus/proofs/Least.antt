@@ -23,7 +23,7 @@ use Rattle.calculus.proofs.Fitting.{rule-fits}
 
 -- ---- the test whether a sweep has changed anything
 
-same-eq : (xs ys : List ℕ) → T (same xs ys) → xs ≡ ys
+pub same-eq : (xs ys : List ℕ) → T (same xs ys) → xs ≡ ys
 unfolding same
 same-eq [] [] h = refl
 same-eq [] (y ∷ ys) h = absurd h

@@ -13,6 +13,7 @@ use Rattle.permset.specs.Sets.{member, lowest}
 use Rattle.permset.proofs.Laws.{member-empty, member-and, lowest-lt, lowest-member}
 use Rattle.calculus.specs.Elements.{isString}
 use Rattle.calculus.specs.Layout.{masked, bit, Words}
+unfoldable pub use Rattle.calculus.specs.ResultWords.{nonzero}
 use Rattle.calculus.proofs.Digits.{T-fst, T-snd}
 use Rattle.calculus.proofs.Slices.{bit-at, bit-short}
 
@@ -72,11 +73,6 @@ bit-masked xs ys n =
 pub masked-words : (xs ys : List ℕ) → Words ys → Words (masked xs ys)
 masked-words xs ys h k = rw (getD-masked xs ys k) (lt-of-le-of-lt (and-le-r (getD xs k 0) (getD ys k 0)) (h k))
 
--- some word is not 0
-unfoldable pub nonzero : List ℕ → Bool
-nonzero [] = false
-nonzero (x ∷ xs) = elim (eqb x 0) [ true ↦ nonzero xs | false ↦ true ]
-
 -- a word that is not 0 has a digit
 pub digit-word : (xs : List ℕ) (n : ℕ) → T (bit xs n) → getD xs (n / 32) 0 ≡ 0 → ⊥
 unfolding bit
@@ -128,12 +124,3 @@ string-mask v = go (decLt v 32)
     go (no l) =
         bool-ext (bit (0xffffff00 ∷ []) v) (isString v) (λ h. absurd (l (omega (arith, bit-short (0xffffff00 ∷ []) v h))))
         (λ h. absurd (l (ltb→lt v 32 (T-snd (leb 8 v) (ltb v 32) h))))
-
-pub words-two : (x y : ℕ) → x < 2 ^ 32 → y < 2 ^ 32 → Words (x ∷ y ∷ [])
-words-two x y h k zero = h
-words-two x y h k (suc zero) = k
-words-two x y h k (suc (suc n)) = lit< tt
-
-pub full-words : (v : ℕ) → v < 64 → bit (4294967295 ∷ 4294967295 ∷ []) v ≡ true
-unfolding agree bit member
-full-words v h = agree-below 64 (bit (4294967295 ∷ 4294967295 ∷ [])) (λ v. true) tt v h

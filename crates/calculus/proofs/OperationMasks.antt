@@ -1,6 +1,6 @@
 -- The rule of an operation as one word or-ed into a row: the word has a digit for each result of the operation on elements of the two
--- rows. For 32 names the plain elements of a row are the digits of its first two words.
-use Prim.Native.Nat.{ℕ, zero, suc, _+_, _/_, _%_, _^_, _<_}
+-- rows. The plain elements of a row are the digits of its first `lead` words: its side.
+use Prim.Native.Nat.{ℕ, zero, suc, _+_, _*_, _/_, _%_, _^_, _<_}
 use mathlib.Core.Path.{_≡_, refl, sym, ap, _∙_, subst}
 use mathlib.Core.List.{List, [], _∷_, List·Memᴰ, List·Memᴰ·head, List·Memᴰ·tail, List·Memᴰ·cases-cons, List·Memᴰ·not-nil}
 use mathlib.Core.Logic.{⊎-elim}
@@ -11,7 +11,8 @@ use native.Mathlib.Omega.{arith}
 use lib.Dec.{T, lit<}
 use lib.Bits.{bitOr}
 use lib.Pow.{pow-pos}
-use lib.ListN.{getD}
+use lib.ListN.{getD, length, take, drop, length-take, length-drop}
+use lib.Seq.{getD-take, getD-drop}
 use Rattle.permset.specs.Sets.{member}
 use Rattle.permset.proofs.Laws.{member-empty, member-beyond, same-members}
 use Rattle.table.specs.declared.Operation.{Operation}
@@ -19,15 +20,15 @@ use Rattle.table.specs.Code.{Code, operation}
 use Rattle.calculus.specs.Elements.{plain, elements, results}
 use Rattle.calculus.specs.Constraint.{C, Rule, put, given, each, range, every}
 use Rattle.calculus.specs.Rules.{twoRule}
-use Rattle.calculus.specs.Layout.{bit, pour, owner, base, shift, span, sets, Words, WellFormed}
+use Rattle.calculus.specs.Layout.{bit, pour, owner, rowWords, base, shift, span, sets, Words, WellFormed}
 use Rattle.calculus.specs.Estimate.{fire}
 use Rattle.calculus.proofs.Digits.{T-or, T-or-left, T-or-right, member-or, member-single, member-single-only, member-low, member-lt}
-use Rattle.calculus.proofs.Slices.{bit-word, bit-short}
+use Rattle.calculus.proofs.Slices.{bit-word, bit-short, part-words}
 use Rattle.calculus.proofs.Places.{is-allowed}
 use Rattle.calculus.proofs.Ranges.{below-in, in-below}
 use Rattle.calculus.proofs.Fitting.{lows-mem, results-low}
 use Rattle.calculus.proofs.Masks.{bool-ext}
-use Rattle.calculus.proofs.RowOperations.{sets-C}
+use Rattle.calculus.proofs.RowOperations.{C-inside, sets-C}
 use Rattle.calculus.proofs.RowRules.{RowOf, row-only, row-has, fire-row}
 
 -- z is a result of the operation on an element that passes the first test and one that passes the second
@@ -98,12 +99,12 @@ unfoldable pub gather : List ℕ → (ℕ → Bool) → (ℕ → ℕ) → ℕ
 gather [] t f = 0
 gather (x ∷ xs) t f = elim (t x) [ true ↦ bitOr (f x) (gather xs t f) | false ↦ gather xs t f ]
 
--- all results on the digits below `plain c` of two words and two words
-unfoldable pub resultMask : Code → Operation → (a0 a1 d0 d1 : ℕ) → ℕ
+-- all results on the digits below `plain c` of two sides
+unfoldable pub resultMask : Code → Operation → (xs ys : List ℕ) → ℕ
 unfolding range marks gather bit results
-resultMask c o a0 a1 d0 d1 =
-    gather (range (plain c) 0) (bit (a0 ∷ a1 ∷ []))
-    (λ x. gather (range (plain c) 0) (bit (d0 ∷ d1 ∷ [])) (λ y. marks (results c o x y)))
+resultMask c o xs ys =
+    gather (range (plain c) 0) (bit xs)
+    (λ x. gather (range (plain c) 0) (bit ys) (λ y. marks (results c o x y)))
 
 pub marks-has : (zs : List ℕ) (z : ℕ) → List·Memᴰ z zs → T (member (marks zs) z)
 unfolding marks
@@ -164,26 +165,26 @@ members-lt n s h =
         bool-ext (member s i) (member (s % 2 ^ n) i) (λ t. absurd (l (h i t)))
         (λ t. absurd (subst T (member-beyond n (s % 2 ^ n) i (mod-lt s (pow-pos n)) (omega arith)) t))
 
-module _ (c : Code) (o : Operation) (a0 a1 d0 d1 : ℕ) where
+module _ (c : Code) (o : Operation) (xs ys : List ℕ) where
   abbrev Results : ℕ → Type 0
-  Results z = Gives c o (bit (a0 ∷ a1 ∷ [])) (bit (d0 ∷ d1 ∷ [])) z
+  Results z = Gives c o (bit xs) (bit ys) z
 
-  pub results-in : (z : ℕ) → Results z → T (member (resultMask c o a0 a1 d0 d1) z)
+  pub results-in : (z : ℕ) → Results z → T (member (resultMask c o xs ys) z)
   unfolding resultMask
   results-in z g =
-      gather-has (range (plain c) 0) (bit (a0 ∷ a1 ∷ [])) (λ x. gather (range (plain c) 0) (bit (d0 ∷ d1 ∷ [])) (λ y. marks (results c o x y)))
+      gather-has (range (plain c) 0) (bit xs) (λ x. gather (range (plain c) 0) (bit ys) (λ y. marks (results c o x y)))
       (g .first) z (below-in (g .first-plain)) (g .in-first)
-      (gather-has (range (plain c) 0) (bit (d0 ∷ d1 ∷ [])) (λ y. marks (results c o (g .first) y)) (g .second) z (below-in (g .second-plain)) (g .in-second)
+      (gather-has (range (plain c) 0) (bit ys) (λ y. marks (results c o (g .first) y)) (g .second) z (below-in (g .second-plain)) (g .in-second)
       (marks-has (results c o (g .first) (g .second)) z (g .result)))
 
-  pub results-only : (z : ℕ) → T (member (resultMask c o a0 a1 d0 d1) z) → Results z
+  pub results-only : (z : ℕ) → T (member (resultMask c o xs ys) z) → Results z
   unfolding resultMask
   results-only z h =
-      let x : Gathered (range (plain c) 0) (bit (a0 ∷ a1 ∷ [])) (λ x. gather (range (plain c) 0) (bit (d0 ∷ d1 ∷ [])) (λ y. marks (results c o x y))) z =
-      gather-only (range (plain c) 0) (bit (a0 ∷ a1 ∷ [])) (λ x. gather (range (plain c) 0) (bit (d0 ∷ d1 ∷ [])) (λ y. marks (results c o x y))) z h
+      let x : Gathered (range (plain c) 0) (bit xs) (λ x. gather (range (plain c) 0) (bit ys) (λ y. marks (results c o x y))) z =
+      gather-only (range (plain c) 0) (bit xs) (λ x. gather (range (plain c) 0) (bit ys) (λ y. marks (results c o x y))) z h
       in
-      let y : Gathered (range (plain c) 0) (bit (d0 ∷ d1 ∷ [])) (λ y. marks (results c o (x .0) y)) z =
-      gather-only (range (plain c) 0) (bit (d0 ∷ d1 ∷ [])) (λ y. marks (results c o (x .0) y)) z (x .3)
+      let y : Gathered (range (plain c) 0) (bit ys) (λ y. marks (results c o (x .0) y)) z =
+      gather-only (range (plain c) 0) (bit ys) (λ y. marks (results c o (x .0) y)) z (x .3)
       in
       record {
         first = x .0;
@@ -195,68 +196,66 @@ module _ (c : Code) (o : Operation) (a0 a1 d0 d1 : ℕ) where
         result = marks-only (results c o (x .0) (y .0)) z (y .3);
       }
 
-  pub results-lt : resultMask c o a0 a1 d0 d1 < 2 ^ 7
+  pub results-lt : resultMask c o xs ys < 2 ^ 7
   results-lt =
-      members-lt 7 (resultMask c o a0 a1 d0 d1)
+      members-lt 7 (resultMask c o xs ys)
       (λ z t. let g : Results z = results-only z t in
       lows-mem (results c o (g .first) (g .second)) (results-low c o (g .first) (g .second)) z (g .result))
 
   -- a number with the same digits
-  pub results-are : (m : ℕ) → ((z : ℕ) → T (member m z) → Results z) → ((z : ℕ) → Results z → T (member m z)) → resultMask c o a0 a1 d0 d1 ≡ m
+  pub results-are : (m : ℕ) → ((z : ℕ) → T (member m z) → Results z) → ((z : ℕ) → Results z → T (member m z)) → resultMask c o xs ys ≡ m
   results-are m f g =
-      same-members (resultMask c o a0 a1 d0 d1) m
-      (λ z. bool-ext (member (resultMask c o a0 a1 d0 d1) z) (member m z) (λ t. g z (results-only z t)) (λ t. results-in z (f z t)))
+      same-members (resultMask c o xs ys) m
+      (λ z. bool-ext (member (resultMask c o xs ys) z) (member m z) (λ t. g z (results-only z t)) (λ t. results-in z (f z t)))
 
 -- ---- the rule
 
-module _ (c : Code) (n : c .names ≡ 32) (ws : List ℕ) (w : WellFormed c ws) where
-  -- the first two words of a row
-  pub first-words : (i x : ℕ) → i < c .size → x < plain c
-      → sets c ws (C i) x ≡ bit (getD ws (base c (C i)) 0 ∷ getD ws (base c (C i) + 1) 0 ∷ []) x
+-- the words of C(i) that plain elements fill
+abbrev pub side : Code → ℕ → List ℕ → ℕ → List ℕ
+side c lead ws i = take lead (drop (base c (C i)) ws)
+
+pub side-words : (c : Code) (lead : ℕ) (ws : List ℕ) → Words ws → (i : ℕ) → Words (side c lead ws i)
+side-words c lead ws h i = part-words lead (base c (C i)) ws h
+
+module _ (c : Code) (lead : ℕ) (n : plain c ≡ 32 * lead) (ws : List ℕ) (w : WellFormed c ws) where
+  pub side-length : (i : ℕ) → i < c .size → length (side c lead ws i) ≡ lead
+  unfolding rowWords
+  side-length i h = simp (length-take, length-drop) (omega (arith, C-inside c ws w i h))
+
+  pub side-bit : (i x : ℕ) → i < c .size → x < plain c → sets c ws (C i) x ≡ bit (side c lead ws i) x
   unfolding bit
-  first-words i x h l = sets-C c i x ws h (omega arith) ∙ ap (λ (y : ℕ). member y (x % 32)) (go (x / 32) (omega arith))
-    where
-      go : (k : ℕ) → k < 2 → getD ws (base c (C i) + k) 0 ≡ getD (getD ws (base c (C i)) 0 ∷ getD ws (base c (C i) + 1) 0 ∷ []) k 0
-      go zero h = ap (λ (y : ℕ). getD ws y 0) (omega arith)
-      go (suc zero) h = refl
-      go (suc (suc k)) h = absurd (omega arith)
+  side-bit i x h l =
+      let k : x / 32 < lead = omega arith in
+      sets-C c i x ws h (omega arith) ∙ ap (λ (y : ℕ). member y (x % 32)) (sym (rw (getD-take, getD-drop)))
 
   pub fire-operation : (p a d : ℕ) → p < c .size → a < c .size → d < c .size → (a ≡ p → ⊥) → (d ≡ p → ⊥) → (o : Operation)
-      → fire c (twoRule c p (operation o) a d) ws
-      ≡ pour ws (base c (C p))
-      (resultMask c o (getD ws (base c (C a)) 0) (getD ws (base c (C a) + 1) 0) (getD ws (base c (C d)) 0) (getD ws (base c (C d) + 1) 0) ∷ [])
+      → fire c (twoRule c p (operation o) a d) ws ≡ pour ws (base c (C p)) (resultMask c o (side c lead ws a) (side c lead ws d) ∷ [])
   unfolding twoRule
   fire-operation p a d hp ha hd na nd o =
-      fire-results c ws w p a d hp na nd o (resultMask c o a0 a1 d0 d1) (omega (arith, results-lt c o a0 a1 d0 d1))
-      (λ z t. let g : Gives c o (bit (a0 ∷ a1 ∷ [])) (bit (d0 ∷ d1 ∷ [])) z = results-only c o a0 a1 d0 d1 z t in
+      fire-results c ws w p a d hp na nd o (resultMask c o xs ys) (omega (arith, results-lt c o xs ys))
+      (λ z t. let g : Gives c o (bit xs) (bit ys) z = results-only c o xs ys z t in
       record {
         first = g .first;
         second = g .second;
         first-plain = g .first-plain;
         second-plain = g .second-plain;
-        in-first = subst T (sym (first-words a (g .first) ha (g .first-plain))) (g .in-first);
-        in-second = subst T (sym (first-words d (g .second) hd (g .second-plain))) (g .in-second);
+        in-first = subst T (sym (side-bit a (g .first) ha (g .first-plain))) (g .in-first);
+        in-second = subst T (sym (side-bit d (g .second) hd (g .second-plain))) (g .in-second);
         result = g .result;
       })
-      (λ z g. results-in c o a0 a1 d0 d1 z
+      (λ z g. results-in c o xs ys z
       (record {
         first = g .first;
         second = g .second;
         first-plain = g .first-plain;
         second-plain = g .second-plain;
-        in-first = subst T (first-words a (g .first) ha (g .first-plain)) (g .in-first);
-        in-second = subst T (first-words d (g .second) hd (g .second-plain)) (g .in-second);
+        in-first = subst T (side-bit a (g .first) ha (g .first-plain)) (g .in-first);
+        in-second = subst T (side-bit d (g .second) hd (g .second-plain)) (g .in-second);
         result = g .result;
       }))
     where
-      a0 : ℕ
-      a0 = getD ws (base c (C a)) 0
+      xs : List ℕ
+      xs = side c lead ws a
 
-      a1 : ℕ
-      a1 = getD ws (base c (C a) + 1) 0
-
-      d0 : ℕ
-      d0 = getD ws (base c (C d)) 0
-
-      d1 : ℕ
-      d1 = getD ws (base c (C d) + 1) 0
+      ys : List ℕ
+      ys = side c lead ws d

@@ -25,7 +25,7 @@ use Rattle.calculus.proofs.Rows.{sets-allowed, sets-bit, in-sets, conte
 use Rattle.calculus.proofs.Firing.{Fits, any-found}
 use Rattle.calculus.proofs.Ranges.{below-in, in-below}
 use Rattle.calculus.specs.Layout.{masked}
-use Rattle.calculus.proofs.Masks.{T-false, bool-ext, getD-masked, bit-masked, masked-words, nonzero, digit-word, word-digit, digit-nonzero, nonzero-digit, string-mask, words-two, full-words}
+use Rattle.calculus.proofs.Masks.{T-false, bool-ext, getD-masked, bit-masked, masked-words, nonzero, digit-word, word-digit, digit-nonzero, nonzero-digit, string-mask}
 use Rattle.calculus.proofs.Folds.{found, fire-absent, loop-skip}
 use Rattle.calculus.proofs.RowOperations.{empty-C}
 use Rattle.calculus.proofs.Demands.{Demands, found-has, fire-makes}
@@ -130,13 +130,6 @@ module _ (c : Code) where
       let k : RowOf r xs = record { mine = o .mine; unshifted = flat r (o .full); words = x; inside = λ v h. omega (arith, f v h) } in
       fire-row ws w r xs k (fill c r) (λ v m. let l : v < plain c = in-below m in is-allowed c r v (o .mine) (omega arith))
       (λ v m. row-has ws w r xs k v (g v (in-below m))) (λ v h. (v, below-in (f v h), (refl, refl)))
-
--- for 32 names: two full words
-pub fire-fill-32 : (c : Code) → c .names ≡ 32 → (ws : List ℕ) → WellFormed c ws → (r : Row) → ValueRow c r
-    → fire c (fill c r) ws ≡ pour ws (base c r) (4294967295 ∷ 4294967295 ∷ [])
-fire-fill-32 c n ws w r o =
-    fire-fill c ws w r o (4294967295 ∷ 4294967295 ∷ []) (λ k. words-two 4294967295 4294967295 (lit< tt) (lit< tt) k)
-    (λ v h. omega (arith, bit-short (4294967295 ∷ 4294967295 ∷ []) v h)) (λ v h. subst T (sym (full-words v (omega arith))) tt)
 
 -- the words of a row of values, from its base on
 pub content-word : (c : Code) (ws : List ℕ) (r : Row) → span c r ≡ elements c → (k : ℕ) → k < rowWords c

@@ -4,7 +4,7 @@ use mathlib.Core.Path.{_≡_, refl, sym, subst}
 use mathlib.Core.List.{List, [], _∷_, map, List·Memᴰ, List·Memᴰ·head}
 use Rattle.permset.specs.Sets.{member, within, difference}
 use Rattle.delivery.specs.Delivery.{judged, delivered}
-use Rattle.table.specs.Words.{partsByKind, parts, arity, termsByKind, termOf, constantOf, operationOf, constantNumber}
+use Rattle.table.specs.Words.{namesOf, partsByKind, parts, arity, termsByKind, termOf, constantOf, operationOf, constantNumber}
 use Rattle.table.specs.Scan.{next, under}
 use Rattle.table.specs.Code.{code, nodeFor, scopeFor, homeFor, blocksFrom, taskAt, tasks, trace, part, skip, termNode}
 use Rattle.calculus.specs.Rules.{nameOf, permsOf, guarded, deliveryTo}
@@ -22,7 +22,7 @@ unfolding
     every stopping going opposing examples reached expected outcome run after act stepped moved effect sent joined step frameStep secondStep twoStep withField firstStep
     choose oneStep termStep leafStep found whole look getField deleteField setField plain leftOut kept sentAs known datum sameNumber same operate onAtom
     onFunction onFields onCell onNumber onText onName onTruth nameOf permsOf guarded deliveryTo judged delivered difference member within code nodeFor scopeFor homeFor
-    blocksFrom taskAt tasks trace part skip termNode next under partsByKind parts arity termsByKind termOf constantOf
+    blocksFrom taskAt tasks trace part skip termNode next under namesOf partsByKind parts arity termsByKind termOf constantOf
     operationOf constantNumber
 runs = refl
 
@@ -42,7 +42,7 @@ unfolding
     exercised run after act stepped moved effect sent joined step frameStep secondStep twoStep withField firstStep
     choose oneStep termStep leafStep found whole look getField deleteField setField plain leftOut kept sentAs known datum sameNumber same operate onAtom
     onFunction onFields onCell onNumber onText onName onTruth nameOf permsOf guarded deliveryTo judged delivered difference member within code nodeFor scopeFor homeFor
-    blocksFrom taskAt tasks trace part skip termNode next under partsByKind parts arity termsByKind termOf constantOf
+    blocksFrom taskAt tasks trace part skip termNode next under namesOf partsByKind parts arity termsByKind termOf constantOf
     operationOf constantNumber
 ran = refl
 

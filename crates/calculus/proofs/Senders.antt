@@ -7,7 +7,7 @@ use lib.Dec.{T}
 use lib.Count.{onesIn}
 use Rattle.permset.specs.Sets.{within, member, union, difference, lowest}
 use Rattle.delivery.specs.Delivery.{judged, delivered}
-use Rattle.table.specs.Words.{partsByKind, limitsByKind, parts, arity, limit, constantNumber, constantOf, operationOf, termsByKind, termOf}
+use Rattle.table.specs.Words.{namesOf, partsByKind, limitsByKind, parts, arity, limit, constantNumber, constantOf, operationOf, termsByKind, termOf}
 use Rattle.table.specs.Scan.{firstOf, has, tests, fault, missing, keep, under, next, scan, reading}
 use Rattle.table.specs.Code.{code, skip, part, trace, tasks, taskAt, termNode, nodeFor, scopeFor, homeFor, blocksFrom}
 use Rattle.table.specs.Code.{Code, Node, gap, block, leaf, one, two, bind, while, branch, update, NodeLinked, Linked}
@@ -71,7 +71,7 @@ sendersOf ws = whole (estimate (code ws) 0) (λ est. map (λ b. among (elements 
 pub sender-sets :
     map sendersOf (single 0 (0x24000002 ∷ []) ∷ single 4 (0x24000002 ∷ []) ∷ relay 8 0 ∷ relay 8 1 ∷ twins ∷ [])
     ≡ ((7 ∷ []) ∷ []) ∷ ([] ∷ []) ∷ ((7 ∷ []) ∷ (65 ∷ []) ∷ []) ∷ ((7 ∷ []) ∷ [] ∷ []) ∷ ((7 ∷ []) ∷ [] ∷ (65 ∷ []) ∷ []) ∷ []
-unfolding onesIn partsByKind limitsByKind parts arity limit constantNumber constantOf operationOf termsByKind termOf firstOf has tests
+unfolding onesIn namesOf partsByKind limitsByKind parts arity limit constantNumber constantOf operationOf termsByKind termOf firstOf has tests
     fault missing keep under next scan reading code skip part trace tasks taskAt termNode nodeFor scopeFor homeFor blocksFrom within member union
     difference lowest constantElement sign isString leafMakes oneMakes makes isFunction isRecord isCell making sendable anyRecord isSign signPlace
     sumSigns lessSigns bySigns comparable isMany equalResults results range nameOf permsOf guarded isBlock permissions deliveryTo judged delivered leafRule oneRule twoRule

@@ -85,8 +85,8 @@ module _ (t : List ℕ) (a d z : ℕ) where
 
 -- ---- signs are digits 4 to 6 of the first word
 
-first-digit : (x0 x1 v : ℕ) → v < 32 → bit (x0 ∷ x1 ∷ []) v ≡ member x0 v
-first-digit x0 x1 v h = let e : v ≡ 32 * 0 + v = omega arith in ap (bit (x0 ∷ x1 ∷ [])) e ∙ bit-at (x0 ∷ x1 ∷ []) 0 v h
+first-digit : (xs : List ℕ) (v : ℕ) → v < 32 → bit xs v ≡ member (getD xs 0 0) v
+first-digit xs v h = let e : v ≡ 32 * 0 + v = omega arith in ap (bit xs) e ∙ bit-at xs 0 v h
 
 sign-range : (v : ℕ) → T (isSign v) → (4 ≤ v) × (v ≤ 6)
 unfolding isSign
@@ -115,12 +115,12 @@ module _ (t : List (List ℕ)) (x y z : ℕ) where
 
 -- ---- an operation by a table of signs
 
-module _ (c : Code) (o : Operation) (t : List (List ℕ)) (is : (x y : ℕ) → results c o x y ≡ bySigns t x y) (a0 a1 d0 d1 : ℕ) where
+module _ (c : Code) (o : Operation) (t : List (List ℕ)) (is : (x y : ℕ) → results c o x y ≡ bySigns t x y) (xs ys : List ℕ) where
   table-entry : (k : ℕ) → getD (map marks t) k 0 ≡ marks (getD t k [])
   unfolding marks
   table-entry k = List·getD-map marks t k []
 
-  entry-gives : (z : ℕ) → Entry (map marks t) a0 d0 z 9 → Gives c o (bit (a0 ∷ a1 ∷ [])) (bit (d0 ∷ d1 ∷ [])) z
+  entry-gives : (z : ℕ) → Entry (map marks t) (getD xs 0 0) (getD ys 0 0) z 9 → Gives c o (bit xs) (bit ys) z
   unfolding signPlace
   entry-gives z e =
       let k : ℕ = e .number in
@@ -131,8 +131,8 @@ module _ (c : Code) (o : Operation) (t : List (List ℕ)) (is : (x y : ℕ) → 
         second = 4 + k % 3;
         first-plain = omega arith;
         second-plain = omega arith;
-        in-first = subst T (sym (first-digit a0 a1 (4 + k / 3) (omega arith))) (e .row);
-        in-second = subst T (sym (first-digit d0 d1 (4 + k % 3) (omega arith))) (e .column);
+        in-first = subst T (sym (first-digit xs (4 + k / 3) (omega arith))) (e .row);
+        in-second = subst T (sym (first-digit ys (4 + k % 3) (omega arith))) (e .column);
         result =
             subst (λ (zs : List ℕ). List·Memᴰ z zs) (sym (is (4 + k / 3) (4 + k % 3)))
             (by-in t (4 + k / 3) (4 + k % 3) z (range-sign (4 + k / 3) (omega arith) (omega arith)) (range-sign (4 + k % 3) (omega arith) (omega arith))
@@ -140,7 +140,7 @@ module _ (c : Code) (o : Operation) (t : List (List ℕ)) (is : (x y : ℕ) → 
             (marks-only (getD t k []) z (subst (λ (m : ℕ). T (member m z)) (table-entry k) (e .digit)))));
       }
 
-  gives-entry : (z : ℕ) → Gives c o (bit (a0 ∷ a1 ∷ [])) (bit (d0 ∷ d1 ∷ [])) z → Entry (map marks t) a0 d0 z 9
+  gives-entry : (z : ℕ) → Gives c o (bit xs) (bit ys) z → Entry (map marks t) (getD xs 0 0) (getD ys 0 0) z 9
   unfolding signPlace
   gives-entry z g =
       let x : ℕ = g .first in
@@ -155,22 +155,22 @@ module _ (c : Code) (o : Operation) (t : List (List ℕ)) (is : (x y : ℕ) → 
       record {
         number = signPlace x y;
         below = omega arith;
-        row = subst (λ (v : ℕ). T (member a0 v)) r (subst T (first-digit a0 a1 x (omega arith)) (g .in-first));
-        column = subst (λ (v : ℕ). T (member d0 v)) s (subst T (first-digit d0 d1 y (omega arith)) (g .in-second));
+        row = subst (λ (v : ℕ). T (member (getD xs 0 0) v)) r (subst T (first-digit xs x (omega arith)) (g .in-first));
+        column = subst (λ (v : ℕ). T (member (getD ys 0 0) v)) s (subst T (first-digit ys y (omega arith)) (g .in-second));
         digit = subst (λ (n : ℕ). T (member n z)) (sym (table-entry (signPlace x y))) (marks-has (getD t (signPlace x y) []) z (m .1));
       }
 
-  by-table : resultMask c o a0 a1 d0 d1 ≡ signsBelow (map marks t) a0 d0 9
+  by-table : resultMask c o xs ys ≡ signsBelow (map marks t) (getD xs 0 0) (getD ys 0 0) 9
   by-table =
-      results-are c o a0 a1 d0 d1 (signsBelow (map marks t) a0 d0 9) (λ z h. entry-gives z (signs-only (map marks t) a0 d0 z 9 h))
-      (λ z g. signs-in (map marks t) a0 d0 z 9 (gives-entry z g))
+      results-are c o xs ys (signsBelow (map marks t) (getD xs 0 0) (getD ys 0 0) 9) (λ z h. entry-gives z (signs-only (map marks t) (getD xs 0 0) (getD ys 0 0) z 9 h))
+      (λ z g. signs-in (map marks t) (getD xs 0 0) (getD ys 0 0) z 9 (gives-entry z g))
 
 -- ---- add and less
 
-pub sum-results : (c : Code) (a0 a1 d0 d1 : ℕ) → resultMask c operations.Add a0 a1 d0 d1 ≡ signsBelow sumMasks a0 d0 9
+pub sum-results : (c : Code) (xs ys : List ℕ) → resultMask c operations.Add xs ys ≡ signsBelow sumMasks (getD xs 0 0) (getD ys 0 0) 9
 unfolding results sumSigns sumMasks marks
-sum-results c a0 a1 d0 d1 = by-table c operations.Add sumSigns (λ x y. refl) a0 a1 d0 d1
+sum-results c xs ys = by-table c operations.Add sumSigns (λ x y. refl) xs ys
 
-pub less-results : (c : Code) (a0 a1 d0 d1 : ℕ) → resultMask c operations.Less a0 a1 d0 d1 ≡ signsBelow lessMasks a0 d0 9
+pub less-results : (c : Code) (xs ys : List ℕ) → resultMask c operations.Less xs ys ≡ signsBelow lessMasks (getD xs 0 0) (getD ys 0 0) 9
 unfolding results lessSigns lessMasks marks
-less-results c a0 a1 d0 d1 = by-table c operations.Less lessSigns (λ x y. refl) a0 a1 d0 d1
+less-results c xs ys = by-table c operations.Less lessSigns (λ x y. refl) xs ys

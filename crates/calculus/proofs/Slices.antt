@@ -10,8 +10,8 @@ use native.Mathlib.Omega.{arith}
 use lib.Dec.{T, lit<}
 use lib.Bits.{bitOr, or-zero-r, or-lt}
 use lib.Pow.{pow-lt}
-use lib.ListN.{length, getD, replicate, List·getD-eq-default}
-use lib.Seq.{ext-getD}
+use lib.ListN.{length, getD, replicate, take, drop, length-take, List·getD-eq-default}
+use lib.Seq.{ext-getD, getD-take, getD-drop}
 use Rattle.permset.specs.Sets.{member}
 use Rattle.permset.proofs.Laws.{member-empty, same-below}
 use Rattle.calculus.specs.Layout.{bit, pour, mark, Words}
@@ -67,6 +67,16 @@ words-ext ws xs e hw hx f g =
     both true false f g = absurd (f tt)
     both false true f g = absurd (g tt)
     both false false f g = refl
+
+-- a part of words
+pub part-words : (n at : ℕ) (ws : List ℕ) → Words ws → Words (take n (drop at ws))
+part-words n at ws h k = go (decLt k n)
+  where
+    go : Dec (k < n) → getD (take n (drop at ws)) k 0 < 2 ^ 32
+    go (yes l) = rw (getD-take n (drop at ws) k 0 l, getD-drop at ws k 0) (h (at + k))
+    go (no l) =
+        let m : length (take n (drop at ws)) ≤ k = omega (arith, length-take n (drop at ws)) in
+        rw (List·getD-eq-default (take n (drop at ws)) 0 m) (lit< tt)
 
 -- ---- words or-ed in
 

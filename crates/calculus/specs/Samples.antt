@@ -49,9 +49,13 @@ passes (s ∷ ss) = elim (agrees s (s .expected) (answerTo s)) [ true ↦ passes
 
 -- ---- tables
 
--- one handler with permissions 0 and 1, and this guard
+-- a handler of this name with permissions 0 and 1, and this guard
+abbrev handler : ℕ → ℕ → List ℕ → List ℕ
+handler name guard body = (0x02000000 + name) ∷ 0x03000003 ∷ (0x04000000 + guard) ∷ body
+
+-- one handler
 abbrev pub single : ℕ → List ℕ → List ℕ
-single guard body = 0x01000001 ∷ 0x02000000 ∷ 0x03000003 ∷ (0x04000000 + guard) ∷ body
+single guard body = 0x01000001 ∷ handler 0 guard body
 
 -- a handler that passes its message on to name 1, with this set required
 abbrev relayed : ℕ → ℕ → List ℕ
@@ -92,4 +96,15 @@ samples =
     -- no words; 01000021
     ∷ record { words = []; opponent = 0; expected = refusal 1 0 }
     ∷ record { words = 0x01000021 ∷ []; opponent = 0; expected = refusal 3 0 }
+    -- wide tables: 05000000 alone, direct, relay
+    ∷ record { words = 0x05000000 ∷ []; opponent = 0; expected = fills 0 0 (0 ∷ 0 ∷ 0 ∷ 0 ∷ 0 ∷ 0 ∷ 0 ∷ 0 ∷ 0 ∷ []) }
+    ∷ record { words = 0x05000001 ∷ handler 0 0 (0x24000002 ∷ []); opponent = 0; expected = counts 2 102 }
+    ∷ record { words = 0x05000002 ∷ relayed 8 0; opponent = 0; expected = counts 2 303 }
+    -- 64 handlers and 65; a name 63 and one past it, in a block and in a body, and 32 in a narrow body
+    ∷ record { words = 0x05000040 ∷ []; opponent = 0; expected = refusal 4 1 }
+    ∷ record { words = 0x05000041 ∷ []; opponent = 0; expected = refusal 3 0 }
+    ∷ record { words = 0x05000001 ∷ handler 63 0 (0x1300003f ∷ []); opponent = 0; expected = leaks 0 }
+    ∷ record { words = 0x05000001 ∷ handler 64 0 (0x1300003f ∷ []); opponent = 0; expected = refusal 5 1 }
+    ∷ record { words = 0x05000001 ∷ handler 0 0 (0x13000040 ∷ []); opponent = 0; expected = refusal 9 4 }
+    ∷ record { words = single 0 (0x13000020 ∷ []); opponent = 0; expected = refusal 9 4 }
     ∷ []

@@ -1,12 +1,13 @@
 -- How large an accepted table and its estimate may be.
-use Prim.Native.Nat.{ℕ, _+_, _*_, _/_, _≤_, _<_}
-use mathlib.Core.Path.{_≡_, sym, ap₂}
+use Prim.Native.Nat.{ℕ, _+_, _*_, _≤_, _<_}
+use mathlib.Core.Path.{_≡_, ap₂}
 use mathlib.Core.List.{List}
 use native.Mathlib.Omega.{arith}
-use lib.ListN.{length}
+use lib.ListN.{length, getD}
 use Rattle.table.specs.Scan.{accepted, reading}
 use Rattle.table.specs.Code.{Code, code}
 use Rattle.table.proofs.Limits.{size-le}
+use Rattle.table.proofs.Widths.{names-most}
 use Rattle.calculus.specs.Constraint.{P}
 use Rattle.calculus.specs.Layout.{rowWords, estimateWords, base}
 use Rattle.rows.specs.declared.layout.Layout.{Layout}
@@ -14,15 +15,10 @@ use Rattle.rows.specs.Laid.{LaidOut}
 use Rattle.rows.proofs.Sizes.{rows-fit}
 
 module _ (ws : List ℕ) where
-  -- the layout of a table
-  pub laid-out : (l : Layout) → l .size ≡ length ws → l .row ≡ (length ws + 95) / 32 → l .lead ≡ 2 → LaidOut (code ws) l
-  unfolding code rowWords
-  laid-out l s r d = record { size = sym s; row = omega arith; lead = omega arith }
-
   module _ (e : reading ws ≡ accepted) where
     pub row-bound : rowWords (code ws) ≤ 36
     unfolding code rowWords
-    row-bound = omega (arith, size-le ws e)
+    row-bound = omega (arith, size-le ws e, names-most (getD ws 0 0))
 
     pub words-bound : estimateWords (code ws) ≤ 132096
     unfolding code estimateWords
@@ -35,6 +31,10 @@ module _ (ws : List ℕ) where
 
       pub row-small : l .row < 64
       row-small = omega (arith, row-bound, o .row)
+
+      pub lead-small : l .lead ≤ 36
+      unfolding rowWords
+      lead-small = omega (arith, row-bound, o .lead)
 
       pub words-are : estimateWords (code ws) ≡ 2 * l .size * l .row + l .size
       unfolding estimateWords

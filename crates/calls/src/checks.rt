@@ -26,7 +26,7 @@ pub fn words_needed(words: &[u32]) -> usize
     requires { ⌜ reading (now words) ≡ accepted ⌝ }
     ensures { λ r. ⌜ r ≡ estimateWords (code (now (words .entry))) ⌝ }
 {
-    Layout::of(words.len()).words()
+    Layout::of(words).words()
 }
 
 // What the caller may get wrong where the table is accepted.

@@ -4,7 +4,7 @@ use mathlib.Core.Path.{_≡_, refl, ap}
 use mathlib.Core.List.{List, [], _∷_}
 use native.Mathlib.Omega.{arith}
 use lib.ListN.{length}
-use Rattle.table.specs.Scan.{head, Outcome, accepted, refused as unreadable, reading}
+use Rattle.table.specs.Scan.{head, Outcome, accepted, refused as unreadable, namesAt, reading}
 use Rattle.table.specs.Code.{code}
 use Rattle.audit.specs.Audited.{Answer, refused, placeOf, judged, audited}
 use Rattle.audit.proofs.Places.{judged-place}
@@ -16,7 +16,7 @@ place-within ws ρ est = go (reading ws) refl
   where
     go : (o : Outcome) → reading ws ≡ o → placeOf (elim o [ accepted ↦ judged (code ws) ρ est | unreadable n at ↦ refused n at ]) ≤ length ws + length est
     go accepted e = judged-place (code ws) ρ est
-    go (unreadable n at) e = omega (arith, scan-place ws [] 0 (head (length ws) ∷ []) n at e)
+    go (unreadable n at) e = omega (arith, scan-place (namesAt ws) ws [] 0 (head (length ws) ∷ []) n at e)
 
-pub place-fits : (ws : List ℕ) (ρ : ℕ) (est : List ℕ) (a : Answer) → a ≡ audited ws ρ est → length ws ≤ 256 → length est ≤ 5376 → placeOf a < 65536
+pub place-fits : (ws : List ℕ) (ρ : ℕ) (est : List ℕ) (a : Answer) → a ≡ audited ws ρ est → length ws ≤ 256 → length est ≤ 5888 → placeOf a < 65536
 place-fits ws ρ est a e h l = omega (arith, ap placeOf e, place-within ws ρ est)

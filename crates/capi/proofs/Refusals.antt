@@ -8,7 +8,7 @@ use lib.Dec.{leb, ltb}
 use lib.ListN.{length}
 use borrow.Author.Tests.{ltb-false}
 use Rattle.permset.specs.Sets.{width}
-use Rattle.table.specs.Scan.{Task, head, Outcome, accepted, refused as unreadable, firstOf, fault, keep, next, scan, reading}
+use Rattle.table.specs.Scan.{Task, head, Outcome, accepted, refused as unreadable, firstOf, fault, keep, next, scan, namesAt, reading}
 use Rattle.table.specs.Code.{code}
 use Rattle.calculus.specs.Layout.{estimateWords}
 use Rattle.calculus.specs.Estimate.{whole, estimate}
@@ -21,17 +21,17 @@ use Rattle.comparison.specs.declared.Verdict.the-variants as variants
 use Rattle.comparison.specs.Values.{answerOf}
 use Rattle.interface.specs.Places.{PlaceFits}
 
-pub scan-place : (ws keys : List ℕ) (at : ℕ) (ts : List Task) (n p : ℕ) → scan ws keys at ts ≡ unreadable n p → p ≤ at + length ws
+pub scan-place : (names : ℕ) (ws keys : List ℕ) (at : ℕ) (ts : List Task) (n p : ℕ) → scan names ws keys at ts ≡ unreadable n p → p ≤ at + length ws
 unfolding scan
-scan-place [] keys at [] n p e = let z : _≡_ {A = ℕ} 0 1 = cc in absurd (omega arith)
-scan-place [] keys at (t ∷ ts) n p e = let q : at ≡ p = cc in omega arith
-scan-place (w ∷ ws) keys at [] n p e = let q : at ≡ p = cc in omega arith
-scan-place (w ∷ ws) keys at (t ∷ ts) n p e =
-    go (fault keys w t) e (scan-place ws (keep keys w t) (suc at) (next at w t ++ ts) n p)
+scan-place names [] keys at [] n p e = let z : _≡_ {A = ℕ} 0 1 = cc in absurd (omega arith)
+scan-place names [] keys at (t ∷ ts) n p e = let q : at ≡ p = cc in omega arith
+scan-place names (w ∷ ws) keys at [] n p e = let q : at ≡ p = cc in omega arith
+scan-place names (w ∷ ws) keys at (t ∷ ts) n p e =
+    go (fault names keys w t) e (scan-place names ws (keep keys w t) (suc at) (next at w t ++ ts) n p)
   where
     go : (f : ℕ)
-        → (elim f as (λ k. Outcome) [ zero ↦ scan ws (keep keys w t) (suc at) (next at w t ++ ts) | suc k ↦ unreadable (suc k) at ]) ≡ unreadable n p
-        → (scan ws (keep keys w t) (suc at) (next at w t ++ ts) ≡ unreadable n p → p ≤ suc at + length ws) → p ≤ at + suc (length ws)
+        → (elim f as (λ k. Outcome) [ zero ↦ scan names ws (keep keys w t) (suc at) (next at w t ++ ts) | suc k ↦ unreadable (suc k) at ]) ≡ unreadable n p
+        → (scan names ws (keep keys w t) (suc at) (next at w t ++ ts) ≡ unreadable n p → p ≤ suc at + length ws) → p ≤ at + suc (length ws)
     go zero h more = omega (arith, more h)
     go (suc k) h more = let q : at ≡ p = cc in omega arith
 
@@ -88,7 +88,7 @@ module _ (ws : List ℕ) (ρ bound est work : ℕ) where
       go accepted r h = start found h
       go (unreadable m q) r h =
           let same : q ≡ p = cc in
-          omega (arith, scan-place ws [] 0 (head (length ws) ∷ []) m q r)
+          omega (arith, scan-place (namesAt ws) ws [] 0 (head (length ws) ∷ []) m q r)
 
   pub place-fits : (v : Declared·Verdict) → answerOf v ≡ answer ws ρ bound est work → length ws < 65536 → PlaceFits v
   unfolding answerOf

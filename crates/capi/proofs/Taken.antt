@@ -46,14 +46,14 @@ some-words (w ∷ ws) e z = omega arith
 
 pub taken-audited : (ws : List ℕ) (ρ : ℕ) (bs : List ℕ) → length ws ≤ 256 → audited ws ρ (taken bs) ≡ audited ws ρ (estimateFrom bs)
 unfolding taken estimateFrom
-taken-audited ws ρ bs h = go (leb (length bs) 21504) refl (eqb (length bs % 4) 0) refl
+taken-audited ws ρ bs h = go (leb (length bs) 23552) refl (eqb (length bs % 4) 0) refl
   where
-    go : (a : Bool) → leb (length bs) 21504 ≡ a → (b : Bool) → eqb (length bs % 4) 0 ≡ b
+    go : (a : Bool) → leb (length bs) 23552 ≡ a → (b : Bool) → eqb (length bs % 4) 0 ≡ b
         → audited ws ρ (elim a [ true ↦ elim b [ true ↦ wordsOf bs | false ↦ [] ] | false ↦ [] ]) ≡ audited ws ρ (elim b [ true ↦ wordsOf bs | false ↦ [] ])
     go true x b y = refl
     go false x true y =
         other-lengths ws ρ [] (wordsOf bs) (λ e z. some-words ws e z)
-        (λ e z. omega (arith, leb-false (length bs) 21504 x, eqb-true (length bs % 4) 0 y, length-wordsOf bs, estimate-room ws h))
+        (λ e z. omega (arith, leb-false (length bs) 23552 x, eqb-true (length bs % 4) 0 y, length-wordsOf bs, estimate-room ws h))
     go false x false y = refl
 
 -- ---- the words that are taken
@@ -62,22 +62,22 @@ module _ (bs : List ℕ) where
   nothing-taken : taken bs ≡ [] → (room : List ℕ) → TakenIn bs room 0
   nothing-taken e room = record { words = sym e; count = sym (ap length e); most = omega arith }
 
-  pub too-many : 21504 < length bs → (room : List ℕ) → TakenIn bs room 0
+  pub too-many : 23552 < length bs → (room : List ℕ) → TakenIn bs room 0
   unfolding taken
-  too-many h room = nothing-taken (ap (λ (b : Bool). elim b [ true ↦ estimateFrom bs | false ↦ [] ]) (lt-leb (length bs) 21504 h)) room
+  too-many h room = nothing-taken (ap (λ (b : Bool). elim b [ true ↦ estimateFrom bs | false ↦ [] ]) (lt-leb (length bs) 23552 h)) room
 
-  pub odd-bytes : length bs ≤ 21504 → (length bs % 4 ≡ 0 → ⊥) → (room : List ℕ) → TakenIn bs room 0
+  pub odd-bytes : length bs ≤ 23552 → (length bs % 4 ≡ 0 → ⊥) → (room : List ℕ) → TakenIn bs room 0
   unfolding taken estimateFrom
   odd-bytes h n room =
       nothing-taken
-      (ap (λ (b : Bool). elim b [ true ↦ estimateFrom bs | false ↦ [] ]) (le-leb (length bs) 21504 h)
+      (ap (λ (b : Bool). elim b [ true ↦ estimateFrom bs | false ↦ [] ]) (le-leb (length bs) 23552 h)
       ∙ ap (λ (b : Bool). elim b [ true ↦ wordsOf bs | false ↦ [] ]) (ne-eqb (length bs % 4) 0 n)) room
 
-  pub all-taken : length bs ≤ 21504 → length bs % 4 ≡ 0 → (own now : List ℕ) (n : ℕ) → length own ≡ 5376 → n ≡ length bs / 4 → take n now ≡ wordsOf bs → TakenIn bs now n
+  pub all-taken : length bs ≤ 23552 → length bs % 4 ≡ 0 → (own now : List ℕ) (n : ℕ) → length own ≡ 5888 → n ≡ length bs / 4 → take n now ≡ wordsOf bs → TakenIn bs now n
   unfolding taken estimateFrom
   all-taken h z own now n r e t =
       let s : taken bs ≡ wordsOf bs =
-      ap (λ (b : Bool). elim b [ true ↦ estimateFrom bs | false ↦ [] ]) (le-leb (length bs) 21504 h)
+      ap (λ (b : Bool). elim b [ true ↦ estimateFrom bs | false ↦ [] ]) (le-leb (length bs) 23552 h)
       ∙ ap (λ (b : Bool). elim b [ true ↦ wordsOf bs | false ↦ [] ]) (eq-eqb (length bs % 4) 0 z)
       in
       record { words = t ∙ sym s; count = e ∙ sym (length-wordsOf bs) ∙ ap length (sym s); most = omega arith }

@@ -128,7 +128,7 @@ module _ (ws : List ℕ) (ρ bound : ℕ) (est : List ℕ) (small : length ws �
 
 -- the estimate slice around a call, in the same way
 module _ (ws : List ℕ) (ρ bound work : ℕ) (small : length ws ≤ 256)
-    (bs own now : List ℕ) (n : ℕ) (room : length own ≡ 5376) (count : n ≡ min (length bs / 4) (length own))
+    (bs own now : List ℕ) (n : ℕ) (room : length own ≡ 5888) (count : n ≡ min (length bs / 4) (length own))
     (content : now ≡ take n (wordsOf bs) ++ drop n own) (a : Answer) (answers : a ≡ answer ws ρ bound (length (take n now)) work) where
   answers-for : a ≡ answer ws ρ bound n work
   answers-for = answers ∙ ap (λ (k : ℕ). answer ws ρ bound k work) (read-length bs own now n count content)
@@ -137,7 +137,7 @@ module _ (ws : List ℕ) (ρ bound work : ℕ) (small : length ws ≤ 256)
   estimate-answer =
       answers-for
       ∙ ap (λ (k : ℕ). answer ws ρ bound k work) (count ∙ ap (min (length bs / 4)) room)
-      ∙ estimate-capped ws ρ bound (length bs / 4) work 5376 (estimate-room ws small)
+      ∙ estimate-capped ws ρ bound (length bs / 4) work 5888 (estimate-room ws small)
 
   pub estimate-bytes : Below 256 bs → (new rest : List ℕ) (m : ℕ) (after : List ℕ) → length new ≡ length (take n now)
       → new ≡ estimateLeft ws ρ a (take n now) → m ≡ min (length bs / 4) (length (take n (new ++ rest)))

@@ -46,9 +46,9 @@ pub record ExactNumber (system : List ℕ) (ρ : ℕ) (est : List ℕ) (r : ℕ)
 -- the words that are copied: none where there are more than an estimate of 256 system words has
 unfoldable pub taken : List ℕ → List ℕ
 unfolding estimateFrom
-taken bytes = elim (leb (length bytes) 21504) [ true ↦ estimateFrom bytes | false ↦ [] ]
+taken bytes = elim (leb (length bytes) 23552) [ true ↦ estimateFrom bytes | false ↦ [] ]
 
 pub record TakenIn (bytes room′ : List ℕ) (n : ℕ) : Type 0 where
   pub words : take n room′ ≡ taken bytes
   pub count : n ≡ length (taken bytes)
-  pub most : n ≤ 5376
+  pub most : n ≤ 5888

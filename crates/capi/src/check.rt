@@ -37,10 +37,10 @@ fn check_number(a: Audit) -> u64
 
 // The words of an estimate, at the start of a slice that has room for the largest, and how many they are.
 fn take_words(bytes: &[u8], room: &mut [u32]) -> usize
-    requires { ⌜ length (now room) ≡ 5376 ⌝ }
+    requires { ⌜ length (now room) ≡ 5888 ⌝ }
     ensures { λ r. ⌜ TakenIn (now (bytes .entry)) (now (room .exit)) r ⌝ }
 {
-    if 21504 < bytes.len() {
+    if 23552 < bytes.len() {
         return 0;
     }
     if bytes.len() % 4 != 0 {
@@ -51,7 +51,7 @@ fn take_words(bytes: &[u8], room: &mut [u32]) -> usize
 
 // The check of an estimate over words for it that are lent.
 fn of_room(words: &[u32], rho: u32, estimate: &[u8], room: &mut [u32]) -> u64
-    requires { ⌜ (length (now words) ≤ 256) × (length (now room) ≡ 5376) ⌝ }
+    requires { ⌜ (length (now words) ≤ 256) × (length (now room) ≡ 5888) ⌝ }
     ensures { λ r. ⌜ r ≡ checkNumber (audited (now (words .entry)) rho (estimateFrom (now (estimate .entry)))) ⌝ }
 {
     let n = take_words(estimate, room);
@@ -63,7 +63,7 @@ fn of_words(words: &[u32], rho: u32, estimate: &[u8]) -> u64
     requires { ⌜ length (now words) ≤ 256 ⌝ }
     ensures { λ r. ⌜ r ≡ checkNumber (audited (now (words .entry)) rho (estimateFrom (now (estimate .entry)))) ⌝ }
 {
-    let mut room = [0u32; 5376];
+    let mut room = [0u32; 5888];
     of_room(words, rho, estimate, &mut room)
 }
 

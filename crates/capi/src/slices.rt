@@ -50,7 +50,7 @@ fn with_room(
     work: &mut [u8],
     room: &mut [u32],
 ) -> Verdict
-    requires { ⌜ (length (now words) ≤ 256) × (length (now room) ≡ 5376) ⌝ }
+    requires { ⌜ (length (now words) ≤ 256) × (length (now room) ≡ 5888) ⌝ }
     ensures { λ r. ⌜ answerOf r ≡ answer (now (words .entry)) rho bound (length (now (estimate .entry)) / 4) (length (now (work .entry)) / 4) ⌝ }
     ensures { λ r. ⌜ now (estimate .exit) ≡ estimateBytes (now (words .entry)) rho (answerOf r) (now (estimate .entry)) ⌝ }
     ensures { λ r. ⌜ now (work .exit) ≡ workBytes (now (words .entry)) (answerOf r) (now (work .entry)) ⌝ }
@@ -74,6 +74,6 @@ pub fn with_bytes(
     ensures { λ r. ⌜ now (estimate .exit) ≡ estimateBytes (now (words .entry)) rho (answerOf r) (now (estimate .entry)) ⌝ }
     ensures { λ r. ⌜ now (work .exit) ≡ workBytes (now (words .entry)) (answerOf r) (now (work .entry)) ⌝ }
 {
-    let mut room = [0u32; 5376];
+    let mut room = [0u32; 5888];
     with_room(words, rho, bound, estimate, work, &mut room)
 }

@@ -20,7 +20,7 @@ use Rattle.listing.specs.Listing.{wordsOf as Listing·wordsOf}
 use Rattle.listing.specs.Answer.{number, place, answered}
 use Rattle.listing.proofs.Places.{Within, write-within, write-first, write-first-left, inRoom, read-room, read-within}
 use Rattle.listing.proofs.Theorems.{read-count, read-accepted}
-use Rattle.table.proofs.Limits.{size-le}
+use Rattle.listing.proofs.Depths.{narrow-size}
 use Rattle.capi_text.specs.Interface.{answerNumber, writeAnswer, inBytes, readAnswer, placed, PutAs}
 
 -- the place of a refusal, as the answer has it

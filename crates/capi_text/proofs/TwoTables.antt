@@ -7,9 +7,9 @@ use native.Mathlib.Omega.{arith}
 use lib.Dec.{ltb}
 use lib.ListN.{length, take, length-take}
 use lib.Seq.{take-all}
-use Rattle.table.specs.Words.{handlers, size}
-use Rattle.table.specs.Scan.{Outcome, accepted, refused, firstOf, reading}
-use Rattle.table.proofs.Limits.{size-le}
+use Rattle.table.specs.Words.{narrow, size}
+use Rattle.table.specs.Scan.{Outcome, accepted, refused, firstOf, narrowReading}
+use Rattle.listing.proofs.Depths.{narrow-size}
 use Rattle.table.proofs.Stack.{refused-not-accepted}
 use Rattle.little_endian.specs.LittleEndian.{wordsOf}
 use Rattle.listing.specs.Listing.{Answered, done, refusal}
@@ -46,7 +46,7 @@ module _ {A : Type 0} (f : List ℕ → List ℕ → A) (g : ℕ → ℕ → A)
       go (refused n p) e = stops (take 1025 b) (take 1025 o) n p (tables-first b o ∙ e) ∙ sym (stops b o n p e)
       go accepted e =
           let t = tables-accepted b o e in
-          ap₂ f (take-all 1025 b (omega (arith, size-le b (t .0)))) (take-all 1025 o (omega (arith, size-le o (t .1))))
+          ap₂ f (take-all 1025 b (omega (arith, narrow-size b (t .0)))) (take-all 1025 o (omega (arith, narrow-size o (t .1))))
 
 pub place-first : (b o : List ℕ) (n s : ℕ) → placeOf (take 1025 b) (take 1025 o) n s ≡ placeOf b o n s
 place-first b o n s = first-same (λ (x y : List ℕ). placeOf x y n s) lookup.refusal (λ x y. place-refused x y n s) b o
@@ -88,14 +88,14 @@ module _ (b o : List ℕ) (room : ℕ) where
       go : (t : Outcome)
           → (elim t as (λ x. Answer) [
             | refused n p ↦ join.refusal n p
-            | accepted ↦ answer (ltb handlers (length (joinedBlocks (blocks b) (blocks o)))) (ltb size words) (ltb room words)
+            | accepted ↦ answer (ltb narrow (length (joinedBlocks (blocks b) (blocks o)))) (ltb size words) (ltb room words)
           ])
           ≡ inRoom room (elim t as (λ x. Answer) [
             | refused n p ↦ join.refusal n p
-            | accepted ↦ answer (ltb handlers (length (joinedBlocks (blocks b) (blocks o)))) (ltb size words) (ltb 1024 words)
+            | accepted ↦ answer (ltb narrow (length (joinedBlocks (blocks b) (blocks o)))) (ltb size words) (ltb 1024 words)
           ])
       go (refused n p) = refl
-      go accepted = tests (ltb handlers (length (joinedBlocks (blocks b) (blocks o)))) (ltb size words)
+      go accepted = tests (ltb narrow (length (joinedBlocks (blocks b) (blocks o)))) (ltb size words)
 
 module _ (b o : List ℕ) (bytes : ℕ) where
   pub join-done : (n : ℕ) → joinAnswer b o 1024 ≡ written n → placed 50 n bytes ≡ joinBytes (joinAnswer b o (bytes / 4))
@@ -173,17 +173,17 @@ module _ (base overlay : List ℕ) where
 
 -- ---- the parts of an answer
 
-reading-small : (ws : List ℕ) (n p : ℕ) → reading ws ≡ refused n p → (n ≤ 12) × (p ≤ 1025)
+reading-small : (ws : List ℕ) (n p : ℕ) → narrowReading ws ≡ refused n p → (n ≤ 12) × (p ≤ 1025)
 reading-small ws n p e =
     (table-number ws n p e, omega (arith, table-place (take 1025 ws) n p (reading-first ws ∙ e), length-take 1025 ws))
 
 pub tables-small : (b o : List ℕ) (n p : ℕ) → tablesRead b o ≡ refused n p → (n ≤ 112) × (p ≤ 1025)
-tables-small b o n p e = go (reading b) (reading o) refl refl
+tables-small b o n p e = go (narrowReading b) (narrowReading o) refl refl
   where
     same : (k q : ℕ) → tablesRead b o ≡ refused k q → (k ≡ n) × (q ≡ p)
     same k q f = (cc, cc)
 
-    go : (x y : Outcome) → reading b ≡ x → reading o ≡ y → (n ≤ 112) × (p ≤ 1025)
+    go : (x y : Outcome) → narrowReading b ≡ x → narrowReading o ≡ y → (n ≤ 112) × (p ≤ 1025)
     go (refused k q) y f g =
         let s = same k q (base-refused b o k q f) in
         let t = reading-small b k q f in
@@ -210,11 +210,11 @@ place-small b o n s = go (tablesRead b o) (sought b n s) (sought o n s) refl ref
     go accepted x (found a w) t ex ey =
         let r = tables-accepted b o t in
         let q = sought-part n s o (r .1) a w ey in
-        subst Inside (sym (place-found b o n s t x (found a w) ex ey)) (omega arith, omega (arith, q .0, size-le o (r .1)))
+        subst Inside (sym (place-found b o n s t x (found a w) ex ey)) (omega arith, omega (arith, q .0, narrow-size o (r .1)))
     go accepted (found a w) nothing t ex ey =
         let r = tables-accepted b o t in
         let q = sought-part n s b (r .0) a w ex in
-        subst Inside (sym (place-found b o n s t (found a w) nothing ex ey)) (omega arith, omega (arith, q .0, size-le b (r .0)))
+        subst Inside (sym (place-found b o n s t (found a w) nothing ex ey)) (omega arith, omega (arith, q .0, narrow-size b (r .0)))
     go accepted nothing nothing t ex ey =
         subst Inside (sym (place-found b o n s t nothing nothing ex ey)) (omega arith, omega arith)
 

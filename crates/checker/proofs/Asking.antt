@@ -1,5 +1,5 @@
 -- What the terms ask, put together from what their tests decide.
-use Prim.Native.Nat.{ℕ, suc, _+_, _*_, _<_}
+use Prim.Native.Nat.{ℕ, suc, _+_, _*_, _≤_, _<_}
 use mathlib.Core.Path.{_≡_, refl, sym, ap, _∙_, subst}
 use mathlib.Core.Logic.{⊎-elim}
 use mathlib.Core.Bool.{Bool, true, false, not, _&&_}
@@ -117,9 +117,9 @@ pub own-is : (c : Code) (l : Layout) → LaidOut c l → (est : List ℕ) (p : �
     → Decides (sets c est) (put (C p) (made c p)) r
 own-is c l o est p q = put-is (sets c est) (C p) (made c p) (q ∙ ap (λ (x : ℕ). sets c est (C p) (x + p)) (sym (o .lead)))
 
--- two words of a value set
-pub two-words : (l : Layout) (est : List ℕ) (p : ℕ) → Term l est p → (a : ℕ) → a < l .size → 2 * a * l .row + 1 < length est
-two-words l est p t a h = omega (arith, value-in l est (t .sized) a h, t .sized .lead, t .sized .wide, t .first)
+-- the words of a value set that plain elements fill
+pub side-in : (l : Layout) (est : List ℕ) (p : ℕ) → Term l est p → (a : ℕ) → a < l .size → 2 * a * l .row + l .lead ≤ length est
+side-in l est p t a h = omega (arith, value-in l est (t .sized) a h, t .sized .wide)
 
 -- ---- send
 

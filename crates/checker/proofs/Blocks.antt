@@ -8,7 +8,7 @@ use native.Mathlib.Omega.{arith}
 use lib.Dec.{T}
 use lib.ListN.{length, getD, drop}
 use Rattle.delivery.specs.Delivery.{delivered}
-use Rattle.table.specs.Words.{argument, names}
+use Rattle.table.specs.Words.{argument}
 use Rattle.table.specs.Scan.{name, accepted, reading}
 use Rattle.table.specs.Code.{Code, Node, Linked, block, code, tasks, taskAt, nodeFor, blocksFrom, endOf, part}
 use Rattle.table.specs.Links.{linkAt, LinksOf}

@@ -11,7 +11,7 @@ use Rattle.permset.specs.Sets.{within}
 use Rattle.table.specs.declared.Item.{Item}
 use Rattle.table.specs.Words.{kind, argument}
 use Rattle.table.specs.Item.{handlerAt, itemAt}
-use Rattle.table.specs.Scan.{Task, name, accepted, reading}
+use Rattle.table.specs.Scan.{namesAt, Task, name, accepted, reading}
 use Rattle.table.specs.Code.{Code, Node, NodeLinked, Linked, block, code, taskAt}
 use Rattle.table.proofs.Linked.{linked as code-linked}
 use Rattle.table.proofs.Faults.{Stands}
@@ -50,7 +50,7 @@ module _ (ws : List ℕ) (r : reading ws ≡ accepted) (p : ℕ) (h : p < code w
   guard-kind s g =
       let m : List·Memᴰ p (c .blocks) = listed-guarded c (code-linked ws r) (λ x v. true) p s g in
       let x = listed-block ws r p m in
-      subst (λ (u : Task). Stands (reach ws r p (x .0) .keys) (getD ws p 0) u) (x .1) (place-stands ws r p (x .0)) .0
+      subst (λ (u : Task). Stands (namesAt ws) (reach ws r p (x .0) .keys) (getD ws p 0) u) (x .1) (place-stands ws r p (x .0)) .0
 
   module _ (i : kind (getD ws p 0) ≡ 2) where
     pub block-node : c .node p ≡ block (argument (getD ws p 0)) (argument (getD ws (p + 1) 0)) (argument (getD ws (p + 2) 0))

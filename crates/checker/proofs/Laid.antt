@@ -8,7 +8,6 @@ use native.Mathlib.Omega.{arith}
 use lib.ListN.{length, getD, take, drop}
 use Rattle.permset.specs.Sets.{width, member, within}
 use Rattle.table.specs.declared.Operation.{Operation}
-use Rattle.table.specs.Words.{names}
 use Rattle.table.specs.Code.{Code, operation}
 use Rattle.calculus.specs.Elements.{plain, elements}
 use Rattle.calculus.specs.Constraint.{Row, C, B, P, L, Sets, Rule, Obeys, put, sub, only, every}
@@ -101,16 +100,16 @@ module _ (l : Layout) (est : List ℕ) (s : Sized l est) (c : Code) (o : LaidOut
   value-at : (a : ℕ) → base c (C a) ≡ 2 * a * l .row
   value-at a = ap (base c) (sym (row-C a)) ∙ base-row c (2 * a) ∙ ap (λ (x : ℕ). 2 * a * x) (o .row)
 
-  module _ (m : c .names ≡ names) (p a d : ℕ) (hp : p < l .size) (ha : a < l .size) (hd : d < l .size) (f : Operation) where
+  module _ (p a d : ℕ) (hp : p < l .size) (ha : a < l .size) (hd : d < l .size) (f : Operation) where
     abbrev mask : (x y z : ℕ) → Bool
-    mask x y z = within (operationMask f (getD est y 0) (getD est (y + 1) 0) (getD est z 0) (getD est (z + 1) 0)) (getD est x 0)
+    mask x y z = within (operationMask f (take (l .lead) (drop y est)) (take (l .lead) (drop z est))) (getD est x 0)
 
     pub operation-is : Decides e (twoRule c p (operation f) a d) (mask (2 * p * l .row) (2 * a * l .row) (2 * d * l .row))
     operation-is =
         subst (λ (x : ℕ). Decides e (twoRule c p (operation f) a d) (mask x (2 * a * l .row) (2 * d * l .row))) (value-at p)
         (subst (λ (y : ℕ). Decides e (twoRule c p (operation f) a d) (mask (base c (C p)) y (2 * d * l .row))) (value-at a)
         (subst (λ (z : ℕ). Decides e (twoRule c p (operation f) a d) (mask (base c (C p)) (base c (C a)) z)) (value-at d)
-        (operation-decides c est w m p a d (word-in hp) (word-in ha) (word-in hd) f)))
+        (operation-decides c est w (l .lead) (o .lead) p a d (word-in hp) (word-in ha) (word-in hd) f)))
 
 -- ---- rows by their words
 

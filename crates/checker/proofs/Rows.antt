@@ -11,7 +11,6 @@ use lib.Pow.{pow-pos}
 use Rattle.permset.specs.Sets.{width, member, within}
 use Rattle.permset.proofs.Laws.{within-member, member-within-below, same-below}
 use Rattle.table.specs.declared.Operation.{Operation}
-use Rattle.table.specs.Words.{names}
 use Rattle.table.specs.Code.{Code, operation}
 use Rattle.calculus.specs.Elements.{plain, elements}
 use Rattle.calculus.specs.Constraint.{Row, C, B, P, L, Sets, Rule, Obeys, put, sub, given, only, each, every}
@@ -19,17 +18,18 @@ use Rattle.calculus.specs.Rules.{fill, pass, twoRule}
 use Rattle.calculus.specs.Layout.{bit, masked, owner, rowWords, base, shift, span, sets, content, Words, WellFormed}
 use Rattle.calculus.proofs.Digits.{T-and, T-fst, T-snd, T-true, member-low, member-lt}
 use Rattle.calculus.proofs.Slices.{_≼_, bit-at}
-use Rattle.calculus.proofs.Masks.{alike, agree, agree-below, bit-masked, masked-words}
+use Rattle.calculus.proofs.Masks.{bit-masked, masked-words}
 use Rattle.calculus.proofs.Places.{span-lt}
 use Rattle.calculus.proofs.Rows.{sets-allowed, content-words, content-sound, content-complete}
 use Rattle.calculus.proofs.Ranges.{below-in, in-below}
 use Rattle.calculus.proofs.RowOperations.{sets-C, sets-B, sets-P}
 use Rattle.calculus.proofs.RowRules.{ValueRow}
-use Rattle.calculus.proofs.OperationMasks.{Gives, results-in, results-only, first-words, resultMask, results-lt as mask-lt}
-use Rattle.calculus.proofs.OperationResults.{operationMask, result-mask}
+use Rattle.calculus.proofs.OperationMasks.{results-in, results-only, side, side-bit, resultMask, results-lt as mask-lt}
+use Rattle.calculus.proofs.OperationResults.{operationMask, side-mask}
 use Rattle.calculus.proofs.Fitting.{results-lt}
 use Rattle.rows.specs.Mask.{Mask}
 use Rattle.rows.specs.Rows.{lacking}
+use Rattle.rows.proofs.Full.{full-digit}
 use Rattle.rows.proofs.Laws.{length-row, length-masked-row}
 use Rattle.checker.specs.Decides.{Decides}
 use Rattle.checker.proofs.Laws.{is-not, not-true}
@@ -146,10 +146,6 @@ module _ (c : Code) (ws : List ℕ) (w : WellFormed c ws) where
   value-set (L i) o v h = absurd (omega (arith, o .full))
 
   module _ (r : Row) (o : ValueRow c r) (n : ℕ) (z : plain c ≡ 32 * n) where
-    full-digit : (i : ℕ) → i < 32 → member 4294967295 i ≡ true
-    unfolding member agree alike
-    full-digit i h = agree-below 32 (member 4294967295) (λ v. true) tt i h
-
     pub fill-yes : ((k : ℕ) → k < n → getD ws (base c r + k) 0 ≡ 4294967295) → Decides e (fill c r) true
     fill-yes f =
         record {
@@ -175,18 +171,12 @@ module _ (c : Code) (ws : List ℕ) (w : WellFormed c ws) where
 
   -- ---- operations
 
-  module _ (m : c .names ≡ names) (p a d : ℕ) (hp : p < c .size) (ha : a < c .size) (hd : d < c .size) (o : Operation) where
-    abbrev a0 : ℕ
-    a0 = getD ws (base c (C a)) 0
+  module _ (lead : ℕ) (m : plain c ≡ 32 * lead) (p a d : ℕ) (hp : p < c .size) (ha : a < c .size) (hd : d < c .size) (o : Operation) where
+    abbrev xs : List ℕ
+    xs = side c lead ws a
 
-    abbrev a1 : ℕ
-    a1 = getD ws (base c (C a) + 1) 0
-
-    abbrev d0 : ℕ
-    d0 = getD ws (base c (C d)) 0
-
-    abbrev d1 : ℕ
-    d1 = getD ws (base c (C d) + 1) 0
+    abbrev ys : List ℕ
+    ys = side c lead ws d
 
     -- a result is a digit of the first word
     low-set : (z : ℕ) → z < 7 → sets c ws (C p) z ≡ member (getD ws (base c (C p)) 0) z
@@ -195,31 +185,28 @@ module _ (c : Code) (ws : List ℕ) (w : WellFormed c ws) where
         let s : z % 32 ≡ z = omega arith in
         sets-C c p z ws hp (omega arith) ∙ ap₂ (λ (x y : ℕ). member (getD ws x 0) y) q s
 
-    pub operation-decides : Decides e (twoRule c p (operation o) a d) (within (operationMask o a0 a1 d0 d1) (getD ws (base c (C p)) 0))
+    pub operation-decides : Decides e (twoRule c p (operation o) a d) (within (operationMask o xs ys) (getD ws (base c (C p)) 0))
     unfolding twoRule
     operation-decides =
-        let same : resultMask c o a0 a1 d0 d1 ≡ operationMask o a0 a1 d0 d1 =
-        result-mask c m o a0 a1 d0 d1 (w .words (base c (C a))) (w .words (base c (C a) + 1)) (w .words (base c (C d))) (w .words (base c (C d) + 1))
-        in
-        subst (λ (x : ℕ). Decides e (twoRule c p (operation o) a d) (within x (getD ws (base c (C p)) 0))) same
+        subst (λ (x : ℕ). Decides e (twoRule c p (operation o) a d) (within x (getD ws (base c (C p)) 0))) (side-mask c lead m ws w a d ha hd o)
         (record {
           yes = λ t x mx tx y my ty z mz.
               subst T (sym (low-set z (results-lt c o x y z mz)))
-              (within-member (resultMask c o a0 a1 d0 d1) (getD ws (base c (C p)) 0) z t
-              (results-in c o a0 a1 d0 d1 z
+              (within-member (resultMask c o xs ys) (getD ws (base c (C p)) 0) z t
+              (results-in c o xs ys z
               (record {
                 first = x;
                 second = y;
                 first-plain = in-below mx;
                 second-plain = in-below my;
-                in-first = subst T (first-words c m ws w a x ha (in-below mx)) tx;
-                in-second = subst T (first-words c m ws w d y hd (in-below my)) ty;
+                in-first = subst T (side-bit c lead m ws w a x ha (in-below mx)) tx;
+                in-second = subst T (side-bit c lead m ws w d y hd (in-below my)) ty;
                 result = mz;
               })));
-          no = λ r. member-within-below 7 (resultMask c o a0 a1 d0 d1) (getD ws (base c (C p)) 0) (mask-lt c o a0 a1 d0 d1)
-              (λ i l b. let g = results-only c o a0 a1 d0 d1 i b in
+          no = λ r. member-within-below 7 (resultMask c o xs ys) (getD ws (base c (C p)) 0) (mask-lt c o xs ys)
+              (λ i l b. let g = results-only c o xs ys i b in
               subst T (low-set i l)
-              (r (g .first) (below-in (g .first-plain)) (subst T (sym (first-words c m ws w a (g .first) ha (g .first-plain))) (g .in-first))
-              (g .second) (below-in (g .second-plain)) (subst T (sym (first-words c m ws w d (g .second) hd (g .second-plain))) (g .in-second))
+              (r (g .first) (below-in (g .first-plain)) (subst T (sym (side-bit c lead m ws w a (g .first) ha (g .first-plain))) (g .in-first))
+              (g .second) (below-in (g .second-plain)) (subst T (sym (side-bit c lead m ws w d (g .second) hd (g .second-plain))) (g .in-second))
               i (g .result)));
         })

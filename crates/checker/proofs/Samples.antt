@@ -5,7 +5,7 @@ use mathlib.Core.Path.{_≡_, refl}
 use mathlib.Core.List.{List, [], _∷_, map}
 use lib.ListN.{replicate, set}
 use Rattle.permset.specs.Sets.{within, member}
-use Rattle.table.specs.Words.{partsByKind, limitsByKind, parts, arity, limit, constantNumber, constantOf, operationOf, termsByKind, termOf}
+use Rattle.table.specs.Words.{namesOf, partsByKind, limitsByKind, parts, arity, limit, constantNumber, constantOf, operationOf, termsByKind, termOf}
 use Rattle.table.specs.Scan.{firstOf, has, tests, fault, missing, keep, under, next}
 use Rattle.table.specs.Code.{Code, code, skip, part, trace, tasks, taskAt, termNode, nodeFor, scopeFor, homeFor, blocksFrom}
 use Rattle.delivery.specs.Delivery.{judged, delivered}
@@ -25,7 +25,7 @@ least = estimate direct 0
 
 pub samples-broken :
     map (firstBroken direct 0) (least ∷ replicate 35 0 ∷ set least 24 0 ∷ set least 31 (2 ^ 24) ∷ []) ≡ 5 ∷ 1 ∷ 4 ∷ 1 ∷ []
-unfolding partsByKind limitsByKind parts arity limit constantNumber constantOf operationOf termsByKind termOf firstOf has tests
+unfolding namesOf partsByKind limitsByKind parts arity limit constantNumber constantOf operationOf termsByKind termOf firstOf has tests
     fault missing keep under next code skip part trace tasks taskAt termNode nodeFor scopeFor homeFor blocksFrom within member
     constantElement sign range nameOf permsOf guarded isBlock permissions deliveryTo judged delivered leafRule oneRule twoRule
     flow entry twoSender sender senders rule rowWords estimateWords estimate firstBroken

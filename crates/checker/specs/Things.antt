@@ -42,7 +42,3 @@ store c p d n =
     some (C d) isString
     (some (C (p + 1)) (anyRecord c) (put (C p) (made c p) and sub (C n) (B p)) and eachMade c isRecord (C (p + 1)) (λ q. sub (B q) (B p))
     and given (C (p + 1)) opponentRecord (fill c (B p)))
-
--- the results of an operation on the first two words of the rows at x and y
-abbrev pub resultsAt : List ℕ → Operation → (x y : ℕ) → ℕ
-resultsAt est o x y = operationMask o (getD est x 0) (getD est (x + 1) 0) (getD est y 0) (getD est (y + 1) 0)

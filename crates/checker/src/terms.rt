@@ -14,14 +14,13 @@ use crate::things::things;
 use permset::PermSet;
 use queries::has_some;
 use queries::has_text;
-use results::operate;
+use results::operate_at;
 use rows::layout::Layout;
 use table::Operation;
 ghost use mathlib.Core.Path.{_≡_};
 ghost use Prim.Native.Nat.{_+_, _*_, _^_, _<_, _≤_};
-ghost use lib.ListN.{length};
 ghost use Rattle.permset.specs.Sets.{width};
-ghost use Rattle.table.specs.Words.{names, operationOf};
+ghost use Rattle.table.specs.Words.{operationOf};
 ghost use Rattle.table.specs.Code.{cell as Cell, read as Read, exercise as Exercise, one, two, bind as Bind, while, branch as Branch, update as Update};
 ghost use Rattle.table.specs.Code.{apply as Apply, sequence as Sequence, get as Get, delete as Delete, assign as Assign, operation as Op};
 ghost use Rattle.table.specs.Links.{LinksOf};
@@ -31,7 +30,7 @@ ghost use Rattle.calculus.specs.Rules.{part as Part, permissions, leafRule, two
 ghost use Rattle.rows.specs.Laid.{Sized};
 ghost use Rattle.checker.specs.Decides.{Checked, CheckedIf, CheckedBy, MasksOf, Term};
 ghost use Rattle.checker.specs.Sends.{Sent, sent};
-ghost use Rattle.checker.specs.Things.{taking, making, store, resultsAt};
+ghost use Rattle.checker.specs.Things.{taking, making, store};
 ghost use Rattle.checker.specs.Words.{Obeyed, SendObeyed};
 
 // The masks, by their numbers.
@@ -121,27 +120,25 @@ fn operation_of(a: u32) -> Operation
     }
 }
 
-// The results of an operation on the rows that start at the words x and y.
-fn results_at(est: &[u32], o: Operation, x: usize, y: usize) -> u32
-    requires { ⌜ (x + 1 < length (now est)) × (y + 1 < length (now est)) ⌝ }
-    ensures { λ r. ⌜ r ≡ resultsAt (now (est .entry)) o x y ⌝ }
-{
-    operate(o, est[x], est[x + 1], est[y], est[y + 1])
-}
-
 // The results of an operation on C(p + 1) and C(d) are in C(p).
 fn operated(est: &[u32], l: Layout, p: usize, d: usize, a: u32) -> bool
     requires { ⌜ Term l (now est) p × (d < l .size) ⌝ }
-    ensures { λ r. ⌜ CheckedIf l (now (est .entry)) (λ c. c .names ≡ names) (λ c. twoRule c p (Op (operationOf a)) (p + 1) d) r ⌝ }
+    ensures { λ r. ⌜ Checked l (now (est .entry)) (λ c. twoRule c p (Op (operationOf a)) (p + 1) d) r ⌝ }
 {
     let to = 2 * p * l.row;
-    let results = results_at(est, operation_of(a), 2 * (p + 1) * l.row, 2 * d * l.row);
+    let results = operate_at(
+        est,
+        l.lead,
+        operation_of(a),
+        2 * (p + 1) * l.row,
+        2 * d * l.row,
+    );
     PermSet::of(results).within(PermSet::of(est[to]))
 }
 
 pub fn operation(est: &[u32], l: Layout, p: usize, d: usize, a: u32) -> bool
     requires { ⌜ Term l (now est) p × (d < l .size) ⌝ }
-    ensures { λ r. ⌜ CheckedIf l (now (est .entry)) (λ c. c .names ≡ names) (λ c. flow c p (two (Op (operationOf a)) (p + 1) d)) r ⌝ }
+    ensures { λ r. ⌜ Checked l (now (est .entry)) (λ c. flow c p (two (Op (operationOf a)) (p + 1) d)) r ⌝ }
 {
     parts(est, l, p, d) & operated(est, l, p, d, a)
 }

@@ -3,8 +3,8 @@ use Prim.Native.Nat.{ℕ}
 use mathlib.Core.Path.{_≡_, refl}
 use mathlib.Core.List.{List, [], _∷_, _++_, map}
 use lib.ListN.{length, take, drop}
-use Rattle.table.specs.Words.{parts, partsByKind, limit, limitsByKind}
-use Rattle.table.specs.Scan.{next, firstOf, has, tests, fault, missing, keep, under, scan, reading}
+use Rattle.table.specs.Words.{parts, partsByKind, limit, limitsByKind, namesOf}
+use Rattle.table.specs.Scan.{next, firstOf, has, tests, fault, missing, keep, under, scan, reading, narrowReading}
 use Rattle.table.specs.Code.{tasks, trace}
 use Rattle.text.specs.Text.{bytes, numeral, digits, glyph, set, decimal}
 use Rattle.listing.specs.Keywords.{entries, entryOf, used}
@@ -44,5 +44,5 @@ pub checks :
     ∷ bytes "refused 8 at 4\nThe system ends where a term is still needed.\n"
     ∷ bytes "refused 1 at 0\nThe system is empty, or its first word is not `system`.\n"
     ∷ []
-unfolding readAs spelt tabled placed misplaced misspelled wordsOf indents wordIn indent cut onto tested depths depthOf tasks trace reading scan next firstOf has tests fault missing keep under parts partsByKind limit limitsByKind lineWord guessedKind kindFrom used prefix entries entryOf guessed guessedArgument folded same spells spelled lineOf spelledArgument signedDecimal set decimal numeral digits glyph checkText checkedText written listing lines lineSize refusalLine fromLine lineAt position numbers page meaning sentence firstLine labelled shownLine rightLine wrongLine checked.lineOf
+unfolding readAs spelt tabled placed misplaced misspelled wordsOf indents wordIn indent cut onto tested depths depthOf tasks trace narrowReading reading namesOf scan next firstOf has tests fault missing keep under parts partsByKind limit limitsByKind lineWord guessedKind kindFrom used prefix entries entryOf guessed guessedArgument folded same spells spelled lineOf spelledArgument signedDecimal set decimal numeral digits glyph checkText checkedText written listing lines lineSize refusalLine fromLine lineAt position numbers page meaning sentence firstLine labelled shownLine rightLine wrongLine checked.lineOf
 checks = refl

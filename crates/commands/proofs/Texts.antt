@@ -9,8 +9,8 @@ use borrow.Author.Tests.{lt-ltb, le-ltb}
 use lib.Dec.{ltb}
 use lib.ListN.{length, take, drop}
 use lib.Seq.{take-all, length-take-le}
-use Rattle.table.specs.Scan.{Outcome, accepted, refused, firstOf, reading}
-use Rattle.table.proofs.Limits.{size-le}
+use Rattle.table.specs.Scan.{Outcome, accepted, refused, firstOf, narrowReading}
+use Rattle.listing.proofs.Depths.{narrow-size}
 use Rattle.text.specs.Writing.{Wrote}
 use Rattle.text.proofs.Writing.{reworded}
 use Rattle.little_endian.specs.LittleEndian.{wordsOf, bytesOf, wholeWords}
@@ -49,9 +49,9 @@ module _ (ws : List ℕ) where
   by room (refused n p) = refusal n p
   by room accepted = answer (ltb most (length (listing ws))) (ltb room (length (listing ws)))
 
-  written-by : (room : ℕ) → written ws room ≡ by room (reading ws)
+  written-by : (room : ℕ) → written ws room ≡ by room (narrowReading ws)
   unfolding written
-  written-by room = go (reading ws)
+  written-by room = go (narrowReading ws)
     where
       go : (o : Outcome)
           → _≡_ {A = Answered}
@@ -63,7 +63,7 @@ module _ (ws : List ℕ) where
   -- a slice of the most bytes is as good as a longer one
   write-room : (room : ℕ) → most ≤ room → written ws room ≡ written ws most
   unfolding tested firstOf
-  write-room room h = written-by room ∙ go (reading ws) (decLt most (length (listing ws))) ∙ sym (written-by most)
+  write-room room h = written-by room ∙ go (narrowReading ws) (decLt most (length (listing ws))) ∙ sym (written-by most)
     where
       go : (o : Outcome) → Dec (most < length (listing ws)) → by room o ≡ by most o
       go (refused n p) d = refl
@@ -74,7 +74,7 @@ module _ (ws : List ℕ) where
           ap (answer (ltb most (length (listing ws)))) (le-ltb room (length (listing ws)) m ∙ sym (le-ltb most (length (listing ws)) k))
 
   pub write-count : (room n : ℕ) → written ws room ≡ done n → n ≡ length (listing ws)
-  write-count room n e = go (reading ws) (sym (written-by room) ∙ e)
+  write-count room n e = go (narrowReading ws) (sym (written-by room) ∙ e)
     where
       go : (o : Outcome) → by room o ≡ done n → n ≡ length (listing ws)
       go (refused k p) f = let z : _≡_ {A = ℕ} 0 1 = cc in absurd (omega arith)
@@ -101,12 +101,12 @@ module _ (ws : List ℕ) where
 -- of more than 1,024 words the first 1,025 decide what a refusal decides
 pub first-decides : (f : List ℕ → List ℕ) (g : (n p : ℕ) → List ℕ) → ((vs : List ℕ) (n p : ℕ) → written vs most ≡ refusal n p → f vs ≡ g n p)
     → (ws : List ℕ) → f (take 1025 ws) ≡ f ws
-first-decides f g h ws = go (reading ws) refl
+first-decides f g h ws = go (narrowReading ws) refl
   where
-    go : (o : Outcome) → reading ws ≡ o → f (take 1025 ws) ≡ f ws
+    go : (o : Outcome) → narrowReading ws ≡ o → f (take 1025 ws) ≡ f ws
     go (refused n p) e =
         h (take 1025 ws) n p (write-refused (take 1025 ws) most n p (reading-first ws ∙ e)) ∙ sym (h ws n p (write-refused ws most n p e))
-    go accepted e = ap f (take-all 1025 ws (omega (arith, size-le ws e)))
+    go accepted e = ap f (take-all 1025 ws (omega (arith, narrow-size ws e)))
 
 pub listing-first : (ws : List ℕ) → listingText (take 1025 ws) ≡ listingText ws
 unfolding listingText answerText

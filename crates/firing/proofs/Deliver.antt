@@ -16,7 +16,7 @@ use Rattle.table.specs.declared.Handler.{Handler}
 use Rattle.table.specs.declared.Term.{Term}
 use Rattle.table.specs.declared.Term.the-variants as terms
 use Rattle.table.specs.Words.{kind, argument}
-use Rattle.table.specs.Scan.{Task, name, accepted, reading}
+use Rattle.table.specs.Scan.{namesAt, Task, name, accepted, reading}
 use Rattle.table.specs.Item.{handlerAt, itemAt}
 use Rattle.table.specs.Code.{Code, Node, gap, block, leaf, one, two, bind, while, branch, update, code, taskAt, tasks, nodeFor, blocksFrom, endOf, part, termNode, NodeLinked, Linked}
 use Rattle.table.specs.Links.{linkAt, linked}
@@ -194,8 +194,8 @@ block-fits c k x y z b h i g = λ t. ((may-L c k i, ((λ v l s. may-B c k i (in-
 
 -- a block is the item at its place
 module _ (ws : List ℕ) (e : reading ws ≡ accepted) (b : ℕ) (i : b < length ws) (t : taskAt ws b ≡ name) where
-  stand : Stands (reach ws e b i .keys) (getD ws b 0) name
-  stand = subst (λ (u : Task). Stands (reach ws e b i .keys) (getD ws b 0) u) t (place-stands ws e b i)
+  stand : Stands (namesAt ws) (reach ws e b i .keys) (getD ws b 0) name
+  stand = subst (λ (u : Task). Stands (namesAt ws) (reach ws e b i .keys) (getD ws b 0) u) t (place-stands ws e b i)
 
   pub item-is : itemAt ws b ≡ items.Block (handlerAt ws b)
   unfolding itemAt

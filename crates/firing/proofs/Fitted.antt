@@ -48,11 +48,6 @@ each-of l masks ws whats.Send x y z h t = absurd (miss thingTags 15 tt h)
 pub thing-fitted : (l : Layout) (masks ws : List ℕ) (e : Effect) (f : ℕ) → OneOf thingTags (tagOf the-type (e .what)) → Addable l masks ws e f → Each l masks e
 thing-fitted l masks ws e f h a = each-of l masks ws (e .what) (e .x) (e .y) (e .z) h (a .fitting)
 
--- the plain elements of a narrow table fill two words
-pub two-words : (ws links masks : List ℕ) (l : Layout) → Ready ws links masks l → 2 ≤ l .row
-unfolding rowWords code
-two-words ws links masks l y = omega (arith, y .laid .row, y .laid .lead)
-
 pub sending : (ws : List ℕ) (l : Layout) (e : Effect) (f : ℕ) → e .x + 1 < l .size → e .y < l .size → e .z < 2 ^ width → f < l .size → (i : Item) → itemAt ws (e .x) ≡ i
     → IsTerm i → Sending ws l e f
 sending ws l e f a b d g items.Gap q t = absurd t

@@ -4,7 +4,7 @@ use mathlib.Core.Path.{_≡_, sym, ap, ap₂, _∙_, subst}
 use mathlib.Core.List.{List, [], _∷_}
 use native.Mathlib.Nat.{add-zero}
 use native.Mathlib.Omega.{arith}
-use lib.ListN.{getD}
+use lib.ListN.{take, drop}
 use Rattle.table.specs.declared.Operation.{Operation}
 use Rattle.table.specs.Code.{Code, operation}
 use Rattle.calculus.specs.Constraint.{C}
@@ -19,11 +19,11 @@ use Rattle.firing.specs.Fired.{FiredFor}
 module _ (l : Layout) (old new : List ℕ) (added p d x : ℕ) (o : Operation) where
   -- the results on the rows of C(a) and C(d), where a row has r words
   abbrev mask : ℕ → ℕ → ℕ
-  mask a r = operationMask o (getD old (2 * a * r) 0) (getD old (2 * a * r + 1) 0) (getD old (2 * d * r) 0) (getD old (2 * d * r + 1) 0)
+  mask a r = operationMask o (take (l .lead) (drop (2 * a * r) old)) (take (l .lead) (drop (2 * d * r) old))
 
   pub operated : p + 1 < l .size → d < l .size → (d ≡ p → ⊥) → x ≡ mask (p + 1) (l .row)
       → Poured old new (2 * p * l .row + 0) (x ∷ []) added
-      → FiredFor l (λ c. WellFormed c old × (c .names ≡ 32)) (λ c. twoRule c p (operation o) (p + 1) d) old new added
+      → FiredFor l (λ c. WellFormed c old) (λ c. twoRule c p (operation o) (p + 1) d) old new added
   unfolding base
   operated h k n e q =
       record {
@@ -32,6 +32,6 @@ module _ (l : Layout) (old new : List ℕ) (added p d x : ℕ) (o : Operation) w
             q .words
             ∙ ap₂ (λ (i m : ℕ). pour old i (m ∷ [])) (add-zero (2 * p * l .row) ∙ ap (λ (r : ℕ). 2 * p * r) (sym (y .row)))
             (e ∙ ap (mask (p + 1)) (sym (y .row)))
-            ∙ sym (fire-operation-mask c (w .1) old (w .0) p (p + 1) d (omega (arith, y .size)) (omega (arith, y .size)) (omega (arith, y .size)) (λ z. omega arith) n o);
+            ∙ sym (fire-operation-mask c (l .lead) (y .lead) old w p (p + 1) d (omega (arith, y .size)) (omega (arith, y .size)) (omega (arith, y .size)) (λ z. omega arith) n o);
         count = q .count;
       }

@@ -18,6 +18,7 @@ use Rattle.table.specs.Links.{linked, linkAt}
 use Rattle.table.proofs.Linked.{linked as code-linked}
 use Rattle.table.proofs.LinkMeaning.{link-end}
 use Rattle.table.proofs.Nodes.{itemNode, nodeAt, node-item}
+use Rattle.table.proofs.Widths.{names-most}
 use Rattle.calculus.specs.Elements.{plain, made, makes, isFunction}
 use Rattle.calculus.specs.Layout.{rowWords}
 use Rattle.calculus.proofs.Fitting.{constant-lt, sign-lt, body-lt}
@@ -287,7 +288,7 @@ module _ (ws : List ℕ) (r : reading ws ≡ accepted) (l : Layout) (o : LaidOut
 module _ (ws links masks : List ℕ) (l : Layout) (y : Ready ws links masks l) where
   pub plain-small : 32 * l .lead ≤ 1024
   unfolding code
-  plain-small = omega (arith, y .laid .lead)
+  plain-small = omega (arith, y .laid .lead, names-most (getD ws 0 0))
 
   pub clause-is : (p n : ℕ) → clauseAt ws links (32 * l .lead) p n ≡ clauseAt ws links (plain (code ws)) p n
   clause-is p n = ap (λ (v : ℕ). clauseAt ws links v p n) (sym (y .laid .lead))

@@ -4,14 +4,13 @@ use crate::targets::lift_if;
 use crate::targets::part;
 use crate::targets::part_if;
 use crate::targets::put_word;
-use results::operate;
 use rows::layout::Layout;
 use table::Operation;
 ghost use mathlib.Core.Path.{_≡_};
 ghost use mathlib.Core.Bool.{not};
 ghost use Prim.Native.Nat.{_+_, _*_, _<_, _≤_};
 ghost use lib.Dec.{eqb};
-ghost use lib.ListN.{length, getD};
+ghost use lib.ListN.{length, take, drop};
 ghost use Rattle.table.specs.Words.{operationOf};
 ghost use Rattle.table.specs.Code.{operation as operation·two};
 ghost use Rattle.calculus.specs.Constraint.{only, _and_};
@@ -55,18 +54,16 @@ fn operation_of(o: usize) -> Operation
 
 // The results of the operation o on the rows a and d, as bits of the first word of a row.
 pub fn results_of(est: &[u32], l: Layout, o: usize, a: usize, d: usize) -> u32
-    requires { ⌜ (a * l .row + l .row ≤ length (now est)) × (d * l .row + l .row ≤ length (now est)) × (2 ≤ l .row) ⌝ }
-    ensures { λ r. ⌜ r ≡ operationMask (operationOf o) (getD (now (est .entry)) (a * l .row) 0) (getD (now (est .entry)) (a * l .row + 1) 0) (getD (now (est .entry)) (d * l .row) 0) (getD (now (est .entry)) (d * l .row + 1) 0) ⌝ }
+    requires { ⌜ (a * l .row + l .row ≤ length (now est)) × (d * l .row + l .row ≤ length (now est)) × (1 ≤ l .lead) × (l .lead ≤ l .row) × (l .row ≤ 36) ⌝ }
+    ensures { λ r. ⌜ r ≡ operationMask (operationOf o) (take (l .lead) (drop (a * l .row) (now (est .entry)))) (take (l .lead) (drop (d * l .row) (now (est .entry)))) ⌝ }
 {
-    let x = a * l.row;
-    let y = d * l.row;
-    operate(operation_of(o), est[x], est[x + 1], est[y], est[y + 1])
+    results::operate_at(est, l.lead, operation_of(o), a * l.row, d * l.row)
 }
 
 // The results of the operation o on C(p + 1) and C(d) in C(p).
 pub fn operate_at(est: &mut [u32], h: &mut [u32], l: Layout, p: usize, d: usize, o: usize) -> usize
-    requires { ⌜ Sized l (now est) × (p + 1 < l .size) × (d < l .size) × (d ≡ p → ⊥) × (2 ≤ l .row) ⌝ }
-    ensures { λ x. ⌜ FiredFor l (λ c. WellFormed c (now (est .entry)) × (c .names ≡ 32)) (λ c. twoRule c p (operation·two (operationOf o)) (p + 1) d) (now (est .entry)) (now (est .exit)) x ⌝ }
+    requires { ⌜ Sized l (now est) × (p + 1 < l .size) × (d < l .size) × (d ≡ p → ⊥) ⌝ }
+    ensures { λ x. ⌜ FiredFor l (λ c. WellFormed c (now (est .entry))) (λ c. twoRule c p (operation·two (operationOf o)) (p + 1) d) (now (est .entry)) (now (est .exit)) x ⌝ }
 {
     let bits = results_of(est, l, o, 2 * (p + 1), 2 * d);
     put_word(est, h, l, 2 * p, bits)

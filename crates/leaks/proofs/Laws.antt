@@ -6,13 +6,13 @@ use native.Mathlib.Nat.{mul-le-mul}
 use native.Mathlib.Omega.{arith}
 use lib.ListN.{length}
 use Rattle.table.specs.Code.{code}
-use Rattle.calculus.specs.Answer.{Answer, answer}
+use Rattle.calculus.specs.Answer.{Answer, refused, answer}
 use Rattle.verdict.specs.Limits.{answerUnder}
 use Rattle.verdict.proofs.Room.{answer-largest}
 use Rattle.solver.specs.Ceiling.{under}
 use Rattle.listing.specs.Listing.{Answered, done, refusal, wordsOf, readAs}
 use Rattle.report.specs.Lines.{refusalLine}
-use Rattle.printout.specs.Program.{answerText}
+use Rattle.printout.specs.Program.{answerText, unlessWide}
 use Rattle.commands.specs.declared.arguments.Value.{Value}
 use Rattle.commands.specs.declared.arguments.Value.the-variants.{Number, Other}
 use Rattle.commands.specs.Arguments.{valueOf}
@@ -21,9 +21,9 @@ use Rattle.commands.specs.Printed as printed
 use Rattle.leaks.specs.Leak.{systemLeak, listingLeak, valueOr, given, valuesText}
 
 pub leak-largest : (ws : List ℕ) (ρ bound n : ℕ) → length ws ≤ 1024
-    → answerText ρ ws (answerUnder ws ρ bound n 70656 4096) ≡ systemLeak ρ bound n ws
+    → answerText ρ ws (unlessWide ws (refused 1 0) (answerUnder ws ρ bound n 72704 4096)) ≡ systemLeak ρ bound n ws
 unfolding systemLeak
-leak-largest ws ρ bound n h = ap (λ (a : Answer). answerText ρ ws (under n a)) (answer-largest ws ρ bound h)
+leak-largest ws ρ bound n h = ap (λ (a : Answer). answerText ρ ws (unlessWide ws (refused 1 0) (under n a))) (answer-largest ws ρ bound h)
 
 module _ (ρ bound n : ℕ) (input : List ℕ) where
   pub leak-listed : (k : ℕ) → readAs input 1024 ≡ done k → systemLeak ρ bound n (wordsOf input) ≡ listingLeak ρ bound n input

@@ -4,8 +4,8 @@ use mathlib.Core.Path.{_≡_, refl}
 use mathlib.Core.List.{List, [], _∷_, _++_}
 use lib.Count.{onesIn}
 use Rattle.permset.specs.Sets.{within, member, union, difference, lowest}
-use Rattle.table.specs.Words.{partsByKind, limitsByKind, parts, arity, limit, constantNumber, constantOf, operationOf, termsByKind, termOf}
-use Rattle.table.specs.Scan.{firstOf, has, tests, fault, missing, keep, under, next, scan, reading}
+use Rattle.table.specs.Words.{partsByKind, limitsByKind, parts, arity, limit, constantNumber, constantOf, operationOf, termsByKind, termOf, namesOf}
+use Rattle.table.specs.Scan.{firstOf, has, tests, fault, missing, keep, under, next, scan, reading, narrowReading}
 use Rattle.table.specs.Code.{code, skip, part, trace, tasks, taskAt, termNode, nodeFor, scopeFor, homeFor, blocksFrom}
 use Rattle.delivery.specs.Delivery.{judged, delivered}
 use Rattle.calculus.specs.Elements.{constantElement, sign, isString, leafMakes, oneMakes, makes, isFunction, isRecord, isCell, making}
@@ -24,7 +24,7 @@ use Rattle.solver.specs.Ceiling as ceiling
 use Rattle.commands.specs.Arguments as arguments
 use Rattle.commands.specs.Meanings.{help}
 use Rattle.commands.specs.Printed as printed
-use Rattle.printout.specs.Program.{answerText, handlerLines}
+use Rattle.printout.specs.Program.{answerText, unlessWide, handlerLines}
 use Rattle.leaks.specs.Leak.{systemLeak, listingLeak, valueOr, given, valuesText, leakText}
 
 abbrev direct : List ℕ
@@ -52,5 +52,5 @@ pub leaks :
     ∷ help
     ∷ help
     ∷ []
-unfolding answer onesIn partsByKind limitsByKind parts arity limit constantNumber constantOf operationOf termsByKind termOf firstOf has tests fault missing keep under next scan reading code skip part trace tasks taskAt termNode nodeFor scopeFor homeFor blocksFrom within member union difference lowest constantElement sign isString leafMakes oneMakes makes isFunction isRecord isCell making sendable anyRecord isSign signPlace sumSigns lessSigns bySigns comparable isMany equalResults results range nameOf permsOf guarded isBlock permissions deliveryTo judged delivered leafRule oneRule twoRule flow entry twoSender sender senders rule rowWords estimateWords decimal set refusalLine verdictLine handlerLine numeral digits glyph entries entryOf used spelled lineOf spelledArgument signedDecimal lineWord guessedKind kindFrom prefix guessed guessedArgument folded same spells tested readAs cut onto indent indents wordIn wordsOf misspelled misplaced placed tabled spelt depths depthOf ceiling.under arguments.digit arguments.folded arguments.valueOf printed.answerText answerText handlerLines systemLeak listingLeak valueOr given valuesText
+unfolding answer onesIn partsByKind limitsByKind parts arity limit constantNumber constantOf operationOf termsByKind termOf namesOf firstOf has tests fault missing keep under next scan reading narrowReading code skip part trace tasks taskAt termNode nodeFor scopeFor homeFor blocksFrom within member union difference lowest constantElement sign isString leafMakes oneMakes makes isFunction isRecord isCell making sendable anyRecord isSign signPlace sumSigns lessSigns bySigns comparable isMany equalResults results range nameOf permsOf guarded isBlock permissions deliveryTo judged delivered leafRule oneRule twoRule flow entry twoSender sender senders rule rowWords estimateWords decimal set refusalLine verdictLine handlerLine numeral digits glyph entries entryOf used spelled lineOf spelledArgument signedDecimal lineWord guessedKind kindFrom prefix guessed guessedArgument folded same spells tested readAs cut onto indent indents wordIn wordsOf misspelled misplaced placed tabled spelt depths depthOf ceiling.under arguments.digit arguments.folded arguments.valueOf printed.answerText answerText unlessWide handlerLines systemLeak listingLeak valueOr given valuesText
 leaks = refl

@@ -5,9 +5,11 @@ use mathlib.Core.List.{List}
 use native.Mathlib.Nat.{mul-le-mul}
 use native.Mathlib.Omega.{arith}
 use borrow.Author.Tests.{le-ltb}
-use lib.ListN.{length}
+use lib.ListN.{length, getD}
 use Rattle.permset.specs.Sets.{width}
+use Rattle.table.specs.Scan.{namesAt}
 use Rattle.table.specs.Code.{code}
+use Rattle.table.proofs.Widths.{names-most}
 use Rattle.table.proofs.Linked.{linked}
 use Rattle.calculus.specs.Layout.{estimateWords}
 use Rattle.calculus.specs.Estimate.{estimate, facts, mostFacts}
@@ -15,14 +17,14 @@ use Rattle.calculus.specs.Answer.{Answer, Verdict, refused, verdict, judge, wor
 use Rattle.calculus.proofs.Covers.{answer-judged}
 use Rattle.calculus.proofs.Least.{estimate-well, facts-bound}
 use Rattle.solver.specs.Ceiling.{under}
-use Rattle.printout.specs.Program.{answerText, systemText}
+use Rattle.printout.specs.Program.{answerText, unlessWide, systemText}
 use Rattle.leaks.specs.Leak.{systemLeak, unlimited}
 
 most-small : (ws : List ℕ) → length ws ≤ 1024 → mostFacts (code ws) ≤ unlimited
 unfolding mostFacts code
 most-small ws h =
-    let each : 2 * (32 + 32 + length ws) + suc width ≤ 2201 = omega arith in
-    let all : length ws * (2 * (32 + 32 + length ws) + suc width) ≤ 1024 * 2201 = mul-le-mul h each in
+    let each : 2 * (32 + namesAt ws + length ws) + suc width ≤ 2265 = omega (arith, names-most (getD ws 0 0)) in
+    let all : length ws * (2 * (32 + namesAt ws + length ws) + suc width) ≤ 1024 * 2265 = mul-le-mul h each in
     omega arith
 
 module _ (ws : List ℕ) (ρ bound est work : ℕ) (h : length ws ≤ 1024) where
@@ -41,4 +43,4 @@ module _ (ws : List ℕ) (ρ bound est work : ℕ) (h : length ws ≤ 1024) wher
 
 pub without-ceiling : (ρ bound : ℕ) (ws : List ℕ) → length ws ≤ 1024 → systemLeak ρ bound unlimited ws ≡ systemText ρ bound ws
 unfolding systemLeak systemText
-without-ceiling ρ bound ws h = ap (answerText ρ ws) (unlimited-same ws ρ bound (estimateWords (code ws)) (workWords (length ws)) h)
+without-ceiling ρ bound ws h = ap (λ (a : Answer). answerText ρ ws (unlessWide ws (refused 1 0) a)) (unlimited-same ws ρ bound (estimateWords (code ws)) (workWords (length ws)) h)

@@ -4,9 +4,9 @@ use mathlib.Core.List.{List, [], _∷_}
 use lib.ListN.{length}
 use Rattle.table.specs.Code.{code}
 use Rattle.calculus.specs.Layout.{estimateWords}
-use Rattle.calculus.specs.Answer.{workWords}
+use Rattle.calculus.specs.Answer.{refused, workWords}
 use Rattle.verdict.specs.Limits.{answerUnder}
-use Rattle.printout.specs.Program.{answerText}
+use Rattle.printout.specs.Program.{answerText, unlessWide}
 use Rattle.listing.specs.Listing.{wordsOf, readAs}
 use Rattle.commands.specs.declared.arguments.Value.{Value}
 use Rattle.commands.specs.declared.arguments.Value.the-variants.{Number, Other}
@@ -16,8 +16,9 @@ use Rattle.commands.specs.Printed as printed
 
 -- a system's text under the ceiling n: its slices are never short
 unfoldable pub systemLeak : (ρ bound n : ℕ) → List ℕ → List ℕ
-unfolding answerText
-systemLeak ρ bound n ws = answerText ρ ws (answerUnder ws ρ bound n (estimateWords (code ws)) (workWords (length ws)))
+unfolding answerText unlessWide
+systemLeak ρ bound n ws =
+    answerText ρ ws (unlessWide ws (refused 1 0) (answerUnder ws ρ bound n (estimateWords (code ws)) (workWords (length ws))))
 
 -- a listing's, or its refusal
 unfoldable pub listingLeak : (ρ bound n : ℕ) (input : List ℕ) → List ℕ

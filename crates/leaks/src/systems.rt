@@ -17,7 +17,7 @@ fn sized_leak(
     work: &mut [u32],
     out: &mut [u8],
 ) -> usize
-    requires { ⌜ (length (now words) ≤ 1024) × (length (now est) ≡ 70656) × (length (now work) ≡ 4096) × (room ≤ length (now out)) ⌝ }
+    requires { ⌜ (length (now words) ≤ 1024) × (length (now est) ≡ 72704) × (length (now work) ≡ 4096) × (room ≤ length (now out)) ⌝ }
     ensures { λ r. ⌜ Wrote (now (out .entry)) 0 (systemLeak rho bound ceiling (now (words .entry))) (now (out .exit)) r ⌝ }
 {
     tell_within(words, rho, bound, ceiling as usize, est, work, out)
@@ -27,7 +27,7 @@ pub fn system_leak(words: &[u32], rho: u32, bound: u32, ceiling: u32, out: &mut 
     requires { ⌜ (length (now words) ≤ 1024) × (room ≤ length (now out)) ⌝ }
     ensures { λ r. ⌜ Wrote (now (out .entry)) 0 (systemLeak rho bound ceiling (now (words .entry))) (now (out .exit)) r ⌝ }
 {
-    let mut est = [0u32; 70656];
+    let mut est = [0u32; 72704];
     let mut work = [0u32; 4096];
     sized_leak(words, rho, bound, ceiling, &mut est, &mut work, out)
 }

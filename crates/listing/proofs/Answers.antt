@@ -1,17 +1,21 @@
 -- The answers of writer and reader, case by case.
 use Prim.Native.Nat.{ℕ, zero, suc, _+_, _*_, _<_, _≤_}
 use mathlib.Core.Path.{_≡_, refl, sym, ap, ap₂, _∙_}
-use mathlib.Core.Bool.{Bool, true, false, not, false≢true}
+use mathlib.Core.Logic.{inl}
+use mathlib.Core.Bool.{Bool, true, false, not, _||_, false≢true}
 use mathlib.Core.List.{List, [], _∷_}
+use native.Mathlib.Decide.{ℕ-discrete}
 use native.Mathlib.Numerals.{add-one}
 use native.Mathlib.Omega.{arith}
 use lib.Dec.{eqb, ltb}
 use lib.ListN.{length, getD, drop, drop-of-length-le}
 use lib.Seq.{drop-cons}
 use borrow.Author.Tests.{lt-ltb, le-ltb, eq-eqb, ne-eqb}
-use Rattle.table.specs.Words.{kind, argument, handlers}
-use Rattle.table.specs.Scan.{head, accepted, refused, firstOf, tests, fault, reading}
+use Rattle.table.specs.Words.{kind, argument, namesOf}
+use Rattle.table.specs.Scan.{head, accepted, refused, firstOf, tests, fault, reading, narrowReading}
+use Rattle.table.proofs.Faults.{one-of}
 use Rattle.table.proofs.Stack.{scan-stop}
+use Rattle.table.proofs.Widths.{narrow-read, wide-refused}
 use Rattle.listing.specs.Listing.{done, refusal, most, tested, depths, listing, written, wordsOf, indents, misspelled, misplaced, placed, tabled, spelt, readAs}
 
 -- ---- one or two tests
@@ -37,11 +41,11 @@ module _ (m k n : ℕ) where
 -- ---- the writer
 
 module _ (ws : List ℕ) (room : ℕ) where
-  pub write-refused : (n p : ℕ) → reading ws ≡ refused n p → written ws room ≡ refusal n p
+  pub write-refused : (n p : ℕ) → narrowReading ws ≡ refused n p → written ws room ≡ refusal n p
   unfolding written
   write-refused n p e = rw (e, written)
 
-  module _ (e : reading ws ≡ accepted) where
+  module _ (e : narrowReading ws ≡ accepted) where
     write-tested : written ws room ≡ tested ((ltb most (length (listing ws)), 41) ∷ (ltb room (length (listing ws)), 42) ∷ []) (length (listing ws))
     unfolding written
     write-tested = rw (e, written)
@@ -87,11 +91,11 @@ module _ (ds is : List ℕ) (i : ℕ) where
       ∙ ap (λ (m : ℕ). misplaced (i + 1 + 1) (drop m ds) (drop m is)) (sym (add-one i))
 
 module _ (ws is : List ℕ) (room : ℕ) where
-  pub table-refused : (n p : ℕ) → reading ws ≡ refused n p → tabled ws is room ≡ refusal n p
+  pub table-refused : (n p : ℕ) → narrowReading ws ≡ refused n p → tabled ws is room ≡ refusal n p
   unfolding tabled
   table-refused n p e = rw (e, tabled)
 
-  module _ (e : reading ws ≡ accepted) where
+  module _ (e : narrowReading ws ≡ accepted) where
     table-placed : tabled ws is room ≡ placed ws is room
     unfolding tabled
     table-placed = rw (e, tabled)
@@ -132,27 +136,37 @@ module _ (text : List ℕ) (room : ℕ) where
   read-spelt h = rw (le-ltb most (length text) h, readAs)
 
 -- a table of more than 1,024 words
-fault-head : (w n : ℕ) (a b : Bool) → not (eqb (kind w) 1) ≡ a → ltb 1024 n ≡ b → fault [] w (head n) ≡ firstOf ((a, 1) ∷ (b, 2) ∷ (ltb handlers (argument w), 3) ∷ [])
+fault-head : (w n : ℕ) (a b : Bool) → not (eqb (kind w) 1 || eqb (kind w) 5) ≡ a → ltb 1024 n ≡ b
+    → fault (namesOf w) [] w (head n) ≡ firstOf ((a, 1) ∷ (b, 2) ∷ (ltb (namesOf w) (argument w), 3) ∷ [])
 unfolding fault tests
 fault-head w n a b e f = rw (e, f)
 
 module _ (w : ℕ) (ws : List ℕ) (h : 1024 < length (w ∷ ws)) where
-  many-one : kind w ≡ 1 → reading (w ∷ ws) ≡ refused 2 0
+  many-one : kind w ≡ 1 → narrowReading (w ∷ ws) ≡ refused 2 0
   unfolding reading firstOf
   many-one e =
-      scan-stop ws [] w 0 (head (length (w ∷ ws))) [] 1
-      (fault-head w (length (w ∷ ws)) false true (ap not (eq-eqb (kind w) 1 e)) (lt-ltb 1024 (length (w ∷ ws)) h))
+      narrow-read (w ∷ ws) (ne-eqb (kind w) 5 (λ q. omega arith))
+      ∙ scan-stop (namesOf w) ws [] w 0 (head (length (w ∷ ws))) [] 1
+      (fault-head w (length (w ∷ ws)) false true (ap not (one-of (kind w) (inl e))) (lt-ltb 1024 (length (w ∷ ws)) h))
 
-  many-other : (kind w ≡ 1 → ⊥) → reading (w ∷ ws) ≡ refused 1 0
+  many-other : (kind w ≡ 1 → ⊥) → narrowReading (w ∷ ws) ≡ refused 1 0
   unfolding reading firstOf
-  many-other n =
-      scan-stop ws [] w 0 (head (length (w ∷ ws))) [] 0
-      (fault-head w (length (w ∷ ws)) true true (ap not (ne-eqb (kind w) 1 n)) (lt-ltb 1024 (length (w ∷ ws)) h))
+  many-other n = go (ℕ-discrete (kind w) 5)
+    where
+      neither : (kind w ≡ 5 → ⊥) → (eqb (kind w) 1 || eqb (kind w) 5) ≡ false
+      neither m = rw (ne-eqb (kind w) 1 n, ne-eqb (kind w) 5 m)
 
-pub long-one : (ws : List ℕ) → 1024 < length ws → kind (getD ws 0 0) ≡ 1 → reading ws ≡ refused 2 0
+      go : Dec (kind w ≡ 5) → narrowReading (w ∷ ws) ≡ refused 1 0
+      go (yes e) = wide-refused (w ∷ ws) (eq-eqb (kind w) 5 e)
+      go (no m) =
+          narrow-read (w ∷ ws) (ne-eqb (kind w) 5 m)
+          ∙ scan-stop (namesOf w) ws [] w 0 (head (length (w ∷ ws))) [] 0
+          (fault-head w (length (w ∷ ws)) true true (ap not (neither m)) (lt-ltb 1024 (length (w ∷ ws)) h))
+
+pub long-one : (ws : List ℕ) → 1024 < length ws → kind (getD ws 0 0) ≡ 1 → narrowReading ws ≡ refused 2 0
 long-one [] h e = absurd (omega arith)
 long-one (w ∷ ws) h e = many-one w ws h e
 
-pub long-other : (ws : List ℕ) → 1024 < length ws → (kind (getD ws 0 0) ≡ 1 → ⊥) → reading ws ≡ refused 1 0
+pub long-other : (ws : List ℕ) → 1024 < length ws → (kind (getD ws 0 0) ≡ 1 → ⊥) → narrowReading ws ≡ refused 1 0
 long-other [] h n = absurd (omega arith)
 long-other (w ∷ ws) h n = many-other w ws h n

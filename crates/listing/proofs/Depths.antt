@@ -1,6 +1,7 @@
 -- The depths that wait, one word after the other: those of the tasks on the scan's stack.
 use Prim.Native.Nat.{ℕ, zero, suc, _+_, _<_, _≤_}
 use mathlib.Core.Path.{_≡_, refl, sym, ap, _∙_, subst}
+use mathlib.Core.Logic.{⊎-elim}
 use mathlib.Core.Bool.{Bool, true, false}
 use mathlib.Core.List.{List, [], _∷_, _++_, map, map-append}
 use native.Mathlib.Nat.{add-zero}
@@ -9,12 +10,14 @@ use native.Mathlib.Omega.{arith}
 use lib.ListN.{length, getD, drop, replicate, length-append, length-drop, length-map, List·getD-map}
 use lib.Seq.{getD-drop, drop-drop}
 use borrow.Author.Tests.{eq-eqb, ne-eqb, lt-ltb, le-ltb}
-use Rattle.table.specs.Words.{kind, argument, parts, arity}
-use Rattle.table.specs.Scan.{Task, head, name, perms, guard, term, accepted, refused, next, under, keep, scan, reading}
+use Rattle.table.specs.Words.{kind, argument, size, parts, arity}
+use Rattle.table.specs.Scan.{Task, head, name, perms, guard, term, accepted, refused, next, under, keep, scan, namesAt, narrowReading}
 use Rattle.table.specs.Code.{tasks, taskAt}
 use Rattle.table.proofs.Faults.{Stands, stands}
 use Rattle.table.proofs.Stack.{At, at-start, at-step, at-end, refused-not-accepted, scan-step, scan-missing}
 use Rattle.table.proofs.Parts.{tasks-length}
+use Rattle.table.proofs.Limits.{size-le}
+use Rattle.table.proofs.Widths.{narrow-accepted}
 use Rattle.listing.specs.Listing.{depthOf, depths}
 use Rattle.listing.specs.Depths.{oneOf, leaves}
 
@@ -47,21 +50,21 @@ unfolding depthOf
 name-depths zero = refl
 name-depths (suc n) = ap (λ (l : List ℕ). 0 ∷ l) (name-depths n)
 
-next-depths : (keys : List ℕ) (at w : ℕ) (t : Task) → Stands keys w t → map depthOf (next at w t) ≡ leaves w (depthOf t)
+next-depths : (names : ℕ) (keys : List ℕ) (at w : ℕ) (t : Task) → Stands names keys w t → (kind w ≡ 5 → ⊥) → map depthOf (next at w t) ≡ leaves w (depthOf t)
 unfolding next depthOf arity
-next-depths keys at w (head n) f = name-depths (argument w) ∙ leaves-system w 0 (f .0)
-next-depths keys at w name f = leaves-handler w 0 (f .0)
-next-depths keys at w (perms n) f = leaves-none w 0 (λ e. omega (arith, f .0)) (λ e. omega (arith, f .0)) (omega (arith, f .0))
-next-depths keys at w guard f = leaves-none w 0 (λ e. omega (arith, f)) (λ e. omega (arith, f)) (omega (arith, f))
-next-depths keys at w (term d h s) f = part-depths d h at s (parts w) ∙ leaves-parts w d (f .0)
+next-depths names keys at w (head n) f five = name-depths (argument w) ∙ leaves-system w 0 (⊎-elim (λ h. h) (λ h. absurd (five h)) (f .0))
+next-depths names keys at w name f five = leaves-handler w 0 (f .0)
+next-depths names keys at w (perms n) f five = leaves-none w 0 (λ e. omega (arith, f .0)) (λ e. omega (arith, f .0)) (omega (arith, f .0))
+next-depths names keys at w guard f five = leaves-none w 0 (λ e. omega (arith, f)) (λ e. omega (arith, f)) (omega (arith, f))
+next-depths names keys at w (term d h s) f five = part-depths d h at s (parts w) ∙ leaves-parts w d (f .0)
 
-shallow : (keys : List ℕ) (w : ℕ) (t : Task) → Stands keys w t → depthOf t ≤ 64
+shallow : (names : ℕ) (keys : List ℕ) (w : ℕ) (t : Task) → Stands names keys w t → depthOf t ≤ 64
 unfolding depthOf
-shallow keys w (head n) f = omega arith
-shallow keys w name f = omega arith
-shallow keys w (perms n) f = omega arith
-shallow keys w guard f = omega arith
-shallow keys w (term d h s) f = f .4
+shallow names keys w (head n) f = omega arith
+shallow names keys w name f = omega arith
+shallow names keys w (perms n) f = omega arith
+shallow names keys w guard f = omega arith
+shallow names keys w (term d h s) f = f .4
 
 -- ---- the depths that wait at the place p
 
@@ -72,22 +75,22 @@ pub record Waits (ws : List ℕ) (p : ℕ) (ds : List ℕ) : Type 0 where
   pub depths : map depthOf stack ≡ ds
 
 -- each task that waits has a word
-enough : (ws keys : List ℕ) (at : ℕ) (ts : List Task) → scan ws keys at ts ≡ accepted → length ts ≤ length ws
-enough [] keys at [] e = omega arith
-enough [] keys at (t ∷ ts) e = absurd (refused-not-accepted (sym (scan-missing keys at t ts) ∙ e))
-enough (w ∷ ws) keys at [] e = omega arith
-enough (w ∷ ws) keys at (t ∷ ts) e =
-    let s = enough ws _ _ _ (scan-step ws keys w at t ts e .1) in
+enough : (names : ℕ) (ws keys : List ℕ) (at : ℕ) (ts : List Task) → scan names ws keys at ts ≡ accepted → length ts ≤ length ws
+enough names [] keys at [] e = omega arith
+enough names [] keys at (t ∷ ts) e = absurd (refused-not-accepted (sym (scan-missing names keys at t ts) ∙ e))
+enough names (w ∷ ws) keys at [] e = omega arith
+enough names (w ∷ ws) keys at (t ∷ ts) e =
+    let s = enough names ws _ _ _ (scan-step names ws keys w at t ts e .1) in
     omega (arith, length-append (next at w t) ts)
 
 pub waits-room : {ws : List ℕ} {p : ℕ} {ds : List ℕ} → Waits ws p ds → p + length ds ≤ length ws
 waits-room {ws} {p} {ds} s =
     omega
-    (arith, enough (drop p ws) (s .keys) p (s .stack) (s .there .scanned), length-drop p ws, ap length (s .depths), length-map (s .stack) depthOf, s .there .bound)
+    (arith, enough (namesAt ws) (drop p ws) (s .keys) p (s .stack) (s .there .scanned), length-drop p ws, ap length (s .depths), length-map (s .stack) depthOf, s .there .bound)
 
-pub waits-start : (ws : List ℕ) → reading ws ≡ accepted → Waits ws 0 (0 ∷ [])
+pub waits-start : (ws : List ℕ) → narrowReading ws ≡ accepted → Waits ws 0 (0 ∷ [])
 unfolding depthOf
-waits-start ws e = record { keys = []; stack = head (length ws) ∷ []; there = at-start ws e; depths = refl }
+waits-start ws e = record { keys = []; stack = head (length ws) ∷ []; there = at-start ws (narrow-accepted ws e .0); depths = refl }
 
 -- one word on
 pub record Stepped (ws : List ℕ) (p : ℕ) (ds : List ℕ) : Type 0 where
@@ -96,23 +99,26 @@ pub record Stepped (ws : List ℕ) (p : ℕ) (ds : List ℕ) : Type 0 where
   pub low : getD ds 0 0 ≤ 64
   pub goes : Waits ws (suc p) (leaves (getD ws p 0) (getD ds 0 0) ++ drop 1 ds)
 
-pub depths-length : (ws : List ℕ) → reading ws ≡ accepted → length (depths ws) ≡ length ws
+pub narrow-size : (ws : List ℕ) → narrowReading ws ≡ accepted → length ws ≤ size
+narrow-size ws e = size-le ws (narrow-accepted ws e .0)
+
+pub depths-length : (ws : List ℕ) → narrowReading ws ≡ accepted → length (depths ws) ≡ length ws
 unfolding depths
-depths-length ws e = length-map (tasks ws) depthOf ∙ tasks-length ws e
+depths-length ws e = length-map (tasks ws) depthOf ∙ tasks-length ws (narrow-accepted ws e .0)
 
 depth-at : (ws : List ℕ) (p : ℕ) → getD (depths ws) p 0 ≡ depthOf (taskAt ws p)
 unfolding depths depthOf taskAt
 depth-at ws p = List·getD-map depthOf (tasks ws) p (head 0)
 
-stepped : (ws : List ℕ) (p : ℕ) (keys : List ℕ) (ts : List Task) → At ws p keys ts → p < length ws → Stepped ws p (map depthOf ts)
-stepped ws p keys [] a l = absurd (let e = at-end ws p keys a in omega arith)
-stepped ws p keys (t ∷ ts) a l =
+stepped : (ws : List ℕ) (p : ℕ) (keys : List ℕ) (ts : List Task) → At ws p keys ts → p < length ws → (kind (getD ws p 0) ≡ 5 → ⊥) → Stepped ws p (map depthOf ts)
+stepped ws p keys [] a l five = absurd (let e = at-end ws p keys a in omega arith)
+stepped ws p keys (t ∷ ts) a l five =
     let s = at-step ws p keys t ts a in
-    let f = stands keys (getD ws p 0) t (s .faultless) in
+    let f = stands (namesAt ws) keys (getD ws p 0) t (s .faultless) in
     record {
       some = omega arith;
       first = sym (depth-at ws p ∙ ap depthOf (s .task));
-      low = shallow keys (getD ws p 0) t f;
+      low = shallow (namesAt ws) keys (getD ws p 0) t f;
       goes =
           record {
             keys = keep keys (getD ws p 0) t;
@@ -120,18 +126,18 @@ stepped ws p keys (t ∷ ts) a l =
             there = s .rest;
             depths =
                 map-append depthOf (next p (getD ws p 0) t) ts
-                ∙ ap (λ (l : List ℕ). l ++ map depthOf ts) (next-depths keys p (getD ws p 0) t f);
+                ∙ ap (λ (l : List ℕ). l ++ map depthOf ts) (next-depths (namesAt ws) keys p (getD ws p 0) t f five);
           };
     }
 
-pub waits-step : {ws : List ℕ} {p : ℕ} {ds : List ℕ} → Waits ws p ds → p < length ws → Stepped ws p ds
-waits-step {ws} {p} {ds} s l = subst (Stepped ws p) (s .depths) (stepped ws p (s .keys) (s .stack) (s .there) l)
+pub waits-step : {ws : List ℕ} {p : ℕ} {ds : List ℕ} → Waits ws p ds → p < length ws → (kind (getD ws p 0) ≡ 5 → ⊥) → Stepped ws p ds
+waits-step {ws} {p} {ds} s l five = subst (Stepped ws p) (s .depths) (stepped ws p (s .keys) (s .stack) (s .there) l five)
 
 -- ---- the stack of the code, from `top` on, before the word at i
 
-module _ (ws stack : List ℕ) (top i : ℕ) (waits : Waits ws i (drop top stack)) (l : i < length ws) where
+module _ (ws stack : List ℕ) (top i : ℕ) (waits : Waits ws i (drop top stack)) (l : i < length ws) (five : kind (getD ws i 0) ≡ 5 → ⊥) where
   step : Stepped ws i (drop top stack)
-  step = waits-step waits l
+  step = waits-step waits l five
 
   here : getD (drop top stack) 0 0 ≡ getD stack top 0
   here = getD-drop top stack 0 0 ∙ ap (λ (n : ℕ). getD stack n 0) (add-zero top)

@@ -1,6 +1,7 @@
 -- The lines of an accepted table, one after the other.
 use Prim.Native.Nat.{ℕ, suc, _+_, _*_, _<_, _≤_}
 use mathlib.Core.Path.{_≡_, refl, sym, ap, ap₂, _∙_, subst}
+use mathlib.Core.Logic.{⊎-elim}
 use mathlib.Core.List.{List, [], _∷_, _++_}
 use native.Mathlib.Numerals.{add-one}
 use native.Mathlib.Omega.{arith}
@@ -8,21 +9,22 @@ use lib.ListN.{length, getD, take, drop, replicate, length-append, length-replic
 use lib.Seq.{drop-cons, take-all, getD-take, take-add, take-append-seam, drop-append-seam, drop-drop}
 use Rattle.table.specs.Words.{kind}
 use Rattle.text.specs.Writing.{Wrote}
-use Rattle.table.specs.Scan.{Task, head, name, perms, guard, term, accepted, reading}
+use Rattle.table.specs.Scan.{Task, head, name, perms, guard, term, accepted, namesAt, narrowReading}
 use Rattle.table.specs.Code.{taskAt}
 use Rattle.table.proofs.Faults.{Stands}
 use Rattle.table.proofs.Stack.{reach}
 use Rattle.table.proofs.Parts.{place-stands}
+use Rattle.table.proofs.Widths.{narrow-accepted}
 use Rattle.listing.specs.Spelling.{space, spelled}
 use Rattle.listing.specs.Listing.{depths, indented, lines, listing}
 use Rattle.listing.proofs.Depths.{depths-length}
 
-kind-of-task : (keys : List ℕ) (w : ℕ) (t : Task) → Stands keys w t → kind w ≤ 36
-kind-of-task keys w (head n) f = omega (arith, f .0)
-kind-of-task keys w name f = omega (arith, f .0)
-kind-of-task keys w (perms n) f = omega (arith, f .0)
-kind-of-task keys w guard f = omega (arith, f)
-kind-of-task keys w (term d h s) f = f .1
+kind-of-task : (names : ℕ) (keys : List ℕ) (w : ℕ) (t : Task) → Stands names keys w t → kind w ≤ 36
+kind-of-task names keys w (head n) f = ⊎-elim (λ h. omega arith) (λ h. omega arith) (f .0)
+kind-of-task names keys w name f = omega (arith, f .0)
+kind-of-task names keys w (perms n) f = omega (arith, f .0)
+kind-of-task names keys w guard f = omega (arith, f)
+kind-of-task names keys w (term d h s) f = f .1
 
 pub indented-length : (d w : ℕ) → length (indented d w) ≡ 2 * d + length (spelled w)
 indented-length d w = length-append (replicate (2 * d) space) (spelled w) ∙ ap (λ (n : ℕ). n + length (spelled w)) (length-replicate (2 * d) space)
@@ -31,9 +33,10 @@ indented-length d w = length-append (replicate (2 * d) space) (spelled w) ∙ ap
 abbrev pub rest : List ℕ → ℕ → List ℕ
 rest ws i = lines (drop i (depths ws)) (drop i ws)
 
-module _ (ws : List ℕ) (e : reading ws ≡ accepted) where
+module _ (ws : List ℕ) (e : narrowReading ws ≡ accepted) where
   pub kind-small : (i : ℕ) → i < length ws → kind (getD ws i 0) ≤ 36
-  kind-small i l = kind-of-task (reach ws e i l .keys) (getD ws i 0) (taskAt ws i) (place-stands ws e i l)
+  kind-small i l =
+      let r = narrow-accepted ws e .0 in kind-of-task (namesAt ws) (reach ws r i l .keys) (getD ws i 0) (taskAt ws i) (place-stands ws r i l)
 
   pub rest-start : rest ws 0 ≡ listing ws
   unfolding listing

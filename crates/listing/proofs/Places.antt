@@ -1,6 +1,7 @@
 -- The places of refusals are small, and only the last test of the reader looks at the room.
 use Prim.Native.Nat.{ℕ, zero, suc, _+_, _*_, _<_, _≤_}
 use mathlib.Core.Path.{_≡_, refl, sym, ap, _∙_, subst}
+use mathlib.Core.Logic.{_⊎_, inl, inr, ⊎-elim}
 use mathlib.Core.Bool.{Bool, true, false}
 use mathlib.Core.List.{List, [], _∷_, _++_, map}
 use native.Mathlib.Decide.{decLt}
@@ -9,9 +10,9 @@ use lib.Dec.{eqb, ltb}
 use lib.ListN.{length, getD, take, drop, length-map}
 use lib.Seq.{length-take-le, getD-take, take-all, take-at}
 use borrow.Author.Tests.{ltb-false, le-ltb}
-use Rattle.table.specs.Scan.{Task, head, name, perms, guard, term, Outcome, accepted, refused, firstOf, tests, fault, missing, keep, next, scan, reading}
+use Rattle.table.specs.Scan.{Task, head, name, perms, guard, term, Outcome, accepted, refused, firstOf, tests, fault, missing, keep, next, scan, namesAt, reading, narrowReading}
 use Rattle.table.specs.Words.{kind}
-use Rattle.table.proofs.Limits.{size-le}
+use Rattle.listing.proofs.Depths.{narrow-size}
 use native.Mathlib.Decide.{ℕ-discrete}
 use Rattle.listing.specs.Spelling.{feed}
 use Rattle.listing.specs.Listing.{Answered, done, refusal, left, most, tested, depths, listing, written, onto, cut, indent, wordIn, wordsOf, indents, misspelled, misplaced, placed, tabled, spelt, readAs}
@@ -21,23 +22,33 @@ use Rattle.listing.proofs.Theorems.{read-count, read-accepted}
 
 -- ---- places
 
-scan-place : (ws keys : List ℕ) (at : ℕ) (ts : List Task) (n p : ℕ) → scan ws keys at ts ≡ refused n p → p ≤ at + length ws
+scan-place : (names : ℕ) (ws keys : List ℕ) (at : ℕ) (ts : List Task) (n p : ℕ) → scan names ws keys at ts ≡ refused n p → p ≤ at + length ws
 unfolding scan
-scan-place [] keys at [] n p e = let z : _≡_ {A = ℕ} 0 1 = cc in absurd (omega arith)
-scan-place [] keys at (t ∷ ts) n p e = let q : at ≡ p = cc in omega arith
-scan-place (w ∷ ws) keys at [] n p e = let q : at ≡ p = cc in omega arith
-scan-place (w ∷ ws) keys at (t ∷ ts) n p e =
-    go (fault keys w t) e (scan-place ws (keep keys w t) (suc at) (next at w t ++ ts) n p)
+scan-place names [] keys at [] n p e = let z : _≡_ {A = ℕ} 0 1 = cc in absurd (omega arith)
+scan-place names [] keys at (t ∷ ts) n p e = let q : at ≡ p = cc in omega arith
+scan-place names (w ∷ ws) keys at [] n p e = let q : at ≡ p = cc in omega arith
+scan-place names (w ∷ ws) keys at (t ∷ ts) n p e =
+    go (fault names keys w t) e (scan-place names ws (keep keys w t) (suc at) (next at w t ++ ts) n p)
   where
     go : (f : ℕ)
-        → (elim f as (λ k. Outcome) [ zero ↦ scan ws (keep keys w t) (suc at) (next at w t ++ ts) | suc k ↦ refused (suc k) at ]) ≡ refused n p
-        → (scan ws (keep keys w t) (suc at) (next at w t ++ ts) ≡ refused n p → p ≤ suc at + length ws) → p ≤ at + suc (length ws)
+        → (elim f as (λ k. Outcome) [ zero ↦ scan names ws (keep keys w t) (suc at) (next at w t ++ ts) | suc k ↦ refused (suc k) at ]) ≡ refused n p
+        → (scan names ws (keep keys w t) (suc at) (next at w t ++ ts) ≡ refused n p → p ≤ suc at + length ws) → p ≤ at + suc (length ws)
     go zero h more = omega (arith, more h)
     go (suc k) h more = let q : at ≡ p = cc in omega arith
 
-pub table-place : (ws : List ℕ) (n p : ℕ) → reading ws ≡ refused n p → p ≤ length ws
+-- a table that is refused, as wide or as none
+narrow-refused : (ws : List ℕ) (n p : ℕ) → narrowReading ws ≡ refused n p → (((n ≡ 1) × (p ≡ 0)) ⊎ (reading ws ≡ refused n p))
+unfolding narrowReading
+narrow-refused ws n p e = go (eqb (kind (getD ws 0 0)) 5) e
+  where
+    go : (b : Bool) → elim b [ true ↦ refused 1 0 | false ↦ reading ws ] ≡ refused n p → (((n ≡ 1) × (p ≡ 0)) ⊎ (reading ws ≡ refused n p))
+    go true q = inl (cc, cc)
+    go false q = inr q
+
+pub table-place : (ws : List ℕ) (n p : ℕ) → narrowReading ws ≡ refused n p → p ≤ length ws
 unfolding reading
-table-place ws n p e = omega (arith, scan-place ws [] 0 (head (length ws) ∷ []) n p e)
+table-place ws n p e =
+    ⊎-elim (λ h. omega (arith, h .1)) (λ h. omega (arith, scan-place (namesAt ws) ws [] 0 (head (length ws) ∷ []) n p h)) (narrow-refused ws n p e)
 
 -- the number: one of the table's
 pub first-small : (b : Bool) (n m : ℕ) (ts : List (Bool × ℕ)) → n ≤ m → firstOf ts ≤ m → firstOf ((b, n) ∷ ts) ≤ m
@@ -49,18 +60,19 @@ pub no-test-small : (m : ℕ) → firstOf [] ≤ m
 unfolding firstOf
 no-test-small m = omega arith
 
-fault-small : (keys : List ℕ) (w : ℕ) (t : Task) → fault keys w t ≤ 12
+fault-small : (names : ℕ) (keys : List ℕ) (w : ℕ) (t : Task) → fault names keys w t ≤ 12
 unfolding fault tests
-fault-small keys w (head n) =
+fault-small names keys w (head n) =
     first-small _ 1 12 _ (omega arith) (first-small _ 2 12 _ (omega arith) (first-small _ 3 12 _ (omega arith) (no-test-small 12)))
-fault-small keys w name = first-small _ 4 12 _ (omega arith) (first-small _ 5 12 _ (omega arith) (no-test-small 12))
-fault-small keys w (perms n) = first-small _ 4 12 _ (omega arith) (first-small _ 6 12 _ (omega arith) (no-test-small 12))
-fault-small keys w guard = first-small _ 4 12 _ (omega arith) (no-test-small 12)
-fault-small keys w (term d h s) =
+fault-small names keys w name = first-small _ 4 12 _ (omega arith) (first-small _ 5 12 _ (omega arith) (no-test-small 12))
+fault-small names keys w (perms n) = first-small _ 4 12 _ (omega arith) (first-small _ 6 12 _ (omega arith) (no-test-small 12))
+fault-small names keys w guard = first-small _ 4 12 _ (omega arith) (no-test-small 12)
+fault-small names keys w (term d h s) =
     first-small _ 7 12 _ (omega arith)
     (first-small _ 7 12 _ (omega arith)
     (first-small _ 9 12 _ (omega arith)
-    (first-small _ 10 12 _ (omega arith) (first-small _ 11 12 _ (omega arith) (no-test-small 12)))))
+    (first-small _ 9 12 _ (omega arith)
+    (first-small _ 10 12 _ (omega arith) (first-small _ 11 12 _ (omega arith) (no-test-small 12))))))
 
 missing-small : (t : Task) → missing t ≤ 12
 unfolding missing
@@ -70,23 +82,24 @@ missing-small (perms n) = omega arith
 missing-small guard = omega arith
 missing-small (term d h s) = omega arith
 
-scan-number : (ws keys : List ℕ) (at : ℕ) (ts : List Task) (n p : ℕ) → scan ws keys at ts ≡ refused n p → n ≤ 12
+scan-number : (names : ℕ) (ws keys : List ℕ) (at : ℕ) (ts : List Task) (n p : ℕ) → scan names ws keys at ts ≡ refused n p → n ≤ 12
 unfolding scan
-scan-number [] keys at [] n p e = let z : _≡_ {A = ℕ} 0 1 = cc in absurd (omega arith)
-scan-number [] keys at (t ∷ ts) n p e = let q : missing t ≡ n = cc in omega (arith, missing-small t)
-scan-number (w ∷ ws) keys at [] n p e = let q : 12 ≡ n = cc in omega arith
-scan-number (w ∷ ws) keys at (t ∷ ts) n p e =
-    go (fault keys w t) (fault-small keys w t) e (scan-number ws (keep keys w t) (suc at) (next at w t ++ ts) n p)
+scan-number names [] keys at [] n p e = let z : _≡_ {A = ℕ} 0 1 = cc in absurd (omega arith)
+scan-number names [] keys at (t ∷ ts) n p e = let q : missing t ≡ n = cc in omega (arith, missing-small t)
+scan-number names (w ∷ ws) keys at [] n p e = let q : 12 ≡ n = cc in omega arith
+scan-number names (w ∷ ws) keys at (t ∷ ts) n p e =
+    go (fault names keys w t) (fault-small names keys w t) e (scan-number names ws (keep keys w t) (suc at) (next at w t ++ ts) n p)
   where
     go : (f : ℕ) → f ≤ 12
-        → (elim f as (λ k. Outcome) [ zero ↦ scan ws (keep keys w t) (suc at) (next at w t ++ ts) | suc k ↦ refused (suc k) at ]) ≡ refused n p
-        → (scan ws (keep keys w t) (suc at) (next at w t ++ ts) ≡ refused n p → n ≤ 12) → n ≤ 12
+        → (elim f as (λ k. Outcome) [ zero ↦ scan names ws (keep keys w t) (suc at) (next at w t ++ ts) | suc k ↦ refused (suc k) at ]) ≡ refused n p
+        → (scan names ws (keep keys w t) (suc at) (next at w t ++ ts) ≡ refused n p → n ≤ 12) → n ≤ 12
     go zero s h more = more h
     go (suc k) s h more = let q : suc k ≡ n = cc in omega arith
 
-pub table-number : (ws : List ℕ) (n p : ℕ) → reading ws ≡ refused n p → n ≤ 12
+pub table-number : (ws : List ℕ) (n p : ℕ) → narrowReading ws ≡ refused n p → n ≤ 12
 unfolding reading
-table-number ws n p e = scan-number ws [] 0 (head (length ws) ∷ []) n p e
+table-number ws n p e =
+    ⊎-elim (λ h. omega (arith, h .0)) (λ h. scan-number (namesAt ws) ws [] 0 (head (length ws) ∷ []) n p h) (narrow-refused ws n p e)
 
 -- the place that an answer tells, if it tells one, is at most m
 abbrev pub Within : ℕ → Answered → Type 0
@@ -103,9 +116,9 @@ tested-within m n ts = go (firstOf ts)
 
 pub write-within : (ws : List ℕ) (room : ℕ) → Within (length ws) (written ws room)
 unfolding written
-write-within ws room = go (reading ws) refl
+write-within ws room = go (narrowReading ws) refl
   where
-    go : (o : Outcome) → reading ws ≡ o
+    go : (o : Outcome) → narrowReading ws ≡ o
         → Within (length ws) (elim o as (λ x. Answered) [
           | refused n p ↦ refusal n p
           | accepted ↦ tested ((ltb most (length (listing ws)), 41) ∷ (ltb room (length (listing ws)), 42) ∷ []) (length (listing ws))
@@ -161,9 +174,9 @@ module _ (ws is : List ℕ) (m : ℕ) (few : length ws ≤ m) (fit : length is �
 
   tabled-within : Within m (tabled ws is room)
   unfolding tabled
-  tabled-within = go (reading ws) refl
+  tabled-within = go (narrowReading ws) refl
     where
-      go : (o : Outcome) → reading ws ≡ o → Within m (elim o as (λ x. Answered) [ refused n p ↦ refusal n p | accepted ↦ placed ws is room ])
+      go : (o : Outcome) → narrowReading ws ≡ o → Within m (elim o as (λ x. Answered) [ refused n p ↦ refusal n p | accepted ↦ placed ws is room ])
       go (refused n p) e = omega (arith, table-place ws n p e)
       go accepted e = placed-within
 
@@ -192,33 +205,33 @@ read-within text room = go (ltb most (length text)) refl
 
 -- ---- a table of more than 1,024 words is refused by its first word alone
 
-many-same : (ws vs : List ℕ) → 1024 < length ws → 1024 < length vs → getD ws 0 0 ≡ getD vs 0 0 → reading ws ≡ reading vs
+many-same : (ws vs : List ℕ) → 1024 < length ws → 1024 < length vs → getD ws 0 0 ≡ getD vs 0 0 → narrowReading ws ≡ narrowReading vs
 many-same ws vs h k e = go (ℕ-discrete (kind (getD ws 0 0)) 1)
   where
-    go : Dec (kind (getD ws 0 0) ≡ 1) → reading ws ≡ reading vs
+    go : Dec (kind (getD ws 0 0) ≡ 1) → narrowReading ws ≡ narrowReading vs
     go (yes o) = long-one ws h o ∙ sym (long-one vs k (ap kind (sym e) ∙ o))
     go (no n) = long-other ws h n ∙ sym (long-other vs k (λ q. n (ap kind e ∙ q)))
 
-refused-or : (ws : List ℕ) → 1024 < length ws → reading ws ≡ accepted → ⊥
-refused-or ws h e = let l = size-le ws e in omega arith
+refused-or : (ws : List ℕ) → 1024 < length ws → narrowReading ws ≡ accepted → ⊥
+refused-or ws h e = let l = narrow-size ws e in omega arith
 
-pub reading-first : (ws : List ℕ) → reading (take 1025 ws) ≡ reading ws
+pub reading-first : (ws : List ℕ) → narrowReading (take 1025 ws) ≡ narrowReading ws
 reading-first ws = go (decLt 1024 (length ws))
   where
-    go : Dec (1024 < length ws) → reading (take 1025 ws) ≡ reading ws
-    go (no n) = ap reading (take-all 1025 ws (omega (arith, n)))
+    go : Dec (1024 < length ws) → narrowReading (take 1025 ws) ≡ narrowReading ws
+    go (no n) = ap narrowReading (take-all 1025 ws (omega (arith, n)))
     go (yes h) = many-same (take 1025 ws) ws (omega (arith, length-take-le 1025 ws (omega arith))) h (getD-take 1025 ws 0 0 (omega arith))
 
 pub write-first : (ws : List ℕ) (room : ℕ) → written (take 1025 ws) room ≡ written ws room
 write-first ws room = go (decLt 1024 (length ws))
   where
-    both : (o : Outcome) → 1024 < length ws → reading ws ≡ o → written (take 1025 ws) room ≡ written ws room
+    both : (o : Outcome) → 1024 < length ws → narrowReading ws ≡ o → written (take 1025 ws) room ≡ written ws room
     both accepted h e = absurd (refused-or ws h e)
     both (refused n p) h e = write-refused (take 1025 ws) room n p (reading-first ws ∙ e) ∙ sym (write-refused ws room n p e)
 
     go : Dec (1024 < length ws) → written (take 1025 ws) room ≡ written ws room
     go (no n) = ap (λ (v : List ℕ). written v room) (take-all 1025 ws (omega (arith, n)))
-    go (yes h) = both (reading ws) h refl
+    go (yes h) = both (narrowReading ws) h refl
 
 -- ---- the room
 
@@ -232,7 +245,7 @@ unfolding tested firstOf
 tested-done room n h = ap (λ (b : Bool). tested ((b, 42) ∷ []) n) (le-ltb room n h)
 
 module _ (ws is : List ℕ) (room : ℕ) where
-  placed-room : reading ws ≡ accepted → placed ws is room ≡ inRoom room (placed ws is 1024)
+  placed-room : narrowReading ws ≡ accepted → placed ws is room ≡ inRoom room (placed ws is 1024)
   unfolding placed inRoom
   placed-room e = go (misplaced 1 (depths ws) is)
     where
@@ -240,17 +253,17 @@ module _ (ws is : List ℕ) (room : ℕ) where
       answer r k = elim k as (λ x. Answered) [ zero ↦ tested ((ltb r (length ws), 42) ∷ []) (length ws) | suc n ↦ refusal 40 (suc n) ]
 
       go : (k : ℕ) → answer room k ≡ inRoom room (answer 1024 k)
-      go zero = sym (ap (inRoom room) (tested-done 1024 (length ws) (size-le ws e)))
+      go zero = sym (ap (inRoom room) (tested-done 1024 (length ws) (narrow-size ws e)))
       go (suc n) = refl
 
   tabled-room : tabled ws is room ≡ inRoom room (tabled ws is 1024)
   unfolding tabled inRoom
-  tabled-room = go (reading ws) refl
+  tabled-room = go (narrowReading ws) refl
     where
       answer : ℕ → Outcome → Answered
       answer r o = elim o as (λ x. Answered) [ refused n p ↦ refusal n p | accepted ↦ placed ws is r ]
 
-      go : (o : Outcome) → reading ws ≡ o → answer room o ≡ inRoom room (answer 1024 o)
+      go : (o : Outcome) → narrowReading ws ≡ o → answer room o ≡ inRoom room (answer 1024 o)
       go (refused n p) e = refl
       go accepted e = placed-room e
 
@@ -287,7 +300,7 @@ write-first-left ws room out = go (decLt 1024 (length ws))
     same : left (written (take 1025 ws) room) (listing (take 1025 ws)) out ≡ left (written ws room) (listing (take 1025 ws)) out
     same = ap (λ (a : Answered). left a (listing (take 1025 ws)) out) (write-first ws room)
 
-    both : (o : Outcome) → 1024 < length ws → reading ws ≡ o → left (written ws room) (listing (take 1025 ws)) out ≡ left (written ws room) (listing ws) out
+    both : (o : Outcome) → 1024 < length ws → narrowReading ws ≡ o → left (written ws room) (listing (take 1025 ws)) out ≡ left (written ws room) (listing ws) out
     both accepted h e = absurd (refused-or ws h e)
     both (refused n p) h e =
         ap (λ (a : Answered). left a (listing (take 1025 ws)) out) (write-refused ws room n p e)
@@ -296,12 +309,12 @@ write-first-left ws room out = go (decLt 1024 (length ws))
 
     go : Dec (1024 < length ws) → left (written (take 1025 ws) room) (listing (take 1025 ws)) out ≡ left (written ws room) (listing ws) out
     go (no n) = ap (λ (v : List ℕ). left (written v room) (listing v) out) (take-all 1025 ws (omega (arith, n)))
-    go (yes h) = same ∙ both (reading ws) h refl
+    go (yes h) = same ∙ both (narrowReading ws) h refl
 
 -- ---- the words that were read into 1,024 words, and how many they are
 
 pub read-few : (text : List ℕ) (n : ℕ) → readAs text 1024 ≡ done n → n ≤ 1024
-read-few text n e = omega (arith, read-count text 1024 n e, size-le (wordsOf text) (read-accepted text 1024 n e))
+read-few text n e = omega (arith, read-count text 1024 n e, narrow-size (wordsOf text) (read-accepted text 1024 n e))
 
 pub read-words : (text words zeros : List ℕ) (n : ℕ) → readAs text 1024 ≡ done n → words ≡ left (readAs text 1024) (wordsOf text) zeros
     → take n words ≡ wordsOf text

@@ -3,8 +3,8 @@ use Prim.Native.Nat.{ℕ, _^_}
 use mathlib.Core.Path.{_≡_, refl}
 use mathlib.Core.List.{List, [], _∷_, map}
 use lib.ListN.{length}
-use Rattle.table.specs.Words.{wordOf, parts, partsByKind, limit, limitsByKind}
-use Rattle.table.specs.Scan.{next, firstOf, has, tests, fault, missing, keep, under, scan, reading}
+use Rattle.table.specs.Words.{wordOf, parts, partsByKind, limit, limitsByKind, namesOf}
+use Rattle.table.specs.Scan.{next, firstOf, has, tests, fault, missing, keep, under, scan, reading, narrowReading}
 use Rattle.table.specs.Code.{tasks, trace}
 use Rattle.text.specs.Text.{bytes, numeral, digits, glyph, set, decimal}
 use Rattle.listing.specs.Keywords.{entries, entryOf, used}

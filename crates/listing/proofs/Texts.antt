@@ -1,6 +1,7 @@
 -- The lines of a text that the writer makes, cut and read again; and those of a text that the reader accepts.
 use Prim.Native.Nat.{ℕ, zero, suc, _+_, _-_, _*_, _^_, _<_, _≤_}
 use mathlib.Core.Path.{_≡_, refl, sym, ap, ap₂, _∙_, subst}
+use mathlib.Core.Logic.{⊎-elim}
 use mathlib.Core.Bool.{Bool, true, false, not, _&&_, false≢true}
 use mathlib.Core.List.{List, [], _∷_, _++_, map, append-assoc}
 use native.Mathlib.Nat.{add-zero}
@@ -10,11 +11,12 @@ use lib.ListN.{length, getD, drop, take, replicate, length-append, length-map, l
 use lib.Seq.{drop-append-seam, drop-at}
 use borrow.Author.Tests.{eq-eqb, ne-eqb, eqb-true, eqb-false, ltb-true, ltb-false, lt-ltb, le-ltb}
 use Rattle.table.specs.Words.{kind, argument, wordOf, limit, limitsByKind, firstKind}
-use Rattle.table.specs.Scan.{Task, head, name, perms, guard, term, Outcome, accepted, refused, reading}
+use Rattle.table.specs.Scan.{Task, head, name, perms, guard, term, Outcome, accepted, refused, namesAt, narrowReading}
 use Rattle.table.specs.Code.{taskAt}
 use Rattle.table.proofs.Faults.{Stands}
 use Rattle.table.proofs.Stack.{reach}
 use Rattle.table.proofs.Parts.{place-stands}
+use Rattle.table.proofs.Widths.{narrow-accepted, no-wide-word}
 use Rattle.table.proofs.TermWords.{argument-lt}
 use Rattle.table.proofs.words.Table.{at}
 use Rattle.text.specs.Text.{decimal, set}
@@ -266,20 +268,22 @@ known-term w low high small =
     let less : argument w < getD limitsByKind j 0 = small in
     omega arith))
 
-known-task : (keys : List ℕ) (w : ℕ) (t : Task) → Stands keys w t → Known w
+known-task : (names : ℕ) (keys : List ℕ) (w : ℕ) (t : Task) → Stands names keys w t → (kind w ≡ 5 → ⊥) → Known w
 unfolding entryOf entries used
-known-task keys w (head n) f = known-of w 1 (f .0) (omega arith) tt (argument-lt w)
-known-task keys w name f = known-of w 2 (f .0) (omega arith) tt (argument-lt w)
-known-task keys w (perms n) f = known-of w 3 (f .0) (omega arith) tt (argument-lt w)
-known-task keys w guard f = known-of w 4 f (omega arith) tt (argument-lt w)
-known-task keys w (term d h s) f = known-term w (f .0) (f .1) (f .2)
+known-task names keys w (head n) f five = known-of w 1 (⊎-elim (λ h. h) (λ h. absurd (five h)) (f .0)) (omega arith) tt (argument-lt w)
+known-task names keys w name f five = known-of w 2 (f .0) (omega arith) tt (argument-lt w)
+known-task names keys w (perms n) f five = known-of w 3 (f .0) (omega arith) tt (argument-lt w)
+known-task names keys w guard f five = known-of w 4 f (omega arith) tt (argument-lt w)
+known-task names keys w (term d h s) f five = known-term w (f .0) (f .1) (f .2)
 
 each-known : (ws : List ℕ) → ((i : ℕ) → i < length ws → Known (getD ws i 0)) → AllKnown ws
 each-known [] f = tt
 each-known (w ∷ ws) f = (f 0 (omega arith), each-known ws (λ i h. f (suc i) (omega arith)))
 
-pub all-known : (ws : List ℕ) → reading ws ≡ accepted → AllKnown ws
-all-known ws e = each-known ws (λ i l. known-task (reach ws e i l .keys) (getD ws i 0) (taskAt ws i) (place-stands ws e i l))
+pub all-known : (ws : List ℕ) → narrowReading ws ≡ accepted → AllKnown ws
+all-known ws e =
+    let r = narrow-accepted ws e .0 in
+    each-known ws (λ i l. known-task (namesAt ws) (reach ws r i l .keys) (getD ws i 0) (taskAt ws i) (place-stands ws r i l) (no-wide-word ws e i l))
 
 -- ---- the lines of a text that is accepted
 

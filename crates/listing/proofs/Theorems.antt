@@ -7,13 +7,13 @@ use native.Mathlib.Omega.{arith}
 use lib.Dec.{ltb}
 use lib.ListN.{length}
 use borrow.Author.Tests.{ltb-false}
-use Rattle.table.specs.Scan.{Outcome, accepted, refused, firstOf, reading}
+use Rattle.table.specs.Scan.{Outcome, accepted, refused, firstOf, narrowReading}
 use Rattle.listing.specs.Listing.{Answered, done, refusal, most, tested, depths, lines, listing, written, wordsOf, indents, misspelled, misplaced, placed, tabled, spelt, readAs}
 use Rattle.listing.proofs.Depths.{depths-length}
 use Rattle.listing.proofs.Answers.{read-spelt, spelt-table, place-done}
 use Rattle.listing.proofs.Texts.{doubled, words-undone, spaces-undone, none-misspelled, none-misplaced, all-known, text-sound}
 
-module _ (ws : List ℕ) (e : reading ws ≡ accepted) where
+module _ (ws : List ℕ) (e : narrowReading ws ≡ accepted) where
   -- the words that are read from the text of an accepted system are its words
   pub words-of-listing : wordsOf (listing ws) ≡ ws
   unfolding listing wordsOf
@@ -54,12 +54,12 @@ module _ (ws is : List ℕ) (room n : ℕ) where
       go zero f g = (f, g)
       go (suc k) f g = absurd (not-done g)
 
-  tabled-fine : tabled ws is room ≡ done n → (reading ws ≡ accepted) × (placed ws is room ≡ done n)
+  tabled-fine : tabled ws is room ≡ done n → (narrowReading ws ≡ accepted) × (placed ws is room ≡ done n)
   unfolding tabled
-  tabled-fine q = go (reading ws) refl q
+  tabled-fine q = go (narrowReading ws) refl q
     where
-      go : (o : Outcome) → reading ws ≡ o → _≡_ {A = Answered} (elim o [ refused a b ↦ refusal a b | accepted ↦ placed ws is room ]) (done n)
-          → (reading ws ≡ accepted) × (placed ws is room ≡ done n)
+      go : (o : Outcome) → narrowReading ws ≡ o → _≡_ {A = Answered} (elim o [ refused a b ↦ refusal a b | accepted ↦ placed ws is room ]) (done n)
+          → (narrowReading ws ≡ accepted) × (placed ws is room ≡ done n)
       go accepted f g = (f, g)
       go (refused a b) f g = absurd (not-done g)
 
@@ -81,11 +81,11 @@ module _ (text : List ℕ) (room n : ℕ) (q : readAs text room ≡ done n) wher
   fine : (misspelled 1 (wordsOf text) ≡ 0) × (tabled (wordsOf text) (indents text) room ≡ done n)
   fine = spelt-fine (wordsOf text) (indents text) room n (spelt-done text room n q)
 
-  table : (reading (wordsOf text) ≡ accepted) × (placed (wordsOf text) (indents text) room ≡ done n)
+  table : (narrowReading (wordsOf text) ≡ accepted) × (placed (wordsOf text) (indents text) room ≡ done n)
   table = tabled-fine (wordsOf text) (indents text) room n (fine .1)
 
   -- the words that are read are an accepted system
-  pub read-accepted : reading (wordsOf text) ≡ accepted
+  pub read-accepted : narrowReading (wordsOf text) ≡ accepted
   read-accepted = table .0
 
   -- the reader accepts a text only if the writer makes it
@@ -135,7 +135,7 @@ read-fits text room n q = go (misplaced 1 (depths (wordsOf text)) (indents text)
 
 pub write-fits : (ws : List ℕ) (room n : ℕ) → written ws room ≡ done n → n ≤ room
 unfolding written
-write-fits ws room n q = go (reading ws) q
+write-fits ws room n q = go (narrowReading ws) q
   where
     tests : (a b : Bool) → ltb room (length (listing ws)) ≡ b → tested ((a, 41) ∷ (b, 42) ∷ []) (length (listing ws)) ≡ done n → n ≤ room
     tests true b e f = absurd (not-done (sym (first-refused b (length (listing ws))) ∙ f))

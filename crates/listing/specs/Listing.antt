@@ -4,7 +4,7 @@ use mathlib.Core.Bool.{Bool, true, false}
 use mathlib.Core.List.{List, [], _∷_, _++_, map}
 use lib.Dec.{eqb, ltb}
 use lib.ListN.{length, drop, replicate}
-use Rattle.table.specs.Scan.{Task, head, name, perms, guard, term, Outcome, accepted, refused, firstOf, reading}
+use Rattle.table.specs.Scan.{Task, head, name, perms, guard, term, Outcome, accepted, refused, firstOf, narrowReading}
 use Rattle.table.specs.Code.{tasks}
 use Rattle.listing.specs.Spelling.{space, feed, spelled, lineWord}
 
@@ -57,7 +57,7 @@ listing ws = lines (depths ws) ws
 unfoldable pub written : List ℕ → ℕ → Answered
 unfolding tested listing
 written ws room =
-    elim (reading ws) [
+    elim (narrowReading ws) [
       | refused n p ↦ refusal n p
       | accepted ↦ tested ((ltb most (length (listing ws)), 41) ∷ (ltb room (length (listing ws)), 42) ∷ []) (length (listing ws))
     ]
@@ -118,7 +118,7 @@ placed ws is room =
 
 unfoldable pub tabled : List ℕ → List ℕ → ℕ → Answered
 unfolding placed
-tabled ws is room = elim (reading ws) [ refused n p ↦ refusal n p | accepted ↦ placed ws is room ]
+tabled ws is room = elim (narrowReading ws) [ refused n p ↦ refusal n p | accepted ↦ placed ws is room ]
 
 unfoldable pub spelt : List ℕ → List ℕ → ℕ → Answered
 unfolding misspelled tabled

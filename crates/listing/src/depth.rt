@@ -6,7 +6,7 @@ ghost use mathlib.Core.Path.{_≡_};
 ghost use mathlib.Core.List.{_++_};
 ghost use Prim.Native.Nat.{_+_, _≤_};
 ghost use lib.ListN.{length, take, drop, replicate};
-ghost use Rattle.table.specs.Scan.{accepted, reading};
+ghost use Rattle.table.specs.Scan.{accepted, narrowReading};
 ghost use Rattle.listing.specs.Listing.{depths as Listing·depths};
 ghost use Rattle.listing.specs.Depths.{leaves};
 
@@ -48,7 +48,7 @@ fn push_left(stack: &mut [u8], top: usize, w: u32, d: u8) -> usize
 
 // The depths of all words, at the start of `depths`.
 pub fn find_depths(words: &[u32], depths: &mut [u8])
-    requires { ⌜ (reading (now words) ≡ accepted) × (length (now words) ≤ length (now depths)) ⌝ }
+    requires { ⌜ (narrowReading (now words) ≡ accepted) × (length (now words) ≤ length (now depths)) ⌝ }
     ensures { λ _. ⌜ take (length (now (words .entry))) (now (depths .exit)) ≡ Listing·depths (now (words .entry)) ⌝ }
 {
     let mut stack = [0u8; 1024];

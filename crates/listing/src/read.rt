@@ -12,7 +12,7 @@ ghost use mathlib.Core.List.{List, _++_, map};
 ghost use mathlib.Core.Logic.{_⊎_};
 ghost use Prim.Native.Nat.{ℕ, _+_, _<_, _≤_};
 ghost use lib.ListN.{length, drop, getD};
-ghost use Rattle.table.specs.Scan.{accepted, refused, reading};
+ghost use Rattle.table.specs.Scan.{accepted, refused, narrowReading};
 ghost use Rattle.table.specs.Answer.{number, place as Table·place};
 ghost use Rattle.listing.specs.Keywords.{letters as Keywords·letters};
 ghost use Rattle.listing.specs.Listing.{cut, wordIn, wordsOf, indents, tabled, spelt, readAs, left, wordsAfter};
@@ -150,7 +150,7 @@ fn put_words(words: &[u32], out: &mut [u32])
 }
 
 fn place_accepted(words: &[u32], spaces: &[usize], out: &mut [u32]) -> Answer
-    requires { ⌜ reading (now words) ≡ accepted ⌝ }
+    requires { ⌜ narrowReading (now words) ≡ accepted ⌝ }
     ensures { λ r. ⌜ answered r ≡ tabled (now (words .entry)) (now (spaces .entry)) (length (now (out .entry))) ⌝ }
     ensures { λ r. ⌜ now (out .exit) ≡ left (answered r) (now (words .entry)) (now (out .entry)) ⌝ }
 {
@@ -173,7 +173,7 @@ fn place(words: &[u32], spaces: &[usize], out: &mut [u32]) -> Answer
     ensures { λ r. ⌜ answered r ≡ tabled (now (words .entry)) (now (spaces .entry)) (length (now (out .entry))) ⌝ }
     ensures { λ r. ⌜ now (out .exit) ≡ left (answered r) (now (words .entry)) (now (out .entry)) ⌝ }
 {
-    if let Reading::Refused(r) = table::read::read(words) {
+    if let Reading::Refused(r) = table::read::read_narrow(words) {
         return Answer::Refused(Refusal::Table(r));
     }
     place_accepted(words, spaces, out)
@@ -181,7 +181,7 @@ fn place(words: &[u32], spaces: &[usize], out: &mut [u32]) -> Answer
 
 // Why a table of more than 1,024 words is refused, by its first word.
 fn too_many(w: u32) -> table::Refusal
-    ensures { λ r. ⌜ ((ws : List ℕ) → 1024 < length ws → getD ws 0 0 ≡ w → reading ws ≡ refused (number r) (Table·place r)) ⌝ }
+    ensures { λ r. ⌜ ((ws : List ℕ) → 1024 < length ws → getD ws 0 0 ≡ w → narrowReading ws ≡ refused (number r) (Table·place r)) ⌝ }
 {
     if kind_of(w) == 1 {
         table::Refusal::TooManyWords

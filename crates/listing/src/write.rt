@@ -11,7 +11,7 @@ ghost use mathlib.Core.List.{_++_};
 ghost use Prim.Native.Nat.{_+_, _*_, _≤_, _<_};
 ghost use lib.ListN.{length, take, drop, replicate};
 ghost use Rattle.table.specs.Words.{kind};
-ghost use Rattle.table.specs.Scan.{accepted, reading};
+ghost use Rattle.table.specs.Scan.{accepted, narrowReading};
 ghost use Rattle.text.specs.Writing.{Wrote};
 ghost use Rattle.listing.specs.Keywords.{letters as Keywords·letters};
 ghost use Rattle.listing.specs.Spelling.{space, spelled};
@@ -51,7 +51,7 @@ fn put_line(letters: &[u8], w: u32, d: u8, out: &mut [u8], at: usize) -> usize
 
 // The length of the listing.
 fn text_size(letters: &[u8], words: &[u32], depths: &[u8]) -> usize
-    requires { ⌜ (now letters ≡ Keywords·letters) × (reading (now words) ≡ accepted) ⌝ }
+    requires { ⌜ (now letters ≡ Keywords·letters) × (narrowReading (now words) ≡ accepted) ⌝ }
     requires { ⌜ take (length (now words)) (now depths) ≡ Listing·depths (now words) ⌝ }
     ensures { λ r. ⌜ r ≡ length (listing (now (words .entry))) ⌝ }
 {
@@ -67,7 +67,7 @@ fn text_size(letters: &[u8], words: &[u32], depths: &[u8]) -> usize
 
 // The lines of all words.
 fn put_lines(letters: &[u8], words: &[u32], depths: &[u8], out: &mut [u8])
-    requires { ⌜ (now letters ≡ Keywords·letters) × (reading (now words) ≡ accepted) ⌝ }
+    requires { ⌜ (now letters ≡ Keywords·letters) × (narrowReading (now words) ≡ accepted) ⌝ }
     requires { ⌜ take (length (now words)) (now depths) ≡ Listing·depths (now words) ⌝ }
     requires { ⌜ length (listing (now words)) ≤ length (now out) ⌝ }
     ensures { λ _. ⌜ now (out .exit) ≡ listing (now (words .entry)) ++ drop (length (listing (now (words .entry)))) (now (out .entry)) ⌝ }
@@ -81,7 +81,7 @@ fn put_lines(letters: &[u8], words: &[u32], depths: &[u8], out: &mut [u8])
 }
 
 fn write_accepted(words: &[u32], out: &mut [u8]) -> Answer
-    requires { ⌜ reading (now words) ≡ accepted ⌝ }
+    requires { ⌜ narrowReading (now words) ≡ accepted ⌝ }
     ensures { λ r. ⌜ answered r ≡ written (now (words .entry)) (length (now (out .entry))) ⌝ }
     ensures { λ r. ⌜ now (out .exit) ≡ left (answered r) (listing (now (words .entry))) (now (out .entry)) ⌝ }
 {
@@ -104,7 +104,7 @@ pub fn write(words: &[u32], out: &mut [u8]) -> Answer
     ensures answer { λ r. ⌜ answered r ≡ written (now (words .entry)) (length (now (out .entry))) ⌝ }
     ensures text { λ _. ⌜ now (out .exit) ≡ textAfter (now (words .entry)) (now (out .entry)) ⌝ }
 {
-    if let Reading::Refused(r) = table::read::read(words) {
+    if let Reading::Refused(r) = table::read::read_narrow(words) {
         return Answer::Refused(Refusal::Table(r));
     }
     write_accepted(words, out)

@@ -8,84 +8,85 @@ use native.Mathlib.Decide.{decLt, ℕ-discrete}
 use native.Mathlib.Omega.{arith}
 use borrow.Author.Tests.{lt-ltb, le-ltb, eqb-true, eq-eqb}
 use lib.Dec.{T, eqb, ltb, ltb→lt, lt→ltb, lit<}
-use lib.ListN.{length, getD, take, drop}
+use lib.ListN.{length, getD, take, drop, replicate}
 use Rattle.permset.specs.Sets.{member}
 use Rattle.permset.proofs.Laws.{member-empty}
 use Rattle.table.specs.Scan.{accepted, reading}
 use Rattle.table.specs.Code.{Code, code}
-use Rattle.calculus.specs.Elements.{makes}
+use Rattle.calculus.specs.Elements.{plain, makes}
 use Rattle.calculus.specs.Layout.{bit, mark, pour, rowWords, Words}
 use Rattle.calculus.proofs.Digits.{T-and, T-fst, T-snd, T-true}
-use Rattle.calculus.proofs.Slices.{bit-short, pour-words, pour-adds, pour-new, pour-has, length-mark, mark-words, mark-new, mark-has}
-use Rattle.calculus.proofs.Masks.{words-two, full-words}
+use Rattle.calculus.proofs.Slices.{pour-words, pour-adds, pour-new, pour-has, length-mark, mark-words, mark-new, mark-has}
+use Rattle.rows.specs.declared.layout.Layout.{Layout}
+use Rattle.rows.specs.Laid.{LaidOut}
+use Rattle.rows.proofs.Full.{full, full-bit, full-words, full-short}
 use Rattle.masks.specs.declared.Sort.{Sort}
 use Rattle.masks.specs.declared.Sort.the-variants as sorts
 use Rattle.rows.specs.Mask.{Mask}
 use Rattle.masks.specs.Masks.{Masked, property, makingNumber, wordMakes, sortHas, markIf, markWord, plainMasks, firstWord, Filled}
 use Rattle.masks.proofs.Sorts.{plainHas, plain-property, made-property, word-making, and-yes, and-no, both, if-at, if-other, if-length, if-words, mask-part}
 
-pub row-fits : (ws : List ℕ) (row : ℕ) → row ≡ rowWords (code ws) → 64 + length ws ≤ 32 * row
-unfolding rowWords code
-row-fits ws row r = omega arith
-
 -- ---- the plain elements
 
-module _ (zeros : List ℕ) (row : ℕ) (z : (k : ℕ) → getD zeros k 0 ≡ 0) (two : 2 ≤ row) (room : 4 * row ≤ length zeros) where
+module _ (zeros : List ℕ) (row lead : ℕ) (z : (k : ℕ) → getD zeros k 0 ≡ 0) (some : 1 ≤ lead) (most : lead ≤ row) (room : 4 * row ≤ length zeros) where
   zero-digit : (d : ℕ) → bit zeros d ≡ false
   unfolding bit
   zero-digit d = ap (λ (x : ℕ). member x (d % 32)) (z (d / 32)) ∙ member-empty (d % 32)
 
-  plain-words : Words (plainMasks row zeros)
+  plain-words : Words (plainMasks row lead zeros)
   unfolding plainMasks
   plain-words =
-      pour-words (mark zeros (32 * row + 7)) (3 * row) (4294967295 ∷ 4294967295 ∷ [])
-      (mark-words zeros (32 * row + 7) (λ k. rw (z k) (lit< tt)))
-      (λ k. words-two 4294967295 4294967295 (lit< tt) (lit< tt) k)
+      pour-words (mark zeros (32 * row + 7)) (3 * row) (replicate lead full)
+      (mark-words zeros (32 * row + 7) (λ k. rw (z k) (lit< tt))) (full-words lead)
 
-  plain-new : (d : ℕ) → T (bit (plainMasks row zeros) d) → (d ≡ 32 * row + 7) ⊎ ((96 * row ≤ d) × (d < 96 * row + 64))
+  plain-new : (d : ℕ) → T (bit (plainMasks row lead zeros) d) → (d ≡ 32 * row + 7) ⊎ ((96 * row ≤ d) × (d < 96 * row + 32 * lead))
   unfolding plainMasks
   plain-new d t =
       ⊎-elim
       (λ x. ⊎-elim (λ y. absurd (subst T (zero-digit d) y)) (λ e. inl e) (mark-new zeros (32 * row + 7) d x))
-      (λ x. let s : d - 32 * (3 * row) < 64 = bit-short (4294967295 ∷ 4294967295 ∷ []) (d - 32 * (3 * row)) (x .1) in let l : 32 * (3 * row) ≤ d = x .0 in inr (omega arith, omega arith))
-      (pour-new (mark zeros (32 * row + 7)) (3 * row) (4294967295 ∷ 4294967295 ∷ []) d t)
+      (λ x. let s : d - 32 * (3 * row) < 32 * lead = full-short lead (d - 32 * (3 * row)) (x .1) in
+      let l : 32 * (3 * row) ≤ d = x .0 in inr (omega arith, omega arith))
+      (pour-new (mark zeros (32 * row + 7)) (3 * row) (replicate lead full) d t)
 
-  plain-seven : T (bit (plainMasks row zeros) (32 * row + 7))
+  plain-seven : T (bit (plainMasks row lead zeros) (32 * row + 7))
   unfolding plainMasks
   plain-seven = pour-adds (mark zeros (32 * row + 7)) (3 * row) _ (32 * row + 7) (mark-has zeros (32 * row + 7) (omega arith))
 
-  plain-sent : (v : ℕ) → v < 64 → T (bit (plainMasks row zeros) (32 * (3 * row) + v))
+  plain-sent : (v : ℕ) → v < 32 * lead → T (bit (plainMasks row lead zeros) (32 * (3 * row) + v))
   unfolding plainMasks
   plain-sent v h =
-      pour-has (mark zeros (32 * row + 7)) (3 * row) (4294967295 ∷ 4294967295 ∷ []) v (omega (arith, length-mark zeros (32 * row + 7)))
-      (subst T (sym (full-words v h)) tt)
+      pour-has (mark zeros (32 * row + 7)) (3 * row) (replicate lead full) v (omega (arith, length-mark zeros (32 * row + 7)))
+      (full-bit lead v h)
 
-  plain-digit : (s : Sort) (v : ℕ) → v < 32 * row → bit (plainMasks row zeros) (32 * firstWord s row + v) ≡ (ltb v 64 && plainHas s v)
+  abbrev below : ℕ → Bool
+  below v = ltb v (32 * lead)
+
+  plain-digit : (s : Sort) (v : ℕ) → v < 32 * row → bit (plainMasks row lead zeros) (32 * firstWord s row + v) ≡ (below v && plainHas s v)
   unfolding firstWord plainHas
   plain-digit sorts.Function v h =
       both _ _ (λ t. absurd (⊎-elim (λ e. omega arith) (λ e. omega (arith, e .0)) (plain-new (32 * 0 + v) t)))
-      (λ t. absurd (T-snd (ltb v 64) false t))
+      (λ t. absurd (T-snd (below v) false t))
   plain-digit sorts.Record v h =
       both _ _
-      (λ t. ⊎-elim (λ e. T-and (ltb v 64) (eqb v 7) (lt→ltb v 64 (omega arith)) (subst T (sym (eq-eqb v 7 (omega arith))) tt))
+      (λ t. ⊎-elim (λ e. T-and (below v) (eqb v 7) (lt→ltb v (32 * lead) (omega arith)) (subst T (sym (eq-eqb v 7 (omega arith))) tt))
       (λ e. absurd (omega (arith, e .0))) (plain-new (32 * row + v) t))
-      (λ t. let e : v ≡ 7 = eqb-true v 7 (T-true (eqb v 7) (T-snd (ltb v 64) (eqb v 7) t)) in
-      subst (λ (k : ℕ). T (bit (plainMasks row zeros) (32 * row + k))) (sym e) plain-seven)
+      (λ t. let e : v ≡ 7 = eqb-true v 7 (T-true (eqb v 7) (T-snd (below v) (eqb v 7) t)) in
+      subst (λ (k : ℕ). T (bit (plainMasks row lead zeros) (32 * row + k))) (sym e) plain-seven)
   plain-digit sorts.Cell v h =
       both _ _ (λ t. absurd (⊎-elim (λ e. omega arith) (λ e. omega (arith, e .0)) (plain-new (32 * (2 * row) + v) t)))
-      (λ t. absurd (T-snd (ltb v 64) false t))
+      (λ t. absurd (T-snd (below v) false t))
   plain-digit sorts.Message v h =
       both _ _
       (λ t. ⊎-elim (λ e. absurd (omega arith))
-      (λ e. T-and (ltb v 64) true (lt→ltb v 64 (omega (arith, e .1))) tt) (plain-new (32 * (3 * row) + v) t))
-      (λ t. plain-sent v (ltb→lt v 64 (T-fst (ltb v 64) true t)))
+      (λ e. T-and (below v) true (lt→ltb v (32 * lead) (omega (arith, e .1))) tt) (plain-new (32 * (3 * row) + v) t))
+      (λ t. plain-sent v (ltb→lt v (32 * lead) (T-fst (below v) true t)))
 
-  pub plain-filled : (ws : List ℕ) → Filled (code ws) row 64 (plainMasks row zeros)
-  plain-filled ws = record { words = plain-words; digits = λ s v h. plain-digit s v h ∙ go s v (decLt v 64) }
+  pub plain-filled : (c : Code) → plain c ≡ 32 * lead → Filled c row (32 * lead) (plainMasks row lead zeros)
+  plain-filled c n = record { words = plain-words; digits = λ s v h. plain-digit s v h ∙ go s v (decLt v (32 * lead)) }
     where
-      go : (s : Sort) (v : ℕ) → Dec (v < 64) → (ltb v 64 && plainHas s v) ≡ (ltb v 64 && property s (code ws) v)
-      go s v (yes h) = ap (λ (b : Bool). ltb v 64 && b) (plain-property ws v s h)
-      go s v (no h) = sym (and-no (ltb v 64) (plainHas s v) (le-ltb v 64 (omega arith))) ∙ and-no (ltb v 64) _ (le-ltb v 64 (omega arith))
+      go : (s : Sort) (v : ℕ) → Dec (v < 32 * lead) → (below v && plainHas s v) ≡ (below v && property s c v)
+      go s v (yes h) = ap (λ (b : Bool). below v && b) (plain-property c v s (omega arith))
+      go s v (no h) = sym (and-no (below v) (plainHas s v) (le-ltb v (32 * lead) (omega arith))) ∙ and-no (below v) _ (le-ltb v (32 * lead) (omega arith))
 
 -- ---- what a word makes
 
@@ -183,7 +184,7 @@ module _ (ws : List ℕ) (row v m : ℕ) (inside : v < 32 * row) (room : 4 * row
       (third-kept d (λ e. omega arith) ∙ second-kept d (λ e. omega arith) ∙ first-kept d (λ e. omega arith) ∙ f)
 
 -- one word more
-module _ (ws masks : List ℕ) (row p : ℕ) (r : reading ws ≡ accepted) (inside : 64 + p < 32 * row) (room : 4 * row ≤ length masks) where
+module _ (ws masks : List ℕ) (row first p : ℕ) (r : reading ws ≡ accepted) (n : plain (code ws) ≡ first) (inside : first + p < 32 * row) (room : 4 * row ≤ length masks) where
   same-test : (v n : ℕ) → (v ≡ n → ⊥) → ltb v n ≡ ltb v (n + 1)
   same-test v n h = go (decLt v n)
     where
@@ -191,48 +192,56 @@ module _ (ws masks : List ℕ) (row p : ℕ) (r : reading ws ≡ accepted) (insi
       go (yes l) = lt-ltb v n l ∙ sym (lt-ltb v (n + 1) (omega arith))
       go (no l) = le-ltb v n (omega arith) ∙ sym (le-ltb v (n + 1) (omega arith))
 
-  pub one-more : (m : ℕ) → m ≡ wordMakes (getD ws p 0) → Filled (code ws) row (64 + p) masks
-      → Filled (code ws) row (64 + (p + 1)) (markWord row (64 + p) m masks)
+  pub one-more : (m : ℕ) → m ≡ wordMakes (getD ws p 0) → Filled (code ws) row (first + p) masks
+      → Filled (code ws) row (first + (p + 1)) (markWord row (first + p) m masks)
   one-more m e f =
       record {
-        words = word-words masks row (64 + p) m inside room (f .words);
-        digits = λ s v h. go s v h (ℕ-discrete v (64 + p)) ∙ ap (λ (n : ℕ). ltb v n && property s (code ws) v) (omega arith);
+        words = word-words masks row (first + p) m inside room (f .words);
+        digits = λ s v h. go s v h (ℕ-discrete v (first + p)) ∙ ap (λ (n : ℕ). ltb v n && property s (code ws) v) (omega arith);
       }
     where
-      made : (s : Sort) → sortHas s m ≡ property s (code ws) (64 + p)
+      made : (s : Sort) → sortHas s m ≡ property s (code ws) (first + p)
       made s =
-          let q : p ≡ 64 + p - 64 = omega arith in
+          let q : p ≡ first + p - plain (code ws) = omega arith in
           ap (sortHas s) (e ∙ word-making ws r p ∙ ap (λ (k : ℕ). makingNumber (makes (code ws .node k))) q)
-          ∙ made-property ws (64 + p) s (omega arith)
+          ∙ made-property (code ws) (first + p) s (omega arith)
 
-      go : (s : Sort) (v : ℕ) → v < 32 * row → Dec (v ≡ 64 + p)
-          → bit (markWord row (64 + p) m masks) (32 * firstWord s row + v) ≡ (ltb v (64 + p + 1) && property s (code ws) v)
+      go : (s : Sort) (v : ℕ) → v < 32 * row → Dec (v ≡ first + p)
+          → bit (markWord row (first + p) m masks) (32 * firstWord s row + v) ≡ (ltb v (first + p + 1) && property s (code ws) v)
       go s v h (yes k) =
-          subst (λ (u : ℕ). bit (markWord row (64 + p) m masks) (32 * firstWord s row + u) ≡ (ltb u (64 + p + 1) && property s (code ws) u)) (sym k)
-          (word-set masks row (64 + p) m inside room s
-          (f .digits s (64 + p) inside ∙ sym (and-no (ltb (64 + p) (64 + p)) _ (le-ltb (64 + p) (64 + p) (omega arith))))
-          ∙ made s ∙ and-yes (ltb (64 + p) (64 + p + 1)) _ (lt-ltb (64 + p) (64 + p + 1) (omega arith)))
+          subst (λ (u : ℕ). bit (markWord row (first + p) m masks) (32 * firstWord s row + u) ≡ (ltb u (first + p + 1) && property s (code ws) u)) (sym k)
+          (word-set masks row (first + p) m inside room s
+          (f .digits s (first + p) inside ∙ sym (and-no (ltb (first + p) (first + p)) _ (le-ltb (first + p) (first + p) (omega arith))))
+          ∙ made s ∙ and-yes (ltb (first + p) (first + p + 1)) _ (lt-ltb (first + p) (first + p + 1) (omega arith)))
       go s v h (no k) =
-          word-kept masks row (64 + p) m inside room s v h k
+          word-kept masks row (first + p) m inside room s v h k
           ∙ f .digits s v h
-          ∙ ap (λ (b : Bool). b && property s (code ws) v) (same-test v (64 + p) k)
+          ∙ ap (λ (b : Bool). b && property s (code ws) v) (same-test v (first + p) k)
 
 -- ---- all of them
 
-module _ (ws masks : List ℕ) (row : ℕ) (r : row ≡ rowWords (code ws)) (room : 4 * row ≤ length masks) (f : Filled (code ws) row (64 + length ws) masks) where
-  row-mask : (s : Sort) → firstWord s row + row ≤ length masks → Mask (code ws) (property s (code ws)) (take row (drop (firstWord s row) masks))
-  unfolding code
-  row-mask s h =
-      let fits : 64 + length ws ≤ 32 * row = row-fits ws row r in
-      mask-part (code ws) (property s (code ws)) masks (firstWord s row) row r h (f .words)
-      (λ v l. f .digits s v (omega arith) ∙ sym (and-yes (ltb v (64 + length ws)) _ (lt-ltb v (64 + length ws) (omega arith))))
+module _ (c : Code) (masks : List ℕ) (l : Layout) (o : LaidOut c l) where
+  pub lead-some : 1 ≤ l .lead
+  lead-some = omega (arith, o .lead)
 
-  pub masked : Masked (code ws) masks row
-  unfolding property firstWord
-  masked =
-      record {
-        functions = row-mask sorts.Function (omega arith);
-        records = row-mask sorts.Record (omega arith);
-        cells = row-mask sorts.Cell (omega arith);
-        messages = row-mask sorts.Message (omega arith);
-      }
+  pub lead-fits : 32 * l .lead + c .size ≤ 32 * l .row
+  unfolding rowWords
+  lead-fits = omega (arith, o .lead, o .row)
+
+  module _ (room : 4 * l .row ≤ length masks) (f : Filled c (l .row) (32 * l .lead + c .size) masks) where
+    row-mask : (s : Sort) → firstWord s (l .row) + l .row ≤ length masks
+        → Mask c (property s c) (take (l .row) (drop (firstWord s (l .row)) masks))
+    row-mask s h =
+        mask-part c (property s c) masks (firstWord s (l .row)) (l .row) (sym (o .row)) h (f .words)
+        (λ v b. f .digits s v (omega (arith, lead-fits, o .lead))
+        ∙ sym (and-yes (ltb v (32 * l .lead + c .size)) _ (lt-ltb v (32 * l .lead + c .size) (omega (arith, o .lead)))))
+
+    pub masked : Masked c masks (l .row)
+    unfolding property firstWord
+    masked =
+        record {
+          functions = row-mask sorts.Function (omega arith);
+          records = row-mask sorts.Record (omega arith);
+          cells = row-mask sorts.Cell (omega arith);
+          messages = row-mask sorts.Message (omega arith);
+        }

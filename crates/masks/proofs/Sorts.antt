@@ -21,11 +21,11 @@ use Rattle.table.specs.Words.{kind, argument, firstKind, termsByKind, termOf}
 use Rattle.table.specs.Item.{handlerAt, itemAt}
 use Rattle.table.proofs.Items.{item-block, item-gap, item-term}
 use Rattle.table.proofs.Nodes.{itemNode, node-item}
-use Rattle.calculus.specs.Elements.{Making, nothing, aFunction, aRecord, aCell, leafMakes, oneMakes, makes, making, elements, isFunction, isRecord, isCell}
+use Rattle.calculus.specs.Elements.{Making, nothing, aFunction, aRecord, aCell, leafMakes, oneMakes, makes, making, plain, elements, isFunction, isRecord, isCell}
 use Rattle.calculus.specs.Elements.{sendable, anyRecord}
 use Rattle.calculus.specs.Layout.{bit, mark, rowWords, Words}
 use Rattle.calculus.proofs.Digits.{T-true}
-use Rattle.calculus.proofs.Slices.{length-mark, mark-words, mark-adds, mark-new, mark-has}
+use Rattle.calculus.proofs.Slices.{length-mark, mark-words, mark-adds, mark-new, mark-has, part-words}
 use Rattle.masks.specs.declared.Sort.{Sort}
 use Rattle.masks.specs.declared.Sort.the-variants as sorts
 use Rattle.rows.specs.Mask.{Mask, madeAs}
@@ -143,22 +143,22 @@ cell-number aFunction = refl
 cell-number aRecord = refl
 cell-number aCell = refl
 
-module _ (ws : List ℕ) (v : ℕ) where
-  pub plain-property : (s : Sort) → v < 64 → plainHas s v ≡ property s (code ws) v
-  unfolding plainHas property anyRecord sendable code
-  plain-property sorts.Function h = and-no (leb 64 v) _ (lt-leb 64 v h)
-  plain-property sorts.Record h = or-no (eqb v 7) _ (sym (and-no (leb 64 v) _ (lt-leb 64 v h)))
-  plain-property sorts.Cell h = and-no (leb 64 v) _ (lt-leb 64 v h)
-  plain-property sorts.Message h = or-yes (ltb v 64) _ (lt-ltb v 64 h)
+module _ (c : Code) (v : ℕ) where
+  pub plain-property : (s : Sort) → v < plain c → plainHas s v ≡ property s c v
+  unfolding plainHas property anyRecord sendable
+  plain-property sorts.Function h = and-no (leb (plain c) v) _ (lt-leb (plain c) v h)
+  plain-property sorts.Record h = or-no (eqb v 7) _ (sym (and-no (leb (plain c) v) _ (lt-leb (plain c) v h)))
+  plain-property sorts.Cell h = and-no (leb (plain c) v) _ (lt-leb (plain c) v h)
+  plain-property sorts.Message h = or-yes (ltb v (plain c)) _ (lt-ltb v (plain c) h)
 
-  pub made-property : (s : Sort) → 64 ≤ v → sortHas s (makingNumber (makes (code ws .node (v - 64)))) ≡ property s (code ws) v
-  unfolding sortHas property making anyRecord sendable code
-  made-property sorts.Function h = function-number _ ∙ and-yes (leb 64 v) _ (le-leb 64 v h)
+  pub made-property : (s : Sort) → plain c ≤ v → sortHas s (makingNumber (makes (c .node (v - plain c)))) ≡ property s c v
+  unfolding sortHas property making anyRecord sendable
+  made-property sorts.Function h = function-number _ ∙ and-yes (leb (plain c) v) _ (le-leb (plain c) v h)
   made-property sorts.Record h =
-      record-number _ ∙ and-yes (leb 64 v) _ (le-leb 64 v h) ∙ or-first (eqb v 7) _ (ne-eqb v 7 (λ e. let z : ⊥ = omega arith in z))
-  made-property sorts.Cell h = cell-number _ ∙ and-yes (leb 64 v) _ (le-leb 64 v h)
+      record-number _ ∙ and-yes (leb (plain c) v) _ (le-leb (plain c) v h) ∙ or-first (eqb v 7) _ (ne-eqb v 7 (λ e. let z : ⊥ = omega arith in z))
+  made-property sorts.Cell h = cell-number _ ∙ and-yes (leb (plain c) v) _ (le-leb (plain c) v h)
   made-property sorts.Message h =
-      ap₂ (λ (a b : Bool). not (a || b)) (function-number _) (cell-number _) ∙ or-first (ltb v 64) _ (le-ltb v 64 h)
+      ap₂ (λ (a b : Bool). not (a || b)) (function-number _) (cell-number _) ∙ or-first (ltb v (plain c)) _ (le-ltb v (plain c) h)
 
 -- ---- digits set
 
@@ -204,21 +204,12 @@ module _ (c : Code) (q : ℕ → Bool) (ws : List ℕ) (at row : ℕ) where
       ap (λ (x : ℕ). member x (v % 32)) (getD-take row (drop at ws) (v / 32) 0 (omega arith) ∙ getD-drop at ws (v / 32) 0)
       ∙ sym (ap₂ (λ (k i : ℕ). member (getD ws k 0) i) d m)
 
-  part-word : (k : ℕ) → Words ws → getD (take row (drop at ws)) k 0 < 2 ^ 32
-  part-word k w = go (decLt k row)
-    where
-      go : Dec (k < row) → getD (take row (drop at ws)) k 0 < 2 ^ 32
-      go (yes h) = rw (getD-take row (drop at ws) k 0 h, getD-drop at ws k 0) (w (at + k))
-      go (no h) =
-          let l : length (take row (drop at ws)) ≤ k = omega (arith, length-take row (drop at ws)) in
-          rw (List·getD-eq-default (take row (drop at ws)) 0 l) (lit< tt)
-
   pub mask-part : row ≡ rowWords c → at + row ≤ length ws → Words ws → ((v : ℕ) → v < elements c → bit ws (32 * at + v) ≡ q v)
       → Mask c q (take row (drop at ws))
   unfolding rowWords
   mask-part e l w f =
       record {
         long = length-take-le row (drop at ws) (simp length-drop (omega arith)) ∙ e;
-        words = λ k. part-word k w;
+        words = part-words row at ws w;
         digits = λ v h. part-digit v (omega arith) ∙ f v h;
       }

@@ -4,7 +4,7 @@ use mathlib.Core.Path.{_≡_}
 use mathlib.Core.Bool.{Bool, true, false, not, _&&_, _||_}
 use mathlib.Core.List.{List, [], _∷_}
 use lib.Dec.{eqb, ltb}
-use lib.ListN.{getD, take, drop}
+use lib.ListN.{getD, take, drop, replicate}
 use Rattle.table.specs.Words.{kind, firstKind}
 use Rattle.table.specs.Code.{Code}
 use Rattle.calculus.specs.Elements.{Making, nothing, aFunction, aRecord, aCell, isFunction, isCell, sendable, anyRecord}
@@ -70,9 +70,9 @@ markWord row v m ws =
     (markIf (sortHas sorts.Cell m) (markIf (sortHas sorts.Record m) (markIf (sortHas sorts.Function m) ws v) (32 * row + v)) (64 * row + v))
     (96 * row + v)
 
--- the masks with their plain elements: 7 among the records, and all that may be sent
-unfoldable pub plainMasks : ℕ → List ℕ → List ℕ
-plainMasks row ws = pour (mark ws (32 * row + 7)) (3 * row) (4294967295 ∷ 4294967295 ∷ [])
+-- the masks with their plain elements, which fill `lead` words: 7 among the records, and all that may be sent
+unfoldable pub plainMasks : (row lead : ℕ) → List ℕ → List ℕ
+plainMasks row lead ws = pour (mark ws (32 * row + 7)) (3 * row) (replicate lead 4294967295)
 
 -- the first word of the mask of a sort
 unfoldable pub firstWord : Sort → ℕ → ℕ

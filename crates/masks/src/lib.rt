@@ -5,10 +5,12 @@ use rows::row::set;
 use table::words::kind_of;
 ghost use mathlib.Core.Path.{_≡_};
 ghost use Prim.Native.Nat.{ℕ, _+_, _*_, _<_, _≤_};
-ghost use lib.ListN.{length, getD};
+ghost use lib.ListN.{length, getD, replicate};
 ghost use Rattle.table.specs.Scan.{accepted, reading};
 ghost use Rattle.table.specs.Code.{code};
-ghost use Rattle.calculus.specs.Layout.{mark, rowWords};
+ghost use Rattle.calculus.specs.Elements.{plain};
+ghost use Rattle.calculus.specs.Layout.{mark, pour};
+ghost use Rattle.rows.specs.Laid.{LaidOut};
 ghost use Rattle.masks.specs.Masks.{Masked, wordMakes, sortHas, markIf, markWord, plainMasks, Filled};
 
 // The sorts of elements, in the order of their masks.
@@ -85,39 +87,50 @@ fn set_word(masks: &mut [u32], row: usize, v: usize, m: u32)
     set_sort(masks, Sort::Message, 96 * row + v, m);
 }
 
-// Sets what the words make.
-fn fill_made(words: &[u32], masks: &mut [u32], row: usize)
-    requires { ⌜ reading (now words) ≡ accepted ⌝ }
-    requires { ⌜ (64 + length (now words) ≤ 32 * row) × (4 * row ≤ length (now masks)) × (length (now masks) ≤ 256) ⌝ }
-    requires { ⌜ Filled (code (now words)) row 64 (now masks) ⌝ }
-    ensures { λ _. ⌜ Filled (code (now (words .entry))) row (64 + length (now (words .entry))) (now (masks .exit)) ⌝ }
+// Sets what the words make, the first of them the element `first`.
+fn fill_made(words: &[u32], masks: &mut [u32], row: usize, first: usize)
+    requires { ⌜ (reading (now words) ≡ accepted) × (plain (code (now words)) ≡ first) ⌝ }
+    requires { ⌜ (first + length (now words) ≤ 32 * row) × (4 * row ≤ length (now masks)) × (length (now masks) ≤ 256) ⌝ }
+    requires { ⌜ Filled (code (now words)) row first (now masks) ⌝ }
+    ensures { λ _. ⌜ Filled (code (now (words .entry))) row (first + length (now (words .entry))) (now (masks .exit)) ⌝ }
 {
     let mut p = 0;
     while p < words.len() {
-        set_word(masks, row, 64 + p, word_makes(words[p]));
+        set_word(masks, row, first + p, word_makes(words[p]));
         p += 1;
     }
 }
 
-// Sets the plain elements: 7, the opponent's record, and all that may be sent.
-fn fill_plain(masks: &mut [u32], row: usize)
-    requires { ⌜ (2 ≤ row) × (4 * row ≤ length (now masks)) × (length (now masks) ≤ 256) ⌝ }
-    ensures { λ _. ⌜ now (masks .exit) ≡ plainMasks row (now (masks .entry)) ⌝ }
+// Sets all digits of n words.
+fn set_words(masks: &mut [u32], at: usize, n: usize)
+    requires { ⌜ (at + n ≤ length (now masks)) × (length (now masks) ≤ 256) ⌝ }
+    ensures { λ _. ⌜ now (masks .exit) ≡ pour (now (masks .entry)) at (replicate n 4294967295) ⌝ }
+{
+    let mut k = 0;
+    while k < n {
+        set(masks, at + k, 4294967295);
+        k += 1;
+    }
+}
+
+// Sets the plain elements, which fill `lead` words: 7, the opponent's record, and all that may be sent.
+fn fill_plain(masks: &mut [u32], row: usize, lead: usize)
+    requires { ⌜ (1 ≤ lead) × (lead ≤ row) × (4 * row ≤ length (now masks)) × (length (now masks) ≤ 256) ⌝ }
+    ensures { λ _. ⌜ now (masks .exit) ≡ plainMasks row lead (now (masks .entry)) ⌝ }
 {
     set_digit(masks, 32 * row + 7);
-    set(masks, 3 * row, 4294967295);
-    set(masks, 3 * row + 1, 4294967295);
+    set_words(masks, 3 * row, lead);
 }
 
 // Fills the masks of an accepted table into a slice of zeros.
 pub fn fill_masks(words: &[u32], masks: &mut [u32], l: Layout)
-    requires { ⌜ reading (now words) ≡ accepted ⌝ }
-    requires { ⌜ l .row ≡ rowWords (code (now words)) ⌝ }
+    requires { ⌜ (reading (now words) ≡ accepted) × LaidOut (code (now words)) l ⌝ }
     requires { ⌜ ((k : ℕ) → getD (now masks) k 0 ≡ 0) ⌝ }
     requires { ⌜ (4 * l .row ≤ length (now masks)) × (length (now masks) ≤ 256) ⌝ }
     ensures { λ _. ⌜ Masked (code (now (words .entry))) (now (masks .exit)) (l .row) ⌝ }
 {
     let row = l.row;
-    fill_plain(masks, row);
-    fill_made(words, masks, row);
+    let lead = l.lead;
+    fill_plain(masks, row, lead);
+    fill_made(words, masks, row, 32 * lead);
 }

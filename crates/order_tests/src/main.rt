@@ -1,5 +1,7 @@
 // Calls for an order of document 01's sample `relay`, in slices of ones and positions of nines, of several lengths and under several ceilings. It prints the
 // first and the last word that a call may change of the estimate and of the work slice, each with the word behind it, the positions, and the reply's line.
+mod rings;
+
 use libc::STDOUT_FILENO;
 use reading_order::Ordering;
 use reading_order::order;
@@ -17,8 +19,8 @@ fn three(label: &[u8], a: u32, b: u32, c: u32) {
 }
 
 // The line of a reply.
-fn line(reply: Ordering, positions: &[u32]) {
-    let mut out = [0u8; 160];
+pub fn line(reply: Ordering, positions: &[u32]) {
+    let mut out = [0u8; 1440];
     let n = order_text::write(reply, positions, &mut out);
     console::first(&out, n);
 }
@@ -77,4 +79,5 @@ fn main() {
     show(1000, 77, 44, 0);
     show(206, 77, 43, 1);
     show(206, 76, 43, 1);
+    rings::show();
 }

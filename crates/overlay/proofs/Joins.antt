@@ -7,12 +7,12 @@ use native.Mathlib.Omega.{arith}
 use borrow.Author.Tests.{lt-ltb, le-ltb}
 use lib.ListN.{length, take, drop, set, length-append}
 use lib.Seq.{paste, take-length, take-append-seam}
-use Rattle.table.specs.Words.{wordOf, handlers, size}
-use Rattle.table.specs.Scan.{accepted, refused, reading}
+use Rattle.table.specs.Words.{wordOf, narrow, size}
+use Rattle.table.specs.Scan.{accepted, refused, narrowReading}
 use Rattle.table.proofs.read.Steps.{hit, miss, none}
 use Rattle.blocks.specs.Blocks.{blocks, tableOf, nameOf, permsOf, Good, All}
 use Rattle.blocks.proofs.Block.{good-long}
-use Rattle.blocks.proofs.Tables.{blocks-good}
+use Rattle.blocks.proofs.Narrow.{blocks-good}
 use Rattle.overlay.specs.declared.join.Put.{Put}
 use Rattle.overlay.specs.Lookup.{tablesRead, Sought, nothing, found, seek}
 use Rattle.overlay.specs.Join.{replaced, fresh, joinedBlocks, joined, written, refusal, joinFault, joinAnswer, outAfter}
@@ -48,22 +48,22 @@ module _ (os : List (List ℕ)) where
   all-replaced [] = refl
   all-replaced (b ∷ bs) = ap₂ (λ (x : List ℕ) (y : List (List ℕ)). x ∷ y) (given-replaced b) (all-replaced bs)
 
-  pub replaced-good : All Good os → (b : List ℕ) → Good b → Good (replaced os b)
+  pub replaced-good : All (Good narrow) os → (b : List ℕ) → (Good narrow) b → (Good narrow) (replaced os b)
   replaced-good h b g = go (seek (nameOf b) (permsOf b) 1 os) refl
     where
-      go : (q : Sought) → seek (nameOf b) (permsOf b) 1 os ≡ q → Good (replaced os b)
-      go nothing e = subst Good (sym (replaced-own b e)) g
-      go (found a o) e = subst Good (sym (replaced-other b a o e)) (seek-good (nameOf b) (permsOf b) Good 1 os h a o e)
+      go : (q : Sought) → seek (nameOf b) (permsOf b) 1 os ≡ q → (Good narrow) (replaced os b)
+      go nothing e = subst (Good narrow) (sym (replaced-own b e)) g
+      go (found a o) e = subst (Good narrow) (sym (replaced-other b a o e)) (seek-good (nameOf b) (permsOf b) (Good narrow) 1 os h a o e)
 
-  pub all-replaced-good : All Good os → (bs : List (List ℕ)) → All Good bs → All Good (map (replaced os) bs)
+  pub all-replaced-good : All (Good narrow) os → (bs : List (List ℕ)) → All (Good narrow) bs → All (Good narrow) (map (replaced os) bs)
   all-replaced-good h [] g = tt
   all-replaced-good h (b ∷ bs) g = (replaced-good h b (g .0), all-replaced-good h bs (g .1))
 
 -- good blocks have words
-pub some-good : (bs : List (List ℕ)) → All Good bs → some bs ≡ length bs
+pub some-good : (bs : List (List ℕ)) → All (Good narrow) bs → some bs ≡ length bs
 unfolding some
 some-good [] g = refl
-some-good (b ∷ bs) g = let l = good-long b (g .0) in some-more b bs (omega arith) ∙ ap suc (some-good bs (g .1))
+some-good (b ∷ bs) g = let l = good-long narrow b (g .0) in some-more b bs (omega arith) ∙ ap suc (some-good bs (g .1))
 
 -- ---- the overlay's new blocks
 
@@ -76,19 +76,19 @@ module _ (bs : List (List ℕ)) where
   unfolding fresh
   fresh-old o os a b e = rw (fresh, e)
 
-  pub fresh-good : (os : List (List ℕ)) → All Good os → All Good (fresh bs os)
+  pub fresh-good : (os : List (List ℕ)) → All (Good narrow) os → All (Good narrow) (fresh bs os)
   unfolding fresh
   fresh-good [] g = tt
   fresh-good (o ∷ os) g = go (seek (nameOf o) (permsOf o) 1 bs) refl (fresh-good os (g .1))
     where
-      go : (q : Sought) → seek (nameOf o) (permsOf o) 1 bs ≡ q → All Good (fresh bs os) → All Good (fresh bs (o ∷ os))
-      go nothing e r = subst (All Good) (sym (fresh-new o os e)) (g .0, r)
-      go (found a b) e r = subst (All Good) (sym (fresh-old o os a b e)) r
+      go : (q : Sought) → seek (nameOf o) (permsOf o) 1 bs ≡ q → All (Good narrow) (fresh bs os) → All (Good narrow) (fresh bs (o ∷ os))
+      go nothing e r = subst (All (Good narrow)) (sym (fresh-new o os e)) (g .0, r)
+      go (found a b) e r = subst (All (Good narrow)) (sym (fresh-old o os a b e)) r
 
   abbrev Fresh : List (List ℕ) → Type 0
   Fresh os = (flatten (map (given true bs) os) ≡ flatten (fresh bs os)) × (some (map (given true bs) os) ≡ length (fresh bs os))
 
-  pub all-fresh : (os : List (List ℕ)) → All Good os → Fresh os
+  pub all-fresh : (os : List (List ℕ)) → All (Good narrow) os → Fresh os
   unfolding flatten some fresh
   all-fresh [] g = (refl, refl)
   all-fresh (o ∷ os) g = go (seek (nameOf o) (permsOf o) 1 bs) refl (all-fresh os (g .1))
@@ -97,7 +97,7 @@ module _ (bs : List (List ℕ)) where
       go nothing e r =
           let f = fresh-new o os e in
           let w = given-own bs o true e in
-          let l = good-long o (g .0) in (
+          let l = good-long narrow o (g .0) in (
             ap₂ (λ (x y : List ℕ). x ++ y) w (r .0) ∙ sym (ap flatten f),
             ap (λ (x : List ℕ). some (x ∷ map (given true bs) os)) w
                 ∙ some-more o (map (given true bs) os) (omega arith)
@@ -147,24 +147,24 @@ module _ (base overlay : List ℕ) where
     abbrev pub words : ℕ
     words = length (joined base overlay)
 
-    pub fault-48 : handlers < count → joinFault base overlay room ≡ 48
+    pub fault-48 : narrow < count → joinFault base overlay room ≡ 48
     unfolding joinFault
-    fault-48 h = hit _ 48 _ (lt-ltb handlers count h)
+    fault-48 h = hit _ 48 _ (lt-ltb narrow count h)
 
-    module _ (few : count ≤ handlers) where
+    module _ (few : count ≤ narrow) where
       pub fault-49 : size < words → joinFault base overlay room ≡ 49
       unfolding joinFault
-      fault-49 h = miss _ 48 _ (le-ltb handlers count few) ∙ hit _ 49 _ (lt-ltb size words h)
+      fault-49 h = miss _ 48 _ (le-ltb narrow count few) ∙ hit _ 49 _ (lt-ltb size words h)
 
       module _ (short : words ≤ size) where
         pub fault-50 : room < words → joinFault base overlay room ≡ 50
         unfolding joinFault
-        fault-50 h = miss _ 48 _ (le-ltb handlers count few) ∙ miss _ 49 _ (le-ltb size words short) ∙ hit _ 50 _ (lt-ltb room words h)
+        fault-50 h = miss _ 48 _ (le-ltb narrow count few) ∙ miss _ 49 _ (le-ltb size words short) ∙ hit _ 50 _ (lt-ltb room words h)
 
         pub no-fault : words ≤ room → joinFault base overlay room ≡ 0
         unfolding joinFault
         no-fault h =
-            miss _ 48 _ (le-ltb handlers count few)
+            miss _ 48 _ (le-ltb narrow count few)
             ∙ miss _ 49 _ (le-ltb size words short)
             ∙ miss _ 50 _ (le-ltb room words h)
             ∙ none
@@ -189,7 +189,7 @@ module _ (base overlay : List ℕ) where
     pub ended : end ≡ length (joined base overlay)
     pub listed : end ≤ length before → take end (set after 0 (wordOf 1 count)) ≡ joined base overlay
 
-  pub ready : reading base ≡ accepted → reading overlay ≡ accepted → {first second : Put} {z z′ z″ : List ℕ} → 0 < length z
+  pub ready : narrowReading base ≡ accepted → narrowReading overlay ≡ accepted → {first second : Put} {z z′ z″ : List ℕ} → 0 < length z
       → length z′ ≡ length z → PutTo 1 (map (given false (blocks overlay)) (blocks base)) z z′ first
       → PutTo (first .end) (map (given true (blocks base)) (blocks overlay)) z′ z″ second
       → Ready z z″ (first .count + second .count) (second .end)
@@ -223,12 +223,12 @@ module _ (base overlay : List ℕ) where
     stopped : (n : ℕ) → joinFault base overlay (length out) ≡ suc n → Stopped (suc n)
     stopped n e = let q = join-stopped base overlay out t n e in (sym (q .0), sym (q .1))
 
-    pub too-many-handlers : handlers < count → Stopped 48
-    too-many-handlers h = stopped 47 (fault-48 base overlay (length out) (subst (λ (n : ℕ). handlers < n) (r .counted) h))
+    pub too-many-handlers : narrow < count → Stopped 48
+    too-many-handlers h = stopped 47 (fault-48 base overlay (length out) (subst (λ (n : ℕ). narrow < n) (r .counted) h))
 
-    module _ (few : count ≤ handlers) where
-      few-joined : length (joinedBlocks (blocks base) (blocks overlay)) ≤ handlers
-      few-joined = subst (λ (n : ℕ). n ≤ handlers) (r .counted) few
+    module _ (few : count ≤ narrow) where
+      few-joined : length (joinedBlocks (blocks base) (blocks overlay)) ≤ narrow
+      few-joined = subst (λ (n : ℕ). n ≤ narrow) (r .counted) few
 
       pub too-many-words : size < end → Stopped 49
       too-many-words h = stopped 48 (fault-49 base overlay (length out) few-joined (subst (λ (n : ℕ). size < n) (r .ended) h))

@@ -3,8 +3,8 @@ use Prim.Native.Nat.{ℕ, _+_, _^_}
 use mathlib.Core.Path.{_≡_, refl}
 use mathlib.Core.List.{List, [], _∷_, _++_, flatten}
 use lib.ListN.{replicate}
-use Rattle.table.specs.Words.{wordOf, parts, partsByKind, arity, limit, limitsByKind}
-use Rattle.table.specs.Scan.{firstOf, has, tests, fault, missing, keep, under, next, scan, reading}
+use Rattle.table.specs.Words.{wordOf, parts, partsByKind, arity, limit, limitsByKind, namesOf}
+use Rattle.table.specs.Scan.{firstOf, has, tests, fault, missing, keep, under, next, scan, reading, narrowReading}
 use Rattle.table.specs.Code.{skip}
 use Rattle.blocks.specs.Blocks.{blockLength, cut, blocks, tableOf}
 use Rattle.overlay.specs.Lookup.{tablesRead, seek, inBase, inOverlay, refusal, placeOf, lookedUp}
@@ -39,18 +39,18 @@ pub places : (
     ∷ placeOf relay (wordOf 1 0 ∷ wordOf 1 0 ∷ []) 0 8
     ∷ [])
     ≡ (inOverlay 5 9 ∷ inBase 1 7 ∷ refusal 47 0 ∷ refusal 3 0 ∷ refusal 112 1 ∷ [])
-unfolding relay over placeOf tablesRead reading scan fault firstOf tests has missing keep next under limit limitsByKind parts partsByKind blocks cut blockLength skip arity seek
+unfolding relay over placeOf tablesRead narrowReading reading scan fault firstOf tests has missing keep next under namesOf limit limitsByKind parts partsByKind blocks cut blockLength skip arity seek
 places = refl
 
 pub words : lookedUp relay over 1 2 ≡ wordOf 2 1 ∷ wordOf 3 2 ∷ wordOf 4 0 ∷ wordOf 28 0 ∷ []
-unfolding relay over lookedUp tablesRead reading scan fault firstOf tests has missing keep next under limit limitsByKind parts partsByKind blocks cut blockLength skip arity seek
+unfolding relay over lookedUp tablesRead narrowReading reading scan fault firstOf tests has missing keep next under namesOf limit limitsByKind parts partsByKind blocks cut blockLength skip arity seek
 words = refl
 
 -- a join with a word to spare, and without room
 pub joins : (outAfter relay over (replicate 16 7) ∷ outAfter relay over (replicate 14 7) ∷ []) ≡ ((both ++ 7 ∷ []) ∷ replicate 14 7 ∷ [])
-unfolding relay over both outAfter joinAnswer joinFault joined replaced fresh tableOf flatten tablesRead reading scan fault firstOf tests has missing keep next under limit limitsByKind parts partsByKind blocks cut blockLength skip arity seek
+unfolding relay over both outAfter joinAnswer joinFault joined replaced fresh tableOf flatten tablesRead narrowReading reading scan fault firstOf tests has missing keep next under namesOf limit limitsByKind parts partsByKind blocks cut blockLength skip arity seek
 joins = refl
 
 pub short : joinAnswer relay over 14 ≡ join.refusal 50 0
-unfolding relay over joinAnswer joinFault joined replaced fresh tableOf flatten tablesRead reading scan fault firstOf tests has missing keep next under limit limitsByKind parts partsByKind blocks cut blockLength skip arity seek
+unfolding relay over joinAnswer joinFault joined replaced fresh tableOf flatten tablesRead narrowReading reading scan fault firstOf tests has missing keep next under namesOf limit limitsByKind parts partsByKind blocks cut blockLength skip arity seek
 short = refl

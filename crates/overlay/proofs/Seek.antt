@@ -9,10 +9,11 @@ use native.Mathlib.Omega.{arith}
 use lib.Dec.{eqb}
 use lib.ListN.{length, getD, take, drop}
 use lib.Seq.{getD-drop, getD-take}
-use Rattle.table.specs.Words.{argument}
-use Rattle.table.specs.Scan.{accepted, reading}
+use Rattle.table.specs.Words.{narrow, argument}
+use Rattle.table.specs.Scan.{accepted, narrowReading}
 use Rattle.blocks.specs.Blocks.{cut, blocks, All}
-use Rattle.blocks.proofs.Tables.{Cuts, table}
+use Rattle.blocks.proofs.Tables.{Cuts}
+use Rattle.blocks.proofs.Narrow.{table}
 use Rattle.blocks.proofs.Places.{Here, here}
 use Rattle.overlay.specs.Lookup.{keyed, nothing, found, seek, sought}
 use Rattle.overlay.specs.Parts.{part}
@@ -54,7 +55,7 @@ module _ (n s : ℕ) where
       go false k later = later (sym (seek-no at c bs k) ∙ e)
 
   -- from a place of the table
-  module _ (ws : List ℕ) (m at : ℕ) (r : Here ws m at) where
+  module _ (ws : List ℕ) (m at : ℕ) (r : Here narrow ws m at) where
     pub seek-here : keyed n s (drop at ws) ≡ true → seek n s at (cut m (drop at ws)) ≡ found at (take (r .size) (drop at ws))
     seek-here e =
         ap (seek n s at) (r .split) ∙ seek-yes at _ _ (keyed-take (r .size) (drop at ws) (r .long) ∙ e)
@@ -69,14 +70,14 @@ module _ (n s : ℕ) where
   abbrev Part : List ℕ → ℕ → List ℕ → Type 0
   Part ws a b = (a + length b ≤ length ws) × (take (length b) (drop a ws) ≡ b)
 
-  seek-part : (ws : List ℕ) (m at a : ℕ) (b : List ℕ) → at ≤ length ws → Cuts m (drop at ws)
+  seek-part : (ws : List ℕ) (m at a : ℕ) (b : List ℕ) → at ≤ length ws → Cuts narrow m (drop at ws)
       → seek n s at (cut m (drop at ws)) ≡ found a b → Part ws a b
   unfolding cut
   seek-part ws zero at a b h c e = absurd (nothing-not-found (sym (seek-none at) ∙ e))
-  seek-part ws (suc m) at a b h c e = go (here ws (suc m) at (omega arith) h c) (keyed n s (drop at ws)) refl (λ q. seek-part ws m q a b)
+  seek-part ws (suc m) at a b h c e = go (here narrow ws (suc m) at (omega arith) h c) (keyed n s (drop at ws)) refl (λ q. seek-part ws m q a b)
     where
-      go : Here ws (suc m) at → (x : Bool) → keyed n s (drop at ws) ≡ x
-          → ((q : ℕ) → q ≤ length ws → Cuts m (drop q ws) → seek n s q (cut m (drop q ws)) ≡ found a b → Part ws a b) → Part ws a b
+      go : Here narrow ws (suc m) at → (x : Bool) → keyed n s (drop at ws) ≡ x
+          → ((q : ℕ) → q ≤ length ws → Cuts narrow m (drop q ws) → seek n s q (cut m (drop q ws)) ≡ found a b → Part ws a b) → Part ws a b
       go r true k later =
           let f = sym e ∙ seek-here ws (suc m) at r k in
           let x : a ≡ at = cc in
@@ -85,10 +86,10 @@ module _ (n s : ℕ) where
           (omega arith, ap₂ (λ (i j : ℕ). take i (drop j ws)) l x ∙ sym y)
       go r false k later =
           let one : suc m - 1 ≡ m = sub-one (suc m) in
-          later (at + r .size) (r .inside) (subst (λ (i : ℕ). Cuts i (drop (at + r .size) ws)) one (r .rest))
+          later (at + r .size) (r .inside) (subst (λ (i : ℕ). Cuts narrow i (drop (at + r .size) ws)) one (r .rest))
           (sym (seek-on ws (suc m) at r k ∙ ap (λ (i : ℕ). seek n s (at + r .size) (cut i (drop (at + r .size) ws))) one) ∙ e)
 
-  pub sought-part : (ws : List ℕ) → reading ws ≡ accepted → (a : ℕ) (b : List ℕ) → sought ws n s ≡ found a b
+  pub sought-part : (ws : List ℕ) → narrowReading ws ≡ accepted → (a : ℕ) (b : List ℕ) → sought ws n s ≡ found a b
       → (a + length b ≤ length ws) × (part a (a + length b) ws ≡ b)
   unfolding blocks
   sought-part ws r a b e =

@@ -11,15 +11,15 @@ use borrow.Author.Tests.{eq-eqb, ne-eqb}
 use lib.Dec.{eqb}
 use lib.ListN.{length, take, drop}
 use lib.Seq.{take-at}
-use Rattle.table.specs.Words.{names, handlers, size}
-use Rattle.table.specs.Scan.{Outcome, accepted, refused, has, key, reading}
+use Rattle.table.specs.Words.{narrow, size}
+use Rattle.table.specs.Scan.{Outcome, accepted, refused, has, key, narrowReading}
 use Rattle.table.proofs.Distinct.{key-injective}
 use Rattle.table.proofs.Limits.{size-le}
 use Rattle.table.proofs.TermWords.{argument-lt}
 use Rattle.blocks.specs.Blocks.{blocks, tableOf, nameOf, permsOf, keyOf, Good, All, Distinct}
 use Rattle.blocks.proofs.Block.{good-name}
 use Rattle.blocks.proofs.Keys.{Apart, neither, distinct-append}
-use Rattle.blocks.proofs.Tables.{blocks-good, blocks-distinct, blocks-whole, table-accepted, blocks-tableOf}
+use Rattle.blocks.proofs.Narrow.{readable, blocks-good, blocks-distinct, blocks-whole, table-accepted, blocks-tableOf}
 use Rattle.overlay.specs.Lookup.{tablesRead, keyed, Sought, nothing, found, seek, sought, placeOf, wordsIn, lookedUp}
 use Rattle.overlay.specs.Lookup as lookup
 use Rattle.overlay.specs.Join.{replaced, fresh, joinedBlocks, joined, written, refusal, joinFault, joinAnswer, outAfter}
@@ -94,23 +94,23 @@ joined-distinct bs os d e =
     (sym (map-append keyOf (map (replaced os) bs) (fresh bs os) ∙ ap (λ (ks : List ℕ). ks ++ map keyOf (fresh bs os)) (keys-replaced os bs)))
     (distinct-append (map keyOf bs) (map keyOf (fresh bs os)) d (fresh-distinct bs os e) (fresh-apart bs os))
 
-all-append : (xs ys : List (List ℕ)) → All Good xs → All Good ys → All Good (xs ++ ys)
+all-append : (xs ys : List (List ℕ)) → All (Good narrow) xs → All (Good narrow) ys → All (Good narrow) (xs ++ ys)
 all-append [] ys g h = h
 all-append (x ∷ xs) ys g h = (g .0, all-append xs ys (g .1) h)
 
-joined-good : (bs os : List (List ℕ)) → All Good bs → All Good os → All Good (joinedBlocks bs os)
+joined-good : (bs os : List (List ℕ)) → All (Good narrow) bs → All (Good narrow) os → All (Good narrow) (joinedBlocks bs os)
 joined-good bs os g h = all-append (map (replaced os) bs) (fresh bs os) (all-replaced-good os h bs g) (fresh-good bs os h)
 
 -- ---- the table without blocks
 
-no-blocks-accepted : reading (tableOf []) ≡ accepted
+no-blocks-accepted : narrowReading (tableOf 1 []) ≡ accepted
 unfolding tableOf flatten
 no-blocks-accepted = table-accepted [] tt tt (omega arith) (omega arith)
 
-no-blocks : blocks (tableOf []) ≡ []
+no-blocks : blocks (tableOf 1 []) ≡ []
 no-blocks = blocks-tableOf [] tt (omega arith)
 
-no-blocks-sought : (n s : ℕ) → sought (tableOf []) n s ≡ nothing
+no-blocks-sought : (n s : ℕ) → sought (tableOf 1 []) n s ≡ nothing
 no-blocks-sought n s = ap (seek n s 1) no-blocks ∙ seek-none n s 1
 
 -- ---- a join that is written
@@ -127,7 +127,7 @@ module _ (base overlay out : List ℕ) (n : ℕ) (e : joinAnswer base overlay (l
       go (refused k p) t = absurd (not-refused k p (join-refused base overlay out k p t))
 
   abbrev Few : Type 0
-  Few = length (joinedBlocks (blocks base) (blocks overlay)) ≤ handlers
+  Few = length (joinedBlocks (blocks base) (blocks overlay)) ≤ narrow
 
   abbrev Short : Type 0
   Short = length (joined base overlay) ≤ size
@@ -136,9 +136,9 @@ module _ (base overlay out : List ℕ) (n : ℕ) (e : joinAnswer base overlay (l
   stops k f = not-refused (suc k) 0 (join-stopped base overlay out tables-read k f .0)
 
   few : Few
-  few = go (decLt handlers (length (joinedBlocks (blocks base) (blocks overlay))))
+  few = go (decLt narrow (length (joinedBlocks (blocks base) (blocks overlay))))
     where
-      go : Dec (handlers < length (joinedBlocks (blocks base) (blocks overlay))) → Few
+      go : Dec (narrow < length (joinedBlocks (blocks base) (blocks overlay))) → Few
       go (yes h) = absurd (stops 47 (fault-48 base overlay (length out) h))
       go (no h) = omega (arith, h)
 
@@ -164,7 +164,7 @@ module _ (base overlay out : List ℕ) (n : ℕ) (e : joinAnswer base overlay (l
       (k, w .1 ∙ ap (λ (i : ℕ). joined base overlay ++ drop i out) (sym k))
 
   -- they are accepted
-  pub joined-accepted : reading (joined base overlay) ≡ accepted
+  pub joined-accepted : narrowReading (joined base overlay) ≡ accepted
   unfolding joined
   joined-accepted =
       let r = tables-accepted base overlay tables-read in
@@ -173,7 +173,7 @@ module _ (base overlay out : List ℕ) (n : ℕ) (e : joinAnswer base overlay (l
       (joined-distinct (blocks base) (blocks overlay) (blocks-distinct base (r .0)) (blocks-distinct overlay (r .1))) few short
 
   pub joined-few : n ≤ size
-  joined-few = omega (arith, joined-written .0, size-le (joined base overlay) joined-accepted)
+  joined-few = omega (arith, joined-written .0, size-le (joined base overlay) (readable (joined base overlay) joined-accepted))
 
   pub joined-words : (words : List ℕ) → words ≡ outAfter base overlay out → take n words ≡ joined base overlay
   joined-words words q =
@@ -190,10 +190,10 @@ module _ (base overlay out : List ℕ) (n : ℕ) (e : joinAnswer base overlay (l
       (joined-good (blocks base) (blocks overlay) (blocks-good base (r .0)) (blocks-good overlay (r .1))) (omega arith)
 
   -- looking a key up in them, with no overlay, is looking it up in the two
-  pub joined-lookup : (name perms : ℕ) → lookedUp (joined base overlay) (tableOf []) name perms ≡ lookedUp base overlay name perms
+  pub joined-lookup : (name perms : ℕ) → lookedUp (joined base overlay) (tableOf 1 []) name perms ≡ lookedUp base overlay name perms
   joined-lookup n s =
-      let both = both-accepted (joined base overlay) (tableOf []) joined-accepted no-blocks-accepted in
-      looked-found (joined base overlay) (tableOf []) n s both _ nothing refl (no-blocks-sought n s)
+      let both = both-accepted (joined base overlay) (tableOf 1 []) joined-accepted no-blocks-accepted in
+      looked-found (joined base overlay) (tableOf 1 []) n s both _ nothing refl (no-blocks-sought n s)
       ∙ ap (λ (bs : List (List ℕ)). wordsIn (seek n s 1 bs) nothing) joined-order
       ∙ joined-search n s (blocks base) (blocks overlay)
       ∙ sym (looked-found base overlay n s tables-read _ _ refl refl)
@@ -205,11 +205,11 @@ none-replaced [] = refl
 none-replaced (b ∷ bs) =
     ap₂ (λ (x : List ℕ) (xs : List (List ℕ)). x ∷ xs) (replaced-own [] b (seek-none (nameOf b) (permsOf b) 1)) (none-replaced bs)
 
-pub empty-overlay : (base : List ℕ) → reading base ≡ accepted → joined base (tableOf []) ≡ base
+pub empty-overlay : (base : List ℕ) → narrowReading base ≡ accepted → joined base (tableOf 1 []) ≡ base
 unfolding joined fresh
 empty-overlay base e =
-    ap (λ (os : List (List ℕ)). tableOf (joinedBlocks (blocks base) os)) no-blocks
-    ∙ ap tableOf (append-nil (map (replaced []) (blocks base)) ∙ none-replaced (blocks base))
+    ap (λ (os : List (List ℕ)). tableOf 1 (joinedBlocks (blocks base) os)) no-blocks
+    ∙ ap (tableOf 1) (append-nil (map (replaced []) (blocks base)) ∙ none-replaced (blocks base))
     ∙ blocks-whole base e
 
 -- ---- a name or a set that no block can have
@@ -223,23 +223,23 @@ and-false true = refl
 and-false false = refl
 
 abbrev NoBlock : ℕ → ℕ → Type 0
-NoBlock n s = (names ≤ n) ⊎ (2 ^ 24 ≤ s)
+NoBlock n s = (narrow ≤ n) ⊎ (2 ^ 24 ≤ s)
 
-not-keyed : (n s : ℕ) → NoBlock n s → (b : List ℕ) → Good b → keyed n s b ≡ false
+not-keyed : (n s : ℕ) → NoBlock n s → (b : List ℕ) → (Good narrow) b → keyed n s b ≡ false
 not-keyed n s h b g =
     ⊎-elim
     (λ k.
-    let l = good-name b g in
+    let l = good-name narrow b g in
     ap (λ (x : Bool). x && eqb (permsOf b) s) (ne-eqb (nameOf b) n (λ e. omega arith)))
     (λ k.
     let l : permsOf b < 2 ^ 24 = argument-lt _ in
     ap (λ (x : Bool). eqb (nameOf b) n && x) (ne-eqb (permsOf b) s (λ e. omega arith)) ∙ and-false (eqb (nameOf b) n)) h
 
-none-keyed : (n s : ℕ) → NoBlock n s → (bs : List (List ℕ)) → All Good bs → All (λ b. keyed n s b ≡ false) bs
+none-keyed : (n s : ℕ) → NoBlock n s → (bs : List (List ℕ)) → All (Good narrow) bs → All (λ b. keyed n s b ≡ false) bs
 none-keyed n s h [] g = tt
 none-keyed n s h (b ∷ bs) g = (not-keyed n s h b (g .0), none-keyed n s h bs (g .1))
 
-pub no-such-block : (base overlay : List ℕ) (name perms : ℕ) → tablesRead base overlay ≡ accepted → (names ≤ name) ⊎ (2 ^ 24 ≤ perms)
+pub no-such-block : (base overlay : List ℕ) (name perms : ℕ) → tablesRead base overlay ≡ accepted → (narrow ≤ name) ⊎ (2 ^ 24 ≤ perms)
     → placeOf base overlay name perms ≡ lookup.refusal 47 0
 no-such-block base overlay n s t h =
     let r = tables-accepted base overlay t in

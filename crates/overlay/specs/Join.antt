@@ -4,7 +4,7 @@ use Prim.Native.Nat.{ℕ, zero, suc}
 use mathlib.Core.List.{List, [], _∷_, _++_, map}
 use lib.Dec.{ltb}
 use lib.ListN.{length, drop}
-use Rattle.table.specs.Words.{handlers, size}
+use Rattle.table.specs.Words.{narrow, size}
 use Rattle.table.specs.Scan.{accepted, refused, firstOf}
 use Rattle.blocks.specs.Blocks.{blocks, tableOf, nameOf, permsOf}
 use Rattle.overlay.specs.Lookup.{tablesRead, nothing, found, seek}
@@ -22,7 +22,7 @@ abbrev pub joinedBlocks : (base overlay : List (List ℕ)) → List (List ℕ)
 joinedBlocks bs os = map (replaced os) bs ++ fresh bs os
 
 unfoldable pub joined : (base overlay : List ℕ) → List ℕ
-joined base overlay = tableOf (joinedBlocks (blocks base) (blocks overlay))
+joined base overlay = tableOf 1 (joinedBlocks (blocks base) (blocks overlay))
 
 -- what a join answers: how many words it wrote, or its refusal
 pub data Answer : Type 0 where
@@ -33,7 +33,7 @@ pub data Answer : Type 0 where
 unfoldable pub joinFault : (base overlay : List ℕ) (room : ℕ) → ℕ
 joinFault base overlay room =
     firstOf
-    ((ltb handlers (length (joinedBlocks (blocks base) (blocks overlay))), 48)
+    ((ltb narrow (length (joinedBlocks (blocks base) (blocks overlay))), 48)
     ∷ (ltb size (length (joined base overlay)), 49)
     ∷ (ltb room (length (joined base overlay)), 50)
     ∷ [])

@@ -5,15 +5,15 @@ use mathlib.Core.Bool.{Bool, true, false, _&&_}
 use mathlib.Core.List.{List, [], _∷_}
 use lib.Dec.{eqb}
 use lib.ListN.{length}
-use Rattle.table.specs.Scan.{Outcome, accepted, refused, reading}
+use Rattle.table.specs.Scan.{Outcome, accepted, refused, narrowReading}
 use Rattle.blocks.specs.Blocks.{blocks, nameOf, permsOf}
 
 -- the numbers of the two tables: the base's, then the overlay's plus 100
 unfoldable pub tablesRead : (base overlay : List ℕ) → Outcome
 tablesRead base overlay =
-    elim (reading base) [
+    elim (narrowReading base) [
       | refused n p ↦ refused n p
-      | accepted ↦ elim (reading overlay) [ refused n p ↦ refused (100 + n) p | accepted ↦ accepted ]
+      | accepted ↦ elim (narrowReading overlay) [ refused n p ↦ refused (100 + n) p | accepted ↦ accepted ]
     ]
 
 -- a block has this name and this permission set

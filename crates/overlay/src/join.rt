@@ -11,7 +11,7 @@ ghost use mathlib.Core.Path.{_≡_};
 ghost use mathlib.Core.List.{map};
 ghost use Prim.Native.Nat.{_+_, _≤_};
 ghost use lib.ListN.{length};
-ghost use Rattle.table.specs.Scan.{accepted, reading};
+ghost use Rattle.table.specs.Scan.{accepted, narrowReading};
 ghost use Rattle.blocks.specs.Blocks.{blocks};
 ghost use Rattle.overlay.specs.Join.{joinAnswer, outAfter};
 ghost use Rattle.overlay.specs.Answers.{joinedAs};
@@ -53,7 +53,7 @@ fn put_block(
     other: &[u32],
     new: bool,
 ) -> usize
-    requires { ⌜ (at ≤ 131072) × (start + 2 ≤ end) × (end ≤ length (now table)) × (length (now table) ≤ 1024) × (reading (now other) ≡ accepted) ⌝ }
+    requires { ⌜ (at ≤ 131072) × (start + 2 ≤ end) × (end ≤ length (now table)) × (length (now table) ≤ 1024) × (narrowReading (now other) ≡ accepted) ⌝ }
     ensures { λ r. ⌜ AppendedTo at (given new (blocks (now (other .entry))) (partOf start end (now (table .entry)))) (now (out .entry)) (now (out .exit)) r ⌝ }
 {
     let name = argument_of(table[start]);
@@ -72,7 +72,7 @@ fn put_block(
 
 // What the blocks of a table give to the joined table, one after the other, written from a place on.
 fn put_blocks(out: &mut [u32], start: usize, table: &[u32], other: &[u32], new: bool) -> Put
-    requires { ⌜ (start ≤ 65536) × (reading (now table) ≡ accepted) × (reading (now other) ≡ accepted) ⌝ }
+    requires { ⌜ (start ≤ 65536) × (narrowReading (now table) ≡ accepted) × (narrowReading (now other) ≡ accepted) ⌝ }
     ensures { λ r. ⌜ PutTo start (map (given new (blocks (now (other .entry)))) (blocks (now (table .entry)))) (now (out .entry)) (now (out .exit)) r ⌝ }
 {
     let mut left = argument_of(table[0]);

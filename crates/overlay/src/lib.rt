@@ -6,7 +6,7 @@ mod search;
 
 use table::Reading;
 use table::Refusal;
-use table::read::read;
+use table::read::read_narrow;
 ghost use mathlib.Core.Path.{_≡_};
 ghost use Rattle.overlay.specs.Lookup.{tablesRead};
 ghost use Rattle.overlay.specs.Answers.{checkedAs};
@@ -44,10 +44,10 @@ enum Checked {
 fn check(base: &[u32], overlay: &[u32]) -> Checked
     ensures { λ r. ⌜ checkedAs r ≡ tablesRead (now (base .entry)) (now (overlay .entry)) ⌝ }
 {
-    if let Reading::Refused(r) = read(base) {
+    if let Reading::Refused(r) = read_narrow(base) {
         return Checked::Refused(Fault::Base(r));
     }
-    if let Reading::Refused(r) = read(overlay) {
+    if let Reading::Refused(r) = read_narrow(overlay) {
         return Checked::Refused(Fault::Overlay(r));
     }
     Checked::Accepted

@@ -4,7 +4,7 @@ use table::words::arity_of;
 ghost use mathlib.Core.Path.{_≡_};
 ghost use Prim.Native.Nat.{_+_, _≤_};
 ghost use lib.ListN.{length, drop};
-ghost use Rattle.table.specs.Scan.{accepted, reading};
+ghost use Rattle.table.specs.Scan.{accepted, narrowReading};
 ghost use Rattle.table.specs.Code.{skip};
 ghost use Rattle.blocks.specs.Blocks.{blockLength};
 ghost use Rattle.overlay.specs.Lookup.{keyed, sought};
@@ -55,7 +55,7 @@ fn has_key(words: &[u32], at: usize, name: u32, perms: u32) -> bool
 
 // The block with this name and this permission set.
 pub fn seek(words: &[u32], name: u32, perms: u32) -> Span
-    requires { ⌜ reading (now words) ≡ accepted ⌝ }
+    requires { ⌜ narrowReading (now words) ≡ accepted ⌝ }
     ensures { λ r. ⌜ r ≡ spanOf (sought (now (words .entry)) name perms) ⌝ }
 {
     let mut left = argument_of(words[0]);

@@ -1,6 +1,7 @@
 -- A handler's word of permissions and flag, and the handlers of an accepted table a word at a time.
 use Prim.Native.Nat.{ℕ, zero, suc, _+_, _*_, _/_, _%_, _^_, _≤_, _<_}
 use mathlib.Core.Path.{_≡_, refl, sym, ap, ap₂, _∙_, subst}
+use mathlib.Core.Logic.{⊎-elim}
 use mathlib.Core.Bool.{Bool, true, false, _&&_}
 use mathlib.Core.List.{List, [], _∷_, _++_, append-nil, append-assoc}
 use native.Mathlib.Nat.{add-zero}
@@ -16,8 +17,8 @@ use Rattle.table.specs.declared.Item.the-variants as items
 use Rattle.table.specs.declared.Handler.{Handler}
 use Rattle.table.specs.declared.Term.{Term}
 use Rattle.table.specs.Item.{handlerAt, itemAt}
-use Rattle.table.specs.Words.{kind, argument}
-use Rattle.table.specs.Scan.{Task, head, name, perms, guard, term, accepted, reading}
+use Rattle.table.specs.Words.{kind, argument, narrow, namesOf}
+use Rattle.table.specs.Scan.{Task, head, name, perms, guard, term, accepted, namesAt, reading}
 use Rattle.table.specs.Code.{Code, Node, code, nodeFor, tasks, taskAt, blocksFrom}
 use Rattle.table.proofs.Faults.{Stands}
 use Rattle.table.proofs.Items.{item-block, item-gap, item-term}
@@ -29,8 +30,7 @@ use Rattle.calculus.specs.Constraint.{P, L}
 use Rattle.calculus.specs.Rules.{nameOf, guarded}
 use Rattle.calculus.specs.Layout.{rowWords, estimateWords, base, shift, owner, span, place, allowed, sets, bit, content}
 use Rattle.calculus.specs.Estimate.{permissionsAt}
-use Rattle.rows.specs.declared.layout.Layout.{Layout}
-use Rattle.rows.proofs.Sizes.{rows-fit}
+use Rattle.calls.proofs.Bounds.{words-bound}
 use Rattle.text.specs.Writing.{Wrote}
 use Rattle.text.proofs.Writing.{wrote-nothing, wrote-length, reworded, then}
 use Rattle.report.specs.Lines.{handlerLine}
@@ -38,14 +38,6 @@ use Rattle.printout.specs.Program.{handlerLines}
 use Rattle.printout.specs.Handlers.{Printable, here, onward, Stepped, Listed}
 
 -- ---- the word of P(p) and of the live flag
-
-row-words : (ws : List ℕ) → rowWords (code ws) ≡ (length ws + 95) / 32
-unfolding rowWords code
-row-words ws = omega arith
-
-pub flags-place : (ws : List ℕ) (l : Layout) (p f : ℕ) → l .size ≡ length ws → l .row ≡ (length ws + 95) / 32 → f ≡ 2 * l .size * l .row + p
-    → f ≡ 2 * length ws * ((length ws + 95) / 32) + p
-flags-place ws l p f s r e = e ∙ ap₂ (λ (n k : ℕ). 2 * n * k + p) s r
 
 -- a line in other terms
 pub line-is : (position n : ℕ) {a a′ b b′ : Bool} {s s′ : ℕ} → a ≡ a′ → b ≡ b′ → s ≡ s′
@@ -56,24 +48,13 @@ module _ (ws est : List ℕ) (r : Printable ws est) where
   pub small : length ws ≤ 1024
   small = size-le ws (r .readable)
 
-  pub row-small : (length ws + 95) / 32 < 64
-  row-small = omega (arith, small)
-
-  -- an estimate's length by the layout
-  pub est-long : length est ≡ 2 * length ws * ((length ws + 95) / 32) + length ws
-  unfolding estimateWords code
-  est-long = r .long ∙ ap (λ (n : ℕ). 2 * length ws * n + length ws) (row-words ws)
-
   pub est-short : length est ≤ 132096
-  est-short = omega (arith, est-long, rows-fit (length ws) ((length ws + 95) / 32) small row-small, small)
+  est-short = omega (arith, r .long, words-bound ws (r .readable))
 
-  module _ (p f : ℕ) (h : p < length ws) (e : f ≡ 2 * length ws * ((length ws + 95) / 32) + p) where
+  module _ (p f : ℕ) (h : p < length ws) (at-word : base (code ws) (P p) ≡ f) where
     pub word-inside : f < length est
-    word-inside = omega (arith, est-long)
-
-    at-word : base (code ws) (P p) ≡ f
-    unfolding base code
-    at-word = ap (λ (n : ℕ). 2 * length ws * n + p) (row-words ws) ∙ sym e
+    unfolding base estimateWords code
+    word-inside = omega (arith, r .long)
 
     pub permissions-read : (ρ : ℕ) → permissionsAt (code ws) ρ est p ≡ getD est f 0 % 2 ^ width
     unfolding permissionsAt content
@@ -95,8 +76,8 @@ module _ (ws : List ℕ) (e : reading ws ≡ accepted) (p : ℕ) (h : p < length
   abbrev keys : List ℕ
   keys = reach ws e p h .keys
 
-  stands-as : (t : Task) → taskAt ws p ≡ t → Stands keys (getD ws p 0) t
-  stands-as t k = subst (Stands keys (getD ws p 0)) k (place-stands ws e p h)
+  stands-as : (t : Task) → taskAt ws p ≡ t → Stands (namesAt ws) keys (getD ws p 0) t
+  stands-as t k = subst (Stands (namesAt ws) keys (getD ws p 0)) k (place-stands ws e p h)
 
   name-block : taskAt ws p ≡ name → itemAt ws p ≡ items.Block (handlerAt ws p)
   name-block k = item-block ws p (stands-as name k .0)
@@ -108,7 +89,9 @@ module _ (ws : List ℕ) (e : reading ws ≡ accepted) (p : ℕ) (h : p < length
       gap-not g = let z : _≡_ {A = ℕ} 0 1 = cc in absurd (omega arith)
 
       go : (t : Task) → taskAt ws p ≡ t → taskAt ws p ≡ name
-      go (head n) k = let s = stands-as (head n) k .0 in gap-not (item-gap ws p (λ z. omega arith) (omega arith))
+      go (head n) k =
+          ⊎-elim (λ s. gap-not (item-gap ws p (λ z. omega arith) (omega arith))) (λ s. gap-not (item-gap ws p (λ z. omega arith) (omega arith)))
+          (stands-as (head n) k .0)
       go name k = k
       go (perms n) k = let s = stands-as (perms n) k .0 in gap-not (item-gap ws p (λ z. omega arith) (omega arith))
       go guard k = let s = stands-as guard k in gap-not (item-gap ws p (λ z. omega arith) (omega arith))
@@ -212,9 +195,9 @@ module _ (ws : List ℕ) (e : reading ws ≡ accepted) (ρ : ℕ) (est out : Lis
   abbrev lines : ℕ → List ℕ → List ℕ
   lines position bs = handlerLines (code ws) ρ est position bs
 
-  pub listed-start : start ≤ length out → Listed ws ρ est out start 0 out start 0
+  pub listed-start : namesOf (getD ws 0 0) ≡ narrow → start ≤ length out → Listed ws ρ est out start 0 out start 0
   unfolding onward code
-  listed-start h =
+  listed-start n h =
       record { done = []; wrote = wrote-nothing out start h; rest = refl; few = omega (arith, blocks-le ws e); most = omega arith }
 
   module _ (p : ℕ) (out′ : List ℕ) (at position : ℕ) (l : Listed ws ρ est out start p out′ at position) where

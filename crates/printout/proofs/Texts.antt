@@ -7,11 +7,13 @@ use native.Mathlib.Omega.{arith}
 use lib.Dec.{eqb, ltb}
 use lib.ListN.{length, getD, take, drop, length-append}
 use lib.Seq.{take-at}
-use borrow.Author.Tests.{lt-ltb, le-ltb, ltb-false, eqb-true, not-false}
+use borrow.Author.Tests.{lt-ltb, le-ltb, ltb-false, eqb-true, eqb-false, not-false}
 use Rattle.little_endian.specs.LittleEndian.{wordsOf}
+use Rattle.table.specs.Words.{kind}
 use Rattle.table.specs.Scan.{accepted, reading, firstOf}
 use Rattle.table.specs.Code.{code}
 use Rattle.table.proofs.Linked.{linked}
+use Rattle.table.proofs.Widths.{narrow-names}
 use Rattle.calculus.specs.Layout.{estimateWords}
 use Rattle.calculus.specs.Estimate.{whole, estimate}
 use Rattle.calculus.specs.Answer.{Verdict, Answer, refused, verdict, answer, workWords, estimateAfter}
@@ -25,32 +27,33 @@ use Rattle.verdict.proofs.Room.{answer-exact}
 use Rattle.text.specs.Writing.{Wrote}
 use Rattle.text.proofs.Writing.{reworded, then, wrote-length}
 use Rattle.report.specs.Lines.{refusalLine, verdictLine}
-use Rattle.printout.specs.Program.{feederTests, handlerLines, firstLine, answerText, systemText, printed, room, withRoom, textAfter, textSize}
+use Rattle.printout.specs.Program.{feederTests, handlerLines, firstLine, answerText, unlessWide, systemText, printed, room, withRoom, textAfter, textSize}
 use Rattle.printout.specs.Answers.{Held, HeldFor}
 
 -- ---- the slice that a call leaves
 
-pub held-after : (ws : List ℕ) (ρ bound : ℕ) (est work est′ : List ℕ) (a : Answer) → a ≡ answer ws ρ bound (length est) (length work)
+pub held-after : (ws : List ℕ) (ρ bound : ℕ) (est work est′ : List ℕ) → eqb (kind (getD ws 0 0)) 5 ≡ false → (a : Answer) → a ≡ answer ws ρ bound (length est) (length work)
     → est′ ≡ estimateAfter ws ρ bound est work → HeldFor ws ρ est′ a
-held-after ws ρ bound est work est′ (refused number place) e u = tt
-held-after ws ρ bound est work est′ (verdict v) e u =
+held-after ws ρ bound est work est′ n (refused number place) e u = tt
+held-after ws ρ bound est work est′ f (verdict v) e u =
     let r : reading ws ≡ accepted = answer-judged ws ρ bound (length est) (length work) v (sym e) .0 in
     let n : length (estimate (code ws) ρ) ≡ estimateWords (code ws) = estimate-well (code ws) (linked ws r) ρ .long in
     let rest : List ℕ = drop (estimateWords (code ws)) est in
     let s : est′ ≡ estimate (code ws) ρ ++ rest = u ∙ sym (after-solved ws ρ bound est work v (sym e) .0) in
     record {
       readable = r;
+      names = narrow-names (getD ws 0 0) (eqb-false (kind (getD ws 0 0)) 5 f);
       long = omega (arith, ap length s, length-append (estimate (code ws) ρ) rest);
       starts = ap (take (estimateWords (code ws))) s ∙ take-at (estimate (code ws) ρ) rest (estimateWords (code ws)) n;
     }
 
 -- the same under the ceiling n
-pub held-under : (ws : List ℕ) (ρ bound n : ℕ) (est work est′ : List ℕ) (a : Answer) → a ≡ answerUnder ws ρ bound n (length est) (length work)
+pub held-under : (ws : List ℕ) (ρ bound n : ℕ) (est work est′ : List ℕ) → eqb (kind (getD ws 0 0)) 5 ≡ false → (a : Answer) → a ≡ answerUnder ws ρ bound n (length est) (length work)
     → est′ ≡ estimateUnder ws ρ bound n est work → HeldFor ws ρ est′ a
-held-under ws ρ bound n est work est′ (refused number place) e u = tt
-held-under ws ρ bound n est work est′ (verdict v) e u =
+held-under ws ρ bound n est work est′ f (refused number place) e u = tt
+held-under ws ρ bound n est work est′ f (verdict v) e u =
     let q = under-verdict ws ρ bound n est work v est′ e u in
-    held-after ws ρ bound est work est′ (verdict v) (q .0) (q .1)
+    held-after ws ρ bound est work est′ f (verdict v) (q .0) (q .1)
 
 -- ---- an answer's text
 
@@ -110,9 +113,24 @@ unwritten text out h = (left-without (length out) 0 (length text) h, (left-witho
 
 -- ---- an input's text
 
-pub system-exact : (ws : List ℕ) (ρ bound : ℕ) → length ws ≤ 256 → answerText ρ ws (answer ws ρ bound 5376 1024) ≡ systemText ρ bound ws
+pub system-exact : (ws : List ℕ) (ρ bound : ℕ) → length ws ≤ 256 → answerText ρ ws (unlessWide ws (refused 1 0) (answer ws ρ bound 5888 1024)) ≡ systemText ρ bound ws
 unfolding systemText
-system-exact ws ρ bound h = ap (answerText ρ ws) (answer-exact ws ρ bound h)
+system-exact ws ρ bound h = ap (λ (a : Answer). answerText ρ ws (unlessWide ws (refused 1 0) a)) (answer-exact ws ρ bound h)
+
+-- by whether the table is wide
+module _ {A : Type 0} (ws : List ℕ) (x y : A) where
+  pub if-wide : eqb (kind (getD ws 0 0)) 5 ≡ true → x ≡ unlessWide ws x y
+  unfolding unlessWide
+  if-wide e = rw (e, unlessWide)
+
+  pub if-other : eqb (kind (getD ws 0 0)) 5 ≡ false → y ≡ unlessWide ws x y
+  unfolding unlessWide
+  if-other e = rw (e, unlessWide)
+
+-- a wide table's text
+pub wide-text : (ws : List ℕ) (ρ : ℕ) (a : Answer) → eqb (kind (getD ws 0 0)) 5 ≡ true → refusalLine 1 0 ≡ answerText ρ ws (unlessWide ws (refused 1 0) a)
+unfolding answerText
+wide-text ws ρ a e = ap (answerText ρ ws) (if-wide ws (refused 1 0) a e)
 
 module _ (input : List ℕ) where
   pub printed-system : firstOf (feederTests (length input)) ≡ 0

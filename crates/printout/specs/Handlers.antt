@@ -2,16 +2,18 @@
 use Prim.Native.Nat.{ℕ, _+_, _*_, _≤_}
 use mathlib.Core.Path.{_≡_}
 use mathlib.Core.List.{List, [], _∷_, _++_}
-use lib.ListN.{length, drop}
+use lib.ListN.{length, getD, drop}
+use Rattle.table.specs.Words.{narrow, namesOf}
 use Rattle.table.specs.Scan.{accepted, reading}
 use Rattle.table.specs.Code.{code, tasks, taskAt, blocksFrom}
 use Rattle.calculus.specs.Layout.{estimateWords}
 use Rattle.text.specs.Writing.{Wrote}
 use Rattle.printout.specs.Program.{handlerLines}
 
--- an accepted table and the words of an estimate of it
+-- an accepted narrow table and the words of an estimate of it
 pub record Printable (ws est : List ℕ) : Type 0 where
   pub readable : reading ws ≡ accepted
+  pub names : namesOf (getD ws 0 0) ≡ narrow
   pub long : length est ≡ estimateWords (code ws)
 
 -- the block that starts at the place p, if one does, and those from there on

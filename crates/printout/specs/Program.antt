@@ -5,6 +5,7 @@ use mathlib.Core.List.{List, [], _∷_, _++_}
 use lib.Dec.{eqb, ltb}
 use lib.ListN.{length, getD, drop}
 use Rattle.little_endian.specs.LittleEndian.{wordsOf}
+use Rattle.table.specs.Words.{kind}
 use Rattle.table.specs.Scan.{firstOf}
 use Rattle.table.specs.Code.{Code, code}
 use Rattle.calculus.specs.Constraint.{L}
@@ -36,10 +37,14 @@ unfolding estimate whole handlerLines
 answerText ρ ws (refused number place) = refusalLine number place
 answerText ρ ws (verdict v) = verdictLine v ++ whole (estimate (code ws) ρ) (λ est. handlerLines (code ws) ρ est 0 (code ws .blocks))
 
+-- the program takes narrow tables only: one thing for a wide table, another for any other words
+unfoldable pub unlessWide : {A : Type 0} → List ℕ → (wide other : A) → A
+unlessWide ws wide other = elim (eqb (kind (getD ws 0 0)) 5) [ true ↦ wide | false ↦ other ]
+
 -- a system's text: its slices are never short
 unfoldable pub systemText : (ρ bound : ℕ) → List ℕ → List ℕ
-unfolding answer answerText
-systemText ρ bound ws = answerText ρ ws (answer ws ρ bound (estimateWords (code ws)) (workWords (length ws)))
+unfolding answer answerText unlessWide
+systemText ρ bound ws = answerText ρ ws (unlessWide ws (refused 1 0) (answer ws ρ bound (estimateWords (code ws)) (workWords (length ws))))
 
 -- the words are ρ, the bound and the system
 unfoldable pub printed : List ℕ → List ℕ

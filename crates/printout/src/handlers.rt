@@ -38,7 +38,7 @@ fn block_line(
     ensures { λ r. ⌜ Wrote (now (out .entry)) (c .at) (handlerLine (c .position) (h .name) (within (h .guard .bits) rho) (sets (code (now (words .entry))) (now (est .entry)) (L p) 0) (permissionsAt (code (now (words .entry))) rho (now (est .entry)) p)) (now (out .exit)) r ⌝ }
     ensures { λ r. ⌜ r ≤ c .at + 96 ⌝ }
 {
-    let at = Layout::of(words.len()).flags(p);
+    let at = Layout::of(words).flags(p);
     let w = est[at];
     let guard = h.guard;
     let entry = guard.within(PermSet { bits: rho });

@@ -31,7 +31,7 @@ fn sized_text(
     work: &mut [u32],
     out: &mut [u8],
 ) -> usize
-    requires { ⌜ (length (now words) ≤ 256) × (length (now est) ≡ 5376) × (length (now work) ≡ 1024) × (room ≤ length (now out)) ⌝ }
+    requires { ⌜ (length (now words) ≤ 256) × (length (now est) ≡ 5888) × (length (now work) ≡ 1024) × (room ≤ length (now out)) ⌝ }
     ensures { λ r. ⌜ Wrote (now (out .entry)) 0 (systemText rho bound (now (words .entry))) (now (out .exit)) r ⌝ }
 {
     tell(words, rho, bound, est, work, out)
@@ -42,7 +42,7 @@ fn own_text(words: &[u32], rho: u32, bound: u32, out: &mut [u8]) -> usize
     requires { ⌜ (length (now words) ≤ 256) × (room ≤ length (now out)) ⌝ }
     ensures { λ r. ⌜ Wrote (now (out .entry)) 0 (systemText rho bound (now (words .entry))) (now (out .exit)) r ⌝ }
 {
-    let mut est = [0u32; 5376];
+    let mut est = [0u32; 5888];
     let mut work = [0u32; 1024];
     sized_text(words, rho, bound, &mut est, &mut work, out)
 }

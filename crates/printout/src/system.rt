@@ -7,18 +7,21 @@ use comparison::Report;
 use comparison::Verdict;
 use report::refusal_line;
 use report::verdict_line;
+use table::read::is_wide;
 use verdict::judge::verdict;
 ghost use mathlib.Core.Path.{_≡_};
-ghost use mathlib.Core.Bool.{Bool};
+ghost use mathlib.Core.Bool.{Bool, false};
 ghost use Prim.Native.Nat.{_+_, _≤_};
-ghost use lib.ListN.{length};
+ghost use lib.Dec.{eqb};
+ghost use lib.ListN.{length, getD};
+ghost use Rattle.table.specs.Words.{kind};
 ghost use Rattle.table.specs.Code.{code};
 ghost use Rattle.calculus.specs.Estimate.{estimate};
-ghost use Rattle.calculus.specs.Answer.{answer, estimateAfter, workAfter};
+ghost use Rattle.calculus.specs.Answer.{refused, answer, estimateAfter, workAfter};
 ghost use Rattle.comparison.specs.Values.{answerOf};
 ghost use Rattle.text.specs.Writing.{Wrote};
 ghost use Rattle.report.specs.Lines.{verdictLine};
-ghost use Rattle.printout.specs.Program.{handlerLines, firstLine, answerText, room, withRoom, textAfter, textSize};
+ghost use Rattle.printout.specs.Program.{handlerLines, firstLine, answerText, unlessWide, room, withRoom, textAfter, textSize};
 ghost use Rattle.printout.specs.Answers.{Held, HeldFor, Told};
 
 fn report_line(r: Report, over: bool, first: u32, out: &mut [u8], at: usize) -> usize
@@ -66,7 +69,23 @@ pub fn answer_text(v: Verdict, words: &[u32], rho: u32, est: &[u32], out: &mut [
     }
 }
 
-// The verdict on a system, told at the start of `out`.
+// The verdict on a system that is no wide table, told at the start of `out`.
+fn tell_narrow(
+    words: &[u32],
+    rho: u32,
+    bound: u32,
+    est: &mut [u32],
+    work: &mut [u32],
+    out: &mut [u8],
+) -> usize
+    requires { ⌜ (room ≤ length (now out)) × (eqb (kind (getD (now words) 0 0)) 5 ≡ false) ⌝ }
+    ensures { λ r. ⌜ Told (now (words .entry)) rho bound (now (est .entry)) (now (work .entry)) (now (out .entry)) r (now (est .exit)) (now (work .exit)) (now (out .exit)) ⌝ }
+{
+    let v = verdict(words, rho, bound, est, work);
+    answer_text(v, words, rho, est, out)
+}
+
+// The verdict on a system, told at the start of `out`; a wide table is refused, and its slices are left alone.
 pub fn tell(
     words: &[u32],
     rho: u32,
@@ -78,8 +97,10 @@ pub fn tell(
     requires { ⌜ room ≤ length (now out) ⌝ }
     ensures { λ r. ⌜ Told (now (words .entry)) rho bound (now (est .entry)) (now (work .entry)) (now (out .entry)) r (now (est .exit)) (now (work .exit)) (now (out .exit)) ⌝ }
 {
-    let v = verdict(words, rho, bound, est, work);
-    answer_text(v, words, rho, est, out)
+    if is_wide(words) {
+        return refusal_line(out, 0, 1, 0);
+    }
+    tell_narrow(words, rho, bound, est, work, out)
 }
 
 // The text of a system at the start of `out`, and how long it is. A slice of less than 3,168 bytes gets nothing, and nothing is looked at.
@@ -91,10 +112,10 @@ pub fn system_text(
     work: &mut [u32],
     out: &mut [u8],
 ) -> usize
-    ensures size { λ r. ⌜ r ≡ textSize (answerText rho (now (words .entry)) (answer (now (words .entry)) rho bound (length (now (est .entry))) (length (now (work .entry))))) (length (now (out .entry))) ⌝ }
-    ensures text { λ _. ⌜ now (out .exit) ≡ textAfter (answerText rho (now (words .entry)) (answer (now (words .entry)) rho bound (length (now (est .entry))) (length (now (work .entry))))) (now (out .entry)) ⌝ }
-    ensures estimate { λ _. ⌜ now (est .exit) ≡ withRoom (length (now (out .entry))) (now (est .entry)) (estimateAfter (now (words .entry)) rho bound (now (est .entry)) (now (work .entry))) ⌝ }
-    ensures work { λ _. ⌜ now (work .exit) ≡ withRoom (length (now (out .entry))) (now (work .entry)) (workAfter (now (words .entry)) rho bound (now (est .entry)) (now (work .entry))) ⌝ }
+    ensures size { λ r. ⌜ r ≡ textSize (answerText rho (now (words .entry)) (unlessWide (now (words .entry)) (refused 1 0) (answer (now (words .entry)) rho bound (length (now (est .entry))) (length (now (work .entry)))))) (length (now (out .entry))) ⌝ }
+    ensures text { λ _. ⌜ now (out .exit) ≡ textAfter (answerText rho (now (words .entry)) (unlessWide (now (words .entry)) (refused 1 0) (answer (now (words .entry)) rho bound (length (now (est .entry))) (length (now (work .entry)))))) (now (out .entry)) ⌝ }
+    ensures estimate { λ _. ⌜ now (est .exit) ≡ withRoom (length (now (out .entry))) (now (est .entry)) (unlessWide (now (words .entry)) (now (est .entry)) (estimateAfter (now (words .entry)) rho bound (now (est .entry)) (now (work .entry)))) ⌝ }
+    ensures work { λ _. ⌜ now (work .exit) ≡ withRoom (length (now (out .entry))) (now (work .entry)) (unlessWide (now (words .entry)) (now (work .entry)) (workAfter (now (words .entry)) rho bound (now (est .entry)) (now (work .entry)))) ⌝ }
     ensures fits { λ r. ⌜ r ≤ length (now (out .entry)) ⌝ }
 {
     if out.len() < 3168 {

@@ -4,10 +4,11 @@ use mathlib.Core.Path.{_≡_, sym, ap, ap₂, _∙_, subst}
 use mathlib.Core.List.{List}
 use native.Mathlib.Nat.{mul-le-mul}
 use native.Mathlib.Omega.{arith}
-use lib.ListN.{length}
+use lib.ListN.{length, getD}
 use Rattle.table.specs.Code.{Code, code, Linked}
 use Rattle.table.proofs.Linked.{linked as code-linked}
 use Rattle.table.proofs.Blocks.{head-word}
+use Rattle.table.proofs.Widths.{names-most}
 use Rattle.calculus.specs.Elements.{plain, elements}
 use Rattle.calculus.specs.Layout.{rowWords, estimateWords, WellFormed}
 use Rattle.rows.specs.declared.layout.Layout.{Layout}
@@ -28,7 +29,7 @@ module _ (ws links masks : List ℕ) (l : Layout) (y : Ready ws links masks l) w
   sized est w =
       let small : length ws ≤ 1024 = head-word ws (y .readable) .sized in
       let long : length est ≡ 2 * l .size * l .row + l .size = w .long ∙ ap₂ (λ (x r : ℕ). 2 * x * r + x) (y .laid .size) (y .laid .row) in
-      let wide : l .row ≤ 36 = omega (arith, y .laid .size, y .laid .row, y .laid .lead) in
+      let wide : l .row ≤ 36 = omega (arith, y .laid .size, y .laid .row, names-most (getD ws 0 0)) in
       let n : l .size ≤ 1024 = omega (arith, y .laid .size) in
       let most : 2 * l .size * l .row ≤ 2048 * 36 = mul-le-mul {n₂ = 2048} {m₂ = 36} (omega arith) wide in
       record {

@@ -14,7 +14,7 @@ use Rattle.permset.specs.Sets.{width, union}
 use Rattle.permset.proofs.Laws.{within-refl, within-trans, within-antisym, within-union-left, within-union-right, union-within, union-mono}
 use Rattle.table.specs.declared.Item.{Item}
 use Rattle.table.specs.Item.{handlerAt, itemAt}
-use Rattle.table.specs.Scan.{Task, name, accepted, reading}
+use Rattle.table.specs.Scan.{namesAt, Task, name, accepted, reading}
 use Rattle.table.specs.Code.{Code, Node, code, taskAt, nodeFor, endOf}
 use Rattle.table.proofs.Faults.{Stands}
 use Rattle.table.proofs.Items.{item-block}
@@ -70,8 +70,8 @@ pub guarded-is : (ws : List ℕ) → reading ws ≡ accepted → (b ρ : ℕ) �
     → itemGuarded (itemAt ws b) ρ ≡ guarded (code ws .node b) ρ
 unfolding code nodeFor itemGuarded guarded handlerAt
 guarded-is ws e b ρ i t =
-    let s : Stands (reach ws e b i .keys) (getD ws b 0) name =
-    subst (λ (u : Task). Stands (reach ws e b i .keys) (getD ws b 0) u) t (place-stands ws e b i)
+    let s : Stands (namesAt ws) (reach ws e b i .keys) (getD ws b 0) name =
+    subst (λ (u : Task). Stands (namesAt ws) (reach ws e b i .keys) (getD ws b 0) u) t (place-stands ws e b i)
     in
     ap (λ (x : Item). itemGuarded x ρ) (item-block ws b (s .0))
     ∙ sym (ap (λ (n : Node). guarded n ρ) (ap (nodeFor ws b) t))

@@ -6,10 +6,10 @@ use mathlib.Core.List.{List, [], _∷_, map, List·Memᴰ, List·Memᴰ·head, L
 use native.Mathlib.Nat.{mul-le-mul}
 use native.Mathlib.Omega.{arith}
 use lib.ListN.{length, getD}
-use Rattle.table.specs.Words.{handlers}
 use Rattle.table.specs.Scan.{accepted, reading}
 use Rattle.table.specs.Code.{Code, code}
 use Rattle.table.proofs.Limits.{size-le, blocks-le}
+use Rattle.table.proofs.Widths.{names-most}
 use Rattle.table.proofs.Linked.{linked}
 use Rattle.calculus.specs.Elements.{made, elements}
 use Rattle.calculus.specs.Constraint.{Row, C}
@@ -37,12 +37,15 @@ listed-at [] i h = absurd (omega arith)
 listed-at (x ∷ xs) zero h = List·Memᴰ·head refl
 listed-at (x ∷ xs) (suc i) h = List·Memᴰ·tail (listed-at xs i (omega arith))
 
+pub blocks-few : (ws : List ℕ) → reading ws ≡ accepted → length (code ws .blocks) ≤ 64
+blocks-few ws e = omega (arith, blocks-le ws e, names-most (getD ws 0 0))
+
 module _ (ws : List ℕ) (e : reading ws ≡ accepted) (l : Layout) (o : LaidOut (code ws) l) where
   pub sized : (est : List ℕ) → length est ≡ estimateWords (code ws) → Sized l est
   unfolding estimateWords rowWords code
   sized est long =
       let n : l .size ≤ 1024 = omega (arith, size-le ws e, o .size) in
-      let wide : l .row ≤ 36 = omega (arith, o .size, o .row, o .lead) in
+      let wide : l .row ≤ 36 = omega (arith, o .size, o .row, names-most (getD ws 0 0)) in
       let most : 2 * l .size * l .row ≤ 2048 * 36 = mul-le-mul {n₂ = 2048} {m₂ = 36} (omega arith) wide in
       let words : length est ≡ 2 * l .size * l .row + l .size = long ∙ ap₂ (λ (x r : ℕ). 2 * x * r + x) (o .size) (o .row) in
       record {
@@ -57,7 +60,7 @@ module _ (ws : List ℕ) (e : reading ws ≡ accepted) (l : Layout) (o : LaidOut
   pub firsts-of : (bs : List ℕ) → bs ≡ code ws .blocks → Firsts l bs
   firsts-of bs q =
       record {
-        few = omega (arith, ap length q, blocks-le ws e);
+        few = omega (arith, ap length q, blocks-few ws e);
         inside =
             λ i h. omega (arith, o .size, linked ws e .listed (getD bs i 0) (subst (List·Memᴰ (getD bs i 0)) q (listed-at bs i h)) .0);
       }

@@ -10,7 +10,7 @@ use lib.ListN.{length, take, drop, length-map}
 use lib.Seq.{take-at}
 use Rattle.table.specs.Scan.{accepted, reading}
 use Rattle.table.specs.Code.{code}
-use Rattle.table.proofs.Limits.{blocks-le}
+use Rattle.reading_order.proofs.Elements.{blocks-few}
 use Rattle.table.proofs.Linked.{linked}
 use Rattle.calculus.specs.Layout.{estimateWords}
 use Rattle.calculus.specs.Estimate.{estimate, facts}
@@ -83,7 +83,7 @@ module _ (ws : List ℕ) (ρ n : ℕ) (est work positions : List ℕ) (f : Fits 
         estimates = sym (rw (t, estimateAfterOrder));
         works = sym (rw (t, workAfterOrder));
         writes =
-            sym (untouched (omega (arith, rows-length, blocks-le ws (f .fit .readable), h)) (answerWithin ws ρ n (length est) (length work)));
+            sym (untouched (omega (arith, rows-length, blocks-few ws (f .fit .readable), h)) (answerWithin ws ρ n (length est) (length work)));
         means = tt;
       }
 

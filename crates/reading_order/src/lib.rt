@@ -37,7 +37,7 @@ fn arranged(words: &[u32], est: &[u32], blocks: &[u32], positions: &mut [u32]) -
     requires { ⌜ (reading (now words) ≡ accepted) × (length (now est) ≡ estimateWords (code (now words))) × (now blocks ≡ code (now words) .blocks) ⌝ }
     ensures { λ r. ⌜ ArrangedBy (code (now (words .entry))) (now (est .entry)) (now (positions .entry)) (now (positions .exit)) r ⌝ }
 {
-    let l = Layout::of(words.len());
+    let l = Layout::of(words);
     let live = relation::live_among(est, l, blocks);
     let mut rows = [0u64; 64];
     relation::fill_rows(est, l, blocks, &mut rows);

@@ -1,12 +1,15 @@
 // What a word gives by itself, as bits of the first word of a row: constants, the signs of numbers, and the results of operations.
+use rows::row::any;
 use table::Constant;
 use table::Operation;
 ghost use mathlib.Core.Path.{_≡_};
-ghost use Prim.Native.Nat.{_^_, _<_};
-ghost use lib.ListN.{getD};
+ghost use mathlib.Core.List.{_∷_};
+ghost use Prim.Native.Nat.{_+_, _^_, _<_, _≤_};
+ghost use lib.ListN.{length, getD, take, drop};
 ghost use Rattle.permset.specs.Sets.{member};
 ghost use Rattle.calculus.specs.Elements.{constantElement, sign};
-ghost use Rattle.calculus.specs.ResultWords.{signEntry, signsBelow, anyDigit, comparables, sameMask, apart, apartMask, equalMask, operationMask};
+ghost use Rattle.calculus.specs.Estimate.{same, facts};
+ghost use Rattle.calculus.specs.ResultWords.{signEntry, signsBelow, nonzero, sameMask, apart, apartMask, equalMask, operationMask};
 ghost use Rattle.results.specs.Signs.{signTable};
 
 pub fn constant_bit(k: Constant) -> u32
@@ -99,60 +102,126 @@ fn signs(sum: bool, x: u32, y: u32) -> u32
     r
 }
 
-fn any_digit(x: u32, y: u32) -> bool
-    ensures { λ r. ⌜ r ≡ anyDigit x y ⌝ }
+// Whether some word is not 0.
+fn any_digit(words: &[u32]) -> bool
+    ensures { λ r. ⌜ r ≡ nonzero (now (words .entry)) ⌝ }
 {
-    if x == 0 { y != 0 } else { true }
+    let mut i = 0;
+    while i < words.len() {
+        if words[i] != 0 {
+            return true;
+        }
+        i += 1;
+    }
+    false
 }
 
-fn same_bits(a0: u32, a1: u32, d0: u32, d1: u32) -> u32
-    ensures { λ r. ⌜ r ≡ sameMask a0 a1 d0 d1 ⌝ }
+// Whether two lists of words of one length are the same.
+fn alike(a: &[u32], d: &[u32]) -> bool
+    requires { ⌜ length (now a) ≡ length (now d) ⌝ }
+    ensures { λ r. ⌜ r ≡ same (now (a .entry)) (now (d .entry)) ⌝ }
 {
-    if any_digit(a0 & d0, a1 & d1) { 4 } else { 0 }
+    let mut i = 0;
+    while i < a.len() {
+        if a[i] != d[i] {
+            return false;
+        }
+        i += 1;
+    }
+    true
 }
 
-// Whether the rows give two different values: 4, 6 and 8 stand for more than one.
-fn differ(a0: u32, a1: u32, d0: u32, d1: u32) -> bool
-    ensures { λ r. ⌜ r ≡ apart a0 a1 d0 d1 ⌝ }
+// How many digits words have.
+fn count(words: &[u32]) -> u32
+    requires { ⌜ length (now words) ≤ 36 ⌝ }
+    ensures { λ r. ⌜ r ≡ facts (now (words .entry)) ⌝ }
 {
-    if a0 & d0 & 336 != 0 {
-        return true;
+    let mut n = 0u32;
+    let mut i = 0;
+    while i < words.len() {
+        n += u32::count_ones(words[i]);
+        i += 1;
     }
-    if a0 != d0 {
-        return true;
-    }
-    if a1 != d1 {
-        return true;
-    }
-    1 < u32::count_ones(a0) + u32::count_ones(a1)
+    n
 }
 
-fn differ_bits(a0: u32, a1: u32, d0: u32, d1: u32) -> u32
-    ensures { λ r. ⌜ r ≡ apartMask a0 a1 d0 d1 ⌝ }
+// A side of an operation is its first word, x or y, and the words of names after it, a or d.
+
+// Whether a side has an element.
+fn any_element(x: u32, a: &[u32]) -> bool
+    ensures { λ r. ⌜ r ≡ nonzero (x ∷ now (a .entry)) ⌝ }
 {
-    if differ(a0, a1, d0, d1) { 8 } else { 0 }
+    if x != 0 { true } else { any_digit(a) }
+}
+
+fn same_bits(x: u32, y: u32, a: &[u32], d: &[u32]) -> u32
+    requires { ⌜ length (now a) ≡ length (now d) ⌝ }
+    ensures { λ r. ⌜ r ≡ sameMask (x ∷ now (a .entry)) (y ∷ now (d .entry)) ⌝ }
+{
+    if x & y != 0 {
+        return 4;
+    }
+    if any(d, a) { 4 } else { 0 }
+}
+
+// Whether the sides give two different values: 4, 6 and 8 stand for more than one.
+fn differ(x: u32, y: u32, a: &[u32], d: &[u32]) -> bool
+    requires { ⌜ (length (now a) ≡ length (now d)) × (length (now a) ≤ 36) ⌝ }
+    ensures { λ r. ⌜ r ≡ apart (x ∷ now (a .entry)) (y ∷ now (d .entry)) ⌝ }
+{
+    if x & y & 336 != 0 {
+        return true;
+    }
+    if x != y {
+        return true;
+    }
+    if !alike(a, d) {
+        return true;
+    }
+    1 < u32::count_ones(x) + count(a)
+}
+
+fn differ_bits(x: u32, y: u32, a: &[u32], d: &[u32]) -> u32
+    requires { ⌜ (length (now a) ≡ length (now d)) × (length (now a) ≤ 36) ⌝ }
+    ensures { λ r. ⌜ r ≡ apartMask (x ∷ now (a .entry)) (y ∷ now (d .entry)) ⌝ }
+{
+    if differ(x, y, a, d) { 8 } else { 0 }
 }
 
 // Equal, where 7 is left out: same gives true, different gives false.
-fn compare(a0: u32, a1: u32, d0: u32, d1: u32) -> u32
-    ensures { λ r. ⌜ r ≡ equalMask a0 a1 d0 d1 ⌝ }
+fn compare(x: u32, y: u32, a: &[u32], d: &[u32]) -> u32
+    requires { ⌜ (length (now a) ≡ length (now d)) × (length (now a) ≤ 36) ⌝ }
+    ensures { λ r. ⌜ r ≡ equalMask (x ∷ now (a .entry)) (y ∷ now (d .entry)) ⌝ }
 {
-    if !any_digit(a0, a1) {
+    if !any_element(x, a) {
         return 0;
     }
-    if !any_digit(d0, d1) {
+    if !any_element(y, d) {
         return 0;
     }
-    same_bits(a0, a1, d0, d1) | differ_bits(a0, a1, d0, d1)
+    same_bits(x, y, a, d) | differ_bits(x, y, a, d)
 }
 
-// The results of an operation on the first two words of two rows; 7 is not compared.
-pub fn operate(o: Operation, a0: u32, a1: u32, d0: u32, d1: u32) -> u32
-    ensures { λ r. ⌜ r ≡ operationMask o a0 a1 d0 d1 ⌝ }
+// The results of an operation on two sides; 7 is not compared.
+pub fn operate(o: Operation, x: u32, y: u32, a: &[u32], d: &[u32]) -> u32
+    requires { ⌜ (length (now a) ≡ length (now d)) × (length (now a) ≤ 36) ⌝ }
+    ensures { λ r. ⌜ r ≡ operationMask o (x ∷ now (a .entry)) (y ∷ now (d .entry)) ⌝ }
 {
     match o {
-        Operation::Add => signs(true, a0, d0),
-        Operation::Less => signs(false, a0, d0),
-        Operation::Equal => compare(a0 & 4294967167, a1, d0 & 4294967167, d1),
+        Operation::Add => signs(true, x, y),
+        Operation::Less => signs(false, x, y),
+        Operation::Equal => compare(x & 4294967167, y & 4294967167, a, d),
     }
+}
+
+// The results of an operation on the sides of `lead` words that start at the words x and y.
+pub fn operate_at(est: &[u32], lead: usize, o: Operation, x: usize, y: usize) -> u32
+    requires { ⌜ (x + lead ≤ length (now est)) × (y + lead ≤ length (now est)) × (1 ≤ lead) × (lead ≤ 36) ⌝ }
+    ensures { λ r. ⌜ r ≡ operationMask o (take lead (drop x (now (est .entry)))) (take lead (drop y (now (est .entry)))) ⌝ }
+{
+    let a = x + 1;
+    let b = x + lead;
+    let d = y + 1;
+    let e = y + lead;
+    operate(o, est[x], est[y], &est[a..b], &est[d..e])
 }

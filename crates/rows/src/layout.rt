@@ -1,6 +1,9 @@
 // Where the rows and words of an estimate stand.
+use table::words::names_in;
 ghost use mathlib.Core.Path.{_≡_};
-ghost use Prim.Native.Nat.{_+_, _*_, _/_, _<_, _≤_};
+ghost use Prim.Native.Nat.{_+_, _*_, _<_, _≤_};
+ghost use Rattle.table.specs.Code.{code};
+ghost use Rattle.rows.specs.Laid.{LaidOut};
 
 // The words of the table, the words of a row, and how many of those the plain elements fill.
 pub struct Layout {
@@ -10,14 +13,16 @@ pub struct Layout {
 }
 
 impl Layout {
-    pub fn of(size: usize) -> Layout
-        requires { ⌜ size ≤ 1024 ⌝ }
-        ensures { λ r. ⌜ (r .size ≡ size) × (r .row ≡ (size + 95) / 32) × (r .lead ≡ 2) ⌝ }
+    // That of the estimates of a table.
+    pub fn of(words: &[u32]) -> Layout
+        ensures { λ r. ⌜ LaidOut (code (now (words .entry))) r ⌝ }
     {
+        let size = words.len();
+        let lead = (1 + names_in(words) / 32) as usize;
         Layout {
             size,
-            row: (size + 95) / 32,
-            lead: 2,
+            row: (32 * lead + size + 31) / 32,
+            lead,
         }
     }
 

@@ -8,7 +8,7 @@ use verdict::judge::verdict;
 
 // The first line of a verdict with bound 0, over slices of its own.
 fn answer(words: &[u32], rho: u32) {
-    let mut est = [0u32; 70656];
+    let mut est = [0u32; 72704];
     let mut work = [0u32; 4096];
     let v = verdict(words, rho, 0, &mut est, &mut work);
     let mut line = [0u8; 96];

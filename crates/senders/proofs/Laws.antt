@@ -10,25 +10,37 @@ use lib.ListN.{length, getD}
 use Rattle.permset.specs.Sets.{member}
 use Rattle.table.specs.Words.{kind, argument}
 use Rattle.table.specs.Code.{code}
+use Rattle.table.proofs.Widths.{names-most}
 use Rattle.calculus.specs.Constraint.{C}
-use Rattle.calculus.specs.Elements.{made, opponentRecord}
+use Rattle.calculus.specs.Elements.{made, elements, opponentRecord}
 use Rattle.calculus.specs.Layout.{rowWords, base, sets}
 use Rattle.calculus.proofs.RowOperations.{sets-C}
+use Rattle.rows.specs.declared.layout.Layout.{Layout}
+use Rattle.rows.specs.Laid.{LaidOut}
 use Rattle.text.specs.Text.{bytes, decimal, choice}
 use Rattle.text.specs.Added.{Added}
 use Rattle.text.proofs.Adding.{added-then, added-as}
 use Rattle.senders.specs.Text.{orNobody, line, holds, sender, opponent, senders, blockLine}
 
-row-words : (ws : List ℕ) → rowWords (code ws) ≡ (length ws + 95) / 32
+-- the layout of a short table, accepted or not: it has as many words, and a row has less than 64
+pub laid-size : (ws : List ℕ) → length ws ≤ 1024 → (l : Layout) → LaidOut (code ws) l → l .size ≤ 1024
+unfolding code
+laid-size ws h l o = omega (arith, o .size)
+
+pub row-few : (ws : List ℕ) → length ws ≤ 1024 → (l : Layout) → LaidOut (code ws) l → l .row < 64
 unfolding code rowWords
-row-words ws = omega arith
+row-few ws h l o = omega (arith, o .row, names-most (getD ws 0 0))
+
+pub lead-few : (ws : List ℕ) (l : Layout) → LaidOut (code ws) l → l .lead ≤ 3
+unfolding code
+lead-few ws l o = omega (arith, o .lead, names-most (getD ws 0 0))
 
 module _ (ws est : List ℕ) where
-  pub holds-is : (b v row w : ℕ) → b < length ws → v < 64 + length ws → row ≡ (length ws + 95) / 32 → w ≡ getD est (2 * b * row + v / 32) 0
+  pub holds-is : (b v row w : ℕ) → b < length ws → v < elements (code ws) → rowWords (code ws) ≡ row → w ≡ getD est (2 * b * row + v / 32) 0
       → member w (v % 32) ≡ holds ws est b v
   unfolding base code
   holds-is b v row w h k r e =
-      ap (λ (x : ℕ). member x (v % 32)) (e ∙ ap (λ (n : ℕ). getD est (2 * b * n + v / 32) 0) (r ∙ sym (row-words ws)))
+      ap (λ (x : ℕ). member x (v % 32)) (e ∙ ap (λ (n : ℕ). getD est (2 * b * n + v / 32) 0) (sym r))
       ∙ sym (sets-C (code ws) b v est h k)
 
   module _ (b s position : ℕ) where
@@ -36,10 +48,12 @@ module _ (ws est : List ℕ) where
     unfolding sender
     sender-none k = rw (ne-eqb (kind (getD ws s 0)) 2 k, sender)
 
-    module _ (k : kind (getD ws s 0) ≡ 2) (x : Bool) (e : x ≡ holds ws est b (64 + s)) where
+    module _ (l : Layout) (o : LaidOut (code ws) l) (k : kind (getD ws s 0) ≡ 2) (x : Bool) (e : x ≡ holds ws est b (32 * l .lead + s)) where
       sender-by : sender ws est b s position (getD ws s 0) ≡ choice x (bytes " " ++ decimal position) []
-      unfolding sender code
-      sender-by = rw (eq-eqb (kind (getD ws s 0)) 2 k, sender, ← e)
+      unfolding sender
+      sender-by =
+          let f : x ≡ holds ws est b (made (code ws) s) = e ∙ ap (λ (n : ℕ). holds ws est b (n + s)) (sym (o .lead)) in
+          rw (eq-eqb (kind (getD ws s 0)) 2 k, sender, ← f)
 
       pub sender-absent : x ≡ false → sender ws est b s position (getD ws s 0) ≡ []
       sender-absent f = sender-by ∙ ap (λ (y : Bool). choice y (bytes " " ++ decimal position) []) f

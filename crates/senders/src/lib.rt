@@ -15,6 +15,8 @@ ghost use mathlib.Core.Path.{_≡_};
 ghost use Prim.Native.Nat.{_+_, _*_, _≤_, _<_};
 ghost use lib.ListN.{length};
 ghost use Rattle.table.specs.Scan.{accepted, reading};
+ghost use Rattle.table.specs.Code.{code};
+ghost use Rattle.calculus.specs.Elements.{elements};
 ghost use Rattle.listing.specs.Answer.{answered};
 ghost use Rattle.text.specs.Added.{Added};
 ghost use Rattle.senders.specs.Text.{orNobody, senderAt, opponent, blocks, senders, handlerLine, lineAt, written, textAfter};
@@ -23,10 +25,10 @@ ghost use Rattle.senders.specs.Text.{text as Text·text};
 
 // Whether the element v is in C(b).
 fn holds(words: &[u32], est: &[u32], b: usize, v: usize) -> bool
-    requires { ⌜ (length (now words) ≤ 1024) × (b < length (now words)) × (v < 64 + length (now words)) ⌝ }
+    requires { ⌜ (length (now words) ≤ 1024) × (b < length (now words)) × (v < elements (code (now words))) ⌝ }
     ensures { λ r. ⌜ r ≡ Text·holds (now (words .entry)) (now (est .entry)) b v ⌝ }
 {
-    let row = Layout::of(words.len()).row;
+    let row = Layout::of(words).row;
     let w = word_at(est, 2 * b * row + v / 32);
     (w >> (v % 32) as u32) % 2 == 1
 }
@@ -48,7 +50,8 @@ fn put_sender(
     if kind_of(words[s]) != 2 {
         return at;
     }
-    if holds(words, est, b, 64 + s) {
+    let first = 32 * Layout::of(words).lead;
+    if holds(words, est, b, first + s) {
         add_number(out, at, b" ", position)
     } else {
         at

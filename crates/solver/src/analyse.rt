@@ -46,7 +46,7 @@ pub fn find(words: &[u32], rho: PermSet, est: &mut [u32], work: &mut [u32]) -> F
     requires { ⌜ Fit (now words) (length (now est)) (length (now work)) ⌝ }
     ensures { λ r. ⌜ FoundIn (now (words .entry)) (rho .bits) (now (est .entry)) (now (work .entry)) (now (est .exit)) (now (work .exit)) r ⌝ }
 {
-    let most = most_facts(Layout::of(words.len()));
+    let most = most_facts(Layout::of(words));
     solve_in(words, rho, most, est, work)
 }
 

@@ -83,7 +83,7 @@ pub fn solve(
     ensures cleared { λ r. ⌜ now (work .exit) ≡ replicate (4 * length (now (words .entry))) 0 ⌝ }
     ensures leaks { λ r. ⌜ r .leak .bits ≡ estimateLeak (code (now (words .entry))) (rho .bits) (now (est .exit)) ⌝ }
 {
-    let l = Layout::of(words.len());
+    let l = Layout::of(words);
     let facts = least(words, work, est, l, rho, ceiling);
     let leak = readers::leak(words, work, est, l, rho);
     let n = work.len();

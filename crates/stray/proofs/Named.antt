@@ -13,7 +13,7 @@ use Rattle.permset.proofs.Laws.{member-empty}
 use Rattle.table.specs.declared.Item.{Item}
 use Rattle.table.specs.Words.{kind}
 use Rattle.table.specs.Item.{handlerAt}
-use Rattle.table.specs.Scan.{Task, accepted, reading}
+use Rattle.table.specs.Scan.{Task, accepted, namesAt, reading}
 use Rattle.table.specs.Code.{Code, Node, NodeLinked, gap, block, leaf, one, two, bind, while, branch, update, code}
 use Rattle.table.proofs.Linked.{linked}
 use Rattle.table.proofs.Faults.{Stands}
@@ -61,7 +61,7 @@ module _ (ws : List ℕ) (r : reading ws ≡ accepted) (p : ℕ) (h : p < length
   unfolding code
   block-kind t =
       let x = listed-block ws r p (listed (code ws) p (code ws .node p) (linked ws r .nodes p h) t) in
-      subst (λ (u : Task). Stands (reach ws r p (x .0) .keys) (getD ws p 0) u) (x .1) (place-stands ws r p (x .0)) .0
+      subst (λ (u : Task). Stands (namesAt ws) (reach ws r p (x .0) .keys) (getD ws p 0) u) (x .1) (place-stands ws r p (x .0)) .0
 
   pub kind-block : eqb (kind (getD ws p 0)) 2 ≡ isBlock (code ws .node p)
   unfolding itemNode isBlock

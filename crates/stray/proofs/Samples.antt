@@ -5,7 +5,7 @@ use mathlib.Core.Path.{_≡_, refl}
 use mathlib.Core.List.{List, [], _∷_, _++_, map}
 use lib.ListN.{set}
 use Rattle.permset.specs.Sets.{within, member}
-use Rattle.table.specs.Words.{partsByKind, limitsByKind, parts, arity, limit, constantNumber, constantOf, operationOf, termsByKind, termOf}
+use Rattle.table.specs.Words.{partsByKind, limitsByKind, parts, arity, limit, constantNumber, constantOf, operationOf, termsByKind, termOf, namesOf}
 use Rattle.table.specs.Scan.{firstOf, has, tests, fault, missing, keep, under, next}
 use Rattle.table.specs.Code.{Code, code, skip, part, trace, tasks, taskAt, termNode, nodeFor, scopeFor, homeFor, blocksFrom}
 use Rattle.delivery.specs.Delivery.{judged, delivered}
@@ -35,7 +35,7 @@ pub samples-stray :
     ∷ withWord direct 30 (2 ^ 24) ∷ withWord direct 30 (2 ^ 25) ∷ [])
     ++ map (firstStray applied) (estimate applied 0 ∷ withWord applied 2 (2 ^ 5) ∷ withWord applied 11 (2 ^ 5) ∷ withWord applied 8 (2 ^ 5) ∷ []))
     ≡ 35 ∷ 26 ∷ 26 ∷ 35 ∷ 11 ∷ 8 ∷ 35 ∷ 30 ∷ 56 ∷ 56 ∷ 56 ∷ 8 ∷ []
-unfolding partsByKind limitsByKind parts arity limit constantNumber constantOf operationOf termsByKind termOf firstOf has tests
+unfolding partsByKind limitsByKind parts arity limit constantNumber constantOf operationOf termsByKind termOf namesOf firstOf has tests
     fault missing keep under next code skip part trace tasks taskAt termNode nodeFor scopeFor homeFor blocksFrom within member
     constantElement sign leafMakes oneMakes makes isFunction isRecord isCell range nameOf permsOf guarded isBlock permissions deliveryTo judged
     delivered leafRule oneRule twoRule flow entry twoSender sender senders rule rowWords estimateWords used anyFrom estimate names ofBlock holding

@@ -8,8 +8,8 @@ use native.Mathlib.Nat.{add-zero, le-of-suc-le-suc, not-suc-le-zero, zero-lt-suc
 use native.Mathlib.Omega.{arith}
 use lib.ListN.{length, getD, drop, replicate, drop-of-length-le}
 use lib.Seq.{drop-cons, drop-drop}
-use Rattle.table.specs.Words.{argument, arity, names, size, handlers}
-use Rattle.table.specs.Scan.{Task, head, name, perms, guard, term, accepted, keep, next, reading}
+use Rattle.table.specs.Words.{argument, arity, size}
+use Rattle.table.specs.Scan.{Task, head, name, perms, guard, term, accepted, keep, next, namesAt, reading}
 use Rattle.table.specs.Code.{skip, part, endOf, trace, tasks, taskAt, blocksFrom}
 use Rattle.table.proofs.Faults.{stands}
 use Rattle.table.proofs.Stack.{At, at-step, at-end, at-start, reach, Names, Layered, Terms, none, also, length-next, terms-next}
@@ -33,14 +33,14 @@ pub record Block (ws : List ℕ) (b : ℕ) : Type 0 where
   pub perms-task : taskAt ws (b + 1) ≡ perms (argument (getD ws b 0))
   pub guard-task : taskAt ws (b + 2) ≡ guard
   pub body-task : taskAt ws (b + 3) ≡ term 1 b (b ∷ [])
-  pub named : argument (getD ws b 0) < names
+  pub named : argument (getD ws b 0) < namesAt ws
   pub follows : Follows ws (endOf ws (b + 3))
 
 -- the stack behind a block's name
 pub record Opened (ws : List ℕ) (b : ℕ) : Type 0 where
   pub keys : List ℕ
   pub below : List Task
-  pub named : argument (getD ws b 0) < names
+  pub named : argument (getD ws b 0) < namesAt ws
   pub there : At ws (suc b) keys (perms (argument (getD ws b 0)) ∷ guard ∷ term 1 b (b ∷ []) ∷ below)
   pub layered : Names below
 
@@ -52,7 +52,7 @@ opened ws e b l t =
     record {
       keys = r .keys;
       below = r .below;
-      named = stands (r .keys) (getD ws b 0) name (s .faultless) .1;
+      named = stands (namesAt ws) (r .keys) (getD ws b 0) name (s .faultless) .1;
       there = s .rest;
       layered = subst (λ (u : Task). Layered (u ∷ r .below)) t (r .holds);
     }
@@ -85,7 +85,7 @@ pub record Head (ws : List ℕ) : Type 0 where
   pub inside : 0 < length ws
   pub head-task : taskAt ws 0 ≡ head (length ws)
   pub sized : length ws ≤ size
-  pub handled : argument (getD ws 0 0) ≤ handlers
+  pub handled : argument (getD ws 0 0) ≤ namesAt ws
   pub follows : Follows ws 1
 
 names-only : (n : ℕ) → Names (replicate n name ++ [])
@@ -96,7 +96,7 @@ pub head-word : (ws : List ℕ) → reading ws ≡ accepted → Head ws
 unfolding next
 head-word ws e =
     let one = at-step ws 0 [] (head (length ws)) [] (at-start ws e) in
-    let f = stands [] (getD ws 0 0) (head (length ws)) (one .faultless) in
+    let f = stands (namesAt ws) [] (getD ws 0 0) (head (length ws)) (one .faultless) in
     record {
       inside = one .inside;
       head-task = one .task;

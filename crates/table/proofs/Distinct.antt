@@ -10,7 +10,7 @@ use lib.Dec.{T, eqb, eqb-refl}
 use Rattle.table.specs.declared.Term.{Term}
 use Rattle.table.specs.declared.Term.the-variants as terms
 use Rattle.table.specs.Words.{argument}
-use Rattle.table.specs.Scan.{Task, head, name, perms, guard, term, accepted, has, key, keep, next, reading}
+use Rattle.table.specs.Scan.{Task, head, name, perms, guard, term, accepted, has, key, keep, next, reading, namesAt}
 use Rattle.table.specs.Code.{block as blockNode, taskAt, termNode, nodeFor, code, IsBlock}
 use Rattle.table.proofs.TermWords.{wordOf-injective}
 use Rattle.table.proofs.Faults.{Stands, stands}
@@ -45,8 +45,8 @@ module _ (ws : List ℕ) (e : reading ws ≡ accepted) where
   not-kept b l t keys (u ∷ ts) a h =
       let s = at-step ws (b + 1) keys u ts a in
       let f =
-      subst (λ (v : Task). Stands keys (getD ws (b + 1) 0) v) (sym (s .task) ∙ block ws e b l t .perms-task)
-      (stands keys (getD ws (b + 1) 0) u (s .faultless)) in
+      subst (λ (v : Task). Stands (namesAt ws) keys (getD ws (b + 1) 0) v) (sym (s .task) ∙ block ws e b l t .perms-task)
+      (stands (namesAt ws) keys (getD ws (b + 1) 0) u (s .faultless)) in
       subst T (f .1) h
 
   not-later : (b b′ : ℕ) → b < length ws → taskAt ws b ≡ name → b′ < length ws → taskAt ws b′ ≡ name → keyAt ws b ≡ keyAt ws b′

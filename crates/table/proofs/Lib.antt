@@ -14,3 +14,4 @@ pub mod LinkEnds
 pub mod LinkBinders
 pub mod LinkMeaning
 pub mod Nodes
+pub mod Widths

@@ -4,8 +4,8 @@ use mathlib.Core.List.{List, [], _∷_, _++_}
 use Prim.Native.Nat.{ℕ, zero, suc, _≤_}
 use native.Mathlib.Nat.{le-of-eq, le-trans}
 use lib.ListN.{length, getD, drop, replicate}
-use Rattle.table.specs.Words.{argument, size, handlers}
-use Rattle.table.specs.Scan.{Task, head, name, perms, guard, term, accepted, keep, next, scan, reading}
+use Rattle.table.specs.Words.{argument, size}
+use Rattle.table.specs.Scan.{Task, head, name, perms, guard, term, accepted, keep, next, scan, namesAt, reading}
 use Rattle.table.specs.Code.{trace, blocksFrom, code}
 use Rattle.table.proofs.Stack.{Terms, none, also, terms-next, at-start, at-step, scan-step, scan-missing, scan-more}
 use Rattle.table.proofs.Stack.{refused-not-accepted}
@@ -22,7 +22,7 @@ waiting (perms n ∷ ts) = waiting ts
 waiting (guard ∷ ts) = waiting ts
 waiting (term d h s ∷ ts) = waiting ts
 
-abbrev Headless : List Task → Type 0
+abbrev pub Headless : List Task → Type 0
 Headless [] = Unit {0}
 Headless (head n ∷ ts) = ⊥
 Headless (name ∷ ts) = Headless ts
@@ -34,7 +34,7 @@ waiting-terms : (ts us : List Task) → Terms ts → waiting (ts ++ us) ≡ wait
 waiting-terms ts us none = refl
 waiting-terms ts us (also {ts = ts′} r) = waiting-terms ts′ us r
 
-headless-terms : (ts us : List Task) → Terms ts → Headless us → Headless (ts ++ us)
+pub headless-terms : (ts us : List Task) → Terms ts → Headless us → Headless (ts ++ us)
 headless-terms ts us none h = h
 headless-terms ts us (also {ts = ts′} r) h = headless-terms ts′ us r h
 
@@ -42,26 +42,26 @@ waiting-names : (n : ℕ) → waiting (replicate n name ++ []) ≡ n
 waiting-names zero = refl
 waiting-names (suc n) = ap suc (waiting-names n)
 
-headless-names : (n : ℕ) → Headless (replicate n name ++ [])
-headless-names zero = tt
-headless-names (suc n) = headless-names n
+pub headless-names : (n : ℕ) (ts : List Task) → Headless ts → Headless (replicate n name ++ ts)
+headless-names zero ts h = h
+headless-names (suc n) ts h = headless-names n ts h
 
-trace-count : (ws keys : List ℕ) (at : ℕ) (ts : List Task) → scan ws keys at ts ≡ accepted → Headless ts
+trace-count : (names : ℕ) (ws keys : List ℕ) (at : ℕ) (ts : List Task) → scan names ws keys at ts ≡ accepted → Headless ts
     → length (blocksFrom (trace ws at ts) at) ≡ waiting ts
 unfolding trace blocksFrom next
-trace-count [] keys at [] e h = refl
-trace-count [] keys at (t ∷ ts) e h = absurd (refused-not-accepted (sym (scan-missing keys at t ts) ∙ e))
-trace-count (w ∷ ws) keys at [] e h = absurd (refused-not-accepted (sym (scan-more w ws keys at) ∙ e))
-trace-count (w ∷ ws) keys at (head n ∷ ts) e h = absurd h
-trace-count (w ∷ ws) keys at (name ∷ ts) e h =
-    ap suc (trace-count ws (keep keys w name) (suc at) (next at w name ++ ts) (scan-step ws keys w at name ts e .1) h)
-trace-count (w ∷ ws) keys at (perms n ∷ ts) e h =
-    trace-count ws (keep keys w (perms n)) (suc at) ts (scan-step ws keys w at (perms n) ts e .1) h
-trace-count (w ∷ ws) keys at (guard ∷ ts) e h =
-    trace-count ws (keep keys w guard) (suc at) ts (scan-step ws keys w at guard ts e .1) h
-trace-count (w ∷ ws) keys at (term d k s ∷ ts) e h =
+trace-count names [] keys at [] e h = refl
+trace-count names [] keys at (t ∷ ts) e h = absurd (refused-not-accepted (sym (scan-missing names keys at t ts) ∙ e))
+trace-count names (w ∷ ws) keys at [] e h = absurd (refused-not-accepted (sym (scan-more names w ws keys at) ∙ e))
+trace-count names (w ∷ ws) keys at (head n ∷ ts) e h = absurd h
+trace-count names (w ∷ ws) keys at (name ∷ ts) e h =
+    ap suc (trace-count names ws (keep keys w name) (suc at) (next at w name ++ ts) (scan-step names ws keys w at name ts e .1) h)
+trace-count names (w ∷ ws) keys at (perms n ∷ ts) e h =
+    trace-count names ws (keep keys w (perms n)) (suc at) ts (scan-step names ws keys w at (perms n) ts e .1) h
+trace-count names (w ∷ ws) keys at (guard ∷ ts) e h =
+    trace-count names ws (keep keys w guard) (suc at) ts (scan-step names ws keys w at guard ts e .1) h
+trace-count names (w ∷ ws) keys at (term d k s ∷ ts) e h =
     let t = term d k s in
-    trace-count ws (keep keys w t) (suc at) (next at w t ++ ts) (scan-step ws keys w at t ts e .1)
+    trace-count names ws (keep keys w t) (suc at) (next at w t ++ ts) (scan-step names ws keys w at t ts e .1)
     (headless-terms (next at w t) ts (terms-next at w d k s) h)
     ∙ waiting-terms (next at w t) ts (terms-next at w d k s)
 
@@ -72,11 +72,11 @@ module _ (ws : List ℕ) (e : reading ws ≡ accepted) where
       let n = argument (getD ws 0 0) in
       let r = at-step ws 0 [] (head (length ws)) [] (at-start ws e) .rest in
       ap length (blocks-first ws e ∙ ap (λ (ts : List Task). blocksFrom ts 1) (r .traced))
-      ∙ trace-count (drop 1 ws) _ 1 (replicate n name ++ []) (r .scanned) (headless-names n)
+      ∙ trace-count (namesAt ws) (drop 1 ws) _ 1 (replicate n name ++ []) (r .scanned) (headless-names n [] tt)
       ∙ waiting-names n
 
   pub size-le : length ws ≤ size
   size-le = head-word ws e .sized
 
-  pub blocks-le : length (code ws .blocks) ≤ handlers
+  pub blocks-le : length (code ws .blocks) ≤ namesAt ws
   blocks-le = le-trans (le-of-eq blocks-count) (head-word ws e .handled)

@@ -1,4 +1,5 @@
 -- The first pass over an accepted table: the end that it writes at each word is the word after the term there.
+use mathlib.Core.Logic.{⊎-elim}
 use mathlib.Core.Path.{_≡_, refl, sym, ap, _∙_, subst}
 use mathlib.Core.List.{List, []}
 use Prim.Native.Nat.{ℕ, zero, suc, _+_, _-_, _≤_, _<_}
@@ -9,7 +10,7 @@ use lib.ListN.{length, getD, set, length-set}
 use lib.Seq.{getD-set-other}
 use Rattle.table.specs.declared.Link.{Link}
 use Rattle.table.specs.Words.{kind, arity, parts, partsByKind, firstKind}
-use Rattle.table.specs.Scan.{Task, head, name, perms, guard, term, accepted, reading}
+use Rattle.table.specs.Scan.{Task, head, name, perms, guard, term, accepted, reading, namesAt}
 use Rattle.table.specs.Code.{part, endOf, taskAt}
 use Rattle.table.specs.Links.{pack, linkAt, iterate, hops, ends}
 use Rattle.table.proofs.Faults.{Stands}
@@ -32,8 +33,8 @@ module _ (ws : List ℕ) (e : reading ws ≡ accepted) where
       low : kind (getD ws p 0) < 16 → part ws p k < length ws
       low i = let z = ap length (parts-low (getD ws p 0) i) in let c : ⊥ = omega arith in absurd c
 
-      go : (t : Task) → taskAt ws p ≡ t → Stands (reach ws e p l .keys) (getD ws p 0) t → part ws p k < length ws
-      go (head n) t f = low (omega (arith, f .0))
+      go : (t : Task) → taskAt ws p ≡ t → Stands (namesAt ws) (reach ws e p l .keys) (getD ws p 0) t → part ws p k < length ws
+      go (head n) t f = low (⊎-elim (λ z. omega arith) (λ z. omega arith) (f .0))
       go name t f = low (omega (arith, f .0))
       go (perms n) t f = low (omega (arith, f .0))
       go guard t f = low (omega (arith, f))

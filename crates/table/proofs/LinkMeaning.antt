@@ -1,7 +1,7 @@
 -- What the links of an accepted table say: the end of each term, its block, its innermost binder, and of a variable the binder that it
 -- counts to.
 use mathlib.Core.Path.{_≡_, refl, sym, ap, _∙_, subst}
-use mathlib.Core.Logic.{_≢_}
+use mathlib.Core.Logic.{_≢_, ⊎-elim}
 use mathlib.Core.List.{List, [], _∷_, _++_, map}
 use mathlib.Core.Bool.{Bool, true, false}
 use Prim.Native.Nat.{ℕ, zero, suc, _+_, _^_, _≤_, _<_, zero-le}
@@ -13,7 +13,7 @@ use lib.ListN.{length, getD, replicate}
 use lib.Dec.{eqb}
 use Rattle.table.specs.declared.Link.{Link}
 use Rattle.table.specs.Words.{kind, argument, size, parts, arity}
-use Rattle.table.specs.Scan.{Task, head, name, perms, guard, term, accepted, next, reading}
+use Rattle.table.specs.Scan.{Task, head, name, perms, guard, term, accepted, next, reading, namesAt}
 use Rattle.table.specs.Code.{part, endOf, taskAt}
 use Rattle.table.specs.Links.{linkAt, iterate, outward, withBinder, withHome, bindParts, blockAt, bindWord, binders, ends, linked}
 use Rattle.table.proofs.Faults.{stands}
@@ -357,16 +357,18 @@ module _ (ws : List ℕ) (e : reading ws ≡ accepted) (l₀ : List ℕ) (room :
   kept p keys (head n) ts st inv =
       let w = getD ws p 0 in
       let l = passed ws first-pass p in
-      let f = stands keys w (head n) (st .faultless) in
+      let f = stands (namesAt ws) keys w (head n) (st .faultless) in
       let names = names-more (argument w) ts (inv .layered) in
       finish p l keys (head n) ts st inv (bindWord w p l)
-      (mid-none p l ts (st .inside) (wide p l keys (head n) ts st inv) (head n) (omega arith) (λ z. let c : ⊥ = omega arith in c)
+      (mid-none p l ts (st .inside) (wide p l keys (head n) ts st inv) (head n)
+      (⊎-elim (λ y. let c : kind w < 16 = omega arith in c) (λ y. let c : kind w < 16 = omega arith in c) (f .0))
+      (⊎-elim (λ y z. let c : ⊥ = omega arith in c) (λ y z. let c : ⊥ = omega arith in c) (f .0))
       (laid-names ws l (suc p) (replicate (argument w) name ++ ts) names) tt)
       tt (homed-names (cur ws (suc p)) (replicate (argument w) name ++ ts) names)
   kept p keys name ts st inv =
       let w = getD ws p 0 in
       let l = passed ws first-pass p in
-      let k = stands keys w name (st .faultless) .0 in
+      let k = stands (namesAt ws) keys w name (st .faultless) .0 in
       let c = cur-name ws p k in
       finish p l keys name ts st inv (bindWord w p l)
       (mid-name p l ts (st .inside) (wide p l keys name ts st inv) k (block ws e p (st .inside) (st .task) .inside) (inv .layered))
@@ -374,7 +376,7 @@ module _ (ws : List ℕ) (e : reading ws ≡ accepted) (l₀ : List ℕ) (room :
   kept p keys (perms n) ts st inv =
       let w = getD ws p 0 in
       let l = passed ws first-pass p in
-      let k = stands keys w (perms n) (st .faultless) .0 in
+      let k = stands (namesAt ws) keys w (perms n) (st .faultless) .0 in
       finish p l keys (perms n) ts st inv (bindWord w p l)
       (mid-none p l ts (st .inside) (wide p l keys (perms n) ts st inv) (perms n) (omega arith) (λ z. let c : ⊥ = omega arith in c)
       (inv .laid) tt)
@@ -382,7 +384,7 @@ module _ (ws : List ℕ) (e : reading ws ≡ accepted) (l₀ : List ℕ) (room :
   kept p keys guard ts st inv =
       let w = getD ws p 0 in
       let l = passed ws first-pass p in
-      let k = stands keys w guard (st .faultless) in
+      let k = stands (namesAt ws) keys w guard (st .faultless) in
       finish p l keys guard ts st inv (bindWord w p l)
       (mid-none p l ts (st .inside) (wide p l keys guard ts st inv) guard (omega arith) (λ z. let c : ⊥ = omega arith in c) (inv .laid) tt)
       tt (subst (λ (b : ℕ). All (HomedTask b) ts) (sym (cur-other ws p (λ z. let c : ⊥ = omega arith in c))) (inv .homed .1))
@@ -390,7 +392,7 @@ module _ (ws : List ℕ) (e : reading ws ≡ accepted) (l₀ : List ℕ) (room :
       let w = getD ws p 0 in
       let l = passed ws first-pass p in
       let t = term d h s in
-      let f = stands keys w t (st .faultless) in
+      let f = stands (namesAt ws) keys w t (st .faultless) in
       let c = cur-other ws p (λ z. let c : ⊥ = omega arith in c) in
       finish p l keys t ts st inv (bindWord w p l) (mid (ℕ-discrete (kind w) 20))
       (c ∙ sym (inv .homed .0))
@@ -401,11 +403,11 @@ module _ (ws : List ℕ) (e : reading ws ≡ accepted) (l₀ : List ℕ) (room :
       mid : Dec (kind (getD ws p 0) ≡ 20)
           → Mid (passed ws first-pass p) (bindWord (getD ws p 0) p (passed ws first-pass p)) p (term d h s) ts
       mid (yes k) =
-          let f = stands keys (getD ws p 0) (term d h s) (st .faultless) in
+          let f = stands (namesAt ws) keys (getD ws p 0) (term d h s) (st .faultless) in
           mid-variable p (passed ws first-pass p) ts (st .inside) (wide p (passed ws first-pass p) keys (term d h s) ts st inv)
           d h s (st .task) (inv .laid) k (f .3 k) (inv .done)
       mid (no k) =
-          let f = stands keys (getD ws p 0) (term d h s) (st .faultless) in
+          let f = stands (namesAt ws) keys (getD ws p 0) (term d h s) (st .faultless) in
           mid-parts p (passed ws first-pass p) ts (st .inside) (wide p (passed ws first-pass p) keys (term d h s) ts st inv)
           d h s (st .task) (inv .laid) (λ z. let c : ⊥ = omega arith in c) k (inv .right)
 

@@ -25,7 +25,7 @@ module _ (ws : List ℕ) (p : ℕ) where
 
   RowLinked : ℕ → ℕ → Term → ℕ → List Bool → Type 0
   RowLinked a k t l bs =
-      a < l → (k ≡ 20 → a < length (code ws .scope p)) → List·Memᴰ (code ws .home p) (code ws .blocks) → PartsLinked bs
+      a < l → (k ≡ 20 → a < length (code ws .scope p)) → (k ≡ 19 → a < code ws .names) → List·Memᴰ (code ws .home p) (code ws .blocks) → PartsLinked bs
       → NodeLinked (code ws) p (termNode t (part ws p 0) (part ws p 1) (part ws p 2))
 
   -- the parts of one, two and three that run
@@ -58,27 +58,27 @@ module _ (ws : List ℕ) (p : ℕ) where
   rows : (a : ℕ) → Rows (RowLinked a) firstKind (termsByKind a) limitsByKind partsByKind
   unfolding RowLinked PartsLinked termsByKind limitsByKind partsByKind termNode under code
   rows a =
-      (λ h v b q. tt)  -- constant
-      ▸ (λ h v b q. h)  -- whole number
-      ▸ (λ h v b q. h)  -- string literal
-      ▸ (λ h v b q. h)  -- handler name
-      ▸ (λ h v b q. v refl)  -- variable
-      ▸ (λ h v b q. body q)  -- function
-      ▸ (λ h v b q. two-parts tt q)  -- apply
-      ▸ (λ h v b q. let-parts q)  -- let
-      ▸ (λ h v b q. two-parts tt q)  -- sequence
-      ▸ (λ h v b q. three-parts q)  -- if
-      ▸ (λ h v b q. pair-parts q)  -- while
-      ▸ (λ h v b q. two-parts tt q)  -- operation
-      ▸ (λ h v b q. tt)  -- empty record
-      ▸ (λ h v b q. two-parts tt q)  -- get
-      ▸ (λ h v b q. three-parts q)  -- set
-      ▸ (λ h v b q. two-parts tt q)  -- delete
-      ▸ (λ h v b q. one-part q)  -- new cell
-      ▸ (λ h v b q. one-part q)  -- read cell
-      ▸ (λ h v b q. two-parts tt q)  -- assign
-      ▸ (λ h v b q. two-parts {A = IsSet24 a × List·Memᴰ (code ws .home p) (code ws .blocks)} (h, b) q)  -- send
-      ▸ (λ h v b q. h)  -- exercise
+      (λ h v m b q. tt)  -- constant
+      ▸ (λ h v m b q. h)  -- whole number
+      ▸ (λ h v m b q. h)  -- string literal
+      ▸ (λ h v m b q. m refl)  -- handler name
+      ▸ (λ h v m b q. v refl)  -- variable
+      ▸ (λ h v m b q. body q)  -- function
+      ▸ (λ h v m b q. two-parts tt q)  -- apply
+      ▸ (λ h v m b q. let-parts q)  -- let
+      ▸ (λ h v m b q. two-parts tt q)  -- sequence
+      ▸ (λ h v m b q. three-parts q)  -- if
+      ▸ (λ h v m b q. pair-parts q)  -- while
+      ▸ (λ h v m b q. two-parts tt q)  -- operation
+      ▸ (λ h v m b q. tt)  -- empty record
+      ▸ (λ h v m b q. two-parts tt q)  -- get
+      ▸ (λ h v m b q. three-parts q)  -- set
+      ▸ (λ h v m b q. two-parts tt q)  -- delete
+      ▸ (λ h v m b q. one-part q)  -- new cell
+      ▸ (λ h v m b q. one-part q)  -- read cell
+      ▸ (λ h v m b q. two-parts tt q)  -- assign
+      ▸ (λ h v m b q. two-parts {A = IsSet24 a × List·Memᴰ (code ws .home p) (code ws .blocks)} (h, b) q)  -- send
+      ▸ (λ h v m b q. h)  -- exercise
       ▸ done
 
 -- a term's node is one
@@ -145,7 +145,7 @@ module _ (ws : List ℕ) (e : reading ws ≡ accepted) where
       let w = getD ws p 0 in
       let f = term-stands ws e p d h s l t in
       by-kind (RowLinked ws p (argument w)) w (f .0) (f .1) (rows ws p (argument w)) (f .2)
-      (λ k. subst (λ (u : Task). argument w < length (scopeFor u)) (sym t) (f .3 k)) (home-listed p d h s l t) (part-within p d h s l t)
+      (λ k. subst (λ (u : Task). argument w < length (scopeFor u)) (sym t) (f .3 k)) (f .5) (home-listed p d h s l t) (part-within p d h s l t)
 
   node-linked : (p : ℕ) → p < length ws → (t : Task) → taskAt ws p ≡ t → NodeLinked (code ws) p (nodeFor ws p t)
   unfolding nodeFor code

@@ -1,6 +1,6 @@
 -- The code of an accepted table from what `item_at` and `link_at` answer: node, home and binder of each word.
 use mathlib.Core.Path.{_≡_, refl, sym, ap, ap₂, _∙_}
-use mathlib.Core.Logic.{_≢_}
+use mathlib.Core.Logic.{_≢_, ⊎-elim}
 use mathlib.Core.List.{List, List·Memᴰ}
 use mathlib.Core.Bool.{Bool}
 use Prim.Native.Nat.{ℕ, suc, _≤_, _<_}
@@ -15,7 +15,7 @@ use Rattle.table.specs.declared.Item.the-variants as items
 use Rattle.table.specs.declared.Term.{Term}
 use Rattle.table.specs.declared.Term.the-variants as terms
 use Rattle.table.specs.Words.{kind, argument, firstKind, parts, arity, partsByKind, limitsByKind, termsByKind, operationOf, termOf}
-use Rattle.table.specs.Scan.{Task, head, name, perms, guard, term, accepted, reading}
+use Rattle.table.specs.Scan.{Task, head, name, perms, guard, term, accepted, reading, namesAt}
 use Rattle.table.specs.Code.{Node, gap, block, one, two, bind, while, branch, update, cell, read, apply, sequence, get, delete}
 use Rattle.table.specs.Code.{assign, operation, send}
 use Rattle.table.specs.Code.{part, endOf, taskAt, termNode, nodeFor, scopeFor, homeFor, code}
@@ -196,10 +196,11 @@ module _ (ws : List ℕ) (e : reading ws ≡ accepted) (l : List ℕ) (room : le
   unfolding itemNode
   low-node p k h = sym (ap (λ (x : Item). nodeAt x p) (item-gap ws p k h))
 
-  task-node : (p : ℕ) → p < length ws → (t : Task) → taskAt ws p ≡ t → (k : List ℕ) → Stands k (getD ws p 0) t
+  task-node : (p : ℕ) → p < length ws → (t : Task) → taskAt ws p ≡ t → (k : List ℕ) → Stands (namesAt ws) k (getD ws p 0) t
       → nodeFor ws p t ≡ nodeAt (itemAt ws p) p
   unfolding nodeFor itemNode handlerAt
-  task-node p i (head n) t k f = low-node p (λ z. let c : ⊥ = omega arith in c) (omega arith)
+  task-node p i (head n) t k f =
+      ⊎-elim (λ y. low-node p (λ z. let c : ⊥ = omega arith in c) (omega arith)) (λ y. low-node p (λ z. let c : ⊥ = omega arith in c) (omega arith)) (f .0)
   task-node p i name t k f = sym (ap (λ (x : Item). nodeAt x p) (item-block ws p (f .0)))
   task-node p i (perms n) t k f = low-node p (λ z. let c : ⊥ = omega arith in c) (omega arith)
   task-node p i guard t k f = low-node p (λ z. let c : ⊥ = omega arith in c) (omega arith)
@@ -233,8 +234,9 @@ module _ (ws : List ℕ) (e : reading ws ≡ accepted) (l : List ℕ) (room : le
       low : kind (getD ws p 0) ≢ 2 → kind (getD ws p 0) < 16 → TermAt p t
       low k m = absurd (gap-no-term t (sym (item-gap ws p k m) ∙ h))
 
-      on : (i : p < length ws) (u : Task) → taskAt ws p ≡ u → Stands (reach ws e p i .keys) (getD ws p 0) u → TermAt p t
-      on i (head n) z f = low (λ y. let c : ⊥ = omega arith in c) (omega arith)
+      on : (i : p < length ws) (u : Task) → taskAt ws p ≡ u → Stands (namesAt ws) (reach ws e p i .keys) (getD ws p 0) u → TermAt p t
+      on i (head n) z f =
+          ⊎-elim (λ x. low (λ y. let c : ⊥ = omega arith in c) (omega arith)) (λ x. low (λ y. let c : ⊥ = omega arith in c) (omega arith)) (f .0)
       on i name z f = absurd (block-no-term (handlerAt ws p) t (sym (item-block ws p (f .0)) ∙ h))
       on i (perms n) z f = low (λ y. let c : ⊥ = omega arith in c) (omega arith)
       on i guard z f = low (λ y. let c : ⊥ = omega arith in c) (omega arith)

@@ -8,7 +8,7 @@ use native.Mathlib.Omega.{arith}
 use lib.ListN.{length, getD, take, drop, length-map, length-drop, take-append-drop}
 use lib.Seq.{drop-cons, drop-drop, drop-length, length-take-le}
 use Rattle.table.specs.Words.{parts, arity}
-use Rattle.table.specs.Scan.{Task, head, term, accepted, keep, under, next, scan, reading}
+use Rattle.table.specs.Scan.{Task, head, term, accepted, keep, under, next, scan, namesAt, reading}
 use Rattle.table.specs.Code.{skip, part, endOf, trace, tasks, taskAt}
 use Rattle.table.proofs.Faults.{Stands, stands}
 use Rattle.table.proofs.Stack.{At, Step, at-step, at-pass, reach, Reached, LayeredAt, terms-parts, scan-step, scan-more}
@@ -103,27 +103,27 @@ module _ (ws : List ℕ) (p : ℕ) (keys : List ℕ) (d h : ℕ) (s : List ℕ) 
 
 -- ---- the tasks of an accepted table
 
-trace-length : (ws keys : List ℕ) (at : ℕ) (ts : List Task) → scan ws keys at ts ≡ accepted → length (trace ws at ts) ≡ length ws
+trace-length : (names : ℕ) (ws keys : List ℕ) (at : ℕ) (ts : List Task) → scan names ws keys at ts ≡ accepted → length (trace ws at ts) ≡ length ws
 unfolding trace
-trace-length [] keys at ts e = refl
-trace-length (w ∷ ws) keys at [] e = absurd (refused-not-accepted (sym (scan-more w ws keys at) ∙ e))
-trace-length (w ∷ ws) keys at (t ∷ ts) e =
-    ap suc (trace-length ws (keep keys w t) (suc at) (next at w t ++ ts) (scan-step ws keys w at t ts e .1))
+trace-length names [] keys at ts e = refl
+trace-length names (w ∷ ws) keys at [] e = absurd (refused-not-accepted (sym (scan-more names w ws keys at) ∙ e))
+trace-length names (w ∷ ws) keys at (t ∷ ts) e =
+    ap suc (trace-length names ws (keep keys w t) (suc at) (next at w t ++ ts) (scan-step names ws keys w at t ts e .1))
 
 module _ (ws : List ℕ) (e : reading ws ≡ accepted) where
   pub tasks-length : length (tasks ws) ≡ length ws
   unfolding tasks reading
-  tasks-length = trace-length ws [] 0 (head (length ws) ∷ []) e
+  tasks-length = trace-length (namesAt ws) ws [] 0 (head (length ws) ∷ []) e
 
   -- the word at p may stand for its task
-  pub place-stands : (p : ℕ) (l : p < length ws) → Stands (reach ws e p l .keys) (getD ws p 0) (taskAt ws p)
+  pub place-stands : (p : ℕ) (l : p < length ws) → Stands (namesAt ws) (reach ws e p l .keys) (getD ws p 0) (taskAt ws p)
   place-stands p l =
       let r = reach ws e p l in
-      stands (r .keys) (getD ws p 0) (taskAt ws p) (at-step ws p (r .keys) (taskAt ws p) (r .below) (r .there) .faultless)
+      stands (namesAt ws) (r .keys) (getD ws p 0) (taskAt ws p) (at-step ws p (r .keys) (taskAt ws p) (r .below) (r .there) .faultless)
 
   pub term-stands : (p d h : ℕ) (s : List ℕ) (l : p < length ws) → taskAt ws p ≡ term d h s
-      → Stands (reach ws e p l .keys) (getD ws p 0) (term d h s)
-  term-stands p d h s l t = subst (λ (u : Task). Stands (reach ws e p l .keys) (getD ws p 0) u) t (place-stands p l)
+      → Stands (namesAt ws) (reach ws e p l .keys) (getD ws p 0) (term d h s)
+  term-stands p d h s l t = subst (λ (u : Task). Stands (namesAt ws) (reach ws e p l .keys) (getD ws p 0) u) t (place-stands p l)
 
   -- a term: its part k is a term one deeper in the same block, under the same binders or also under the term itself
   module _ (p d h : ℕ) (s : List ℕ) (l : p < length ws) (t : taskAt ws p ≡ term d h s) where

@@ -11,7 +11,7 @@ use lib.Seq.{drop-cons, drop-drop, getD-drop}
 use lib.Dec.{T, eqb}
 use Rattle.table.specs.Words.{argument, parts, arity}
 use Rattle.table.specs.Scan.{Task, head, name, perms, guard, term, Outcome, accepted, refused, has, key, fault, missing, keep}
-use Rattle.table.specs.Scan.{under, next, scan, reading}
+use Rattle.table.specs.Scan.{under, next, scan, namesAt, reading}
 use Rattle.table.specs.Code.{skip, trace, tasks, taskAt}
 
 -- ---- one word
@@ -23,39 +23,39 @@ Accepted (refused n p) = ⊥
 pub refused-not-accepted : {n p : ℕ} → refused n p ≡ accepted → ⊥
 refused-not-accepted e = subst Accepted (sym e) tt
 
-module _ (ws keys : List ℕ) (w at : ℕ) (t : Task) (ts : List Task) where
+module _ (names : ℕ) (ws keys : List ℕ) (w at : ℕ) (t : Task) (ts : List Task) where
   -- a word that may stand
-  pub scan-go : fault keys w t ≡ 0 → scan (w ∷ ws) keys at (t ∷ ts) ≡ scan ws (keep keys w t) (suc at) (next at w t ++ ts)
+  pub scan-go : fault names keys w t ≡ 0 → scan names (w ∷ ws) keys at (t ∷ ts) ≡ scan names ws (keep keys w t) (suc at) (next at w t ++ ts)
   unfolding scan
   scan-go e = rw (e, scan) refl
 
   -- a word that may not
-  pub scan-stop : (n : ℕ) → fault keys w t ≡ suc n → scan (w ∷ ws) keys at (t ∷ ts) ≡ refused (suc n) at
+  pub scan-stop : (n : ℕ) → fault names keys w t ≡ suc n → scan names (w ∷ ws) keys at (t ∷ ts) ≡ refused (suc n) at
   unfolding scan
   scan-stop n e = rw (e, scan) refl
 
   -- where the whole is accepted the word may stand, and the rest is accepted
-  pub scan-step : scan (w ∷ ws) keys at (t ∷ ts) ≡ accepted
-      → (fault keys w t ≡ 0) × (scan ws (keep keys w t) (suc at) (next at w t ++ ts) ≡ accepted)
-  scan-step e = go (fault keys w t) refl
+  pub scan-step : scan names (w ∷ ws) keys at (t ∷ ts) ≡ accepted
+      → (fault names keys w t ≡ 0) × (scan names ws (keep keys w t) (suc at) (next at w t ++ ts) ≡ accepted)
+  scan-step e = go (fault names keys w t) refl
     where
-      go : (n : ℕ) → fault keys w t ≡ n → (fault keys w t ≡ 0) × (scan ws (keep keys w t) (suc at) (next at w t ++ ts) ≡ accepted)
+      go : (n : ℕ) → fault names keys w t ≡ n → (fault names keys w t ≡ 0) × (scan names ws (keep keys w t) (suc at) (next at w t ++ ts) ≡ accepted)
       go zero f = (f, sym (scan-go f) ∙ e)
       go (suc n) f = absurd (refused-not-accepted (sym (scan-stop n f) ∙ e))
 
-pub scan-missing : (keys : List ℕ) (at : ℕ) (t : Task) (ts : List Task) → scan [] keys at (t ∷ ts) ≡ refused (missing t) at
+pub scan-missing : (names : ℕ) (keys : List ℕ) (at : ℕ) (t : Task) (ts : List Task) → scan names [] keys at (t ∷ ts) ≡ refused (missing t) at
 unfolding scan
-scan-missing keys at t ts = refl
+scan-missing names keys at t ts = refl
 
-pub scan-more : (w : ℕ) (ws keys : List ℕ) (at : ℕ) → scan (w ∷ ws) keys at [] ≡ refused 12 at
+pub scan-more : (names w : ℕ) (ws keys : List ℕ) (at : ℕ) → scan names (w ∷ ws) keys at [] ≡ refused 12 at
 unfolding scan
-scan-more w ws keys at = refl
+scan-more names w ws keys at = refl
 
 -- ---- an accepted table at a place: with these keys and this stack the rest of its words is accepted, and meets the rest of its tasks
 
 pub record At (ws : List ℕ) (p : ℕ) (keys : List ℕ) (ts : List Task) : Type 0 where
   pub bound : p ≤ length ws
-  pub scanned : scan (drop p ws) keys p ts ≡ accepted
+  pub scanned : scan (namesAt ws) (drop p ws) keys p ts ≡ accepted
   pub traced : drop p (tasks ws) ≡ trace (drop p ws) p ts
 
 pub at-start : (ws : List ℕ) → reading ws ≡ accepted → At ws 0 [] (head (length ws) ∷ [])
@@ -75,7 +75,7 @@ task-at ws p = ap (λ (n : ℕ). getD (tasks ws) n (head 0)) (sym (add-zero p)) 
 pub record Step (ws : List ℕ) (p : ℕ) (keys : List ℕ) (t : Task) (ts : List Task) : Type 0 where
   pub inside : p < length ws
   pub task : taskAt ws p ≡ t
-  pub faultless : fault keys (getD ws p 0) t ≡ 0
+  pub faultless : fault (namesAt ws) keys (getD ws p 0) t ≡ 0
   pub rest : At ws (suc p) (keep keys (getD ws p 0) t) (next p (getD ws p 0) t ++ ts)
 
 pub at-step : (ws : List ℕ) (p : ℕ) (keys : List ℕ) (t : Task) (ts : List Task) → At ws p keys (t ∷ ts) → Step ws p keys t ts
@@ -84,11 +84,11 @@ at-step ws p keys t ts a = go (decLt p (length ws))
     go : Dec (p < length ws) → Step ws p keys t ts
     go (no n) =
         let e : drop p ws ≡ [] = drop-of-length-le ws {i = p} (omega (arith, n)) in
-        absurd (refused-not-accepted (sym (ap (λ (l : List ℕ). scan l keys p (t ∷ ts)) e ∙ scan-missing keys p t ts) ∙ a .scanned))
+        absurd (refused-not-accepted (sym (ap (λ (l : List ℕ). scan (namesAt ws) l keys p (t ∷ ts)) e ∙ scan-missing (namesAt ws) keys p t ts) ∙ a .scanned))
     go (yes l) =
         let w = getD ws p 0 in
         let e : drop p ws ≡ w ∷ drop (suc p) ws = drop-cons ws p 0 l in
-        let s = scan-step (drop (suc p) ws) keys w p t ts (sym (ap (λ (l : List ℕ). scan l keys p (t ∷ ts)) e) ∙ a .scanned) in
+        let s = scan-step (namesAt ws) (drop (suc p) ws) keys w p t ts (sym (ap (λ (l : List ℕ). scan (namesAt ws) l keys p (t ∷ ts)) e) ∙ a .scanned) in
         let r : drop p (tasks ws) ≡ t ∷ trace (drop (suc p) ws) (suc p) (next p w t ++ ts) =
         a .traced ∙ ap (λ (l : List ℕ). trace l p (t ∷ ts)) e ∙ trace-step w (drop (suc p) ws) p t ts in
         record {
@@ -114,7 +114,7 @@ at-end ws p keys a = go (decLt p (length ws))
     go (yes l) =
         absurd
         (refused-not-accepted
-        (sym (ap (λ (v : List ℕ). scan v keys p []) (drop-cons ws p 0 l) ∙ scan-more (getD ws p 0) (drop (suc p) ws) keys p)
+        (sym (ap (λ (v : List ℕ). scan (namesAt ws) v keys p []) (drop-cons ws p 0 l) ∙ scan-more (namesAt ws) (getD ws p 0) (drop (suc p) ws) keys p)
         ∙ a .scanned))
 
 -- ---- the stack lemma

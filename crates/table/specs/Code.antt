@@ -9,8 +9,8 @@ use Rattle.table.specs.declared.Constant.{Constant}
 use Rattle.table.specs.declared.Operation.{Operation}
 use Rattle.table.specs.declared.Term.{Term}
 use Rattle.table.specs.declared.Term.the-variants as terms
-use Rattle.table.specs.Words.{argument, arity, termOf, names, literals}
-use Rattle.table.specs.Scan.{Task, head, name, perms, guard, term, next}
+use Rattle.table.specs.Words.{argument, arity, termOf, literals}
+use Rattle.table.specs.Scan.{Task, head, name, perms, guard, term, next, namesAt}
 
 -- terms with no part that runs: a variable counts its binders from the innermost, and a function's body is the next word
 pub data Leaf : Type 0 where
@@ -136,7 +136,7 @@ unfoldable pub code : List ℕ → Code
 code ws =
     record {
       size = length ws;
-      names = names;
+      names = namesAt ws;
       blocks = blocksFrom (tasks ws) 0;
       node = λ p. nodeFor ws p (taskAt ws p);
       scope = λ p. scopeFor (taskAt ws p);

@@ -18,15 +18,15 @@ unfoldable pub judged : ℕ → ℕ → Outcome
 judged zero at = accepted
 judged (suc n) at = refused (suc n) at
 
-unfoldable pub afterStep : Step → List ℕ → List ℕ → List Task → Outcome
-afterStep (steps.Next p) ws keys ts = scan (drop p ws) keys p ts
-afterStep (steps.Refused r) ws keys ts = refused (number r) (place r)
+unfoldable pub afterStep : Step → ℕ → List ℕ → List ℕ → List Task → Outcome
+afterStep (steps.Next p) names ws keys ts = scan names (drop p ws) keys p ts
+afterStep (steps.Refused r) names ws keys ts = refused (number r) (place r)
 
 -- the argument of a word of a kind at a place, or that no such word is there
 abbrev pub FoundAt : List ℕ → ℕ → ℕ → Found → Type 0
 FoundAt ws at k (found.Argument a) = (at < length ws) × (kind (getD ws at 0) ≡ k) × (a ≡ argument (getD ws at 0))
 FoundAt ws at k found.Nothing = at < length ws → kind (getD ws at 0) ≡ k → ⊥
 
-unfoldable pub afterBlock : BlockStep → List ℕ → List ℕ → List Task → Outcome
-afterBlock (blocks.Next p key) ws keys ts = scan (drop p ws) (key ∷ keys) p ts
-afterBlock (blocks.Refused r) ws keys ts = refused (number r) (place r)
+unfoldable pub afterBlock : BlockStep → ℕ → List ℕ → List ℕ → List Task → Outcome
+afterBlock (blocks.Next p key) names ws keys ts = scan names (drop p ws) (key ∷ keys) p ts
+afterBlock (blocks.Refused r) names ws keys ts = refused (number r) (place r)

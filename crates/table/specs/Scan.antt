@@ -3,9 +3,9 @@
 use Prim.Native.Nat.{ℕ, zero, suc}
 use mathlib.Core.List.{List, [], _∷_, _++_, map}
 use mathlib.Core.Bool.{Bool, true, false, not, _&&_, _||_}
-use lib.ListN.{length, replicate}
+use lib.ListN.{length, getD, replicate}
 use lib.Dec.{eqb, leb, ltb}
-use Rattle.table.specs.Words.{kind, argument, wordOf, names, handlers, size, depths, parts, limit}
+use Rattle.table.specs.Words.{kind, argument, wordOf, namesOf, size, depths, parts, limit}
 
 -- What the next word has to be: word 0 of a table of `size` words, a block's name, its permission set (with the name before it),
 -- its guard, or a term at a depth, in the block whose first word is `home`, under the binders at these places, innermost first.
@@ -34,23 +34,25 @@ has (k ∷ ks) n = eqb k n || has ks n
 abbrev pub key : ℕ → ℕ → ℕ
 key n s = wordOf n s
 
--- the tests of a word where a task waits for it, with their numbers in ascending order; `keys` are the keys of the blocks before
-unfoldable pub tests : List ℕ → ℕ → Task → List (Bool × ℕ)
-tests keys w (head n) = (not (eqb (kind w) 1), 1) ∷ (ltb size n, 2) ∷ (ltb handlers (argument w), 3) ∷ []
-tests keys w name = (not (eqb (kind w) 2), 4) ∷ (leb names (argument w), 5) ∷ []
-tests keys w (perms n) = (not (eqb (kind w) 3), 4) ∷ (has keys (key n (argument w)), 6) ∷ []
-tests keys w guard = (not (eqb (kind w) 4), 4) ∷ []
-tests keys w (term d h s) =
-    (ltb (kind w) 16, 7)
-    ∷ (ltb 36 (kind w), 7)
-    ∷ (leb (limit w) (argument w), 9)
-    ∷ (eqb (kind w) 20 && leb (length s) (argument w), 10)
-    ∷ (ltb depths d, 11)
-    ∷ []
+module _ (names : ℕ) where
+  -- the tests of a word where a task waits for it, with their numbers in ascending order; `keys` are the keys of the blocks before
+  unfoldable pub tests : List ℕ → ℕ → Task → List (Bool × ℕ)
+  tests keys w (head n) = (not (eqb (kind w) 1 || eqb (kind w) 5), 1) ∷ (ltb size n, 2) ∷ (ltb names (argument w), 3) ∷ []
+  tests keys w name = (not (eqb (kind w) 2), 4) ∷ (leb names (argument w), 5) ∷ []
+  tests keys w (perms n) = (not (eqb (kind w) 3), 4) ∷ (has keys (key n (argument w)), 6) ∷ []
+  tests keys w guard = (not (eqb (kind w) 4), 4) ∷ []
+  tests keys w (term d h s) =
+      (ltb (kind w) 16, 7)
+      ∷ (ltb 36 (kind w), 7)
+      ∷ (leb (limit w) (argument w), 9)
+      ∷ (eqb (kind w) 19 && leb names (argument w), 9)
+      ∷ (eqb (kind w) 20 && leb (length s) (argument w), 10)
+      ∷ (ltb depths d, 11)
+      ∷ []
 
--- the number that refuses a word, the lowest first, and 0 where it may stand
-unfoldable pub fault : List ℕ → ℕ → Task → ℕ
-fault keys w t = firstOf (tests keys w t)
+  -- the number that refuses a word, the lowest first, and 0 where it may stand
+  unfoldable pub fault : List ℕ → ℕ → Task → ℕ
+  fault keys w t = firstOf (tests keys w t)
 
 -- the number where no word is left
 unfoldable pub missing : Task → ℕ
@@ -81,17 +83,27 @@ next at w (perms n) = []
 next at w guard = []
 next at w (term d h s) = map (λ b. term (suc d) h (under b at s)) (parts w)
 
--- the words from the place `at` on, under a stack of tasks
-unfoldable pub scan : List ℕ → List ℕ → ℕ → List Task → Outcome
-scan [] keys at [] = accepted
-scan [] keys at (t ∷ ts) = refused (missing t) at
-scan (w ∷ ws) keys at [] = refused 12 at
-scan (w ∷ ws) keys at (t ∷ ts) =
-    elim (fault keys w t) [
-      | zero ↦ scan ws (keep keys w t) (suc at) (next at w t ++ ts)
-      | suc n ↦ refused (suc n) at
-    ]
+module _ (names : ℕ) where
+  -- the words from the place `at` on, under a stack of tasks
+  unfoldable pub scan : List ℕ → List ℕ → ℕ → List Task → Outcome
+  scan [] keys at [] = accepted
+  scan [] keys at (t ∷ ts) = refused (missing t) at
+  scan (w ∷ ws) keys at [] = refused 12 at
+  scan (w ∷ ws) keys at (t ∷ ts) =
+      elim (fault names keys w t) [
+        | zero ↦ scan ws (keep keys w t) (suc at) (next at w t ++ ts)
+        | suc n ↦ refused (suc n) at
+      ]
+
+-- the names of a table, by its word 0
+abbrev pub namesAt : List ℕ → ℕ
+namesAt ws = namesOf (getD ws 0 0)
 
 -- a table
 unfoldable pub reading : List ℕ → Outcome
-reading ws = scan ws [] 0 (head (length ws) ∷ [])
+reading ws = scan (namesAt ws) ws [] 0 (head (length ws) ∷ [])
+
+-- a narrow table, where a wide one is none
+unfoldable pub narrowReading : List ℕ → Outcome
+unfolding reading
+narrowReading ws = elim (eqb (kind (getD ws 0 0)) 5) [ true ↦ refused 1 0 | false ↦ reading ws ]

@@ -3,6 +3,7 @@ use Prim.Native.Nat.{ℕ, _+_, _-_, _*_, _/_, _%_, _^_}
 use mathlib.Core.List.{List, [], _∷_}
 use mathlib.Core.Bool.{Bool, true, false}
 use lib.ListN.{length, getD}
+use lib.Dec.{eqb}
 use Rattle.table.specs.declared.Constant.{Constant}
 use Rattle.table.specs.declared.Constant.the-variants as constants
 use Rattle.table.specs.declared.Operation.{Operation}
@@ -22,15 +23,19 @@ argument w = w % 2 ^ 24
 abbrev pub wordOf : ℕ → ℕ → ℕ
 wordOf k a = k * 2 ^ 24 + a
 
--- how many names, literals and handlers a table may have, its words, and the depth of a body
-abbrev pub names : ℕ
-names = 32
+-- Kind 1 starts a narrow table, kind 5 a wide one: how many names it may have, and as many handlers.
+abbrev pub narrow : ℕ
+narrow = 32
 
+abbrev pub wide : ℕ
+wide = 64
+
+unfoldable pub namesOf : ℕ → ℕ
+namesOf w = elim (eqb (kind w) 5) [ true ↦ wide | false ↦ narrow ]
+
+-- how many literals a table may have, its words, and the depth of a body
 abbrev pub literals : ℕ
 literals = 23
-
-abbrev pub handlers : ℕ
-handlers = 32
 
 abbrev pub size : ℕ
 size = 1024
@@ -69,13 +74,13 @@ partsByKind =
     ∷ []  -- 36 exercise
     ∷ []
 
--- Of kinds 16 to 36 in order: the first argument out of range. A variable's own limit is the number of its binders.
+-- Of kinds 16 to 36 in order: the first argument out of range. The number of names limits a name, and the number of its binders a variable.
 unfoldable pub limitsByKind : List ℕ
 limitsByKind =
     4  -- 16 constant
     ∷ 2 ^ 24  -- 17 whole number
     ∷ literals  -- 18 string literal
-    ∷ names  -- 19 handler name
+    ∷ 2 ^ 24  -- 19 handler name
     ∷ 2 ^ 24  -- 20 variable
     ∷ 1  -- 21 function
     ∷ 1  -- 22 apply

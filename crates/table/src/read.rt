@@ -6,13 +6,15 @@ use crate::words::arity_of;
 use crate::words::binds;
 use crate::words::kind_of;
 use crate::words::limit_of;
+use crate::words::names_of;
 ghost use mathlib.Core.Path.{_≡_};
-ghost use mathlib.Core.Bool.{_&&_};
+ghost use mathlib.Core.Bool.{_&&_, _||_};
 ghost use mathlib.Core.List.{List, [], _∷_};
 ghost use Prim.Native.Nat.{ℕ, _≤_};
 ghost use lib.Dec.{eqb, leb};
-ghost use lib.ListN.{length, drop, replicate};
-ghost use Rattle.table.specs.Scan.{Task, name, term, has, key, fault, scan, reading};
+ghost use lib.ListN.{length, getD, drop, replicate};
+ghost use Rattle.table.specs.Words.{kind};
+ghost use Rattle.table.specs.Scan.{Task, name, term, has, key, fault, scan, reading, narrowReading};
 ghost use Rattle.table.specs.Answer.{outcome};
 ghost use Rattle.table.specs.Rest.{judged, afterStep, FoundAt, afterBlock};
 
@@ -45,9 +47,16 @@ fn unbound(kind: u32, argument: u32, binders: usize) -> bool
     }
 }
 
+// A name that a table of so many names has not.
+fn unnamed(kind: u32, argument: u32, names: u32) -> bool
+    ensures { λ r. ⌜ r ≡ (eqb kind 19 && leb names argument) ⌝ }
+{
+    if kind == 19 { names <= argument } else { false }
+}
+
 // Whether a word may stand for a term at a depth under so many binders.
-fn term_word(w: u32, at: usize, depth: usize, binders: usize) -> Reading
-    ensures { λ r. ⌜ ((keys : List ℕ) (h : ℕ) (s : List ℕ) → length s ≡ binders → outcome r ≡ judged (fault keys w (term depth h s)) at) ⌝ }
+fn term_word(w: u32, at: usize, depth: usize, binders: usize, names: u32) -> Reading
+    ensures { λ r. ⌜ ((keys : List ℕ) (h : ℕ) (s : List ℕ) → length s ≡ binders → outcome r ≡ judged (fault names keys w (term depth h s)) at) ⌝ }
 {
     let kind = kind_of(w);
     let argument = argument_of(w);
@@ -60,6 +69,9 @@ fn term_word(w: u32, at: usize, depth: usize, binders: usize) -> Reading
     if limit_of(w) <= argument {
         return Reading::Refused(Refusal::ArgumentRange(at));
     }
+    if unnamed(kind, argument, names) {
+        return Reading::Refused(Refusal::ArgumentRange(at));
+    }
     if unbound(kind, argument, binders) {
         return Reading::Refused(Refusal::NoBinder(at));
     }
@@ -70,22 +82,22 @@ fn term_word(w: u32, at: usize, depth: usize, binders: usize) -> Reading
 }
 
 // The term at a place, with its parts, whatever is to come after it.
-fn term(words: &[u32], at: usize, depth: usize, binders: usize) -> Step
+fn term(words: &[u32], at: usize, depth: usize, binders: usize, names: u32) -> Step
     requires { ⌜ binders ≤ depth ⌝ }
-    ensures { λ r. ⌜ ((keys : List ℕ) (h : ℕ) (s : List ℕ) (ts : List Task) → length s ≡ binders → scan (drop at (now (words .entry))) keys at (term depth h s ∷ ts) ≡ afterStep r (now (words .entry)) keys ts) ⌝ }
+    ensures { λ r. ⌜ ((keys : List ℕ) (h : ℕ) (s : List ℕ) (ts : List Task) → length s ≡ binders → scan names (drop at (now (words .entry))) keys at (term depth h s ∷ ts) ≡ afterStep r names (now (words .entry)) keys ts) ⌝ }
 {
     if words.len() <= at {
         return Step::Refused(Refusal::NoTerm(at));
     }
     let w = words[at];
-    if let Reading::Refused(r) = term_word(w, at, depth, binders) {
+    if let Reading::Refused(r) = term_word(w, at, depth, binders, names) {
         return Step::Refused(r);
     }
     let count = arity_of(w);
     let mut next = at + 1;
     let mut i = 0;
     while i < count {
-        match term(words, next, depth + 1, binders + binds(w, i)) {
+        match term(words, next, depth + 1, binders + binds(w, i), names) {
             Step::Refused(r) => return Step::Refused(r),
             Step::Next(n) => next = n,
         }
@@ -124,13 +136,14 @@ fn used(keys: &[u32], start: usize, key: u32) -> bool
 }
 
 // The block at a place, whatever is to come after it.
-fn block(words: &[u32], at: usize, keys: &[u32], start: usize) -> BlockStep
-    ensures { λ r. ⌜ ((ts : List Task) → scan (drop at (now (words .entry))) (drop start (now (keys .entry))) at (name ∷ ts) ≡ afterBlock r (now (words .entry)) (drop start (now (keys .entry))) ts) ⌝ }
+fn block(words: &[u32], at: usize, keys: &[u32], start: usize, names: u32) -> BlockStep
+    requires { ⌜ names ≤ 64 ⌝ }
+    ensures { λ r. ⌜ ((ts : List Task) → scan names (drop at (now (words .entry))) (drop start (now (keys .entry))) at (name ∷ ts) ≡ afterBlock r names (now (words .entry)) (drop start (now (keys .entry))) ts) ⌝ }
 {
     let Found::Argument(name) = block_word(words, at, 2) else {
         return BlockStep::Refused(Refusal::NotBlock(at));
     };
-    if 32 <= name {
+    if names <= name {
         return BlockStep::Refused(Refusal::NameRange(at));
     }
     let Found::Argument(perms) = block_word(words, at + 1, 3) else {
@@ -143,23 +156,23 @@ fn block(words: &[u32], at: usize, keys: &[u32], start: usize) -> BlockStep
     let Found::Argument(_) = block_word(words, at + 2, 4) else {
         return BlockStep::Refused(Refusal::NotBlock(at + 2));
     };
-    match term(words, at + 3, 1, 1) {
+    match term(words, at + 3, 1, 1, names) {
         Step::Next(next) => BlockStep::Next(next, key),
         Step::Refused(r) => BlockStep::Refused(r),
     }
 }
 
 // The blocks from a place on, so many of them, and nothing after the last.
-fn blocks(words: &[u32], count: usize) -> Reading
-    requires { ⌜ count ≤ 32 ⌝ }
-    ensures { λ r. ⌜ outcome r ≡ scan (drop 1 (now (words .entry))) [] 1 (replicate count name) ⌝ }
+fn blocks(words: &[u32], count: usize, names: u32) -> Reading
+    requires { ⌜ (count ≤ 64) × (names ≤ 64) ⌝ }
+    ensures { λ r. ⌜ outcome r ≡ scan names (drop 1 (now (words .entry))) [] 1 (replicate count name) ⌝ }
 {
-    let mut keys = [0u32; 32];
-    let mut start = 32;
+    let mut keys = [0u32; 64];
+    let mut start = 64;
     let mut left = count;
     let mut at = 1;
     while 0 < left {
-        match block(words, at, &keys, start) {
+        match block(words, at, &keys, start, names) {
             BlockStep::Refused(r) => return Reading::Refused(r),
             BlockStep::Next(next, key) => {
                 at = next;
@@ -176,6 +189,13 @@ fn blocks(words: &[u32], count: usize) -> Reading
     }
 }
 
+// Whether a word of the kind starts a table.
+fn starts_table(kind: u32) -> bool
+    ensures { λ r. ⌜ r ≡ (eqb kind 1 || eqb kind 5) ⌝ }
+{
+    kind == 1 || kind == 5
+}
+
 // The whole table.
 pub fn read(words: &[u32]) -> Reading
     ensures { λ r. ⌜ outcome r ≡ reading (now (words .entry)) ⌝ }
@@ -184,15 +204,36 @@ pub fn read(words: &[u32]) -> Reading
         return Reading::Refused(Refusal::NotTable);
     }
     let w = words[0];
-    if kind_of(w) != 1 {
+    if !starts_table(kind_of(w)) {
         return Reading::Refused(Refusal::NotTable);
     }
     if 1024 < words.len() {
         return Reading::Refused(Refusal::TooManyWords);
     }
     let count = argument_of(w);
-    if 32 < count {
+    let names = names_of(w);
+    if names < count {
         return Reading::Refused(Refusal::TooManyHandlers);
     }
-    blocks(words, count as usize)
+    blocks(words, count as usize, names)
+}
+
+// Whether word 0 is of kind 5, which starts a wide table.
+pub fn is_wide(words: &[u32]) -> bool
+    ensures { λ r. ⌜ r ≡ eqb (kind (getD (now (words .entry)) 0 0)) 5 ⌝ }
+{
+    if words.len() == 0 {
+        return false;
+    }
+    kind_of(words[0]) == 5
+}
+
+// The whole table, where a wide one is refused.
+pub fn read_narrow(words: &[u32]) -> Reading
+    ensures { λ r. ⌜ outcome r ≡ narrowReading (now (words .entry)) ⌝ }
+{
+    if is_wide(words) {
+        return Reading::Refused(Refusal::NotTable);
+    }
+    read(words)
 }

@@ -7,7 +7,7 @@ ghost use mathlib.Core.Path.{_≡_};
 ghost use mathlib.Core.Bool.{false};
 ghost use Prim.Native.Nat.{_-_};
 ghost use lib.ListN.{getD};
-ghost use Rattle.table.specs.Words.{kind, argument, firstKind, parts, mark, arity, limit, termOf, constantOf, operationOf};
+ghost use Rattle.table.specs.Words.{kind, argument, namesOf, firstKind, parts, mark, arity, limit, termOf, constantOf, operationOf};
 
 const KIND: u32 = 16777216;
 
@@ -27,6 +27,23 @@ pub fn argument_of(w: u32) -> u32
     ensures { λ r. ⌜ r ≡ argument w ⌝ }
 {
     w % KIND
+}
+
+// How many names a table may have, by its word 0.
+pub fn names_of(w: u32) -> u32
+    ensures { λ r. ⌜ r ≡ namesOf w ⌝ }
+{
+    if w / KIND == 5 { 64 } else { 32 }
+}
+
+// The same, of all words of a table.
+pub fn names_in(words: &[u32]) -> u32
+    ensures { λ r. ⌜ r ≡ namesOf (getD (now (words .entry)) 0 0) ⌝ }
+{
+    if words.len() == 0 {
+        return 32;
+    }
+    names_of(words[0])
 }
 
 // The place of a word's kind among the kinds of terms, 0 for kind 16.
@@ -58,7 +75,7 @@ pub fn limit_of(w: u32) -> u32
         0 => 4,
         1 => KIND,
         2 => 23,
-        3 => 32,
+        3 => KIND,
         4 => KIND,
         5 => 1,
         6 => 1,

@@ -6,11 +6,13 @@ use mathlib.Core.List.{List, [], _∷_}
 use native.Mathlib.Nat.{mul-le-mul}
 use native.Mathlib.Omega.{arith}
 use lib.Dec.{eqb, leb, ltb}
-use lib.ListN.{length}
+use lib.ListN.{length, getD}
 use borrow.Author.Tests.{lt-ltb, le-ltb, ltb-true, ltb-false}
 use Rattle.permset.specs.Sets.{width}
+use Rattle.table.specs.Words.{namesOf}
 use Rattle.table.specs.Scan.{firstOf, accepted, refused as unreadable, reading}
 use Rattle.table.specs.Code.{Code, code}
+use Rattle.table.proofs.Widths.{names-most}
 use Rattle.calculus.specs.Layout.{rowWords, estimateWords}
 use Rattle.calculus.specs.Estimate.{whole, estimate}
 use Rattle.calculus.specs.Answer.{Answer, refused, verdict, standingBound, workWords, callerTests, judge, analysis, answer}
@@ -71,16 +73,16 @@ answer-enough ws ρ bound est work roomEst roomWork =
 -- ---- the words that an estimate needs
 
 -- of a table of at most m words, a set of which takes at most r words
-estimate-most : (ws : List ℕ) (m r : ℕ) → length ws ≤ m → (32 + 32 + length ws + 31) / 32 ≤ r → estimateWords (code ws) ≤ 2 * m * r + m
+estimate-most : (ws : List ℕ) (m r : ℕ) → length ws ≤ m → (32 + namesOf (getD ws 0 0) + length ws + 31) / 32 ≤ r → estimateWords (code ws) ≤ 2 * m * r + m
 unfolding estimateWords rowWords code
 estimate-most ws m r h row =
     let twice : 2 * length ws ≤ 2 * m = omega arith in
-    let all : 2 * length ws * ((32 + 32 + length ws + 31) / 32) ≤ 2 * m * r = mul-le-mul twice row in
+    let all : 2 * length ws * ((32 + namesOf (getD ws 0 0) + length ws + 31) / 32) ≤ 2 * m * r = mul-le-mul twice row in
     omega arith
 
 -- 256 words, the most that 1,024 bytes hold
-pub estimate-room : (ws : List ℕ) → length ws ≤ 256 → estimateWords (code ws) ≤ 5376
-estimate-room ws h = estimate-most ws 256 10 h (omega arith)
+pub estimate-room : (ws : List ℕ) → length ws ≤ 256 → estimateWords (code ws) ≤ 5888
+estimate-room ws h = estimate-most ws 256 11 h (omega (arith, names-most (getD ws 0 0)))
 
 pub work-room : (ws : List ℕ) → length ws ≤ 256 → workWords (code ws .size) ≤ 1024
 unfolding code
@@ -88,10 +90,11 @@ work-room ws h = omega arith
 
 -- arrays for 256 words
 pub answer-exact : (ws : List ℕ) (ρ bound : ℕ) → length ws ≤ 256
-    → answer ws ρ bound 5376 1024 ≡ answer ws ρ bound (estimateWords (code ws)) (workWords (length ws))
-answer-exact ws ρ bound h = answer-enough ws ρ bound 5376 1024 (estimate-room ws h) (omega arith)
+    → answer ws ρ bound 5888 1024 ≡ answer ws ρ bound (estimateWords (code ws)) (workWords (length ws))
+answer-exact ws ρ bound h = answer-enough ws ρ bound 5888 1024 (estimate-room ws h) (omega arith)
 
 -- arrays for every table
 pub answer-largest : (ws : List ℕ) (ρ bound : ℕ) → length ws ≤ 1024
-    → answer ws ρ bound 70656 4096 ≡ answer ws ρ bound (estimateWords (code ws)) (workWords (length ws))
-answer-largest ws ρ bound h = answer-enough ws ρ bound 70656 4096 (estimate-most ws 1024 34 h (omega arith)) (omega arith)
+    → answer ws ρ bound 72704 4096 ≡ answer ws ρ bound (estimateWords (code ws)) (workWords (length ws))
+answer-largest ws ρ bound h =
+    answer-enough ws ρ bound 72704 4096 (estimate-most ws 1024 35 h (omega (arith, names-most (getD ws 0 0)))) (omega arith)

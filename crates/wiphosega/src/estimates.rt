@@ -20,23 +20,23 @@ use text::set_field;
 
 // So many words, as bytes.
 fn first_words(bytes: &[u8], count: usize) {
-    if count <= 70656 {
+    if count <= 72704 {
         console::first(bytes, 4 * count);
     }
 }
 
 fn print_words(est: &[u32]) {
-    let mut out = [0u8; 282624];
+    let mut out = [0u8; 290816];
     let n = bytes_of(est, &mut out);
     first_words(&out, n);
 }
 
-// The first words of a slice: those of an estimate of a system of so many words.
-fn print_estimate(est: &[u32], size: usize) {
-    if 1024 < size {
+// The first words of a slice: those of an estimate of a system.
+fn print_estimate(est: &[u32], words: &[u32]) {
+    if 1024 < words.len() {
         return;
     }
-    let n = Layout::of(size).words();
+    let n = Layout::of(words).words();
     if est.len() < n {
         return;
     }
@@ -44,11 +44,11 @@ fn print_estimate(est: &[u32], size: usize) {
 }
 
 pub fn estimate_of(words: &[u32], rho: u32) {
-    let mut est = [0u32; 70656];
+    let mut est = [0u32; 72704];
     let mut work = [0u32; 4096];
     match analyse(words, rho, &mut est, &mut work) {
         Analysis::Refused(f) => console::refusal(fault_number(f), fault_place(f)),
-        Analysis::Solved(_) => print_estimate(&est, words.len()),
+        Analysis::Solved(_) => print_estimate(&est, words),
     }
 }
 
@@ -104,13 +104,13 @@ fn audit_in(input: &[u8], rho: u32) {
         console::refusal(30, 0);
         return;
     }
-    let mut words = [0u32; 71682];
+    let mut words = [0u32; 73730];
     audit_room(input, rho, &mut words);
 }
 
-// Of a longer input 286,728 bytes are kept: a word more than the largest system and its estimate, which decides.
+// Of a longer input 294,920 bytes are kept: a word more than the largest system and its estimate, which decides.
 fn audit_with(rho: u32) {
-    let mut input = [0u8; 286728];
+    let mut input = [0u8; 294920];
     let n = read_input(&mut input);
     audit_in(&input[..n], rho);
 }

@@ -10,7 +10,7 @@ const NO_CEILING: usize = 4294967296;
 
 // Enough for every system: 96 bytes, and 21 for each position.
 pub fn order_of(words: &[u32], rho: u32) {
-    let mut est = [0u32; 70656];
+    let mut est = [0u32; 72704];
     let mut work = [0u32; 4096];
     let mut positions = [0u32; 64];
     let mut out = [0u8; 1440];

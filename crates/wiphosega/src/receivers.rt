@@ -21,7 +21,7 @@ fn senders_by(words: &[u32], est: &[u32]) {
 }
 
 pub fn senders_of(words: &[u32], rho: u32) {
-    let mut est = [0u32; 70656];
+    let mut est = [0u32; 72704];
     let mut work = [0u32; 4096];
     match analyse(words, rho, &mut est, &mut work) {
         Analysis::Refused(f) => console::refusal(fault_number(f), fault_place(f)),

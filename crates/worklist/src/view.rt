@@ -58,8 +58,8 @@ pub fn close(words: &[u32], links: &[u32], p: usize) -> usize
 }
 
 // How many words of a row the elements of plain data fill; made things come after them.
-pub fn lead(_l: Layout) -> usize {
-    2
+pub fn lead(l: Layout) -> usize {
+    l.lead
 }
 
 // How many words a row has, which are fewer than WIDEST in every estimate.

@@ -10,7 +10,7 @@ pub fn audit(words: &[u32], rho: u32, estimate: &[u32]) -> Result<u32, Refusal> 
     if rho >> 24 != 0 {
         return refused(20, 0);
     }
-    if estimate.len() != Layout::of(words.len()).total() {
+    if estimate.len() != Layout::of(&table).total() {
         return refused(52, 0);
     }
     if let Some(k) = first_stray(&table, estimate) {

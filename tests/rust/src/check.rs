@@ -32,8 +32,12 @@ impl Checker<'_> {
         self.estimate[self.layout.rows() + i] & LIVE != 0
     }
 
+    fn plain(&self) -> std::ops::Range<usize> {
+        0..self.layout.plain
+    }
+
     fn elements(&self) -> std::ops::Range<usize> {
-        0..FIRST_MADE + self.layout.size
+        0..self.layout.plain + self.layout.size
     }
 
     /// For every element: if the first holds of it, so does the second.
@@ -43,7 +47,7 @@ impl Checker<'_> {
 
     /// For every word of these kinds with its element in C(p).
     fn each(&self, p: usize, kinds: &[u8], holds: impl Fn(usize) -> bool) -> bool {
-        (0..self.layout.size).all(|q| !(kinds.contains(&self.table.kind(q)) && self.c(p, made(q))) || holds(q))
+        (0..self.layout.size).all(|q| !(kinds.contains(&self.table.kind(q)) && self.c(p, made(self.table, q))) || holds(q))
     }
 
     fn live_parts(&self, p: usize) -> bool {
@@ -66,8 +70,8 @@ impl Checker<'_> {
         match table.kind(p) {
             CONSTANT | NUMBER | LITERAL | NAME => self.c(p, element(table, p)),
             VARIABLE => self.sub(|x| self.b(table.binder(p), x), |x| self.c(p, x)),
-            FUNCTION | EMPTY => self.c(p, made(p)),
-            CELL => self.c(p, made(p)) && self.sub(|x| self.c(part(0), x), |x| self.b(p, x)),
+            FUNCTION | EMPTY => self.c(p, made(table, p)),
+            CELL => self.c(p, made(table, p)) && self.sub(|x| self.c(part(0), x), |x| self.b(p, x)),
             APPLY => self.each(part(0), &[FUNCTION], |f| {
                 self.live(f + 1)
                     && self.sub(|x| self.c(part(1), x), |x| self.b(f, x))
@@ -82,23 +86,23 @@ impl Checker<'_> {
                     && self.sub(|x| self.c(part(1), x) || self.c(part(2), x), |x| self.c(p, x))
             }
             WHILE => (!self.c(part(0), TRUE) || self.live(part(1))) && (!self.c(part(0), FALSE) || self.c(p, UNDEFINED)),
-            OPERATION => (0..64).filter(|&x| self.c(part(0), x)).all(|x| {
-                let mut seconds = (0..64).filter(|&y| self.c(part(1), y));
+            OPERATION => self.plain().filter(|&x| self.c(part(0), x)).all(|x| {
+                let mut seconds = self.plain().filter(|&y| self.c(part(1), y));
                 seconds.all(|y| pair(argument, x, y).into_iter().all(|z| self.c(p, z)))
             }),
             GET => {
                 !string()
                     || self.each(part(0), &records, |q| self.c(p, UNDEFINED) && self.sub(|x| self.b(q, x), |x| self.c(p, x)))
-                        && (!self.c(part(0), OPPONENT) || (0..64).all(|x| self.c(p, x)))
+                        && (!self.c(part(0), OPPONENT) || self.plain().all(|x| self.c(p, x)))
             }
             SET => {
-                let made_anew = self.c(p, made(p)) && self.sub(|x| self.c(part(2), x), |x| self.b(p, x));
+                let made_anew = self.c(p, made(table, p)) && self.sub(|x| self.c(part(2), x), |x| self.b(p, x));
                 !string()
                     || self.each(part(0), &records, |q| made_anew && self.sub(|x| self.b(q, x), |x| self.b(p, x)))
-                        && (!self.c(part(0), OPPONENT) || made_anew && (0..64).all(|x| self.b(p, x)))
+                        && (!self.c(part(0), OPPONENT) || made_anew && self.plain().all(|x| self.b(p, x)))
             }
             DELETE => {
-                !string() || self.each(part(0), &records, |q| self.c(p, made(q))) && (!self.c(part(0), OPPONENT) || self.c(p, OPPONENT))
+                !string() || self.each(part(0), &records, |q| self.c(p, made(table, q))) && (!self.c(part(0), OPPONENT) || self.c(p, OPPONENT))
             }
             READ => self.each(part(0), &[CELL], |q| self.sub(|x| self.b(q, x), |x| self.c(p, x))),
             ASSIGN => self.each(part(0), &[CELL], |q| self.sub(|x| self.c(part(1), x), |x| self.c(p, x) && self.b(q, x))),
@@ -110,7 +114,7 @@ impl Checker<'_> {
 
     /// Is x in the message of the send at p, and no function or cell?
     fn sent(&self, p: usize, x: usize) -> bool {
-        let forbidden = x >= FIRST_MADE && matches!(self.table.kind(x - FIRST_MADE), FUNCTION | CELL);
+        let forbidden = x >= self.layout.plain && matches!(self.table.kind(x - self.layout.plain), FUNCTION | CELL);
         self.c(self.table.part(p, 1), x) && !forbidden
     }
 
@@ -132,20 +136,20 @@ impl Checker<'_> {
     }
 
     fn entry(&self, b: usize) -> bool {
-        !within(self.table.argument(b + 2), self.rho) || self.live(b) && (0..64).all(|x| self.b(b, x)) && self.c(b, OPPONENT)
+        !within(self.table.argument(b + 2), self.rho) || self.live(b) && self.plain().all(|x| self.b(b, x)) && self.c(b, OPPONENT)
     }
 
     /// Each block with a live send that delivers to b stands in C(b).
     fn senders(&self, b: usize) -> bool {
         let sends = (0..self.layout.size).filter(|&p| self.table.kind(p) == SEND && self.live(p));
-        sends.into_iter().all(|p| !self.delivers(p, b) || self.c(b, made(self.table.home(p))))
+        sends.into_iter().all(|p| !self.delivers(p, b) || self.c(b, made(self.table, self.table.home(p))))
     }
 
     /// May the element stand in this row? Past the plain ones it is a block in C of a block, and else what some word makes.
     fn stands(&self, row: usize, x: usize) -> bool {
         let of_block = row % 2 == 0 && self.table.kind(row / 2) == BLOCK;
         let named = |kind| if of_block { kind == BLOCK } else { matches!(kind, FUNCTION | EMPTY | SET | CELL) };
-        x < FIRST_MADE || x < FIRST_MADE + self.layout.size && named(self.table.kind(x - FIRST_MADE))
+        self.plain().contains(&x) || self.elements().contains(&x) && named(self.table.kind(x - self.layout.plain))
     }
 
     /// Does every set bit of word k of the estimate stand for an element, a permission or a flag?
@@ -161,13 +165,13 @@ impl Checker<'_> {
 
 /// The first word of the estimate with a stray bit, if any.
 pub fn first_stray(table: &Table, estimate: &[u32]) -> Option<usize> {
-    let checker = Checker { table, rho: 0, layout: Layout::of(table.size()), estimate };
+    let checker = Checker { table, rho: 0, layout: Layout::of(table), estimate };
     (0..estimate.len()).find(|&k| !checker.clean(k))
 }
 
 /// The lowest word with a broken rule, if any; a stray bit is the table's word 0.
 pub fn broken(table: &Table, rho: u32, estimate: &[u32]) -> Option<usize> {
-    let checker = Checker { table, rho, layout: Layout::of(table.size()), estimate };
+    let checker = Checker { table, rho, layout: Layout::of(table), estimate };
     if first_stray(table, estimate).is_some() {
         return Some(0);
     }

@@ -1,7 +1,7 @@
 //! The report on a class of systems (document 02, wish 14), written from its text alone.
 
 use crate::estimate::Layout;
-use crate::table::STANDING_BOUND;
+use crate::table::{STANDING_BOUND, WIDE};
 use crate::verdict::{refusal_line, verdict, words_of};
 use std::fmt::Write;
 
@@ -35,7 +35,7 @@ pub fn report(mut stream: &[u8]) -> String {
     let mut text = String::new();
     let (mut position, mut accepted) = (0, 0);
     let mut leaks = [0; 24];
-    let (mut estimate, mut work) = (vec![0; Layout::of(MOST_SYSTEM_WORDS).total()], vec![0; 4 * MOST_SYSTEM_WORDS]);
+    let (mut estimate, mut work) = (vec![0; Layout::sized(WIDE, MOST_SYSTEM_WORDS).total()], vec![0; 4 * MOST_SYSTEM_WORDS]);
     while !stream.is_empty() {
         let system = if position == MOST_SYSTEMS { Err(61) } else { first(stream) };
         let (rho, system, rest) = match system {

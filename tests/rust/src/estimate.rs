@@ -13,14 +13,18 @@ pub const OPPONENT: usize = 7;
 pub const OTHER_STRING: usize = 8;
 pub const FIRST_LITERAL: usize = 9;
 pub const FIRST_NAME: usize = 32;
-pub const FIRST_MADE: usize = 64;
 /// The flag of a live word, beside its permissions.
 pub const LIVE: u32 = 1 << 24;
 pub const PERMISSIONS_MASK: u32 = LIVE - 1;
 
+/// How many elements are plain, which no word makes: "all 64" of a narrow table.
+pub fn plain(names: u32) -> usize {
+    FIRST_NAME + names as usize
+}
+
 /// The element of what word i makes.
-pub fn made(i: usize) -> usize {
-    FIRST_MADE + i
+pub fn made(table: &Table, i: usize) -> usize {
+    plain(table.names) + i
 }
 
 pub fn makes_record(kind: u8) -> bool {
@@ -51,12 +55,20 @@ pub fn element(table: &Table, p: usize) -> usize {
 #[derive(Clone, Copy)]
 pub struct Layout {
     pub size: usize,
+    /// The number of plain elements, which come first in a row.
+    pub plain: usize,
     pub row: usize,
 }
 
 impl Layout {
-    pub fn of(size: usize) -> Layout {
-        Layout { size, row: (FIRST_MADE + size + 31) / 32 }
+    pub fn of(table: &Table) -> Layout {
+        Layout::sized(table.names, table.size())
+    }
+
+    /// That of a table with so many names and words.
+    pub fn sized(names: u32, size: usize) -> Layout {
+        let plain = plain(names);
+        Layout { size, plain, row: (plain + size + 31) / 32 }
     }
 
     /// Where the words of P and the flags start.
@@ -71,12 +83,12 @@ impl Layout {
 
 /// The union of P(b) over the blocks with a guard within ρ.
 pub fn leak(table: &Table, rho: u32, estimate: &[u32]) -> u32 {
-    let permissions = &estimate[Layout::of(table.size()).rows()..];
+    let permissions = &estimate[Layout::of(table).rows()..];
     let entries = table.blocks.iter().filter(|block| within(block.guard, rho));
     entries.fold(0, |leak, block| leak | permissions[block.start]) & PERMISSIONS_MASK
 }
 
 /// The set bits of the estimate.
 pub fn facts(table: &Table, estimate: &[u32]) -> u32 {
-    estimate[..Layout::of(table.size()).total()].iter().map(|word| word.count_ones()).sum()
+    estimate[..Layout::of(table).total()].iter().map(|word| word.count_ones()).sum()
 }

@@ -2,8 +2,8 @@
 
 use crate::estimate::Layout;
 use crate::machine::{Event, Value, World};
-use crate::table::{arguments, arity, kind::*, Table, LITERALS, MOST_DEPTH, MOST_HANDLERS, MOST_WORDS, NAMES, STANDING_BOUND};
-use crate::terms::{block, system, word, Term};
+use crate::table::{arguments, arity, kind::*, names_of, Table, LITERALS, MOST_DEPTH, MOST_WORDS, NARROW, STANDING_BOUND};
+use crate::terms::{block, system, system_with, word, Term};
 use crate::verdict::bytes_of;
 
 /// A small generator of pseudo-random numbers (splitmix64).
@@ -37,9 +37,9 @@ impl Random {
     }
 }
 
-/// A name and permissions for each of some handlers, no two alike.
-fn keys(random: &mut Random, handlers: usize) -> Vec<(u32, u32)> {
-    let names = 1 + random.below(NAMES as usize);
+/// A name and permissions for each of some handlers, no two alike, where there are so many names.
+fn keys(random: &mut Random, names: u32, handlers: usize) -> Vec<(u32, u32)> {
+    let names = 1 + random.below(names as usize);
     let mut keys: Vec<(u32, u32)> = Vec::new();
     while keys.len() < handlers {
         let permissions = if random.once_in(4) { random.number() as u32 >> 8 } else { random.permissions(10) };
@@ -51,14 +51,14 @@ fn keys(random: &mut Random, handlers: usize) -> Vec<(u32, u32)> {
     keys
 }
 
-/// An argument within the range of this kind, where `scope` binders stand around it.
-fn argument(random: &mut Random, kind: u8, scope: usize) -> u32 {
+/// An argument within the range of this kind, where there are so many names and `scope` binders stand around it.
+fn argument(random: &mut Random, names: u32, kind: u8, scope: usize) -> u32 {
     match kind {
         VARIABLE => random.below(scope) as u32,
         NUMBER => *random.pick(&[0, 1, 5, 0xff_ffff, 0x80_0000, 0x7f_ffff]),
         SEND => random.permissions(1),
         EXERCISE => random.permissions(2),
-        _ => random.below(arguments(kind) as usize) as u32,
+        _ => random.below(arguments(kind, names) as usize) as u32,
     }
 }
 
@@ -67,8 +67,15 @@ fn room(depth: usize) -> usize {
     (depth..=MOST_DEPTH).fold(0, |words, _| (3 * words + 1).min(MOST_WORDS))
 }
 
-/// A term of exactly this many words, its kinds chosen without regard to sense. A lean one nests deeply.
-fn exact_term(random: &mut Random, words: usize, depth: usize, scope: usize, lean: bool, out: &mut Term) {
+/// What an exact term goes by: how many names there are, and whether it is lean, which nests deeply.
+#[derive(Clone, Copy)]
+struct Shape {
+    names: u32,
+    lean: bool,
+}
+
+/// A term of exactly this many words, its kinds chosen without regard to sense.
+fn exact_term(random: &mut Random, shape: Shape, words: usize, depth: usize, scope: usize, out: &mut Term) {
     assert!((1..=room(depth)).contains(&words));
     let kind = loop {
         let kind = CONSTANT + random.below((EXERCISE - CONSTANT + 1) as usize) as u8;
@@ -77,7 +84,7 @@ fn exact_term(random: &mut Random, words: usize, depth: usize, scope: usize, lea
             break kind;
         }
     };
-    out.push(word(kind, argument(random, kind, scope)));
+    out.push(word(kind, argument(random, shape.names, kind, scope)));
     let parts = arity(kind);
     let mut left = words - 1;
     for k in 0..parts {
@@ -86,7 +93,7 @@ fn exact_term(random: &mut Random, words: usize, depth: usize, scope: usize, lea
         let most = (left - after).min(room(depth + 1));
         let size = match after {
             0 => left,
-            _ if lean => {
+            _ if shape.lean => {
                 if random.once_in(2) {
                     least
                 } else {
@@ -96,35 +103,35 @@ fn exact_term(random: &mut Random, words: usize, depth: usize, scope: usize, lea
             _ => least + random.below(most - least + 1),
         };
         let binds = kind == FUNCTION || kind == LET && k == 1;
-        exact_term(random, size, depth + 1, scope + usize::from(binds), lean, out);
+        exact_term(random, shape, size, depth + 1, scope + usize::from(binds), out);
         left -= size;
     }
 }
 
-/// A valid table of exactly this many words (2, 3 and 4 cannot be: 1 then), without regard to sense.
-pub fn exact_table(random: &mut Random, words: usize) -> Vec<u32> {
+/// A valid table with so many names of exactly this many words (2, 3 and 4 cannot be: 1 then), without regard to sense.
+pub fn exact_table(random: &mut Random, names: u32, words: usize) -> Vec<u32> {
     if words < 5 {
-        return system(&[]);
+        return system_with(names, &[]);
     }
-    let handlers = 1 + random.below(((words - 1) / 4).min(32));
+    let handlers = 1 + random.below(((words - 1) / 4).min(names as usize));
     let mut left = words - 1 - 4 * handlers;
-    let lean = random.once_in(2);
+    let shape = Shape { names, lean: random.once_in(2) };
     let mut blocks = Vec::new();
-    for (k, (name, permissions)) in keys(random, handlers).into_iter().enumerate() {
+    for (k, (name, permissions)) in keys(random, names, handlers).into_iter().enumerate() {
         let more = if k + 1 == handlers { left } else { random.below(left + 1) };
         left -= more;
         let mut body = Vec::new();
-        exact_term(random, 1 + more, 1, 1, lean, &mut body);
+        exact_term(random, shape, 1 + more, 1, 1, &mut body);
         blocks.push(block(name, permissions, random.permissions(1), body));
     }
-    system(&blocks)
+    system_with(names, &blocks)
 }
 
 /// A table to lay over this one: some of its keys, in another order and with other bodies, and some new ones.
 pub fn overlay_of(random: &mut Random, base: &Table) -> Vec<u32> {
     let mut chosen: Vec<(u32, u32)> = Vec::new();
-    let handlers = random.below(MOST_HANDLERS as usize + 1).min(random.below(40));
-    for key in keys(random, handlers) {
+    let handlers = random.below(NARROW as usize + 1).min(random.below(40));
+    for key in keys(random, NARROW, handlers) {
         let block = (!base.blocks.is_empty() && random.once_in(2)).then(|| random.pick(&base.blocks));
         let key = block.map_or(key, |block| (block.name, block.permissions));
         if !chosen.contains(&key) {
@@ -136,7 +143,7 @@ pub fn overlay_of(random: &mut Random, base: &Table) -> Vec<u32> {
     for (name, permissions) in chosen {
         let mut body = Vec::new();
         let words = 1 + random.below(most).min(27);
-        exact_term(random, words, 1, 1, false, &mut body);
+        exact_term(random, Shape { names: NARROW, lean: false }, words, 1, 1, &mut body);
         blocks.push(block(name, permissions, random.permissions(1), body));
     }
     system(&blocks)
@@ -162,6 +169,8 @@ struct Author<'a> {
     scope: Vec<Sort>,
     /// The permissions of the present block.
     permissions: u32,
+    /// How many names there may be, and those of the blocks.
+    most_names: u32,
     names: Vec<u32>,
     out: Term,
 }
@@ -188,7 +197,7 @@ impl Author<'_> {
             Sort::Any if self.random.once_in(2) => self.exercise(),
             Sort::Any => {
                 let kind = *self.random.pick(&[CONSTANT, NUMBER, LITERAL, NAME, VARIABLE, EMPTY]);
-                let argument = argument(self.random, kind, self.scope.len());
+                let argument = argument(self.random, self.most_names, kind, self.scope.len());
                 self.push(kind, argument);
             }
             Sort::Truth => {
@@ -196,7 +205,7 @@ impl Author<'_> {
                 self.push(CONSTANT, truth);
             }
             Sort::Number => {
-                let argument = argument(self.random, NUMBER, 0);
+                let argument = argument(self.random, self.most_names, NUMBER, 0);
                 self.push(NUMBER, argument);
             }
             Sort::Text => {
@@ -352,18 +361,20 @@ impl Author<'_> {
     }
 }
 
-/// A valid table of at most about this many words (never over 1,024) that mostly makes sense.
-pub fn sensible_table(random: &mut Random, words: usize, most_handlers: usize) -> Vec<u32> {
-    let handlers = (1 + random.below(most_handlers)).min((words / 8).max(1));
-    let keys = keys(random, handlers);
-    let names: Vec<u32> = keys.iter().map(|key| key.0).collect();
+/// A valid table with so many names of at most about this many words (never over 1,024) that mostly makes sense.
+pub fn sensible_table(random: &mut Random, names: u32, words: usize, most_handlers: usize) -> Vec<u32> {
+    // A block has at least eight words, or four of a wide table, so that 256 words can have over 32 handlers.
+    let handlers = (1 + random.below(most_handlers)).min((words * names as usize / 256).max(1));
+    let keys = keys(random, names, handlers);
+    let used: Vec<u32> = keys.iter().map(|key| key.0).collect();
     let each = words / handlers;
     let mut blocks = Vec::new();
     let mut size = 1;
     for (name, permissions) in keys {
         let guard = if random.once_in(2) { 0 } else { random.permissions(2) };
         let message = *random.pick(&[Sort::Any, Sort::Record, Sort::Record, Sort::Record, Sort::Truth, Sort::Text, Sort::Name]);
-        let mut author = Author { random: &mut *random, scope: vec![message], permissions, names: names.clone(), out: vec![] };
+        let mut author =
+            Author { random: &mut *random, scope: vec![message], permissions, most_names: names, names: used.clone(), out: vec![] };
         author.body(each.saturating_sub(3));
         let made = block(name, permissions, guard, author.out);
         if size + made.len() <= words {
@@ -371,25 +382,31 @@ pub fn sensible_table(random: &mut Random, words: usize, most_handlers: usize) -
             blocks.push(made);
         }
     }
-    system(&blocks)
+    system_with(names, &blocks)
 }
 
-/// A valid table of any sort, of 1 to 1,024 words, mostly small ones.
-pub fn table(random: &mut Random) -> Vec<u32> {
+/// A valid table with so many names of any sort, of 1 to 1,024 words, mostly small ones.
+pub fn table(random: &mut Random, names: u32) -> Vec<u32> {
     let most = *random.pick(&[8, 32, 32, 100, 100, 256, 256, MOST_WORDS]);
     let words = 1 + random.below(most);
     if random.once_in(3) {
-        exact_table(random, words)
+        exact_table(random, names, words)
     } else {
-        sensible_table(random, words, 32)
+        sensible_table(random, names, words, names as usize)
     }
+}
+
+/// The wide table with other names in place of those that a narrow one cannot have; two of its handlers may now be alike.
+pub fn lowered(words: &[u32]) -> Vec<u32> {
+    let high = |word: u32| matches!((word >> 24) as u8, BLOCK | NAME) && word & 0xff_ffff >= NARROW;
+    words.iter().map(|&word| if high(word) { word - NARROW } else { word }).collect()
 }
 
 /// The table with some damage, which may leave it valid.
 pub fn damaged(random: &mut Random, mut words: Vec<u32>) -> Vec<u32> {
     for _ in 0..1 + random.below(2) {
         let at = random.below(words.len().max(1));
-        match random.below(8) {
+        match random.below(9) {
             _ if words.is_empty() => words.push(any_word(random)),
             0 => words[at] = any_word(random),
             1 => words[at] ^= 1 << random.below(32),
@@ -406,10 +423,17 @@ pub fn damaged(random: &mut Random, mut words: Vec<u32>) -> Vec<u32> {
                     words.copy_within(first..first + 2, last);
                 }
             }
-            _ => words[0] = word(SYSTEM, random.below(36) as u32),
+            // Another number of handlers, or the other width.
+            7 => words[0] = first_word(random, 70),
+            _ => words[0] ^= word(SYSTEM ^ WIDE_SYSTEM, 0),
         }
     }
     words
+}
+
+/// The first word of a table of either width with fewer handlers than this.
+fn first_word(random: &mut Random, handlers: usize) -> u32 {
+    word(*random.pick(&[SYSTEM, WIDE_SYSTEM]), random.below(handlers) as u32)
 }
 
 /// A word that often has a kind of document 01.
@@ -417,7 +441,7 @@ pub fn any_word(random: &mut Random) -> u32 {
     let kind = random.below(40) as u8;
     match random.below(3) {
         0 => random.number() as u32,
-        1 => word(kind, random.below(40) as u32),
+        1 => word(kind, random.below(70) as u32),
         _ => word(kind, 0),
     }
 }
@@ -426,7 +450,7 @@ pub fn any_word(random: &mut Random) -> u32 {
 pub fn random_words(random: &mut Random) -> Vec<u32> {
     let mut words: Vec<u32> = (0..random.below(40)).map(|_| any_word(random)).collect();
     if !words.is_empty() && !random.once_in(4) {
-        words[0] = word(SYSTEM, random.below(3) as u32);
+        words[0] = first_word(random, 3);
     }
     words
 }
@@ -441,16 +465,27 @@ pub struct Call {
     pub work: Vec<u8>,
 }
 
-/// A call on a table of any sort, with slices that may be short and sets that may be malformed.
-pub fn call(random: &mut Random) -> Call {
-    let words = match random.below(6) {
+/// A table with so many names of any sort, or a damaged one, or any words.
+pub fn words(random: &mut Random, names: u32) -> Vec<u32> {
+    match random.below(6) {
         0 => random_words(random),
         1 | 2 => {
-            let words = table(random);
+            let words = table(random, names);
             damaged(random, words)
         }
-        _ => table(random),
-    };
+        _ => table(random, names),
+    }
+}
+
+/// The words of an estimate for these words, as a table of the width that the first one says.
+fn estimate_words(words: &[u32]) -> usize {
+    let kind = words.first().map_or(0, |first| (first >> 24) as u8);
+    Layout::sized(names_of(kind).unwrap_or(NARROW), words.len()).total()
+}
+
+/// A call on a table with so many names of any sort, with slices that may be short and sets that may be malformed.
+pub fn call(random: &mut Random, names: u32) -> Call {
+    let words = words(random, names);
     let mut system = bytes_of(&words);
     if random.once_in(30) {
         system.push(random.number() as u8);
@@ -465,13 +500,13 @@ pub fn call(random: &mut Random) -> Call {
         let bytes = if random.once_in(20) { random.below(4 * words + 1) } else { 4 * words + random.below(11) };
         (0..bytes).map(|_| random.number() as u8).collect()
     };
-    let estimate = slice(Layout::of(words.len()).total());
+    let estimate = slice(estimate_words(&words));
     let work = slice(4 * words.len());
     Call { system, rho, bound, estimate, work }
 }
 
-/// An opponent's datum.
-pub fn datum(random: &mut Random, depth: usize) -> Value {
+/// An opponent's datum, where there are so many names.
+pub fn datum(random: &mut Random, names: u32, depth: usize) -> Value {
     match random.below(if depth > 3 { 6 } else { 9 }) {
         0 => random.pick(&[Value::Undefined, Value::Unit]).clone(),
         1 => Value::Truth(random.once_in(2)),
@@ -481,9 +516,9 @@ pub fn datum(random: &mut Random, depth: usize) -> Value {
             let most = *random.pick(&[3, LITERALS as usize + 5]);
             Value::Text(random.below(most) as u32)
         }
-        5 => Value::Name(random.below(NAMES as usize) as u32),
+        5 => Value::Name(random.below(names as usize) as u32),
         _ => {
-            let fields = (0..random.below(4)).map(|_| (*random.pick(&[0, 1, 2, 40]), datum(random, depth + 1))).collect();
+            let fields = (0..random.below(4)).map(|_| (*random.pick(&[0, 1, 2, 40]), datum(random, names, depth + 1))).collect();
             Value::record(None, fields)
         }
     }
@@ -494,7 +529,7 @@ pub fn event(random: &mut Random, table: &Table, world: &World) -> Event {
     let (handlers, instances) = (table.blocks.len(), world.instances.len());
     let running: Vec<usize> = (0..instances).filter(|&i| world.instances[i].running()).collect();
     if random.once_in(8 + 4 * instances) || running.is_empty() && !random.once_in(4) {
-        return Event::Start { handler: random.below(handlers + 1), datum: datum(random, 0) };
+        return Event::Start { handler: random.below(handlers + 1), datum: datum(random, table.names, 0) };
     }
     let instance = if running.is_empty() || random.once_in(20) { random.below(instances + 1) } else { *random.pick(&running) };
     let sending = world.instances.get(instance).and_then(|instance| instance.sending(table));

@@ -3,7 +3,7 @@
 use crate::estimate::{facts, Layout};
 use crate::generate::{sensible_table, Random};
 use crate::solve::solve;
-use crate::table;
+use crate::table::{self, NARROW, WIDE};
 use crate::terms::*;
 
 pub struct Input {
@@ -16,6 +16,11 @@ const SIZES: [usize; 3] = [64, 256, 1024];
 const TARGET: u32 = 0x10;
 /// The opponent's set of the random systems.
 const RHO: u32 = 0x0f;
+
+/// A table of these blocks, a wide one where a narrow one has not enough handlers.
+fn fitting(blocks: &[Term]) -> Vec<u32> {
+    system_with(if blocks.len() > NARROW as usize { WIDE } else { NARROW }, blocks)
+}
 
 /// Where each of so many things stands.
 type Order = fn(usize) -> Vec<usize>;
@@ -30,7 +35,7 @@ fn handlers(order: &[usize], body: impl Fn(Term) -> Term) -> Vec<u32> {
         let next = if last { exercise(TARGET) } else { body(name(i as u32 + 1)) };
         blocks[at] = block(i as u32, 0x11, u32::from(i > 0), next);
     }
-    system(&blocks)
+    fitting(&blocks)
 }
 
 fn forward(count: usize) -> Vec<usize> {
@@ -207,7 +212,7 @@ fn exchange(count: usize, sends: usize) -> Vec<u32> {
         let to = |k: usize| send(0, name(((i + 1 + k * k * 3) % count) as u32), set(variable(0), literal(k as u32), variable(0)));
         sequence(&(0..sends).map(to).chain([exercise(1 << (i % 24))]).collect::<Vec<_>>())
     };
-    system(&(0..count).map(|i| block(i as u32, 0xff_ffff, u32::from(i > 0), body(i))).collect::<Vec<_>>())
+    fitting(&(0..count).map(|i| block(i as u32, 0xff_ffff, u32::from(i > 0), body(i))).collect::<Vec<_>>())
 }
 
 /// 32 handlers of one name, each sending to all of them.
@@ -218,12 +223,12 @@ fn one_name(sends: usize) -> Vec<u32> {
 }
 
 /// Of several random systems the one with the most facts.
-fn random(words: usize, seed: u64) -> Vec<u32> {
+fn random(names: u32, words: usize, seed: u64) -> Vec<u32> {
     let mut random = Random(seed);
-    let systems = (0..40).map(|_| sensible_table(&mut random, words, 32)).filter(|system| system.len() * 5 > words * 4);
+    let systems = (0..40).map(|_| sensible_table(&mut random, names, words, names as usize)).filter(|system| system.len() * 5 > words * 4);
     let facts = |system: &Vec<u32>| {
         let table = table::read(system).expect("a valid table");
-        let mut estimate = vec![0; Layout::of(table.size()).total()];
+        let mut estimate = vec![0; Layout::of(&table).total()];
         solve(&table, RHO, &mut estimate);
         facts(&table, &estimate)
     };
@@ -269,8 +274,13 @@ pub fn inputs() -> Vec<Input> {
     add("one-name-1024".into(), 0, one_name(3));
     for words in [64, 256, 512, 1024] {
         for seed in 1..=3 {
-            add(format!("random-{words}-{seed}"), RHO, random(words, seed));
+            add(format!("random-{words}-{seed}"), RHO, random(NARROW, words, seed));
         }
+    }
+    add("wide-handlers-1024".into(), 0, largest(1024, |more| record_chain(&mixed(64), more - 1)));
+    add("wide-exchange-1024".into(), 0, exchange(56, 2));
+    for words in [256, 1024] {
+        add(format!("wide-random-{words}"), RHO, random(WIDE, words, 1));
     }
     inputs
 }

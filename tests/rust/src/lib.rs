@@ -1,4 +1,4 @@
-//! An independent implementation of document 01, written from its text alone.
+//! An independent implementation of documents 01 and 02, written from their text alone.
 //!
 //! `cargo test --release --offline` runs all tests; PEER_ROUNDS=20 before it makes the random ones 20 times as long.
 
@@ -20,3 +20,4 @@ pub mod solve;
 pub mod table;
 pub mod terms;
 pub mod verdict;
+pub mod widths;

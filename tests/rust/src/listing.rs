@@ -1,7 +1,7 @@
 //! Listings, written and read from the text of document 02, wish 1, and docs/KEYWORDS.txt alone: a line is taken apart by its keyword and
 //! the form of its argument.
 
-use crate::table::{arity, kind, read as read_table, refused, Refusal};
+use crate::table::{arity, kind, read_narrow, refused, Refusal};
 
 /// The most bytes of a listing.
 pub const MOST_BYTES: usize = 65_536;
@@ -67,7 +67,7 @@ pub fn text(words: &[u32]) -> Vec<u8> {
 }
 
 pub fn write(words: &[u32], room: usize) -> Result<Vec<u8>, Refusal> {
-    read_table(words)?;
+    read_narrow(words)?;
     let text = text(words);
     if text.len() > MOST_BYTES {
         return refused(41, 0);
@@ -125,7 +125,7 @@ pub fn read(text: &[u8], room: usize) -> Result<Vec<u32>, Refusal> {
         }
         spaces.push(leading);
     }
-    read_table(&words)?;
+    read_narrow(&words)?;
     for (n, (leading, depth)) in spaces.iter().zip(depths(&words)).enumerate() {
         if *leading != 2 * depth {
             return refused(40, n + 1);

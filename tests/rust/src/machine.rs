@@ -134,7 +134,7 @@ impl Instance {
     }
 
     /// The element that stands for a value of this instance.
-    pub fn element(&self, value: &Value) -> usize {
+    pub fn element(&self, table: &Table, value: &Value) -> usize {
         match value {
             Undefined => UNDEFINED,
             Unit => UNIT,
@@ -149,9 +149,9 @@ impl Instance {
             Text(text) if *text < LITERALS => FIRST_LITERAL + *text as usize,
             Text(_) => OTHER_STRING,
             Name(name) => FIRST_NAME + *name as usize,
-            Function(p, _) => made(*p),
-            Record(record) => record.made.map_or(OPPONENT, made),
-            Cell(index) => made(self.cells[*index].0),
+            Function(p, _) => made(table, *p),
+            Record(record) => record.made.map_or(OPPONENT, |p| made(table, p)),
+            Cell(index) => made(table, self.cells[*index].0),
         }
     }
 

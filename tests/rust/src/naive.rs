@@ -25,10 +25,10 @@ struct Sets {
     live: Vec<bool>,
 }
 
-/// What an operation gives for a pair of elements.
+/// What an operation gives for a pair of plain elements.
 pub fn pair(operation: u32, x: usize, y: usize) -> Vec<usize> {
     let numbers = (NEGATIVE..=POSITIVE).contains(&x) && (NEGATIVE..=POSITIVE).contains(&y);
-    let comparable = |x| x < FIRST_MADE && x != OPPONENT;
+    let comparable = |x| x != OPPONENT;
     match operation {
         0 if numbers && (x == y || y == ZERO) => vec![x],
         0 if numbers && x == ZERO => vec![y],
@@ -53,9 +53,13 @@ struct Naive<'a> {
 }
 
 impl Naive<'_> {
-    /// The words i of kinds that `wanted` accepts with 64 + i in C(p).
+    /// The words i of kinds that `wanted` accepts with what i makes in C(p).
     fn made_in(&self, p: usize, wanted: impl Fn(u8) -> bool) -> Vec<usize> {
-        (0..self.table.size()).filter(|&i| wanted(self.table.kind(i)) && has(&self.e.c[p], made(i))).collect()
+        (0..self.table.size()).filter(|&i| wanted(self.table.kind(i)) && has(&self.e.c[p], made(self.table, i))).collect()
+    }
+
+    fn plain(&self) -> std::ops::Range<usize> {
+        0..plain(self.table.names)
     }
 
     fn put_c(&mut self, p: usize, x: usize) {
@@ -87,7 +91,7 @@ impl Naive<'_> {
     fn entry(&mut self, b: usize) {
         if within(self.table.argument(b + 2), self.rho) {
             self.e.live[b] = true;
-            (0..64).for_each(|x| put(&mut self.e.b[b], x));
+            self.plain().for_each(|x| put(&mut self.e.b[b], x));
             if self.senders {
                 self.put_c(b, OPPONENT);
             }
@@ -100,7 +104,7 @@ impl Naive<'_> {
         let block = *table.blocks.iter().find(|block| block.start == b).expect("a block starts here");
         for p in (0..table.size()).filter(|&p| table.kind(p) == SEND) {
             if self.e.live[p] && self.message(p).iter().any(|&word| word != 0) && self.may_start(p, &block) {
-                self.put_c(b, made(table.home(p)));
+                self.put_c(b, made(table, table.home(p)));
             }
         }
     }
@@ -120,9 +124,9 @@ impl Naive<'_> {
         match kind {
             CONSTANT | NUMBER | LITERAL | NAME => self.put_c(p, element(table, p)),
             VARIABLE => self.b_in_c(table.binder(p), p),
-            FUNCTION | EMPTY => self.put_c(p, made(p)),
+            FUNCTION | EMPTY => self.put_c(p, made(table, p)),
             CELL => {
-                self.put_c(p, made(p));
+                self.put_c(p, made(table, p));
                 self.c_in_b(part(0), p);
             }
             APPLY => {
@@ -152,13 +156,13 @@ impl Naive<'_> {
             }
             OPERATION => {
                 let (first, second) = (self.e.c[part(0)].clone(), self.e.c[part(1)].clone());
-                for x in (0..64).filter(|&x| has(&first, x)) {
-                    for y in (0..64).filter(|&y| has(&second, y)) {
+                for x in self.plain().filter(|&x| has(&first, x)) {
+                    for y in self.plain().filter(|&y| has(&second, y)) {
                         pair(table.argument(p), x, y).into_iter().for_each(|z| self.put_c(p, z));
                     }
                 }
             }
-            GET | SET | DELETE if (8..32).any(|x| has(&self.e.c[part(1)], x)) => self.record_rule(p),
+            GET | SET | DELETE if (OTHER_STRING..FIRST_NAME).any(|x| has(&self.e.c[part(1)], x)) => self.record_rule(p),
             READ => {
                 for q in self.made_in(part(0), |kind| kind == CELL) {
                     self.b_in_c(q, p);
@@ -192,22 +196,22 @@ impl Naive<'_> {
                     self.put_c(p, UNDEFINED);
                 }
                 if opponent {
-                    (0..64).for_each(|x| self.put_c(p, x));
+                    self.plain().for_each(|x| self.put_c(p, x));
                 }
             }
             SET if opponent || !records.is_empty() => {
-                self.put_c(p, made(p));
+                self.put_c(p, made(self.table, p));
                 self.c_in_b(self.table.part(p, 2), p);
                 for q in records {
                     self.b_in_b(q, p);
                 }
                 if opponent {
-                    (0..64).for_each(|x| put(&mut self.e.b[p], x));
+                    self.plain().for_each(|x| put(&mut self.e.b[p], x));
                 }
             }
             DELETE => {
                 for q in records {
-                    self.put_c(p, made(q));
+                    self.put_c(p, made(self.table, q));
                 }
                 if opponent {
                     self.put_c(p, OPPONENT);
@@ -222,7 +226,8 @@ impl Naive<'_> {
         let message = self.table.part(p, 1);
         let mut m = self.e.c[message].clone();
         for i in self.made_in(message, |kind| kind == FUNCTION || kind == CELL) {
-            m[made(i) / 64] &= !(1 << (made(i) % 64));
+            let x = made(self.table, i);
+            m[x / 64] &= !(1 << (x % 64));
         }
         m
     }
@@ -262,7 +267,7 @@ pub fn without_senders(table: &Table, rho: u32) -> Vec<u32> {
 
 fn solve_by(table: &Table, rho: u32, senders: bool) -> Vec<u32> {
     let size = table.size();
-    let Layout { row, .. } = Layout::of(size);
+    let Layout { row, .. } = Layout::of(table);
     let empty = vec![vec![0; row.div_ceil(2)]; size];
     let e = Sets { c: empty.clone(), b: empty, p: vec![0; size], live: vec![false; size] };
     let mut naive = Naive { table, rho, senders, e };

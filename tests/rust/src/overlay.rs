@@ -1,6 +1,6 @@
 //! A table laid over another: the look-up of a block in the two, and the joined table (document 02, wish 5).
 
-use crate::table::{kind::SYSTEM, read, refused, Refusal, Table, MOST_HANDLERS, MOST_WORDS};
+use crate::table::{kind::SYSTEM, read_narrow, refused, Refusal, Table, MOST_WORDS, NARROW};
 use crate::terms::word;
 use std::ops::Range;
 
@@ -12,8 +12,8 @@ pub enum Side {
 
 /// Both tables: the base's refusals, then the overlay's with 100 added.
 fn tables(base: &[u32], overlay: &[u32]) -> Result<(Table, Table), Refusal> {
-    let base = read(base)?;
-    let overlay = read(overlay).map_err(|refusal| Refusal { number: 100 + refusal.number, ..refusal })?;
+    let base = read_narrow(base)?;
+    let overlay = read_narrow(overlay).map_err(|refusal| Refusal { number: 100 + refusal.number, ..refusal })?;
     Ok((base, overlay))
 }
 
@@ -66,7 +66,7 @@ pub fn join(base: &[u32], overlay: &[u32], out: &mut [u32]) -> Result<usize, Ref
         }
     }
     let words = [vec![word(SYSTEM, blocks.len() as u32)], blocks.concat()].concat();
-    if blocks.len() > MOST_HANDLERS as usize {
+    if blocks.len() > NARROW as usize {
         return refused(48, 0);
     }
     if words.len() > MOST_WORDS {

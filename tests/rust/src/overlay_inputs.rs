@@ -1,7 +1,7 @@
 //! Pairs of tables, one to lay over the other, for the tests.
 
 use crate::generate::{damaged, exact_table, overlay_of, table, Random};
-use crate::table::{kind::FUNCTION, read, Block, Table};
+use crate::table::{kind::FUNCTION, read, Block, Table, NARROW};
 use crate::terms::*;
 
 /// *relay* of document 01, and a table to lay over it.
@@ -30,9 +30,9 @@ pub fn keys(table: &Table) -> Vec<(u32, u32)> {
 /// A base and an overlay; some are damaged.
 pub fn pair(random: &mut Random) -> (Vec<u32>, Vec<u32>) {
     let words = 1 + random.below(1024);
-    let mut base = if random.once_in(2) { table(random) } else { exact_table(random, words) };
+    let mut base = if random.once_in(2) { table(random, NARROW) } else { exact_table(random, NARROW, words) };
     let read = read(&base).expect("a valid table");
-    let mut overlay = if random.once_in(5) { table(random) } else { overlay_of(random, &read) };
+    let mut overlay = if random.once_in(5) { table(random, NARROW) } else { overlay_of(random, &read) };
     if random.once_in(10) {
         base = damaged(random, base);
     }

@@ -1,6 +1,7 @@
-//! Document 01's samples, starred or not, with what it says of them; the facts are those with the senders' sets (document 02, wish 8).
+//! Document 01's samples, starred or not, with what it says of them, and wide tables (document 02, wish 13); the facts are those with the senders' sets
+//! (wish 8).
 
-use crate::table::{kind::*, STANDING_BOUND};
+use crate::table::{kind::*, STANDING_BOUND, WIDE};
 use crate::terms::*;
 
 /// What the document says: the leak, and the facts where it gives them; or a refusal's number and place.
@@ -77,7 +78,49 @@ pub fn samples() -> Vec<Sample> {
         samples.push(Sample { name, words, rho: 2, bound: STANDING_BOUND, expected: Leak(2, None) });
     }
     samples.extend(traps());
+    samples.extend(wide());
     samples
+}
+
+/// 41 handlers of which each hands its message to the next; the first alone is open to the opponent, the last alone exercises.
+pub fn forty_one() -> Vec<u32> {
+    let body = |i: u32| if i == 40 { exercise(2) } else { send(0, name(i + 1), variable(0)) };
+    system_with(WIDE, &(0..41).map(|i| block(i, 10, if i == 0 { 0 } else { 8 }, body(i))).collect::<Vec<_>>())
+}
+
+/// Wide tables, and narrow ones with what only a wide one may have.
+fn wide() -> Vec<Sample> {
+    let body = |text: &str| hex(&format!("05000001 02000000 03000003 04000000 {text}"));
+    let large = |size| [vec![word(WIDE_SYSTEM, 30)], large(size)[1..].to_vec()].concat();
+    let one = |name, body| system_with(WIDE, &[block(name, 3, 0, body)]);
+    let choice = |x, y| one(0, branch(term(OPERATION, 2, [name(x), name(y)]), exercise(1), exercise(2)));
+    let other_name = system_with(WIDE, &[block(0, 8, 0, send(0, variable(0), constant(1))), block(63, 2, 8, exercise(2))]);
+    let full = system_with(WIDE, &(0..64).map(|i| block(i, 2, u32::from(i < 63), exercise(2))).collect::<Vec<_>>());
+    [
+        ("wide, no handlers", hex("05000000"), Leak(0, Some(0))),
+        ("wide direct", body("24000002"), Leak(2, Some(102))),
+        ("wide, exercise outside", body("24000004"), Leak(0, Some(99))),
+        ("wide relay", hex(&RELAY.replacen("01", "05", 1)), Leak(2, Some(303))),
+        ("wide, 64 handlers and no words", hex("05000040"), Refused(4, 1)),
+        ("wide, 65 handlers", hex("05000041"), Refused(3, 0)),
+        ("wide, a block of name 63", one(63, exercise(2)), Leak(2, Some(102))),
+        ("wide, a block of name 64", one(64, exercise(2)), Refused(5, 1)),
+        ("wide, name 63", body("1300003f"), Leak(0, Some(100))),
+        ("wide, name 64", body("13000040"), Refused(9, 4)),
+        ("narrow, name 31", system(&[block(0, 3, 0, name(31))]), Leak(0, Some(68))),
+        ("narrow, name 32", system(&[block(0, 3, 0, name(32))]), Refused(9, 4)),
+        ("narrow, a block of name 32", system(&[block(32, 3, 0, exercise(2))]), Refused(5, 1)),
+        ("wide, 41 handlers", forty_one(), Leak(2, None)),
+        ("wide, 64 handlers", full, Leak(2, None)),
+        ("wide, 1,024 words", large(1024), Leak(0, None)),
+        ("wide, 1,025 words", large(1025), Refused(2, 0)),
+        ("wide, equal names over 31", choice(40, 40), Leak(1, None)),
+        ("wide, different names over 31", choice(40, 41), Leak(2, None)),
+        ("wide, a name over 31 and another below", choice(40, 8), Leak(2, None)),
+        ("wide, the message may be name 63", other_name, Leak(2, None)),
+    ]
+    .map(|(name, words, expected)| Sample { name, words, rho: 0, bound: 0, expected })
+    .into()
 }
 
 /// Tables on which an analyser that falls into one of the document's traps differs; relay and twins are two more.

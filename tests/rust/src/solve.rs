@@ -5,17 +5,16 @@
 //! No set of values depends on a set of permissions: those are solved last, over the links found for the values.
 
 use crate::estimate::*;
-use crate::table::{kind::*, within, Table, MOST_WORDS};
+use crate::table::{kind::*, within, Table, MOST_WORDS, WIDE};
 
-const ALL: u64 = u64::MAX;
-const STRINGS: u64 = 0xffff_ff00;
+const STRINGS: u32 = 0xffff_ff00;
 const NONE: u32 = u32::MAX;
-const MOST_ROW: usize = (FIRST_MADE + MOST_WORDS) / 32;
+const MOST_ROW: usize = (FIRST_NAME + WIDE as usize + MOST_WORDS) / 32;
 
 /// The signs of sums, one row for each sign of the first number; bit 0 negative, bit 1 zero, bit 2 positive.
-const ADD: [[u64; 3]; 3] = [[1, 1, 7], [1, 2, 4], [7, 4, 4]];
+const ADD: [[u32; 3]; 3] = [[1, 1, 7], [1, 2, 4], [7, 4, 4]];
 /// The truths of comparisons likewise; bit 0 true, bit 1 false.
-const LESS: [[u64; 3]; 3] = [[3, 1, 1], [2, 2, 1], [2, 2, 3]];
+const LESS: [[u32; 3]; 3] = [[3, 1, 1], [2, 2, 1], [2, 2, 3]];
 
 fn c(i: usize) -> usize {
     2 * i
@@ -25,9 +24,9 @@ fn b(i: usize) -> usize {
     2 * i + 1
 }
 
-/// The result of an operation on elements 0 to 63.
-fn operate(operation: u32, x: u64, y: u64) -> u64 {
-    let signs = |table: &[[u64; 3]; 3]| {
+/// The result of an operation on plain elements.
+fn operate(operation: u32, x: u128, y: u128) -> u32 {
+    let signs = |table: &[[u32; 3]; 3]| {
         let mut result = 0;
         for i in (0..3).filter(|i| x >> (NEGATIVE + i) & 1 != 0) {
             for j in (0..3).filter(|j| y >> (NEGATIVE + j) & 1 != 0) {
@@ -47,7 +46,7 @@ fn operate(operation: u32, x: u64, y: u64) -> u64 {
             let same = x & y;
             let many = 1 << NEGATIVE | 1 << POSITIVE | 1 << OTHER_STRING;
             let different = x != y || !x.is_power_of_two() || same & many != 0;
-            u64::from(same != 0) << TRUE | u64::from(different) << FALSE
+            u32::from(same != 0) << TRUE | u32::from(different) << FALSE
         }
     }
 }
@@ -71,6 +70,8 @@ enum Made {
 
 struct Solver<'a> {
     table: &'a Table,
+    /// The number of plain elements, a multiple of 32.
+    plain: usize,
     row: usize,
     /// C(i) is row 2i, B(i) row 2i + 1.
     rows: &'a mut [u32],
@@ -93,11 +94,12 @@ struct Solver<'a> {
 
 impl<'a> Solver<'a> {
     fn new(table: &'a Table, estimate: &'a mut [u32]) -> Self {
-        let Layout { size, row } = Layout::of(table.size());
+        let Layout { size, plain, row } = Layout::of(table);
         estimate.fill(0);
         let (rows, flags) = estimate.split_at_mut(2 * size * row);
         let mut solver = Solver {
             table,
+            plain,
             row,
             rows,
             flags,
@@ -124,7 +126,7 @@ impl<'a> Solver<'a> {
                 }
                 _ => continue,
             };
-            solver.made[made as usize][made_word(p)] |= 1 << (p % 32);
+            solver.made[made as usize][(plain + p) / 32] |= 1 << (p % 32);
         }
         for block in &table.blocks {
             solver.number(block.start);
@@ -165,7 +167,7 @@ impl<'a> Solver<'a> {
         let words = self.waiting.len();
         for k in 0..=words {
             let at = (turn / 64 + k) % words;
-            let ahead = if k == 0 { self.waiting[at] & ALL << (turn % 64) } else { self.waiting[at] };
+            let ahead = if k == 0 { self.waiting[at] & u64::MAX << (turn % 64) } else { self.waiting[at] };
             if ahead != 0 {
                 let bit = ahead.trailing_zeros() as usize;
                 self.waiting[at] &= !(1 << bit);
@@ -179,14 +181,13 @@ impl<'a> Solver<'a> {
         &self.rows[c(i) * self.row..][..self.row]
     }
 
-    /// Elements 0 to 63 of C(i).
-    fn low(&self, i: usize) -> u64 {
-        let row = self.values(i);
-        u64::from(row[0]) | u64::from(row[1]) << 32
+    /// The plain elements of C(i).
+    fn plain(&self, i: usize) -> u128 {
+        self.values(i)[..self.plain / 32].iter().rev().fold(0, |elements, &word| elements << 32 | u128::from(word))
     }
 
     fn has(&self, i: usize, element: usize) -> bool {
-        self.low(i) >> element & 1 != 0
+        self.values(i)[element / 32] >> (element % 32) & 1 != 0
     }
 
     fn put(&mut self, row: usize, element: usize) {
@@ -197,14 +198,20 @@ impl<'a> Solver<'a> {
         }
     }
 
-    /// Puts some of elements 0 to 63.
-    fn put_low(&mut self, row: usize, elements: u64) {
-        let words = &mut self.rows[row * self.row..][..2];
-        let (low, high) = (elements as u32, (elements >> 32) as u32);
-        let added = low & !words[0] | high & !words[1];
-        words[0] |= low;
-        words[1] |= high;
-        if added != 0 {
+    /// Puts some of elements 0 to 31.
+    fn put_low(&mut self, row: usize, elements: u32) {
+        let word = &mut self.rows[row * self.row];
+        if !within(elements, *word) {
+            *word |= elements;
+            self.wait(row);
+        }
+    }
+
+    /// Puts all plain elements.
+    fn put_plain(&mut self, row: usize) {
+        let words = &mut self.rows[row * self.row..][..self.plain / 32];
+        if words.iter().any(|&word| word != u32::MAX) {
+            words.fill(u32::MAX);
             self.wait(row);
         }
     }
@@ -261,9 +268,9 @@ impl<'a> Solver<'a> {
         match table.kind(p) {
             CONSTANT | NUMBER | LITERAL | NAME => self.put(c(p), element(table, p)),
             VARIABLE => self.catch_up(b(table.binder(p)), c(p)),
-            FUNCTION | EMPTY => self.put(c(p), made(p)),
+            FUNCTION | EMPTY => self.put(c(p), made(table, p)),
             CELL => {
-                self.put(c(p), made(p));
+                self.put(c(p), made(table, p));
                 self.wake(p + 1);
             }
             IF | WHILE => self.wake(p + 1),
@@ -294,7 +301,7 @@ impl<'a> Solver<'a> {
         }
         for (k, word) in fresh.into_iter().enumerate() {
             for bit in bits(word) {
-                self.follow_one(p, 32 * k + bit - FIRST_MADE);
+                self.follow_one(p, 32 * k + bit - self.plain);
             }
         }
     }
@@ -326,9 +333,9 @@ impl<'a> Solver<'a> {
     /// C(second) of word p, an apply or an assign, goes to B of all it follows.
     fn hand_over(&mut self, p: usize) {
         let second = self.table.part(p, 1);
-        for k in FIRST_MADE / 32..self.row {
+        for k in self.plain / 32..self.row {
             for bit in bits(self.followed[p * self.row + k]) {
-                self.flow(c(second), b(32 * k + bit - FIRST_MADE));
+                self.flow(c(second), b(32 * k + bit - self.plain));
             }
         }
     }
@@ -362,7 +369,7 @@ impl<'a> Solver<'a> {
                 }
             }
             OPERATION => {
-                let result = operate(table.argument(p), self.low(p + 1), self.low(table.part(p, 1)));
+                let result = operate(table.argument(p), self.plain(p + 1), self.plain(table.part(p, 1)));
                 self.put_low(c(p), result);
             }
             GET | SET | DELETE => self.on_record(p),
@@ -383,24 +390,24 @@ impl<'a> Solver<'a> {
     /// Get, set or delete at word p.
     fn on_record(&mut self, p: usize) {
         let table = self.table;
-        if self.low(table.part(p, 1)) & STRINGS == 0 {
+        if self.values(table.part(p, 1))[0] & STRINGS == 0 {
             return;
         }
         let opponent = self.has(p + 1, OPPONENT);
         match table.kind(p) {
             GET => {
                 if opponent {
-                    self.put_low(c(p), ALL);
+                    self.put_plain(c(p));
                 }
                 self.follow(p, Made::Records);
             }
             SET => {
                 let records = &self.made[Made::Records as usize];
                 if opponent || self.values(p + 1).iter().zip(records).any(|(word, records)| word & records != 0) {
-                    self.put(c(p), made(p));
+                    self.put(c(p), made(table, p));
                     self.flow(c(table.part(p, 2)), b(p));
                     if opponent {
-                        self.put_low(b(p), ALL);
+                        self.put_plain(b(p));
                     }
                     self.follow(p, Made::Records);
                 }
@@ -420,16 +427,16 @@ impl<'a> Solver<'a> {
         let [functions, cells] = [Made::Functions, Made::Cells].map(|made| std::mem::take(&mut self.made[made as usize]));
         let keep = |k: usize, word: u32| word & !(functions[k] | cells[k]);
         if self.values(message).iter().enumerate().any(|(k, word)| keep(k, *word) != 0) {
-            let names = self.low(p + 1) >> FIRST_NAME;
+            let names = self.plain(p + 1) >> FIRST_NAME;
             for block in &table.blocks {
                 if names >> block.name & 1 != 0 && block.admits(table.argument(p), table.permissions(p)) {
-                    let followed = &mut self.followed[p * self.row + made_word(block.start)];
+                    let followed = &mut self.followed[p * self.row + made(table, block.start) / 32];
                     let bit = 1 << (block.start % 32);
                     if *followed & bit == 0 {
                         *followed |= bit;
                         self.link(block.start, p);
                         self.wake(block.start);
-                        self.note_sender(block.start, made(table.home(p)));
+                        self.note_sender(block.start, made(table, table.home(p)));
                     }
                     self.flow_kept(c(message), b(block.start), keep);
                 }
@@ -467,7 +474,7 @@ impl<'a> Solver<'a> {
     fn enter(&mut self, rho: u32) {
         let table = self.table;
         for block in table.blocks.iter().filter(|block| within(block.guard, rho)) {
-            self.put_low(b(block.start), ALL);
+            self.put_plain(b(block.start));
             self.wake(block.start);
             self.note_sender(block.start, OPPONENT);
         }
@@ -517,14 +524,9 @@ impl<'a> Solver<'a> {
     }
 }
 
-/// In which word of a row the bit of what word i makes stands; the bit is i mod 32.
-fn made_word(i: usize) -> usize {
-    made(i) / 32
-}
-
 /// Writes the least estimate to the first 2WR + W words.
 pub fn solve(table: &Table, rho: u32, estimate: &mut [u32]) {
-    let mut solver = Solver::new(table, &mut estimate[..Layout::of(table.size()).total()]);
+    let mut solver = Solver::new(table, &mut estimate[..Layout::of(table).total()]);
     solver.enter(rho);
     solver.solve_values();
     solver.solve_permissions();

@@ -6,6 +6,8 @@ pub mod kind {
     pub const BLOCK: u8 = 2;
     pub const PERMISSIONS: u8 = 3;
     pub const GUARD: u8 = 4;
+    /// In place of kind 1: a wide table.
+    pub const WIDE_SYSTEM: u8 = 5;
     pub const CONSTANT: u8 = 16;
     pub const NUMBER: u8 = 17;
     pub const LITERAL: u8 = 18;
@@ -31,9 +33,11 @@ pub mod kind {
 use kind::*;
 
 pub const MOST_WORDS: usize = 1024;
-pub const MOST_HANDLERS: u32 = 32;
 pub const MOST_DEPTH: usize = 64;
-pub const NAMES: u32 = 32;
+/// How many names a narrow table may have, and a wide one; each may have as many handlers.
+pub const NARROW: u32 = 32;
+pub const WIDE: u32 = 64;
+pub const WIDTHS: [u32; 2] = [NARROW, WIDE];
 pub const LITERALS: u32 = 23;
 /// As a bound: the empty set.
 pub const STANDING_BOUND: u32 = 0x8000_0000;
@@ -48,6 +52,24 @@ pub fn refused<T>(number: u32, place: usize) -> Result<T, Refusal> {
     Err(Refusal { number, place })
 }
 
+/// How many names a table may have that starts with a word of this kind.
+pub fn names_of(kind: u8) -> Option<u32> {
+    match kind {
+        SYSTEM => Some(NARROW),
+        WIDE_SYSTEM => Some(WIDE),
+        _ => None,
+    }
+}
+
+/// The kind of word 0 of a table that may have so many names.
+pub fn system_kind(names: u32) -> u8 {
+    if names == WIDE {
+        WIDE_SYSTEM
+    } else {
+        SYSTEM
+    }
+}
+
 /// How many parts a term of this kind has.
 pub fn arity(kind: u8) -> usize {
     match kind {
@@ -58,12 +80,12 @@ pub fn arity(kind: u8) -> usize {
     }
 }
 
-/// The arguments of this kind are those below this number (a variable's have a rule of their own).
-pub fn arguments(kind: u8) -> u32 {
+/// The arguments of this kind are those below this number, in a table with so many names (a variable's have a rule of their own).
+pub fn arguments(kind: u8, names: u32) -> u32 {
     match kind {
         CONSTANT => 4,
         LITERAL => LITERALS,
-        NAME => NAMES,
+        NAME => names,
         OPERATION => 3,
         NUMBER | VARIABLE | SEND | EXERCISE => 1 << 24,
         _ => 1,
@@ -102,6 +124,8 @@ impl Block {
 }
 
 pub struct Table {
+    /// The number of names it may have, by word 0.
+    pub names: u32,
     pub nodes: Vec<Node>,
     pub blocks: Vec<Block>,
 }
@@ -157,6 +181,7 @@ impl Table {
 
 struct Reader<'a> {
     words: &'a [u32],
+    names: u32,
     nodes: Vec<Node>,
     blocks: Vec<Block>,
     /// The binders around the present word, the innermost last.
@@ -194,7 +219,7 @@ impl Reader<'_> {
 
     fn block(&mut self) -> Result<(), Refusal> {
         let start = self.nodes.len();
-        let name = self.block_word(BLOCK, start, |_, name| (name >= NAMES).then_some(5))?;
+        let name = self.block_word(BLOCK, start, |reader, name| (name >= reader.names).then_some(5))?;
         let permissions = self.block_word(PERMISSIONS, start, |reader, permissions| {
             reader.blocks.iter().any(|b| b.name == name && b.permissions == permissions).then_some(6)
         })?;
@@ -213,7 +238,7 @@ impl Reader<'_> {
         if !(CONSTANT..=EXERCISE).contains(&kind) {
             return refused(7, p);
         }
-        if argument >= arguments(kind) {
+        if argument >= arguments(kind, self.names) {
             return refused(9, p);
         }
         if kind == VARIABLE && argument as usize >= self.scope.len() {
@@ -243,25 +268,34 @@ impl Reader<'_> {
 /// Refusals 1 to 12.
 pub fn read(words: &[u32]) -> Result<Table, Refusal> {
     let first = words.first().copied().unwrap_or(0);
-    if first >> 24 != u32::from(SYSTEM) {
+    let kind = (first >> 24) as u8;
+    let Some(names) = names_of(kind) else {
         return refused(1, 0);
-    }
+    };
     if words.len() > MOST_WORDS {
         return refused(2, 0);
     }
     let handlers = first & 0xff_ffff;
-    if handlers > MOST_HANDLERS {
+    if handlers > names {
         return refused(3, 0);
     }
-    let mut reader = Reader { words, nodes: Vec::with_capacity(words.len()), blocks: Vec::new(), scope: Vec::new() };
-    reader.take(SYSTEM, handlers, 0, 0);
+    let mut reader = Reader { words, names, nodes: Vec::with_capacity(words.len()), blocks: Vec::new(), scope: Vec::new() };
+    reader.take(kind, handlers, 0, 0);
     for _ in 0..handlers {
         reader.block()?;
     }
     if reader.nodes.len() < words.len() {
         return refused(12, reader.nodes.len());
     }
-    Ok(Table { nodes: reader.nodes, blocks: reader.blocks })
+    Ok(Table { names, nodes: reader.nodes, blocks: reader.blocks })
+}
+
+/// As read, for what takes narrow tables only.
+pub fn read_narrow(words: &[u32]) -> Result<Table, Refusal> {
+    match words.first() {
+        Some(first) if first >> 24 == u32::from(WIDE_SYSTEM) => refused(1, 0),
+        _ => read(words),
+    }
 }
 
 /// Refusals 1 to 12, 20, 21 and 22, in this order: the lengths are those of the two lent slices, in words.
@@ -270,7 +304,7 @@ pub fn accept(words: &[u32], rho: u32, bound: u32, estimate: usize, work: usize)
     if rho >> 24 != 0 || bound >> 24 != 0 && bound != STANDING_BOUND {
         return refused(20, 0);
     }
-    if estimate < crate::estimate::Layout::of(words.len()).total() {
+    if estimate < crate::estimate::Layout::of(&table).total() {
         return refused(21, 0);
     }
     if work < 4 * words.len() {

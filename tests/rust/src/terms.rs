@@ -1,6 +1,6 @@
 //! Tables built from terms.
 
-use crate::table::kind::*;
+use crate::table::{kind::*, system_kind, NARROW};
 
 pub type Term = Vec<u32>;
 
@@ -92,6 +92,12 @@ pub fn block(name: u32, permissions: u32, guard: u32, body: Term) -> Term {
     [vec![word(BLOCK, name), word(PERMISSIONS, permissions), word(GUARD, guard)], body].concat()
 }
 
+/// A narrow table.
 pub fn system(blocks: &[Term]) -> Vec<u32> {
-    [vec![word(SYSTEM, blocks.len() as u32)], blocks.concat()].concat()
+    system_with(NARROW, blocks)
+}
+
+/// A table that may have so many names.
+pub fn system_with(names: u32, blocks: &[Term]) -> Vec<u32> {
+    [vec![word(system_kind(names), blocks.len() as u32)], blocks.concat()].concat()
 }

@@ -2,7 +2,7 @@
 
 use crate::estimate::{facts, leak, Layout, LIVE, PERMISSIONS_MASK};
 use crate::solve::solve;
-use crate::table::{accept, refused, within, Refusal, Table, MOST_WORDS, STANDING_BOUND};
+use crate::table::{accept, read_narrow, refused, within, Refusal, Table, MOST_WORDS, STANDING_BOUND, WIDE};
 use std::fmt::Write;
 
 #[derive(Clone, Copy, Debug, PartialEq, Eq)]
@@ -81,7 +81,7 @@ pub fn input(bytes: &[u8], most: usize) -> Result<(u32, u32, Vec<u32>), Refusal>
 
 /// Slices long enough for every accepted table.
 pub fn slices() -> (Vec<u32>, Vec<u32>) {
-    (vec![0; Layout::of(MOST_WORDS).total()], vec![0; 4 * MOST_WORDS])
+    (vec![0; Layout::sized(WIDE, MOST_WORDS).total()], vec![0; 4 * MOST_WORDS])
 }
 
 pub fn refusal_line(refusal: &Refusal) -> String {
@@ -96,7 +96,7 @@ fn lines(rho: u32, table: &Table, verdict: &Verdict, estimate: &[u32]) -> String
     };
     let mut text = format!("leak {leak:06x} bound {bound:06x} verdict {word} first {first} facts {facts}\n");
     let yes_or_no = |holds| if holds { "yes" } else { "no" };
-    let flags = &estimate[Layout::of(table.size()).rows()..];
+    let flags = &estimate[Layout::of(table).rows()..];
     for (position, block) in table.blocks.iter().enumerate() {
         let (entry, flag) = (yes_or_no(within(block.guard, rho)), flags[block.start]);
         let (name, live, set) = (block.name, yes_or_no(flag & LIVE != 0), flag & PERMISSIONS_MASK);
@@ -105,10 +105,11 @@ fn lines(rho: u32, table: &Table, verdict: &Verdict, estimate: &[u32]) -> String
     text
 }
 
-/// What the program prints for this standard input.
+/// What the program prints for this standard input; its table is a narrow one.
 pub fn program(bytes: &[u8]) -> String {
     let run = || {
         let (rho, bound, words) = input(bytes, 256)?;
+        read_narrow(&words)?;
         let (mut estimate, mut work) = slices();
         let (table, verdict) = verdict(&words, rho, bound, &mut estimate, &mut work)?;
         Ok(lines(rho, &table, &verdict, &estimate))

@@ -1,11 +1,11 @@
-//! Both solvers agree, and what they give obeys every rule. PEER_ROUNDS makes the runs longer.
+//! Both solvers agree on tables of either width, and what they give obeys every rule. PEER_ROUNDS makes the runs longer.
 
 use peer::check::broken;
 use peer::estimate::{Layout, FALSE, NEGATIVE, POSITIVE, TRUE, ZERO};
 use peer::generate::{call, damaged, random_words, table, Random};
 use peer::inputs::inputs;
 use peer::naive::{self, pair};
-use peer::table::{read, Table, STANDING_BOUND};
+use peer::table::{names_of, read, Table, NARROW, STANDING_BOUND, WIDTHS};
 use peer::verdict::{bytes_of, verdict_of_bytes, words_of};
 use peer::{estimate, solve};
 
@@ -15,7 +15,7 @@ fn rounds(usual: u64) -> u64 {
 
 /// Compares both solvers, and checks the rules if asked; answers the facts.
 fn compare(table: &Table, rho: u32, check: bool) -> u32 {
-    let mut solved = vec![0xa5a5_a5a5; Layout::of(table.size()).total()];
+    let mut solved = vec![0xa5a5_a5a5; Layout::of(table).total()];
     solve::solve(table, rho, &mut solved);
     let naive = naive::solve(table, rho);
     assert!(solved == naive, "the solvers differ");
@@ -28,15 +28,19 @@ fn compare(table: &Table, rho: u32, check: bool) -> u32 {
 #[test]
 fn solvers_agree_on_random_tables() {
     let mut random = Random(1);
-    let (mut tables, mut facts) = (0, 0);
-    for round in 0..rounds(8000) {
-        let words = table(&mut random);
-        let table = read(&words).unwrap_or_else(|refusal| panic!("{refusal:?} in {words:08x?}"));
-        let rho = random.permissions(4);
-        facts += u64::from(compare(&table, rho, round % 4 == 0));
-        tables += 1;
+    for names in WIDTHS {
+        let (mut tables, mut facts, mut large) = (0, 0, 0);
+        for round in 0..rounds(8000) {
+            let words = table(&mut random, names);
+            let table = read(&words).unwrap_or_else(|refusal| panic!("{refusal:?} in {words:08x?}"));
+            let rho = random.permissions(4);
+            facts += u64::from(compare(&table, rho, round % 4 == 0));
+            tables += 1;
+            large += u64::from(table.blocks.len() > NARROW as usize && table.blocks.iter().any(|block| block.name >= NARROW));
+        }
+        println!("{names} names: {tables} tables, {} facts each, {large} of over 32 handlers", facts / tables);
+        assert!(names == NARROW || large * 40 > tables, "{large} of {tables}");
     }
-    println!("{tables} tables, {} facts each", facts / tables);
 }
 
 #[test]
@@ -51,28 +55,35 @@ fn solvers_agree_on_the_benchmark() {
 #[test]
 fn solvers_agree_on_damaged_tables() {
     let mut random = Random(2);
-    let mut refusals = [0; 13];
-    for round in 0..rounds(20_000) {
-        let words = if round % 4 == 0 {
-            random_words(&mut random)
-        } else {
-            let words = table(&mut random);
-            damaged(&mut random, words)
-        };
-        match read(&words) {
-            Err(refusal) => refusals[refusal.number as usize] += 1,
-            Ok(table) => {
-                refusals[0] += 1;
-                if table.size() <= 100 {
-                    compare(&table, 0, false);
+    for names in WIDTHS {
+        // Accepted and refused by number, where word 0 still says this width, and where it says another or none.
+        let mut refusals = [[0; 13]; 2];
+        for round in 0..rounds(20_000) {
+            let words = if round % 4 == 0 {
+                random_words(&mut random)
+            } else {
+                let words = table(&mut random, names);
+                damaged(&mut random, words)
+            };
+            let width = words.first().and_then(|first| names_of((first >> 24) as u8));
+            let counts = &mut refusals[usize::from(width != Some(names))];
+            match read(&words) {
+                Err(refusal) => counts[refusal.number as usize] += 1,
+                Ok(table) => {
+                    counts[0] += 1;
+                    if table.size() <= 100 {
+                        compare(&table, 0, false);
+                    }
                 }
             }
         }
+        println!("{names} names, accepted and refused by number: {refusals:?}");
+        // 2 and 11 need a table made for them.
+        let seen = refusals[0].iter().enumerate().filter(|(number, _)| ![1, 2, 11].contains(number));
+        assert!(seen.into_iter().all(|(_, &count)| count > 0) && refusals[1][1] > 0 && refusals[1][0] > 0, "{refusals:?}");
+        // What only a wide table may have is refused where it became narrow: 3, 5 and 9.
+        assert!(names == NARROW || [3, 5, 9].iter().all(|&number| refusals[1][number] > 0), "{refusals:?}");
     }
-    println!("accepted and refused by number: {refusals:?}");
-    // 2 and 11 need a table made for them.
-    let seen = refusals.iter().enumerate().filter(|(number, _)| ![2, 11].contains(number));
-    assert!(seen.into_iter().all(|(_, &count)| count > 0), "{refusals:?}");
 }
 
 /// Calls of the C interface against the naive solver, byte by byte.
@@ -80,8 +91,8 @@ fn solvers_agree_on_damaged_tables() {
 fn calls_of_the_c_interface() {
     let mut random = Random(5);
     let mut counts = std::collections::BTreeMap::new();
-    for _ in 0..rounds(5000) {
-        let mut call = call(&mut random);
+    for round in 0..rounds(10_000) {
+        let mut call = call(&mut random, WIDTHS[round as usize % 2]);
         let before = call.clone();
         let answer = verdict_of_bytes(&call.system, call.rho, call.bound, &mut call.estimate, &mut call.work);
         *counts.entry((answer >> 16 & 0xff) * (answer >> 32)).or_insert(0) += 1;
@@ -107,8 +118,8 @@ fn calls_of_the_c_interface() {
 fn the_checker_sees_changes() {
     let mut random = Random(3);
     let (mut taken, mut seen) = (0, 0);
-    for _ in 0..rounds(2000) {
-        let words = table(&mut random);
+    for round in 0..rounds(4000) {
+        let words = table(&mut random, WIDTHS[round as usize % 2]);
         let table = read(&words).unwrap();
         let rho = random.permissions(4);
         let mut estimate = naive::solve(&table, rho);

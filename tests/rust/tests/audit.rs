@@ -1,5 +1,5 @@
-//! The check of an estimate from elsewhere (document 02, wish 12) through the proved library, against the independent checker: the library's own
-//! estimates with each bit turned over, with many bits turned over, with every bit that may be set, and of other lengths.
+//! The check of an estimate from elsewhere (document 02, wish 12) through the proved library, against the independent checker, for systems of either
+//! width: the library's own estimates with each bit turned over, with many bits turned over, with every bit that may be set, and of other lengths.
 #![cfg(proved)]
 
 use peer::audit::audit_of_bytes;
@@ -7,7 +7,7 @@ use peer::check::first_stray;
 use peer::estimate::Layout;
 use peer::generate::{damaged, sensible_table, table, Random};
 use peer::samples::samples;
-use peer::table::read;
+use peer::table::{read, WIDE, WIDTHS};
 use peer::verdict::{bytes_of, words_of};
 use std::collections::BTreeMap;
 
@@ -26,6 +26,11 @@ extern "C" {
     ) -> u64;
 }
 
+/// The most words of an estimate that the C call takes.
+fn most() -> usize {
+    Layout::sized(WIDE, 256).total()
+}
+
 fn rounds(usual: usize) -> usize {
     usual * std::env::var("PEER_ROUNDS").map_or(1, |times| times.parse().expect("PEER_ROUNDS is a number"))
 }
@@ -36,7 +41,7 @@ fn checked(system: &[u8], rho: u32, estimate: &[u8]) -> u64 {
 
 /// The library's own least estimate, or nothing where the call is refused.
 fn own(words: &[u32], rho: u32) -> Option<(Vec<u32>, u64)> {
-    let (system, mut estimate, mut work) = (bytes_of(words), vec![0; 4 * 5376], vec![0; 4 * 1024]);
+    let (system, mut estimate, mut work) = (bytes_of(words), vec![0; 4 * most()], vec![0; 4 * 1024]);
     let answer = unsafe {
         wiphosega_verdict(
             system.as_ptr(),
@@ -49,8 +54,10 @@ fn own(words: &[u32], rho: u32) -> Option<(Vec<u32>, u64)> {
             work.len(),
         )
     };
-    let total = Layout::of(words.len()).total();
-    (answer >> 32 == 0).then(|| (words_of(&estimate[..4 * total]), answer & 0xff_ffff))
+    (answer >> 32 == 0).then(|| {
+        let total = Layout::of(&read(words).expect("the library accepts it")).total();
+        (words_of(&estimate[..4 * total]), answer & 0xff_ffff)
+    })
 }
 
 /// Both answers are the same; it is answered.
@@ -108,9 +115,9 @@ fn each_bit_of_the_samples() {
 fn each_bit_of_random_systems() {
     let mut random = Random(1201);
     let mut counts = BTreeMap::new();
-    for _ in 0..rounds(12) {
+    for round in 0..rounds(24) {
         let size = 12 + random.below(16);
-        let words = sensible_table(&mut random, size, 4);
+        let words = sensible_table(&mut random, WIDTHS[round % 2], size, 4);
         each_bit(&words, random.permissions(4), &mut counts);
     }
     println!("bits that were set, and answers: {counts:?}");
@@ -122,8 +129,9 @@ fn each_bit_of_random_systems() {
 fn random_estimates() {
     let mut random = Random(1202);
     let mut counts = BTreeMap::new();
-    for round in 0..rounds(4000) {
-        let mut words = if round % 2 == 0 { table(&mut random) } else { sensible_table(&mut random, 120, 8) };
+    for round in 0..rounds(8000) {
+        let (names, round) = (WIDTHS[round % 2], round / 2);
+        let mut words = if round % 2 == 0 { table(&mut random, names) } else { sensible_table(&mut random, names, 120, 16) };
         words.truncate(256);
         let rho = random.permissions(4);
         let Some((mut estimate, _)) = own(&words, rho) else { continue };
@@ -137,10 +145,12 @@ fn random_estimates() {
             0 => bytes.truncate(bytes.len() - 4),
             1 => bytes.extend([0; 4]),
             2 => bytes.truncate(bytes.len() - 1 - random.below(3)),
-            3 => bytes.resize(4 * 5376 + random.below(9), 0),
+            3 => bytes.resize(4 * most() + random.below(9), 0),
             4 => system = bytes_of(&damaged(&mut random, words)),
             5 => system.truncate(system.len() - 1),
             6 => system.resize(1028, 0),
+            // The other width: the estimate has the words of this one.
+            8 => system[3] ^= 1 ^ 5,
             _ => {}
         }
         let rho = if round % 32 == 7 { rho | 1 << 24 } else { rho };
@@ -156,11 +166,11 @@ fn random_estimates() {
 #[test]
 fn everything_that_may_be_set() {
     let mut random = Random(1203);
-    let random_systems = (0..rounds(40)).map(|_| (sensible_table(&mut random, 60, 6), 0)).collect::<Vec<_>>();
+    let random_systems = (0..rounds(80)).map(|round| (sensible_table(&mut random, WIDTHS[round % 2], 60, 6), 0)).collect::<Vec<_>>();
     let mut leaking = 0;
     for (words, rho) in systems().into_iter().chain(random_systems) {
         let table = read(&words).expect("a valid table");
-        let mut estimate = vec![0u32; Layout::of(words.len()).total()];
+        let mut estimate = vec![0u32; Layout::of(&table).total()];
         for k in 0..estimate.len() {
             for d in 0..32 {
                 estimate[k] ^= 1 << d;

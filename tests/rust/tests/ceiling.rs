@@ -1,10 +1,11 @@
 //! The ceiling on facts (document 02, wish 7) through the proved program `bench`, whose arguments are how often it solves and the ceiling:
-//! refused with 23 at the ceiling exactly where the independent implementation counts more facts. WIPHOSEGA_BENCH names the program.
+//! refused with 23 at the ceiling exactly where the independent implementation counts more facts, for systems of either width. WIPHOSEGA_BENCH names the program.
 #![cfg(proved)]
 
-use peer::estimate::facts;
+use peer::estimate::{facts, plain};
 use peer::generate::{sensible_table, Random};
 use peer::samples::samples;
+use peer::table::WIDTHS;
 use peer::verdict::{analyse, bytes_of, slices};
 use std::io::Write;
 use std::process::{Command, Stdio};
@@ -22,18 +23,17 @@ fn printed(words: &[u32], rho: u32, ceiling: u64) -> String {
     String::from_utf8(output.stdout).expect("the program prints text")
 }
 
-/// The facts of the least estimate, or nothing where the table is refused.
-fn counted(words: &[u32], rho: u32) -> Option<u64> {
+/// The facts of the least estimate and the figure that no system passes, or nothing where the table is refused.
+fn counted(words: &[u32], rho: u32) -> Option<(u64, u64)> {
     let (mut estimate, mut work) = slices();
     let table = analyse(words, rho, 0, &mut estimate, &mut work).ok()?;
-    Some(u64::from(facts(&table, &estimate)))
+    let size = words.len();
+    Some((u64::from(facts(&table, &estimate)), (size * (2 * (plain(table.names) + size) + 25)) as u64))
 }
 
 /// The ceilings at which the answer changes, none, the figure that no system passes, and one less.
 fn around(words: &[u32], rho: u32) {
-    let Some(n) = counted(words, rho) else { return };
-    let size = words.len() as u64;
-    let figure = size * (2 * (64 + size) + 25);
+    let Some((n, figure)) = counted(words, rho) else { return };
     assert!(n <= figure);
     for ceiling in [0, n.saturating_sub(1), n, n + 1, figure.saturating_sub(1), figure] {
         let text = printed(words, rho, ceiling);
@@ -56,9 +56,9 @@ fn every_sample() {
 fn random_systems() {
     let rounds: usize = std::env::var("PEER_ROUNDS").map_or(1, |times| times.parse().expect("PEER_ROUNDS is a number"));
     let mut random = Random(23);
-    for _ in 0..60 * rounds {
-        let words = 20 + random.below(400);
-        let table = sensible_table(&mut random, words, 8);
+    for round in 0..120 * rounds {
+        let (names, words) = (WIDTHS[round % 2], 20 + random.below(400));
+        let table = sensible_table(&mut random, names, words, names as usize / 4);
         let rho = random.permissions(4);
         around(&table, rho);
     }

@@ -1,10 +1,11 @@
-//! The proved program `class`, run as a user runs it, against the independent implementation: whole streams, streams cut at every byte, the largest ones,
-//! and random ones. WIPHOSEGA_CLASS names it; PEER_ROUNDS makes the run longer.
+//! The proved program `class`, run as a user runs it, against the independent implementation: whole streams of systems of either width, streams cut at
+//! every byte, the largest ones, and random ones. WIPHOSEGA_CLASS names it; PEER_ROUNDS makes the run longer.
 #![cfg(proved)]
 
 use peer::class::{record, report, MOST_SYSTEMS, MOST_SYSTEM_WORDS};
-use peer::generate::{damaged, exact_table, random_words, table, Random};
-use peer::samples::samples;
+use peer::generate::{exact_table, words, Random};
+use peer::samples::{forty_one, samples};
+use peer::table::WIDTHS;
 use std::io::Write;
 use std::process::{Command, Stdio};
 
@@ -39,6 +40,10 @@ fn direct() -> Vec<u32> {
     vec![0x0100_0001, 0x0200_0000, 0x0300_0003, 0x0400_0000, 0x2400_0002]
 }
 
+fn wide_direct() -> Vec<u32> {
+    [&[0x0500_0001], &direct()[1..]].concat()
+}
+
 /// The wish's own example, whole.
 #[test]
 fn example() {
@@ -56,10 +61,20 @@ fn every_sample() {
     assert!(text.contains(" leak 000002\n") && text.contains(" refused 10 at 4\n") && text.contains("permission 23"));
 }
 
+/// Systems of both widths in one stream.
+#[test]
+fn either_width() {
+    let systems = [wide_direct(), direct(), forty_one(), vec![0x0500_0041], vec![0x0500_0040], vec![0x0500_0000]];
+    let text = compare(&systems.map(|words| record(0, &words)).concat());
+    let said: Vec<&str> = text.lines().take(6).map(|line| line.splitn(3, ' ').nth(2).unwrap()).collect();
+    assert_eq!(said, ["leak 000002", "leak 000002", "leak 000002", "refused 3 at 0", "refused 4 at 1", "leak 000000"]);
+    assert!(text.contains("\naccepted 4 refused 2\n") && text.contains("\npermission 1 leaks 3 of 4\n"));
+}
+
 /// 58 wherever a stream ends inside a system; a stream that ends between two is whole.
 #[test]
 fn cut_at_every_byte() {
-    let systems = [record(0, &direct()), record(0, &[]), record(1 << 24, &direct()), record(u32::MAX, &[]), record(0, &direct())];
+    let systems = [record(0, &direct()), record(0, &[]), record(1 << 24, &direct()), record(u32::MAX, &[]), record(0, &wide_direct())];
     let stream = systems.concat();
     let mut ends = vec![0];
     for system in &systems {
@@ -101,8 +116,10 @@ fn most_systems() {
 #[test]
 fn lengths() {
     let mut random = Random(15);
-    let most = exact_table(&mut random, MOST_SYSTEM_WORDS);
-    assert!(compare(&record(0, &most)).starts_with("0 "));
+    for names in WIDTHS {
+        let most = exact_table(&mut random, names, MOST_SYSTEM_WORDS);
+        assert!(compare(&record(0, &most)).starts_with("0 "));
+    }
     assert!(compare(&record(0, &vec![0; 256])).contains(" refused 1 at 0\n"));
     assert_eq!(compare(&record(0, &vec![0; 257])), "refused 59 at 0\n");
     for length in [257_u32, 258, 65_536, 1 << 24, u32::MAX] {
@@ -125,16 +142,10 @@ fn high_bits() {
     }
 }
 
-/// A table of at most 256 words of any sort, or damaged, or random words.
+/// A table of either width and at most 256 words of any sort, or damaged, or random words.
 fn table_for(random: &mut Random) -> Vec<u32> {
-    let words = match random.below(6) {
-        0 => random_words(random),
-        1 | 2 => {
-            let words = table(random);
-            damaged(random, words)
-        }
-        _ => table(random),
-    };
+    let names = *random.pick(&WIDTHS);
+    let words = words(random, names);
     if words.len() <= MOST_SYSTEM_WORDS {
         words
     } else {
@@ -147,7 +158,7 @@ fn random_streams() {
     let rounds: u64 = std::env::var("PEER_ROUNDS").map_or(1, |times| times.parse().expect("PEER_ROUNDS is a number"));
     let mut random = Random(16);
     let (mut whole, mut broken) = (0, 0);
-    for _ in 0..60 * rounds {
+    for _ in 0..120 * rounds {
         let systems = random.below(40);
         let mut stream = Vec::new();
         for _ in 0..systems {

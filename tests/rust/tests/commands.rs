@@ -3,16 +3,17 @@
 
 use peer::class::record;
 use peer::estimate::{made, Layout, OPPONENT};
-use peer::generate::{sensible_table, table, Random};
+use peer::generate::{lowered, sensible_table, table, words, Random};
 use peer::listing::{check, meaning, read, text, write};
 use peer::manifest::Manifest;
 use peer::manifest_inputs::{manifests, of_length, random_damage, random_manifest};
 use peer::overlay::{join, lookup};
 use peer::overlay_inputs::{keys, pair, relay};
-use peer::samples::samples;
-use peer::table::{kind, Table};
+use peer::samples::{forty_one, samples};
+use peer::table::{kind, Table, NARROW, WIDTHS};
 use peer::terms::{block, send, system, term, variable};
-use peer::verdict::{bytes_of, program};
+use peer::verdict::{bytes_of, program, refusal_line};
+use peer::widths::{narrow, widen};
 use std::io::Write;
 use std::process::{Command, Stdio};
 
@@ -33,7 +34,7 @@ fn printed(arguments: &[&str], input: &[u8]) -> String {
 #[test]
 fn words_and_text() {
     let mut random = Random(41);
-    let tables = (0..100).map(|_| table(&mut random));
+    let tables = (0..100).map(|_| table(&mut random, NARROW));
     for words in samples().into_iter().map(|sample| sample.words).chain(tables) {
         let output = run(&["text"], &bytes_of(&words));
         match write(&words, 65_536) {
@@ -51,11 +52,49 @@ fn words_and_text() {
     assert_eq!(printed(&["words"], &vec![b'\n'; 200_000]), "refused 41 at 0\n");
 }
 
+/// A wide table has no listing.
+#[test]
+fn no_text_of_a_wide_table() {
+    for words in [vec![0x0500_0000], vec![0x0500_0041], forty_one(), vec![0x0500_0000; 1025]] {
+        assert_eq!(printed(&["text"], &bytes_of(&words)), "refused 1 at 0\n");
+    }
+}
+
+/// Words in and words out, of samples and of random and damaged tables of either width.
+#[test]
+fn converters() {
+    let mut random = Random(43);
+    let mut tables: Vec<Vec<u32>> = samples().into_iter().map(|sample| sample.words).collect();
+    for round in 0..200 {
+        let words = words(&mut random, WIDTHS[round % 2]);
+        tables.push(if round % 4 == 1 { lowered(&words) } else { words });
+    }
+    let mut converted = 0;
+    for words in tables {
+        let mut out = vec![0; 1024];
+        for (command, answer) in [("widen", widen(&words, &mut out)), ("narrow", narrow(&words, &mut out))] {
+            converted += usize::from(answer.is_ok());
+            let expected = answer.map_or_else(|refusal| refusal_line(&refusal).into_bytes(), |count| bytes_of(&out[..count]));
+            assert_eq!(run(&[command], &bytes_of(&words)), expected, "{command} {words:08x?}");
+        }
+    }
+    assert!(converted > 60, "{converted}");
+    for command in ["widen", "narrow"] {
+        assert_eq!(printed(&[command], &[]), "refused 1 at 0\n");
+        assert_eq!(printed(&[command], &[0; 3]), "refused 30 at 0\n");
+        assert_eq!(printed(&[command], &[0; 5000]), "refused 1 at 0\n");
+    }
+    assert_eq!(printed(&["widen"], &bytes_of(&[0x0100_0000; 1025])), "refused 2 at 0\n");
+    assert_eq!(printed(&["narrow"], &bytes_of(&[0x0500_0000; 50_000])), "refused 2 at 0\n");
+    assert_eq!(printed(&["narrow"], &bytes_of(&forty_one())), "refused 55 at 0\n");
+    assert_eq!(printed(&["narrow"], &bytes_of(&[0x0500_0001, 0x0200_0020, 0x0300_0003, 0x0400_0000, 0x1000_0000])), "refused 56 at 1\n");
+}
+
 /// A system of the stream of a class: its length, ρ and its words. Over 256 words it is none.
 #[test]
 fn packed() {
     let mut random = Random(42);
-    let tables = (0..100).map(|_| table(&mut random));
+    let tables = (0..100).map(|_| table(&mut random, NARROW));
     for words in samples().into_iter().map(|sample| sample.words).chain(tables) {
         let Ok(text) = write(&words, 65_536) else { continue };
         let rho = words.len() as u32 * 0x0100_0193;
@@ -132,7 +171,7 @@ fn what_is_wrong_with_damaged_texts() {
     let mut random = Random(47);
     let mut right = 0;
     for round in 0..300 {
-        let Ok(text) = write(&table(&mut random), 65_536) else { continue };
+        let Ok(text) = write(&table(&mut random, NARROW), 65_536) else { continue };
         let damaged = if round % 2 == 0 { random_damage(&mut random, text) } else { respaced(&mut random, text) };
         let output = run(&["check"], &damaged);
         assert_eq!(output, check(&damaged));
@@ -163,10 +202,10 @@ fn explained() {
         assert_eq!(printed(&["explain", cells[0]], b""), format!("{}\n", cells[1]));
         count += 1;
     }
-    assert_eq!(count, 51);
+    assert_eq!(count, 54);
     assert_eq!(printed(&["explain", "13"], b""), "No refusal has this number.\n");
     let help = printed(&[], b"");
-    assert!(["text", "words", "leak RHO BOUND CEILING", "deliveries", "senders RHO", "order RHO", "estimate RHO", "audit RHO", "check", "join", "block NAME SET", "manifest", "pack RHO", "explain NUMBER"].iter().all(|command| help.contains(&format!("wiphosega {command}"))));
+    assert!(["text", "words", "leak RHO BOUND CEILING", "deliveries", "senders RHO", "order RHO", "estimate RHO", "audit RHO", "check", "join", "block NAME SET", "widen", "narrow", "manifest", "pack RHO", "explain NUMBER"].iter().all(|command| help.contains(&format!("wiphosega {command}"))));
     for arguments in [&["leaks"][..], &["leak"], &["leak", "x"], &["leak", "0", "x"], &["leak", "0", "0", "a"], &["leak", "0", "0", "123456789"], &["senders"], &["senders", "x"], &["order"], &["order", "x"], &["estimate"], &["audit", "x"], &["explain"], &["explain", "1x"], &["explain", "123456789"], &["block"], &["block", "1"], &["block", "0a", "2"], &["pack"], &["pack", "g"], &["pack", "123456789"]] {
         assert_eq!(printed(arguments, b""), help);
     }
@@ -287,7 +326,7 @@ fn deliveries(table: &Table) -> String {
 fn why_a_send_is_not_delivered() {
     let mut random = Random(52);
     let mut count = 0;
-    for words in samples().into_iter().map(|sample| sample.words).chain((0..150).map(|_| table(&mut random))) {
+    for words in samples().into_iter().map(|sample| sample.words).chain((0..150).map(|_| table(&mut random, NARROW))) {
         let (Ok(listing), Ok(table)) = (write(&words, 65_536), peer::table::read(&words)) else { continue };
         let expected = deliveries(&table);
         assert_eq!(printed(&["deliveries"], &listing), expected);
@@ -308,12 +347,12 @@ fn why_a_send_is_not_delivered() {
 /// The lines of every block, from the independent implementation's value sets of the blocks.
 fn senders(table: &Table, rho: u32) -> String {
     let estimate = peer::naive::solve(table, rho);
-    let row = Layout::of(table.size()).row;
+    let row = Layout::of(table).row;
     let mut lines = String::new();
     for (position, block) in table.blocks.iter().enumerate() {
         let has = |x: usize| estimate[2 * block.start * row + x / 32] >> (x % 32) & 1 != 0;
         let mut from: Vec<String> = Vec::new();
-        from.extend((0..table.blocks.len()).filter(|&s| has(made(table.blocks[s].start))).map(|s| s.to_string()));
+        from.extend((0..table.blocks.len()).filter(|&s| has(made(table, table.blocks[s].start))).map(|s| s.to_string()));
         from.extend(has(OPPONENT).then(|| "opponent".to_string()));
         from.extend(from.is_empty().then(|| "-".to_string()));
         lines += &format!("handler {position} name {} from {}\n", block.name, from.join(" "));
@@ -325,7 +364,7 @@ fn senders(table: &Table, rho: u32) -> String {
 fn who_may_have_sent() {
     let mut random = Random(53);
     let mut counts = [0; 3];
-    let tables: Vec<Vec<u32>> = (0..400).map(|k| if k % 3 == 0 { table(&mut random) } else { sensible_table(&mut random, 120, 8) }).collect();
+    let tables: Vec<Vec<u32>> = (0..400).map(|k| if k % 3 == 0 { table(&mut random, NARROW) } else { sensible_table(&mut random, NARROW, 120, 8) }).collect();
     for words in samples().into_iter().map(|sample| sample.words).chain(tables) {
         let (Ok(listing), Ok(table)) = (write(&words, 65_536), peer::table::read(&words)) else { continue };
         let rho = random.permissions(4);

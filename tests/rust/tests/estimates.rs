@@ -1,14 +1,14 @@
-//! The commands `estimate` and `audit` of the program, run as a user runs it (document 02, wish 12): systems up to 1,024 words, which the C call does
-//! not take. WIPHOSEGA_LISTINGS names the program.
+//! The commands `estimate`, which reads a listing, and `audit`, for systems of either width, of the program, run as a user runs it (document 02, wish 12):
+//! systems up to 1,024 words, which the C call does not take. WIPHOSEGA_LISTINGS names the program.
 #![cfg(proved)]
 
 use peer::audit::audit;
 use peer::estimate::Layout;
 use peer::generate::{exact_table, sensible_table, table, Random};
-use peer::listing::text;
+use peer::listing::{write, MOST_BYTES};
 use peer::samples::samples;
 use peer::solve::solve;
-use peer::table::{read, Refusal};
+use peer::table::{read, Refusal, NARROW, WIDTHS};
 use peer::verdict::{bytes_of, words_of};
 use std::io::Write;
 use std::process::{Command, Stdio};
@@ -38,10 +38,11 @@ fn audited(words: &[u32], rho: u32, estimate: &[u32]) -> String {
 /// The program's estimate is that of the independent implementation; it passes; with one bit turned over both say the same.
 fn around(random: &mut Random, words: &[u32], rho: u32) {
     let Ok(table) = read(words) else { return };
-    let own = words_of(&run(&["estimate", &format!("{rho:x}")], &text(words)));
-    let mut expected = vec![0; Layout::of(words.len()).total()];
-    solve(&table, rho, &mut expected);
-    assert!(own == expected, "{words:08x?}");
+    let mut own = vec![0; Layout::of(&table).total()];
+    solve(&table, rho, &mut own);
+    if let Ok(listing) = write(words, MOST_BYTES) {
+        assert!(words_of(&run(&["estimate", &format!("{rho:x}")], &listing)) == own, "{words:08x?}");
+    }
     let passed = audited(words, rho, &own);
     assert!(passed.starts_with("obeys leak "), "{words:08x?}");
     assert_eq!(passed, said(audit(words, rho, &own)));
@@ -64,25 +65,30 @@ fn every_sample() {
 #[test]
 fn random_systems() {
     let mut random = Random(1211);
-    for size in [40, 300, 700, 1000] {
-        let words = sensible_table(&mut random, size, 8);
-        around(&mut random, &words, 3);
+    for names in WIDTHS {
+        for size in [40, 300, 700, 1000] {
+            let words = sensible_table(&mut random, names, size, names as usize / 4);
+            around(&mut random, &words, 3);
+        }
+        let words = exact_table(&mut random, names, 1024);
+        around(&mut random, &words, 0);
     }
-    let words = exact_table(&mut random, 1024);
-    around(&mut random, &words, 0);
 }
 
 #[test]
 fn other_inputs() {
     let mut random = Random(1212);
-    let (words, rho) = (table(&mut random), 0);
-    let total = Layout::of(words.len()).total();
+    let (words, rho) = (table(&mut random, NARROW), 0);
+    let total = Layout::sized(NARROW, words.len()).total();
     let printed = |input: &[u8]| String::from_utf8(run(&["audit", "0"], input)).expect("text");
     assert_eq!(printed(&[]), "refused 30 at 0\n");
     assert_eq!(printed(&[1, 0, 0]), "refused 30 at 0\n");
     assert_eq!(printed(&bytes_of(&[2, 0x0100_0000])), "refused 30 at 0\n");
     assert_eq!(printed(&bytes_of(&[0])), "refused 1 at 0\n");
     assert_eq!(printed(&bytes_of(&[1, 0x0100_0000, 0, 0, 0, 0, 0, 0, 0])), "obeys leak 000000\n");
+    assert_eq!(printed(&bytes_of(&[1, 0x0500_0000, 0, 0, 0, 0, 0, 0, 0])), "refused 52 at 0\n");
+    assert_eq!(printed(&bytes_of(&[1, 0x0500_0000, 0, 0, 0, 0, 0, 0, 0, 0, 0])), "obeys leak 000000\n");
+    assert_eq!(printed(&bytes_of(&[1, 0x0500_0041])), "refused 3 at 0\n");
     assert_eq!(audited(&words, rho, &vec![0; total + 1]), "refused 52 at 0\n");
     assert_eq!(audited(&words, rho, &vec![0; 80_000]), "refused 52 at 0\n");
     assert_eq!(audited(&words, 1 << 24, &[]), "refused 20 at 0\n");

@@ -1,12 +1,13 @@
 //! The proved static library, linked and called as a program would, against the independent implementation: answers, the bytes of both
-//! slices, and runs of the machine. PEER_ROUNDS makes the runs longer.
+//! slices, and runs of the machine, for systems of either width. PEER_ROUNDS makes the runs longer.
 #![cfg(proved)]
 
-use peer::generate::{call, damaged, event, random_words, sensible_table, table, Call, Random};
+use peer::estimate::Layout;
+use peer::generate::{call, damaged, event, exact_table, random_words, sensible_table, table, Call, Random};
 use peer::machine::World;
 use peer::samples::{samples, Expected};
-use peer::table::{read, within};
-use peer::verdict::{bytes_of, verdict_of_bytes};
+use peer::table::{read, within, NARROW, WIDE, WIDTHS};
+use peer::verdict::{bytes_of, verdict_of_bytes, words_of};
 use std::collections::BTreeMap;
 
 extern "C" {
@@ -65,7 +66,8 @@ fn compare(call: &Call) -> u64 {
 
 /// A call with slices that are long enough, filled with what is not zero.
 fn fitting(words: &[u32], rho: u32, bound: u32) -> Call {
-    Call { system: bytes_of(words), rho, bound, estimate: vec![0xa5; 4 * 5376 + 3], work: vec![0x5a; 4 * 1024 + 1] }
+    let most = Layout::sized(WIDE, 256).total();
+    Call { system: bytes_of(words), rho, bound, estimate: vec![0xa5; 4 * most + 3], work: vec![0x5a; 4 * 1024 + 1] }
 }
 
 #[test]
@@ -81,27 +83,48 @@ fn every_sample() {
     }
 }
 
+/// A system of 256 words of either width, in slices that just fit, as include/wiphosega.h gives their bytes, and in shorter ones.
+#[test]
+fn the_largest_systems() {
+    let mut random = Random(10);
+    for (names, bytes) in [(NARROW, 21_504), (WIDE, 23_552)] {
+        for _ in 0..rounds(50) {
+            let system = bytes_of(&exact_table(&mut random, names, 256));
+            let call = |estimate, work| Call { system: system.clone(), rho: 0, bound: 0, estimate: vec![0xa5; estimate], work: vec![0x5a; work] };
+            assert_eq!(compare(&call(bytes, 4096)), 0);
+            assert_eq!(compare(&call(bytes - 1, 4096)), 21);
+            assert_eq!(compare(&call(bytes, 4095)), 22);
+        }
+    }
+}
+
 /// Valid, damaged and random tables, and calls with short and odd slices and stray bits.
 #[test]
 fn answers_and_bytes() {
     let mut random = Random(11);
-    let mut counts = BTreeMap::new();
-    for round in 0..rounds(24_000) {
-        let words = match round % 4 {
-            0 => random_words(&mut random),
-            1 => {
-                let words = table(&mut random);
-                damaged(&mut random, words)
-            }
-            _ => table(&mut random),
-        };
-        let call = if round % 3 == 0 { call(&mut random) } else { fitting(&words, random.permissions(4), random.permissions(6)) };
-        *counts.entry(compare(&call)).or_insert(0u64) += 1;
+    for names in WIDTHS {
+        let mut counts = BTreeMap::new();
+        let mut large = 0;
+        for round in 0..rounds(24_000) {
+            let words = match round % 4 {
+                0 => random_words(&mut random),
+                1 => {
+                    let words = table(&mut random, names);
+                    damaged(&mut random, words)
+                }
+                _ => table(&mut random, names),
+            };
+            let call = if round % 3 == 0 { call(&mut random, names) } else { fitting(&words, random.permissions(4), random.permissions(6)) };
+            let number = compare(&call);
+            *counts.entry(number).or_insert(0u64) += 1;
+            large += u64::from(number == 0 && words_of(&call.system)[0] & 0xff_ffff > NARROW);
+        }
+        println!("{names} names, verdicts (0) and refusals by number: {counts:?}; {large} verdicts on over 32 handlers");
+        let all = [0, 1, 3, 4, 5, 6, 7, 8, 9, 10, 12, 20, 21, 22, 30, 31];
+        assert!(all.iter().all(|number| counts.contains_key(number)), "{counts:?}");
+        assert!(counts[&0] > rounds(24_000) / 4, "{counts:?}");
+        assert!(names == NARROW || large > rounds(200), "{large}");
     }
-    println!("verdicts (0) and refusals by number: {counts:?}");
-    let all = [0, 1, 3, 4, 5, 6, 7, 8, 9, 10, 12, 20, 21, 22, 30, 31];
-    assert!(all.iter().all(|number| counts.contains_key(number)), "{counts:?}");
-    assert!(counts[&0] > rounds(24_000) / 4, "{counts:?}");
 }
 
 /// What a machine of its own exercises lies in the leak that the library reports.
@@ -109,8 +132,8 @@ fn answers_and_bytes() {
 fn runs_lie_in_the_leak() {
     let mut random = Random(12);
     let (mut systems, mut exercising, mut leaking) = (0u64, 0u64, 0u64);
-    for _ in 0..rounds(4000) {
-        let words = sensible_table(&mut random, 120, 8);
+    for round in 0..rounds(8000) {
+        let words = sensible_table(&mut random, WIDTHS[round as usize % 2], 120, 8);
         let (table, rho) = (read(&words).expect("a valid table"), random.permissions(4));
         let mut call = fitting(&words, rho, 0);
         let answer = proved(&call.system, rho, 0, &mut call.estimate, &mut call.work);

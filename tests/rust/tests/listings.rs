@@ -5,7 +5,8 @@ use peer::generate::{damaged, random_words, table, Random};
 use peer::inputs::inputs;
 use peer::listing::{read, text, write, MOST_BYTES};
 use peer::samples::samples;
-use peer::table::{kind, Refusal};
+use peer::table::{kind, Refusal, NARROW, WIDE};
+use peer::terms::{block, exercise};
 use peer::verdict::bytes_of;
 use std::time::Instant;
 
@@ -79,17 +80,28 @@ fn samples_and_their_rooms() {
     assert_eq!(output, [0xa5; 100]);
 }
 
+/// A wide table is refused with 1 at 0, whatever else is wrong with it and however short the output is.
+#[test]
+fn wide_tables() {
+    for words in [vec![0x0500_0000], vec![0x0500_0041], vec![0x0500_0001], vec![0x0500_0000; 1025], [&[0x0500_0001], &block(0, 3, 0, exercise(2))[..]].concat()] {
+        for size in [0, 70_000] {
+            assert_eq!(compare_write(&words, size), Err(Refusal { number: 1, place: 0 }));
+        }
+    }
+}
+
 #[test]
 fn random_systems() {
     let mut random = Random(31);
-    for round in 0..rounds(20_000) {
-        let words = match round % 8 {
+    for round in 0..rounds(22_500) {
+        let words = match round % 9 {
             0 => random_words(&mut random),
             1 => {
-                let words = table(&mut random);
+                let words = table(&mut random, NARROW);
                 damaged(&mut random, words)
             }
-            _ => table(&mut random),
+            2 => table(&mut random, WIDE),
+            _ => table(&mut random, NARROW),
         };
         if let Ok(text) = compare_write(&words, 70_000) {
             assert_eq!(compare_read(&text, 4096), Ok(words));
@@ -102,7 +114,7 @@ fn damaged_texts() {
     let mut random = Random(32);
     let mut numbers = std::collections::BTreeMap::new();
     for _ in 0..rounds(60) {
-        let words = table(&mut random);
+        let words = table(&mut random, NARROW);
         let Ok(text) = write(&words, MOST_BYTES) else { continue };
         for place in 0..text.len() {
             for damage in 0..4 {
@@ -220,7 +232,7 @@ fn least(times: usize, mut call: impl FnMut()) -> u128 {
 
 #[test]
 fn times() {
-    let long = inputs().into_iter().filter(|input| input.words.len() >= 1000 && text(&input.words).len() <= MOST_BYTES);
+    let long = inputs().into_iter().filter(|input| input.words.len() >= 1000 && write(&input.words, MOST_BYTES).is_ok());
     for input in long.take(6) {
         let (system, made) = (bytes_of(&input.words), text(&input.words));
         let (mut output, mut words) = (vec![0; MOST_BYTES], vec![0; 4096]);

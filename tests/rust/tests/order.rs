@@ -7,7 +7,7 @@ use peer::generate::{sensible_table, table, Random};
 use peer::listing::write;
 use peer::naive;
 use peer::samples::samples;
-use peer::table::read;
+use peer::table::{read, NARROW};
 use peer::terms::*;
 use std::io::Write;
 use std::process::{Command, Stdio};
@@ -39,10 +39,10 @@ struct Relation {
 fn relation(words: &[u32], rho: u32) -> Relation {
     let table = read(words).expect("an accepted table");
     let estimate = naive::solve(&table, rho);
-    let (row, all) = (Layout::of(table.size()).row, table.blocks.len());
+    let (row, all) = (Layout::of(&table).row, table.blocks.len());
     let live = (0..all).filter(|&p| estimate[2 * table.size() * row + table.blocks[p].start] >> 24 & 1 != 0).collect();
     let has = |b: usize, x: usize| estimate[2 * b * row + x / 32] >> (x % 32) & 1 != 0;
-    let senders = (0..all).map(|t| (0..all).filter(|&s| has(table.blocks[t].start, made(table.blocks[s].start))).collect()).collect();
+    let senders = (0..all).map(|t| (0..all).filter(|&s| has(table.blocks[t].start, made(&table, table.blocks[s].start))).collect()).collect();
     Relation { live, senders }
 }
 
@@ -144,7 +144,7 @@ fn random_tables() {
     let mut random = Random(92);
     let mut counts = [0; 2];
     for round in 0..rounds(200) {
-        let words = if round % 3 == 0 { table(&mut random) } else { sensible_table(&mut random, 120, 7) };
+        let words = if round % 3 == 0 { table(&mut random, NARROW) } else { sensible_table(&mut random, NARROW, 120, 7) };
         let rho = random.permissions(4);
         if write(&words, 65_536).is_ok() && relation(&words, rho).live.len() <= 7 {
             counts[usize::from(same(&words, rho).starts_with("loop"))] += 1;

@@ -3,7 +3,7 @@
 use peer::generate::Random;
 use peer::overlay::{find, join, lookup, Side};
 use peer::overlay_inputs::{handlers, keys, pair, relay, sized};
-use peer::table::{kind::*, read, Refusal};
+use peer::table::{kind::*, read_narrow, Refusal, WIDE};
 use peer::terms::*;
 use std::collections::BTreeMap;
 
@@ -76,7 +76,8 @@ fn no_such_block() {
 fn refusals_of_the_tables_come_first() {
     let (base, overlay) = relay();
     let deep = system(&[block(0, 1, 0, [vec![word(FUNCTION, 0); 64], constant(0)].concat())]);
-    for (broken, number, at) in [(vec![], 1, 0), (vec![word(SYSTEM, 33)], 3, 0), (base[..9].to_vec(), 4, 9), (deep, 11, 68)] {
+    let wide = system_with(WIDE, &[block(1, 2, 0, empty())]);
+    for (broken, number, at) in [(vec![], 1, 0), (wide, 1, 0), (vec![word(SYSTEM, 33)], 3, 0), (base[..9].to_vec(), 4, 9), (deep, 11, 68)] {
         for other in [&overlay, &broken] {
             assert_eq!(place(&broken, other, 5, 5), Err((number, at)));
             assert_eq!(joined(&broken, other, 0), Err((number, at)));
@@ -119,13 +120,14 @@ fn random_pairs() {
         let words = match answer {
             Ok(words) => words,
             Err((number, place)) => {
-                assert_eq!(number < 47, read(&base).is_err());
-                assert_eq!(number > 100, read(&base).is_ok() && read(&overlay).is_err());
+                assert_eq!(number < 47, read_narrow(&base).is_err());
+                assert_eq!(number > 100, read_narrow(&base).is_ok() && read_narrow(&overlay).is_err());
                 assert!((47..100).contains(&number) <= (place == 0));
                 continue;
             }
         };
-        let (under, over, both) = (read(&base).unwrap(), read(&overlay).unwrap(), read(&words).expect("a join is a valid table"));
+        let [under, over] = [&base, &overlay].map(|words| read_narrow(words).unwrap());
+        let both = read_narrow(&words).expect("a join is a valid table");
         // The base's keys in its order, then the overlay's new ones in theirs.
         let mut order = keys(&under);
         order.extend(keys(&over).into_iter().filter(|key| !keys(&under).contains(key)));

@@ -5,8 +5,8 @@
 use peer::generate::Random;
 use peer::overlay::{find, join, Side};
 use peer::overlay_inputs::{handlers, keys, pair, relay, sized};
-use peer::table::{read, Refusal};
-use peer::terms::{block, empty, system};
+use peer::table::{read, Refusal, WIDE};
+use peer::terms::{block, empty, system, system_with};
 use peer::verdict::bytes_of;
 use std::collections::BTreeMap;
 
@@ -106,6 +106,21 @@ fn odd_bytes() {
             assert_eq!(compare_join(base, overlay, 100), Err(refusal(number, 0)));
             assert_eq!(compare_lookup(base, overlay, 0, 8), Err(refusal(number, 0)));
         }
+    }
+}
+
+/// 1 at 0 for a wide base, whatever the overlay is, and 101 for a wide overlay.
+#[test]
+fn wide_tables() {
+    let good = bytes_of(&relay().0);
+    let wide = |blocks: &[_]| bytes_of(&system_with(WIDE, blocks));
+    for wide in [wide(&[]), wide(&[block(1, 2, 0, empty())]), bytes_of(&[0x0500_0041]), bytes_of(&[0x0500_0000; 1025])] {
+        for overlay in [&good, &wide, &vec![]] {
+            assert_eq!(compare_join(&wide, overlay, 4096), Err(refusal(1, 0)));
+            assert_eq!(compare_lookup(&wide, overlay, 1, 2), Err(refusal(1, 0)));
+        }
+        assert_eq!(compare_join(&good, &wide, 4096), Err(refusal(101, 0)));
+        assert_eq!(compare_lookup(&good, &wide, 1, 2), Err(refusal(101, 0)));
     }
 }
 

@@ -3,7 +3,8 @@
 #![cfg(proved)]
 
 use peer::generate::{call, Random};
-use peer::samples::samples;
+use peer::samples::{forty_one, samples};
+use peer::table::WIDTHS;
 use peer::verdict::{bytes_of, program};
 use std::io::Write;
 use std::process::{Command, Stdio};
@@ -41,13 +42,25 @@ fn lengths() {
     assert_eq!(compare(&[0; 7]), "refused 30 at 0\n");
 }
 
+/// 1 at 0 for a wide table, after 31 and 30 and before all else.
+#[test]
+fn wide_tables() {
+    let input = |rho: u32, words: &[u32]| bytes_of(&[&[rho, 0], words].concat());
+    for words in [vec![0x0500_0000], vec![0x0500_0041], vec![0x0500_0000; 256], forty_one()] {
+        assert_eq!(compare(&input(0, &words)), "refused 1 at 0\n");
+        assert_eq!(compare(&input(1 << 24, &words)), "refused 1 at 0\n");
+        assert_eq!(compare(&input(0, &words)[1..]), "refused 30 at 0\n");
+    }
+    assert_eq!(compare(&input(0, &[0x0500_0000; 257])), "refused 31 at 0\n");
+}
+
 #[test]
 fn random_inputs() {
     let rounds: u64 = std::env::var("PEER_ROUNDS").map_or(1, |times| times.parse().expect("PEER_ROUNDS is a number"));
     let mut random = Random(13);
     let (mut verdicts, mut refusals) = (0, 0);
-    for _ in 0..400 * rounds {
-        let call = call(&mut random);
+    for round in 0..400 * rounds {
+        let call = call(&mut random, WIDTHS[usize::from(round % 4 == 0)]);
         let text = compare(&[bytes_of(&[call.rho, call.bound]), call.system].concat());
         if text.starts_with("leak") {
             verdicts += 1;

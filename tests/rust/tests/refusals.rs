@@ -2,12 +2,18 @@
 
 use peer::estimate::Layout;
 use peer::samples::samples;
-use peer::table::{accept, kind::*, read, STANDING_BOUND};
+use peer::table::{accept, kind::*, names_of, read, NARROW, STANDING_BOUND, WIDE, WIDTHS};
 use peer::terms::*;
 use peer::verdict::{bytes_of, verdict, verdict_of_bytes};
 
 fn refusal(words: &[u32]) -> Option<(u32, usize)> {
     read(words).err().map(|refusal| (refusal.number, refusal.place))
+}
+
+/// The layout of an estimate of this sample.
+fn layout(words: &[u32]) -> Layout {
+    let kind = words.first().map_or(SYSTEM, |first| (first >> 24) as u8);
+    Layout::sized(names_of(kind).unwrap_or(NARROW), words.len())
 }
 
 /// One handler with this body, given as words.
@@ -21,8 +27,16 @@ fn words_of_blocks() {
     assert_eq!(refusal(&direct), None);
     assert_eq!(refusal(&[word(2, 0)]), Some((1, 0)));
     assert_eq!(refusal(&[word(SYSTEM, 33); 1025]), Some((2, 0)));
-    assert_eq!(refusal(&[word(SYSTEM, 33)]), Some((3, 0)));
-    assert_eq!(refusal(&[word(SYSTEM, 0x80_0000)]), Some((3, 0)));
+    assert_eq!(refusal(&[word(WIDE_SYSTEM, 65); 1025]), Some((2, 0)));
+    for (kind, most) in [(SYSTEM, 32), (WIDE_SYSTEM, 64)] {
+        assert_eq!(refusal(&[word(kind, 0)]), None);
+        assert_eq!(refusal(&[word(kind, most)]), Some((4, 1)));
+        assert_eq!(refusal(&[word(kind, most + 1)]), Some((3, 0)));
+        assert_eq!(refusal(&[word(kind, 0x80_0000)]), Some((3, 0)));
+    }
+    for kind in (0..=255).filter(|kind| ![SYSTEM, WIDE_SYSTEM].contains(kind)) {
+        assert_eq!(refusal(&[word(kind, 0)]), Some((1, 0)));
+    }
     for at in 1..4 {
         assert_eq!(refusal(&direct[..at]), Some((4, at)));
         for kind in [0, 1, 5, 16, 20, 36, 255].into_iter().chain((2..5).filter(|&kind| kind != at as u8 + 1)) {
@@ -32,9 +46,11 @@ fn words_of_blocks() {
         }
     }
     assert_eq!(refusal(&direct[..4]), Some((8, 4)));
-    let named = |name| system(&[block(name, 3, 0, exercise(2))]);
-    assert_eq!(refusal(&named(31)), None);
-    assert_eq!(refusal(&named(32)), Some((5, 1)));
+    for names in WIDTHS {
+        let named = |name| system_with(names, &[block(name, 3, 0, exercise(2))]);
+        assert_eq!(refusal(&named(names - 1)), None);
+        assert_eq!(refusal(&named(names)), Some((5, 1)));
+    }
     assert_eq!(refusal(&[direct.clone(), vec![word(7, 0)]].concat()), Some((12, 5)));
 }
 
@@ -62,6 +78,8 @@ fn words_of_terms() {
         assert_eq!(refusal(&body(&[vec![word(kind, most)], parts].concat())), None);
         assert_eq!(refusal(&body(&[word(kind, most + 1)])), Some((9, 4)));
     }
+    assert_eq!(refusal(&system_with(WIDE, &[block(0, 3, 0, name(63))])), None);
+    assert_eq!(refusal(&system_with(WIDE, &[block(0, 3, 0, name(64))])), Some((9, 4)));
     for kind in (FUNCTION..=WHILE).chain(EMPTY..=ASSIGN) {
         assert_eq!(refusal(&body(&[word(kind, 1)])), Some((9, 4)));
         assert_eq!(refusal(&body(&[word(kind, 0x80_0000)])), Some((9, 4)));
@@ -113,8 +131,13 @@ fn depth_over_64_after_all_else() {
 
 #[test]
 fn order_of_the_callers_refusals() {
-    let good = body(&exercise(2));
-    let (estimate, work) = (Layout::of(good.len()).total(), 4 * good.len());
+    for names in WIDTHS {
+        order_with(system_with(names, &[block(0, 3, 0, exercise(2))]));
+    }
+}
+
+fn order_with(good: Vec<u32>) {
+    let (estimate, work) = (layout(&good).total(), 4 * good.len());
     let number = |words: &[u32], rho, bound, estimate, work| accept(words, rho, bound, estimate, work).err().map(|r| (r.number, r.place));
     assert_eq!(number(&good, 0xff_ffff, 0xff_ffff, estimate, work), None);
     assert_eq!(number(&good, 0, STANDING_BOUND, estimate, work), None);
@@ -129,7 +152,7 @@ fn order_of_the_callers_refusals() {
 #[test]
 fn slices_of_words() {
     for sample in samples() {
-        let Layout { size, row } = Layout::of(sample.words.len());
+        let Layout { size, row, .. } = layout(&sample.words);
         let (mut estimate, mut work) = (vec![0xa5a5_a5a5; 2 * size * row + size + 3], vec![0x5a5a_5a5a; 4 * size + 3]);
         let before = (estimate.clone(), work.clone());
         if verdict(&sample.words, sample.rho, sample.bound, &mut estimate, &mut work).is_err() {
@@ -147,7 +170,7 @@ fn slices_of_bytes() {
     for sample in samples().into_iter().filter(|sample| sample.words.len() <= 256) {
         let size = sample.words.len();
         for odd in 0..4 {
-            let (mut estimate, mut work) = (vec![0xa5; 4 * Layout::of(size).total() + odd], vec![0x5a; 16 * size + odd]);
+            let (mut estimate, mut work) = (vec![0xa5; 4 * layout(&sample.words).total() + odd], vec![0x5a; 16 * size + odd]);
             let before = (estimate.clone(), work.clone());
             let answer = verdict_of_bytes(&bytes_of(&sample.words), sample.rho, sample.bound, &mut estimate, &mut work);
             if answer >> 32 != 0 {
@@ -179,4 +202,9 @@ fn answers_of_the_c_interface() {
     assert_eq!(verdict_of_bytes(&direct, 0, 0, &mut [0; 4 * 35 - 1], &mut [0; 80]), refused(21, 0));
     assert_eq!(verdict_of_bytes(&direct, 0, 0, &mut [0; 4 * 35], &mut [0; 79]), refused(22, 0));
     assert_eq!(verdict_of_bytes(&direct, 0, 0, &mut [0; 4 * 35], &mut [0; 80]), 0x0100_0002);
+    let wide = bytes_of(&system_with(WIDE, &[block(0, 3, 0, exercise(2))]));
+    assert_eq!(ask(&wide, 0, 0), 0x0100_0002);
+    assert_eq!(verdict_of_bytes(&wide, 0, 0, &mut [0; 4 * 45 - 1], &mut [0; 80]), refused(21, 0));
+    assert_eq!(verdict_of_bytes(&wide, 0, 0, &mut [0; 4 * 45], &mut [0; 79]), refused(22, 0));
+    assert_eq!(verdict_of_bytes(&wide, 0, 0, &mut [0; 4 * 45], &mut [0; 80]), 0x0100_0002);
 }

@@ -1,10 +1,10 @@
-//! Random runs of the machine against the estimate. PEER_ROUNDS makes the run longer.
+//! Random runs of the machine against the estimate, of systems of either width. PEER_ROUNDS makes the run longer.
 
 use peer::estimate::{leak, Layout, LIVE};
 use peer::generate::{event, sensible_table, Random};
 use peer::machine::{Control, Event, Instance, Value, World};
 use peer::solve::solve;
-use peer::table::{read, within, Table};
+use peer::table::{read, within, Table, WIDTHS};
 use peer::terms::*;
 
 #[derive(Default, Debug)]
@@ -22,13 +22,14 @@ struct Counts {
 }
 
 /// The word at hand is live, and its value, once there, lies in its value set.
-fn covered(layout: Layout, estimate: &[u32], instance: &Instance) -> bool {
+fn covered(table: &Table, estimate: &[u32], instance: &Instance) -> bool {
+    let layout = Layout::of(table);
     let live = |p: usize| estimate[layout.rows() + p] & LIVE != 0;
     match &instance.control {
         Control::Stopped => true,
         Control::Run(p, _) => live(*p),
         Control::Done(p, value) => {
-            let element = instance.element(value);
+            let element = instance.element(table, value);
             live(*p) && estimate[2 * p * layout.row + element / 32] >> (element % 32) & 1 != 0
         }
     }
@@ -50,7 +51,7 @@ fn mended(table: &Table, world: &World, event: &Event) -> bool {
 }
 
 fn run(random: &mut Random, words: &[u32], table: &Table, rho: u32, counts: &mut Counts) {
-    let layout = Layout::of(table.size());
+    let layout = Layout::of(table);
     let mut estimate = vec![0; layout.total()];
     solve(table, rho, &mut estimate);
     let leak = leak(table, rho, &estimate);
@@ -71,7 +72,7 @@ fn run(random: &mut Random, words: &[u32], table: &Table, rho: u32, counts: &mut
         }
         if let Event::Step { instance, .. } = event {
             let instance = world.instances.get(instance);
-            assert!(instance.is_none_or(|i| covered(layout, &estimate, i)), "{words:08x?} rho {rho:x}: {:?}", instance.unwrap());
+            assert!(instance.is_none_or(|i| covered(table, &estimate, i)), "{words:08x?} rho {rho:x}: {:?}", instance.unwrap());
         }
     }
     let mut exercised = 0;
@@ -93,17 +94,19 @@ fn run(random: &mut Random, words: &[u32], table: &Table, rho: u32, counts: &mut
 fn what_is_exercised_lies_in_the_leak() {
     let rounds: u64 = std::env::var("PEER_ROUNDS").map_or(1, |times| times.parse().expect("PEER_ROUNDS is a number"));
     let mut random = Random(4);
-    let mut counts = Counts::default();
-    for _ in 0..20_000 * rounds {
-        let size = 20 + random.below(180);
-        let words = sensible_table(&mut random, size, 6);
-        let table = read(&words).unwrap();
-        let rho = random.permissions(4);
-        run(&mut random, &words, &table, rho, &mut counts);
+    for names in WIDTHS {
+        let mut counts = Counts::default();
+        for _ in 0..20_000 * rounds {
+            let size = 20 + random.below(180);
+            let words = sensible_table(&mut random, names, size, names as usize / 5);
+            let table = read(&words).unwrap();
+            let rho = random.permissions(4);
+            run(&mut random, &words, &table, rho, &mut counts);
+        }
+        println!("{names} names: {counts:?}");
+        assert!(counts.exercising * 2 > counts.systems && counts.whole * 10 > counts.leaking && counts.sent * 10 > counts.systems);
+        assert!(counts.mended * 100 > counts.systems);
     }
-    println!("{counts:?}");
-    assert!(counts.exercising * 2 > counts.systems && counts.whole * 10 > counts.leaking && counts.sent * 10 > counts.systems);
-    assert!(counts.mended * 100 > counts.systems);
 }
 
 /// A run of one handler alone: steps until nothing changes.

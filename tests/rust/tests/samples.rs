@@ -1,7 +1,8 @@
-//! Document 01's samples, its traps and the program's lines.
+//! Document 01's samples, its traps, wide tables and the program's lines.
 
 use peer::estimate::Layout;
 use peer::samples::{samples, Expected, Sample};
+use peer::table::{NARROW, WIDE};
 use peer::verdict::{bytes_of, program, slices, verdict};
 
 fn sample(name: &str) -> Sample {
@@ -30,8 +31,9 @@ fn samples_answer_as_the_document_says() {
 fn sizes_of_the_large_samples() {
     assert_eq!(sample("1,024 words").words.len(), 1024);
     assert_eq!(sample("1,025 words").words.len(), 1025);
-    assert_eq!(Layout::of(1).total(), 7);
-    assert_eq!(Layout::of(256).total(), 5376);
+    for (names, size, total) in [(NARROW, 1, 7), (NARROW, 5, 35), (NARROW, 256, 5376), (WIDE, 1, 9), (WIDE, 5, 45), (WIDE, 256, 5888)] {
+        assert_eq!(Layout::sized(names, size).total(), total);
+    }
 }
 
 fn printed(rho: u32, bound: u32, words: &[u32]) -> String {
@@ -67,4 +69,11 @@ fn refusals_of_the_program() {
     for (rho, bound) in [(0x8000_0000, 0), (0x8000_0000, 0x8000_0000), (0, 0x8000_0001)] {
         assert_eq!(printed(rho, bound, &[0x0100_0000]), "refused 20 at 0\n");
     }
+    // A wide table, after 31 and 30 and before all else.
+    let direct = sample("wide direct").words;
+    assert_eq!(printed(0, 0, &direct), "refused 1 at 0\n");
+    assert_eq!(printed(0x8000_0000, 0x8000_0001, &[0x0500_0000]), "refused 1 at 0\n");
+    assert_eq!(program(&bytes_of(&[&[0, 0], &direct[..]].concat())[..27]), "refused 30 at 0\n");
+    assert_eq!(program(&bytes_of(&[0x0500_0041; 258])), "refused 1 at 0\n");
+    assert_eq!(program(&bytes_of(&[0x0500_0041; 259])), "refused 31 at 0\n");
 }

@@ -1,13 +1,13 @@
-//! Who may have sent (document 02, wish 8): C of a block holds 64+s for each block s with a live send that delivers to it, and 7 where its guard lets the
-//! opponent in. PEER_ROUNDS makes the runs longer.
+//! Who may have sent (document 02, wish 8): C of a block holds 64+s, or 96+s in a wide table, for each block s with a live send that delivers to it, and 7
+//! where its guard lets the opponent in. PEER_ROUNDS makes the runs longer.
 
 use peer::check::broken;
-use peer::estimate::{leak, Layout, FIRST_MADE, OPPONENT};
+use peer::estimate::{leak, made, Layout, OPPONENT};
 use peer::generate::{event, sensible_table, table, Random};
 use peer::machine::{Event, World};
 use peer::naive;
-use peer::samples::samples;
-use peer::table::{kind::*, read, within, Table};
+use peer::samples::{forty_one, samples};
+use peer::table::{kind::*, read, within, Table, WIDTHS};
 use peer::terms::*;
 
 fn rounds(usual: u64) -> u64 {
@@ -15,8 +15,8 @@ fn rounds(usual: u64) -> u64 {
 }
 
 /// The elements of C(i).
-fn values(words: usize, estimate: &[u32], i: usize) -> Vec<usize> {
-    let row = Layout::of(words).row;
+fn values(table: &Table, estimate: &[u32], i: usize) -> Vec<usize> {
+    let row = Layout::of(table).row;
     (0..32 * row).filter(|x| estimate[2 * i * row + x / 32] >> (x % 32) & 1 != 0).collect()
 }
 
@@ -24,7 +24,7 @@ fn values(words: usize, estimate: &[u32], i: usize) -> Vec<usize> {
 fn senders(words: &[u32], rho: u32) -> Vec<Vec<usize>> {
     let table = read(words).expect("an accepted table");
     let estimate = naive::solve(&table, rho);
-    table.blocks.iter().map(|block| values(words.len(), &estimate, block.start)).collect()
+    table.blocks.iter().map(|block| values(&table, &estimate, block.start)).collect()
 }
 
 fn sample(name: &str) -> Vec<u32> {
@@ -40,6 +40,9 @@ fn sets_of_the_samples() {
     assert_eq!(senders(&sample("relay with required set 1"), 0), [vec![7], vec![]]);
     assert_eq!(senders(&sample("relay"), 8), [vec![7], vec![7, 65]]);
     assert_eq!(senders(&sample("twins"), 0), [vec![7], vec![], vec![65]]);
+    assert_eq!(senders(&sample("wide relay"), 0), [vec![7], vec![97]]);
+    let chain = senders(&forty_one(), 0);
+    assert!((1..41).all(|i| chain[i] == [96 + 1 + 6 * (i - 1)]), "{chain:?}");
 }
 
 /// A system of a sender with the body and a receiver with name 1, permission 1 and guard 3; what stands in the receiver's set.
@@ -76,7 +79,8 @@ fn what_a_sender_is() {
 #[test]
 fn the_checker_names_the_receiver() {
     let words = sample("relay");
-    let (table, row) = (read(&words).unwrap(), Layout::of(words.len()).row);
+    let table = read(&words).unwrap();
+    let row = Layout::of(&table).row;
     let flipped = |i: usize, x: usize| {
         let mut estimate = naive::solve(&table, 0);
         estimate[2 * i * row + x / 32] ^= 1 << (x % 32);
@@ -94,7 +98,7 @@ fn the_checker_names_the_receiver() {
 
 /// The estimate with C of every block taken out.
 fn without_blocks(table: &Table, mut estimate: Vec<u32>) -> Vec<u32> {
-    let row = Layout::of(table.size()).row;
+    let row = Layout::of(table).row;
     for block in &table.blocks {
         estimate[2 * block.start * row..][..row].fill(0);
     }
@@ -107,18 +111,20 @@ fn without_blocks(table: &Table, mut estimate: Vec<u32>) -> Vec<u32> {
 fn nothing_else_changes() {
     let mut random = Random(81);
     let (mut sending, mut several) = (0, 0);
-    for round in 0..rounds(3000) {
-        let words = if round % 3 == 0 { table(&mut random) } else { sensible_table(&mut random, 120, 8) };
+    for round in 0..rounds(6000) {
+        let names = WIDTHS[round as usize % 2];
+        let words = if round % 3 == 0 { table(&mut random, names) } else { sensible_table(&mut random, names, 120, 8) };
         let (table, rho) = (read(&words).expect("a valid table"), random.permissions(4));
         let (with, without) = (naive::solve(&table, rho), naive::without_senders(&table, rho));
         assert!(without_blocks(&table, with.clone()) == without, "{words:08x?} rho {rho:x}");
         assert_eq!(leak(&table, rho, &with), leak(&table, rho, &without));
         for block in &table.blocks {
-            let set = values(words.len(), &with, block.start);
+            let set = values(&table, &with, block.start);
             assert_eq!(set.contains(&OPPONENT), within(block.guard, rho));
             let blocks: Vec<usize> = set.into_iter().filter(|&x| x != OPPONENT).collect();
             let sends = |s: usize| (0..table.size()).any(|p| table.kind(p) == SEND && table.home(p) == s);
-            assert!(blocks.iter().all(|x| *x >= FIRST_MADE && table.kind(x - FIRST_MADE) == BLOCK && sends(x - FIRST_MADE)));
+            let first = made(&table, 0);
+            assert!(blocks.iter().all(|x| *x >= first && table.kind(x - first) == BLOCK && sends(x - first)));
             sending += u64::from(!blocks.is_empty());
             several += u64::from(blocks.len() > 1);
         }
@@ -132,8 +138,8 @@ fn nothing_else_changes() {
 fn runs_start_by_those_in_the_sets() {
     let mut random = Random(82);
     let (mut by_opponent, mut by_send) = (0, 0);
-    for _ in 0..rounds(1000) {
-        let words = sensible_table(&mut random, 120, 8);
+    for round in 0..rounds(2000) {
+        let words = sensible_table(&mut random, WIDTHS[round as usize % 2], 120, 8);
         let (table, rho) = (read(&words).expect("a valid table"), random.permissions(4));
         let sets = senders(&words, rho);
         let mut world = World::empty();
@@ -143,7 +149,7 @@ fn runs_start_by_those_in_the_sets() {
             if world.instances.len() > before {
                 let sender = match next {
                     Event::Start { .. } => OPPONENT,
-                    Event::Step { instance, .. } => FIRST_MADE + world.instances[instance].home,
+                    Event::Step { instance, .. } => made(&table, world.instances[instance].home),
                 };
                 let to = table.blocks.iter().position(|block| block.start == world.instances[before].home).expect("an instance of a block");
                 assert!(sets[to].contains(&sender), "{words:08x?} rho {rho:x}: {sender} to handler {to}");

@@ -338,7 +338,7 @@ unfolding byKind termsByKind termNode code
 returns-13 c =
     let s = c .before .before .before .before .before .before .before .before .before .before in let a = s .args in let ws = a .words .now in
     two-flow (a .words .now) (a .links .now) (a .masks .now) (a .l) (s .pre .0) (a .est .now) (s .pre .1) (a .p) (s .pre .2) _ (item-by ws (a .p) 27 (sym (c .before .before .before .kind-of .ensures) ∙ c .before .before .match .keys13)) _ (c .before .end8 .ensures)
-    (subst (λ (x : ℕ). Decides (sets (code ws) (a .est .now)) (flow (code ws) (a .p) (two (operation (operationOf x)) (a .p + 1) (c .before .end8 .result))) (c .operation .result)) (c .before .before .before .before .argument-of .ensures) (c .operation .ensures (code ws) (s .pre .0 .laid) (s .pre .1) refl))
+    (subst (λ (x : ℕ). Decides (sets (code ws) (a .est .now)) (flow (code ws) (a .p) (two (operation (operationOf x)) (a .p + 1) (c .before .end8 .result))) (c .operation .result)) (c .before .before .before .before .argument-of .ensures) (c .operation .ensures (code ws) (s .pre .0 .laid) (s .pre .1)))
 
 returns-14 : tie.Need-returns-14
 unfolding byKind termsByKind termNode flow leafRule

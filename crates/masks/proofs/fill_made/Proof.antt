@@ -3,6 +3,7 @@
 use mathlib.Core.Path.{_≡_, refl, ap, _∙_, subst, sym}
 use mathlib.Core.List.{List}
 use Prim.Native.Nat.{ℕ, _+_, _-_, _≤_}
+use native.Mathlib.Nat.{add-zero}
 use native.Mathlib.Omega.{arith}
 use lib.ListN.{length}
 use Rattle.table.specs.Code.{code}
@@ -13,14 +14,16 @@ use Rattle.masks.proofs.fill_made.Statement.{statement}
 use Rattle.masks.proofs.fill_made.Tie as tie
 
 abbrev Inv-loop : tie.InvT-loop
-Inv-loop words masks₀ row p₀ masks p =
-    (length masks ≡ length masks₀) × (p ≤ length words) × Filled (code words) row (64 + p) masks
+Inv-loop words masks₀ row first p₀ masks p =
+    (length masks ≡ length masks₀) × (p ≤ length words) × Filled (code words) row (first + p) masks
 
 abbrev μ-loop : tie.MeasureT-loop
-μ-loop words masks₀ row p₀ masks p = length words - p
+μ-loop words masks₀ row first p₀ masks p = length words - p
 
 loop-holds : tie.Need-loop-holds Inv-loop μ-loop
-loop-holds c = (refl, search needs, c .before .before .pre .1 .1)
+loop-holds c =
+    let s = c .before .before in
+    (refl, search needs, subst (λ (n : ℕ). Filled (code (s .args .words .now)) (s .args .row) n (s .args .masks .now)) (sym (add-zero (s .args .first))) (s .pre .1 .1))
 
 add-set-word : tie.Need-add-set-word Inv-loop μ-loop
 add-set-word c = search needs
@@ -54,8 +57,8 @@ loop-again c =
     let t = c .before .before .before .before .before .before .loop-test .taken in (
       c .before .before .set-word .kept .0 ∙ l .inv .0,
       omega (arith, t),
-      subst (Filled (code (s .args .words .now)) (s .args .row) (64 + (l .p + 1))) (sym (c .before .before .set-word .ensures))
-          (one-more (s .args .words .now) (l .masks) (s .args .row) (l .p) (s .pre .0) (omega (arith, s .pre .1 .0, t)) (omega (arith, s .pre .1 .0, l .inv .0)) _
+      subst (Filled (code (s .args .words .now)) (s .args .row) (s .args .first + (l .p + 1))) (sym (c .before .before .set-word .ensures))
+          (one-more (s .args .words .now) (l .masks) (s .args .row) (s .args .first) (l .p) (s .pre .0 .0) (s .pre .0 .1) (omega (arith, s .pre .1 .0, t)) (omega (arith, s .pre .1 .0, l .inv .0)) _
           (c .before .before .before .word-makes .ensures) (l .inv .2)),
     )
 
@@ -67,7 +70,7 @@ returns c =
     let l = c .before .loop in
     let a = c .before .before .before .before .args in
     let e : l .p ≡ length (a .words .now) = omega arith in
-    subst (λ (n : ℕ). Filled (code (a .words .now)) (a .row) (64 + n) (l .masks)) e (l .inv .2)
+    subst (λ (n : ℕ). Filled (code (a .words .now)) (a .row) (a .first + n) (l .masks)) e (l .inv .2)
 
 pub fill-made-spec : {M : Type 1} → statement M
 fill-made-spec =

@@ -1,10 +1,11 @@
 -- `masks::fill_masks` meets its contract: the plain elements, and then what the words make.
 -- Assumes nothing.
 use mathlib.Core.Path.{sym, subst}
+use Prim.Native.Nat.{_*_}
 use native.Mathlib.Omega.{arith}
 use Rattle.table.specs.Code.{code}
 use Rattle.masks.specs.Masks.{Filled}
-use Rattle.masks.proofs.FourMasks.{row-fits, plain-filled, masked}
+use Rattle.masks.proofs.FourMasks.{lead-some, lead-fits, plain-filled, masked}
 use borrow.Author.Needs.{needs}
 use Rattle.masks.proofs.fill_masks.Statement.{statement}
 use Rattle.masks.proofs.fill_masks.Tie as tie
@@ -12,21 +13,30 @@ use Rattle.masks.proofs.fill_masks.Tie as tie
 fill-plain-requires : tie.Need-fill-plain-requires
 fill-plain-requires c κs =
     let s = c .before .before .before in
-    let f = row-fits (s .args .words .now) (s .args .l .row) (s .pre .1 .0) in
-    (omega (arith, f), s .pre .1 .1 .1 .0, s .pre .1 .1 .1 .1)
+    let k = code (s .args .words .now) in
+    let h = s .pre .1 .1 in
+    (lead-some k (s .args .masks .now) (s .args .l) (s .pre .0 .1), omega (arith, lead-fits k (s .args .masks .now) (s .args .l) (s .pre .0 .1)), h .0, h .1)
+
+mul-fill-made : tie.Need-mul-fill-made
+mul-fill-made c =
+    let s = c .before .before .before .before .before .before .before in
+    omega (arith, lead-fits (code (s .args .words .now)) (s .args .masks .now) (s .args .l) (s .pre .0 .1), s .pre .1 .1)
 
 fill-made-requires : tie.Need-fill-made-requires
+unfolding code
 fill-made-requires c κs =
     let s = c .before .before .before .before .before .before .before in
     let a = s .args in
-    let f = row-fits (a .words .now) (a .l .row) (s .pre .1 .0) in
+    let o = s .pre .0 .1 in
+    let w = code (a .words .now) in
+    let f = lead-fits w (a .masks .now) (a .l) o in
     let k = c .before .before .before .fill-plain .kept .0 in
-    let h = s .pre .1 .1 .1 in (
-      s .pre .0,
+    let h = s .pre .1 .1 in (
+      (s .pre .0 .0, o .lead),
       (
         (f, omega (arith, h, k), omega (arith, h, k)),
-        subst (Filled (code (a .words .now)) (a .l .row) 64) (sym (c .before .before .before .fill-plain .ensures))
-            (plain-filled (a .masks .now) (a .l .row) (s .pre .1 .1 .0) (omega (arith, f)) (h .0) (a .words .now)),
+        subst (Filled w (a .l .row) (32 * a .l .lead)) (sym (c .before .before .before .fill-plain .ensures))
+            (plain-filled (a .masks .now) (a .l .row) (a .l .lead) (s .pre .1 .0) (lead-some w (a .masks .now) (a .l) o) (omega (arith, f)) (h .0) w (o .lead)),
       ),
     )
 
@@ -34,16 +44,13 @@ same-length : tie.Need-same-length
 same-length c = search needs
 
 returns : tie.Need-returns
+unfolding code
 returns c =
     let s = c .before .before .before .before .before .before .before .before .before .before in
-    masked (s .args .words .now) _ (s .args .l .row) (s .pre .1 .0) (omega (arith, s .pre .1 .1 .1, c .before .before .before .before .before .before .fill-plain .kept .0, c .before .before .fill-made .kept .1 .0))
+    masked (code (s .args .words .now)) _ (s .args .l) (s .pre .0 .1)
+    (omega (arith, s .pre .1 .1, c .before .before .before .before .before .before .fill-plain .kept .0, c .before .before .fill-made .kept .1 .0))
     (c .before .before .fill-made .ensures)
 
 pub fill-masks-spec : {M : Type 1} → statement M
 fill-masks-spec =
-    tie.close
-    (tie.spec
-    fill-plain-requires
-    fill-made-requires
-    same-length
-    returns)
+    tie.close (tie.spec fill-plain-requires mul-fill-made fill-made-requires same-length returns)

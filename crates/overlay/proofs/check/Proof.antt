@@ -2,27 +2,28 @@
 -- Assumes nothing.
 use mathlib.Core.Path.{sym, ap, _∙_}
 use borrow.Author.Needs.{needs}
+use Rattle.table.specs.Words.{narrow}
 use Rattle.table.specs.Answer.{outcome}
 use Rattle.overlay.specs.Answers.{faultNumber, faultPlace, checkedAs}
 use Rattle.overlay.proofs.Refusals.{base-refused, overlay-refused, both-accepted}
 use Rattle.overlay.proofs.check.Statement.{statement}
 use Rattle.overlay.proofs.check.Tie as tie
 
-read-requires : tie.Need-read-requires
-read-requires c κs = search needs
+read-narrow-requires : tie.Need-read-narrow-requires
+read-narrow-requires c κs = search needs
 
 enum-known-r : tie.Need-enum-known-r
 enum-known-r c = search needs
 
 returns : tie.Need-returns
 unfolding outcome checkedAs faultNumber faultPlace
-returns c = sym (base-refused _ _ _ _ (sym (c .before .before .before .read .ensures) ∙ ap outcome (c .before .r .given .1)))
+returns c = sym (base-refused _ _ _ _ (sym (c .before .before .before .read-narrow .ensures) ∙ ap outcome (c .before .r .given .1)))
 
 enum-told : tie.Need-enum-told
 enum-told c = search needs
 
-read-requires-2 : tie.Need-read-requires-2
-read-requires-2 c κs = search needs
+read-narrow-requires-2 : tie.Need-read-narrow-requires-2
+read-narrow-requires-2 c κs = search needs
 
 enum-known-r-2 : tie.Need-enum-known-r-2
 enum-known-r-2 c = search needs
@@ -32,8 +33,8 @@ unfolding outcome checkedAs faultNumber faultPlace
 returns-2 c =
     sym
     (overlay-refused _ _
-    (sym (c .before .before .before .before .before .before .read .ensures) ∙ ap outcome (c .before .before .before .before .enum-told .given .1)) _ _
-    (sym (c .before .before .before .read2 .ensures) ∙ ap outcome (c .before .r2 .given .1)))
+    (sym (c .before .before .before .before .before .before .read-narrow .ensures) ∙ ap outcome (c .before .before .before .before .enum-told .given .1)) _ _
+    (sym (c .before .before .before .read-narrow2 .ensures) ∙ ap outcome (c .before .r2 .given .1)))
 
 enum-told-2 : tie.Need-enum-told-2
 enum-told-2 c = search needs
@@ -43,18 +44,18 @@ unfolding outcome checkedAs
 returns-3 c =
     sym
     (both-accepted _ _
-    (sym (c .before .before .before .before .before .read .ensures) ∙ ap outcome (c .before .before .before .enum-told .given .1))
-    (sym (c .before .before .read2 .ensures) ∙ ap outcome (c .enum-told2 .given .1)))
+    (sym (c .before .before .before .before .before .read-narrow .ensures) ∙ ap outcome (c .before .before .before .enum-told .given .1))
+    (sym (c .before .before .read-narrow2 .ensures) ∙ ap outcome (c .enum-told2 .given .1)))
 
 pub check-spec : {M : Type 1} → statement M
 check-spec =
     tie.close
     (tie.spec
-    read-requires
+    read-narrow-requires
     enum-known-r
     returns
     enum-told
-    read-requires-2
+    read-narrow-requires-2
     enum-known-r-2
     returns-2
     enum-told-2

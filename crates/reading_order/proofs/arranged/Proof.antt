@@ -6,20 +6,18 @@ use borrow.Author.Needs.{needs}
 use lib.ListN.{length, take, length-map}
 use lib.Seq.{take-at, length-take-le}
 use Rattle.table.specs.Code.{code}
-use Rattle.table.proofs.Limits.{size-le}
 use Rattle.rows.specs.Laid.{LaidOut}
-use Rattle.calls.proofs.Bounds.{laid-out}
 use Rattle.reading_order.specs.Relation.{sendersTo}
 use Rattle.reading_order.proofs.Elements.{sized, firsts-of, rows-are, live-are, arranged-by}
 use Rattle.reading_order.proofs.arranged.Statement.{statement}
 use Rattle.reading_order.proofs.arranged.Tie as tie
 
 of-requires : tie.Need-of-requires
-of-requires c κs = let s = c .before .before .before .before in size-le (s .args .words .now) (s .pre .0)
+of-requires c κs = search needs
 
 -- the layout of the table
 laid : (c : tie.After-of) → LaidOut (code (c .before .before .before .before .before .args .words .now)) (c .of .result)
-laid c = laid-out _ (c .of .result) (c .of .ensures .0) (c .of .ensures .1) (c .of .ensures .2)
+laid c = c .of .ensures
 
 live-among-requires : tie.Need-live-among-requires
 live-among-requires c κs =

@@ -7,7 +7,7 @@ use borrow.Author.Needs.{needs}
 use lib.ListN.{length, take}
 use lib.Seq.{take-at, length-take-le}
 use Rattle.table.specs.Code.{code}
-use Rattle.table.proofs.Limits.{blocks-le}
+use Rattle.reading_order.proofs.Elements.{blocks-few}
 use Rattle.reading_order.proofs.Replies.{short-in}
 use Rattle.reading_order.proofs.checked.Statement.{statement}
 use Rattle.reading_order.proofs.checked.Tie as tie
@@ -18,7 +18,7 @@ slice-aggregate-list-firsts c = search needs
 list-firsts-requires : tie.Need-list-firsts-requires
 list-firsts-requires c κs =
     let s = c .before .before .before .before .before in
-    (s .pre .fit .readable, omega (arith, blocks-le (s .args .words .now) (s .pre .fit .readable)))
+    (s .pre .fit .readable, omega (arith, blocks-few (s .args .words .now) (s .pre .fit .readable)))
 
 returns : tie.Need-returns
 returns c =
@@ -31,7 +31,7 @@ returns c =
 fits : (c : tie.After-list-firsts) → c .list-firsts .result ≤ length (c .list-firsts .last .1 .0)
 fits c =
     let s = c .before .before .before .before .before .before in
-    omega (arith, c .list-firsts .ensures .0, c .list-firsts .kept .1 .0, blocks-le (s .args .words .now) (s .pre .fit .readable))
+    omega (arith, c .list-firsts .ensures .0, c .list-firsts .kept .1 .0, blocks-few (s .args .words .now) (s .pre .fit .readable))
 
 array-share-prefix-blocks : tie.Need-array-share-prefix-blocks
 array-share-prefix-blocks c = fits (c .before .before .before .before)

@@ -3,39 +3,41 @@
 use borrow.Author.Tests.{not-true, not-false}
 use mathlib.Core.Path.{_≡_, sym, ap₂, _∙_}
 use mathlib.Core.Bool.{true, false}
+use mathlib.Core.List.{List}
 use Prim.Native.Nat.{ℕ}
 use lib.Bits.{bitOr}
-use Rattle.calculus.proofs.EqualResults.{anyDigit, sameMask, apartMask, equalMask}
+use Rattle.calculus.proofs.EqualResults.{sameMask, apartMask, equalMask}
+use Rattle.calculus.proofs.Masks.{nonzero}
 use borrow.Author.Needs.{needs}
 use Rattle.results.proofs.compare.Statement.{statement}
 use Rattle.results.proofs.compare.Tie as tie
 
-module _ (a0 a1 d0 d1 : ℕ) where
-  no-left : anyDigit a0 a1 ≡ false → 0 ≡ equalMask a0 a1 d0 d1
+module _ (xs ys : List ℕ) where
+  no-left : nonzero xs ≡ false → 0 ≡ equalMask xs ys
   unfolding equalMask
   no-left e = rw (e, equalMask)
 
-  no-right : anyDigit a0 a1 ≡ true → anyDigit d0 d1 ≡ false → 0 ≡ equalMask a0 a1 d0 d1
+  no-right : nonzero xs ≡ true → nonzero ys ≡ false → 0 ≡ equalMask xs ys
   unfolding equalMask
   no-right e f = rw (e, f, equalMask)
 
-  both : anyDigit a0 a1 ≡ true → anyDigit d0 d1 ≡ true → bitOr (sameMask a0 a1 d0 d1) (apartMask a0 a1 d0 d1) ≡ equalMask a0 a1 d0 d1
+  both : nonzero xs ≡ true → nonzero ys ≡ true → bitOr (sameMask xs ys) (apartMask xs ys) ≡ equalMask xs ys
   unfolding equalMask
   both e f = rw (e, f, equalMask)
 
-any-digit-requires : tie.Need-any-digit-requires
-any-digit-requires c κs = search needs
+any-element-requires : tie.Need-any-element-requires
+any-element-requires c κs = search needs
 
 returns : tie.Need-returns
-returns c = no-left _ _ _ _ (sym (c .before .any-digit .ensures) ∙ not-true _ (c .if1 .taken))
+returns c = no-left _ _ (sym (c .before .any-element .ensures) ∙ not-true _ (c .if1 .taken))
 
-any-digit-requires-2 : tie.Need-any-digit-requires-2
-any-digit-requires-2 c κs = search needs
+any-element-requires-2 : tie.Need-any-element-requires-2
+any-element-requires-2 c κs = search needs
 
 returns-2 : tie.Need-returns-2
 returns-2 c =
-    no-right _ _ _ _ (sym (c .before .before .before .any-digit .ensures) ∙ not-false _ (c .before .before .if1 .left))
-    (sym (c .before .any-digit2 .ensures) ∙ not-true _ (c .if2 .taken))
+    no-right _ _ (sym (c .before .before .before .any-element .ensures) ∙ not-false _ (c .before .before .if1 .left))
+    (sym (c .before .any-element2 .ensures) ∙ not-true _ (c .if2 .taken))
 
 same-bits-requires : tie.Need-same-bits-requires
 same-bits-requires c κs = search needs
@@ -46,16 +48,16 @@ differ-bits-requires c κs = search needs
 returns-3 : tie.Need-returns-3
 returns-3 c =
     ap₂ bitOr (c .before .same-bits .ensures) (c .differ-bits .ensures)
-    ∙ both _ _ _ _ (sym (c .before .before .before .before .before .any-digit .ensures) ∙ not-false _ (c .before .before .before .before .if1 .left))
-    (sym (c .before .before .before .any-digit2 .ensures) ∙ not-false _ (c .before .before .if2 .left))
+    ∙ both _ _ (sym (c .before .before .before .before .before .any-element .ensures) ∙ not-false _ (c .before .before .before .before .if1 .left))
+    (sym (c .before .before .before .any-element2 .ensures) ∙ not-false _ (c .before .before .if2 .left))
 
 pub compare-spec : {M : Type 1} → statement M
 compare-spec =
     tie.close
     (tie.spec
-    any-digit-requires
+    any-element-requires
     returns
-    any-digit-requires-2
+    any-element-requires-2
     returns-2
     same-bits-requires
     differ-bits-requires

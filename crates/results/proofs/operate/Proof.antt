@@ -1,6 +1,7 @@
 -- `results::operate` meets its contract: an arm for each operation.
 -- Assumes nothing.
 use mathlib.Core.Path.{_≡_, sym, ap, _∙_}
+use mathlib.Core.List.{List}
 use Prim.Native.Nat.{ℕ}
 use Rattle.table.specs.declared.Operation.{Operation}
 use Rattle.table.specs.declared.Operation.the-variants as operations
@@ -11,9 +12,9 @@ use borrow.Author.Needs.{needs}
 use Rattle.results.proofs.operate.Statement.{statement}
 use Rattle.results.proofs.operate.Tie as tie
 
-module _ (a0 a1 d0 d1 : ℕ) where
-  arm : (o v : Operation) → o ≡ v → operationMask v a0 a1 d0 d1 ≡ operationMask o a0 a1 d0 d1
-  arm o v e = ap (λ (x : Operation). operationMask x a0 a1 d0 d1) (sym e)
+module _ (xs ys : List ℕ) where
+  arm : (o v : Operation) → o ≡ v → operationMask v xs ys ≡ operationMask o xs ys
+  arm o v e = ap (λ (x : Operation). operationMask x xs ys) (sym e)
 
 enum-told : tie.Need-enum-told
 enum-told c = search needs
@@ -35,15 +36,15 @@ compare-requires c κs = search needs
 
 returns : tie.Need-returns
 unfolding operationMask signTable
-returns c = c .signs .ensures ∙ arm _ _ _ _ _ operations.Add (c .before .enum-told .given .1)
+returns c = c .signs .ensures ∙ arm _ _ _ operations.Add (c .before .enum-told .given .1)
 
 returns-2 : tie.Need-returns-2
 unfolding operationMask signTable
-returns-2 c = c .signs2 .ensures ∙ arm _ _ _ _ _ operations.Less (c .before .enum-told2 .given .1)
+returns-2 c = c .signs2 .ensures ∙ arm _ _ _ operations.Less (c .before .enum-told2 .given .1)
 
 returns-3 : tie.Need-returns-3
 unfolding operationMask comparables
-returns-3 c = c .compare .ensures ∙ arm _ _ _ _ _ operations.Equal (c .before .enum-told3 .given .1)
+returns-3 c = c .compare .ensures ∙ arm _ _ _ operations.Equal (c .before .enum-told3 .given .1)
 
 pub operate-spec : {M : Type 1} → statement M
 operate-spec =

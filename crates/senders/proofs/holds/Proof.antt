@@ -2,7 +2,7 @@
 use native.Mathlib.Omega.{arith}
 use Rattle.permset.specs.Sets.{member}
 use Rattle.rows.proofs.Sizes.{rows-fit}
-use Rattle.senders.proofs.Laws.{holds-is}
+use Rattle.senders.proofs.Laws.{row-few, holds-is}
 use borrow.Author.Needs.{needs}
 use Rattle.senders.proofs.holds.Statement.{statement}
 use Rattle.senders.proofs.holds.Tie as tie
@@ -15,11 +15,11 @@ mul-word-at c = search needs
 
 mul-word-at-2 : tie.Need-mul-word-at-2
 mul-word-at-2 c =
-    let s = c .before .before .before in omega (arith, rows-fit (s .args .b) (c .of .result .row) (omega arith) (omega (arith, c .of .ensures .1)))
+    let s = c .before .before .before in omega (arith, rows-fit (s .args .b) (c .of .result .row) (omega arith) (row-few (s .args .words .now) (s .pre .0) (c .of .result) (c .of .ensures)))
 
 add-word-at : tie.Need-add-word-at
 add-word-at c =
-    let s = c .before .before .before in omega (arith, rows-fit (s .args .b) (c .of .result .row) (omega arith) (omega (arith, c .of .ensures .1)))
+    let s = c .before .before .before in omega (arith, rows-fit (s .args .b) (c .of .result .row) (omega arith) (row-few (s .args .words .now) (s .pre .0) (c .of .result) (c .of .ensures)))
 
 word-at-requires : tie.Need-word-at-requires
 word-at-requires c κs = search needs
@@ -34,7 +34,7 @@ returns : tie.Need-returns
 unfolding member
 returns c =
     let s = c .before .before .before .before in let a = s .args in
-    holds-is (a .words .now) (a .est .now) (a .b) (a .v) _ _ (s .pre .1) (s .pre .2) (c .before .of .ensures .1) (c .word-at .ensures)
+    holds-is (a .words .now) (a .est .now) (a .b) (a .v) _ _ (s .pre .1) (s .pre .2) (c .before .of .ensures .row) (c .word-at .ensures)
 
 pub holds-spec : {M : Type 1} → statement M
 holds-spec =

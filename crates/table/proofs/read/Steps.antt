@@ -41,21 +41,21 @@ judged-stop zero at k p e =
     absurd f
 judged-stop (suc n) at k p e = (n, refl, e)
 
-module _ (ws : List ℕ) (keys : List ℕ) (at : ℕ) (t : Task) (ts : List Task) where
-  pub none-left : length ws ≤ at → scan (drop at ws) keys at (t ∷ ts) ≡ refused (missing t) at
+module _ (names : ℕ) (ws : List ℕ) (keys : List ℕ) (at : ℕ) (t : Task) (ts : List Task) where
+  pub none-left : length ws ≤ at → scan names (drop at ws) keys at (t ∷ ts) ≡ refused (missing t) at
   unfolding scan
   none-left h = rw (drop-of-length-le ws h)
 
   module _ (inside : at < length ws) where
-    pub goes-on : fault keys (getD ws at 0) t ≡ 0
-        → scan (drop at ws) keys at (t ∷ ts) ≡ scan (drop (at + 1) ws) (keep keys (getD ws at 0) t) (at + 1) (next at (getD ws at 0) t ++ ts)
-    goes-on e = rw (add-one, drop-cons ws at 0) (scan-go (drop (suc at) ws) keys (getD ws at 0) at t ts e)
+    pub goes-on : fault names keys (getD ws at 0) t ≡ 0
+        → scan names (drop at ws) keys at (t ∷ ts) ≡ scan names (drop (at + 1) ws) (keep keys (getD ws at 0) t) (at + 1) (next at (getD ws at 0) t ++ ts)
+    goes-on e = rw (add-one, drop-cons ws at 0) (scan-go names (drop (suc at) ws) keys (getD ws at 0) at t ts e)
 
-    pub stops : (n p : ℕ) → refused n p ≡ judged (fault keys (getD ws at 0) t) at → scan (drop at ws) keys at (t ∷ ts) ≡ refused n p
+    pub stops : (n p : ℕ) → refused n p ≡ judged (fault names keys (getD ws at 0) t) at → scan names (drop at ws) keys at (t ∷ ts) ≡ refused n p
     stops n p e =
-        let j = judged-stop (fault keys (getD ws at 0) t) at n p e in
-        rw (drop-cons ws at 0) (scan-stop (drop (suc at) ws) keys (getD ws at 0) at t ts (j .0) (j .1) ∙ sym (j .2))
+        let j = judged-stop (fault names keys (getD ws at 0) t) at n p e in
+        rw (drop-cons ws at 0) (scan-stop names (drop (suc at) ws) keys (getD ws at 0) at t ts (j .0) (j .1) ∙ sym (j .2))
 
 -- a term's word that may stand is not too deep
-pub shallow : (keys : List ℕ) (w d h : ℕ) (s : List ℕ) → fault keys w (term d h s) ≡ 0 → d ≤ depths
-shallow keys w d h s e = stands keys w (term d h s) e .4
+pub shallow : (names : ℕ) (keys : List ℕ) (w d h : ℕ) (s : List ℕ) → fault names keys w (term d h s) ≡ 0 → d ≤ depths
+shallow names keys w d h s e = stands names keys w (term d h s) e .4

@@ -3,7 +3,9 @@
 
 #[cfg(proved)]
 mod proved {
+    use peer::estimate::Layout;
     use peer::inputs::inputs;
+    use peer::table::read;
     use peer::verdict::bytes_of;
     use std::hint::black_box;
     use std::time::{Duration, Instant};
@@ -25,16 +27,12 @@ mod proved {
 
     const RUNS: usize = 200;
 
-    /// The words of an estimate of so many words.
-    fn words_needed(size: usize) -> usize {
-        2 * size * ((size + 95) / 32) + size
-    }
-
     pub fn run() {
         println!("{:36} {:>6} {:>10} {:>10} {:>6}", "check of an estimate", "words", "us", "analysis", "ratio");
         let mut largest: f64 = 0.0;
         for input in inputs().into_iter().filter(|input| input.words.len() <= 256) {
-            let (system, mut estimate, mut work) = (bytes_of(&input.words), vec![0; 4 * words_needed(input.words.len())], vec![0; 4096]);
+            let table = read(&input.words).expect("a valid table");
+            let (system, mut estimate, mut work) = (bytes_of(&input.words), vec![0; 4 * Layout::of(&table).total()], vec![0; 4096]);
             let mut best = [Duration::MAX; 2];
             let mut answers = [0; 2];
             for _ in 0..RUNS {

@@ -2,6 +2,7 @@
 
 use peer::class::{record, report, MOST_SYSTEMS, MOST_SYSTEM_WORDS};
 use peer::generate::{exact_table, sensible_table, Random};
+use peer::table::{NARROW, WIDE};
 use std::fs::File;
 use std::process::{Command, Stdio};
 use std::time::{Duration, Instant};
@@ -20,9 +21,9 @@ fn stream(mut words: impl FnMut() -> Vec<u32>) -> Vec<u8> {
 }
 
 /// A sensible table of exactly the most words: smaller ones are passed over.
-fn sensible(random: &mut Random) -> Vec<u32> {
+fn sensible(random: &mut Random, names: u32) -> Vec<u32> {
     loop {
-        let words = sensible_table(random, MOST_SYSTEM_WORDS, 16);
+        let words = sensible_table(random, names, MOST_SYSTEM_WORDS, names as usize / 2);
         if words.len() == MOST_SYSTEM_WORDS {
             return words;
         }
@@ -33,10 +34,11 @@ fn main() {
     let program = std::env::args().nth(1).expect("the program is the first argument");
     let path = std::env::temp_dir().join(format!("compare-class-{}", std::process::id()));
     let mut random = Random(1);
-    let mut other = Random(2);
+    let (mut second, mut third) = (Random(2), Random(3));
     let streams = [
-        ("any terms", stream(|| exact_table(&mut random, MOST_SYSTEM_WORDS))),
-        ("sensible systems", stream(|| sensible(&mut other))),
+        ("any terms", stream(|| exact_table(&mut random, NARROW, MOST_SYSTEM_WORDS))),
+        ("sensible systems", stream(|| sensible(&mut second, NARROW))),
+        ("sensible wide systems", stream(|| sensible(&mut third, WIDE))),
         ("refused at the first word", stream(Vec::new)),
     ];
     println!("{:36} {:>10} {:>10} {:>6}", "10,000 systems of 256 words", "ms", "peer ms", "ratio");

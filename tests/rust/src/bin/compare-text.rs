@@ -5,6 +5,7 @@ mod proved {
     use peer::generate::{exact_table, Random};
     use peer::listing::{read, text, write};
     use peer::manifest::answer;
+    use peer::table::NARROW;
     use peer::verdict::bytes_of;
     use std::hint::black_box;
     use std::time::{Duration, Instant};
@@ -39,7 +40,7 @@ mod proved {
     /// Two random systems of 1,024 words whose listings are not too long.
     fn listings() {
         println!("{:36} {:>6} {:>10} {:>10} {:>6}", "listing of 1,024 lines", "bytes", "us", "peer us", "ratio");
-        let random = |seed: u64| (seed..seed + 100).map(|seed| exact_table(&mut Random(seed), 1024)).find(|words| text(words).len() <= 65_536).unwrap();
+        let random = |seed: u64| (seed..seed + 100).map(|seed| exact_table(&mut Random(seed), NARROW, 1024)).find(|words| text(words).len() <= 65_536).unwrap();
         let tables = [("a random system", random(1)), ("another one", random(1000))];
         for (name, words) in tables {
             assert_eq!(words.len(), 1024);

@@ -2,8 +2,7 @@
 -- Assumes nothing.
 use mathlib.Core.Path.{sym, _∙_}
 use Rattle.table.specs.Code.{code}
-use Rattle.table.proofs.Limits.{size-le}
-use Rattle.calls.proofs.Bounds.{laid-out, size-small, row-small, words-are}
+use Rattle.calls.proofs.Bounds.{size-small, row-small, words-are}
 use Rattle.audit.specs.Audited.{said}
 use Rattle.audit.proofs.Steps.{other-length, same-length}
 use borrow.Author.Needs.{needs}
@@ -11,13 +10,13 @@ use Rattle.audit.proofs.judge.sized.Statement.{statement}
 use Rattle.audit.proofs.judge.sized.Tie as tie
 
 of-requires : tie.Need-of-requires
-of-requires c κs = size-le (c .before .before .args .words .now) (c .before .before .pre)
+of-requires c κs = search needs
 
 words-requires : tie.Need-words-requires
 words-requires c κs =
     let s = c .before .before .before in
     let ws = s .args .words .now in
-    let o = laid-out ws (c .of .result) (c .of .ensures .0) (c .of .ensures .1) (c .of .ensures .2) in
+    let o = c .of .ensures in
     (size-small ws (s .pre) (c .of .result) o, row-small ws (s .pre) (c .of .result) o)
 
 returns : tie.Need-returns
@@ -26,7 +25,7 @@ returns c =
     let s = c .before .before .before .before .before in
     let ws = s .args .words .now in
     let f = c .before .before .of in
-    let o = laid-out ws (f .result) (f .ensures .0) (f .ensures .1) (f .ensures .2) in
+    let o = f .ensures in
     other-length (code ws) (s .args .rho .bits) (s .args .est .now) (λ e. c .if1 .taken (e ∙ words-are ws (s .pre) (f .result) o ∙ sym (c .before .words .ensures)))
 
 swept-requires : tie.Need-swept-requires
@@ -34,7 +33,7 @@ swept-requires c κs =
     let s = c .before .before .before .before .before in
     let ws = s .args .words .now in
     let f = c .before .before .of in
-    let o = laid-out ws (f .result) (f .ensures .0) (f .ensures .1) (f .ensures .2) in
+    let o = f .ensures in
     record { readable = s .pre; laid = o; long = c .if1 .left ∙ c .before .words .ensures ∙ sym (words-are ws (s .pre) (f .result) o) }
 
 returns-2 : tie.Need-returns-2
@@ -42,7 +41,7 @@ returns-2 c =
     let s = c .before .before .before .before .before .before in
     let ws = s .args .words .now in
     let f = c .before .before .before .of in
-    let o = laid-out ws (f .result) (f .ensures .0) (f .ensures .1) (f .ensures .2) in
+    let o = f .ensures in
     c .swept .ensures
     ∙ same-length (code ws) (s .args .rho .bits) (s .args .est .now) (c .before .if1 .left ∙ c .before .before .words .ensures ∙ sym (words-are ws (s .pre) (f .result) o))
 

@@ -1,5 +1,4 @@
 -- `audit::judge::with_masks` meets its contract. Four rows fit into 144 words. Assumes nothing.
-use mathlib.Core.Path.{sym}
 use native.Mathlib.Omega.{arith}
 use Rattle.calls.proofs.Bounds.{row-bound}
 use Rattle.solver.proofs.Zeros.{zeros-at}
@@ -15,7 +14,7 @@ fill-masks-requires : tie.Need-fill-masks-requires
 fill-masks-requires c κs =
     let s = c .before .before .before .before in
     let b = row-bound (s .args .words .now) (s .pre .0 .readable) in
-    (s .pre .0 .readable, (sym (s .pre .0 .laid .row), (zeros-at 144, (omega (arith, s .pre .0 .laid .row, b), omega arith))))
+    ((s .pre .0 .readable, s .pre .0 .laid), (zeros-at 144, (omega (arith, s .pre .0 .laid .row, b), omega arith)))
 
 slice-aggregate-ruled : tie.Need-slice-aggregate-ruled
 slice-aggregate-ruled c = search needs

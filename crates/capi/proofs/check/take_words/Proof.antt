@@ -27,8 +27,8 @@ returns-3 : tie.Need-returns-3
 returns-3 c =
     let a = c .before .before .before .before .before .before .before .before .args in
     let w = c .before .before .words-of .ensures in
-    let h : length (a .bytes .now) ≤ 21504 = c .before .before .before .before .before .if1 .left in
-    let r : length (a .room .now) ≡ 5376 = c .before .before .before .before .before .before .before .before .pre in
+    let h : length (a .bytes .now) ≤ 23552 = c .before .before .before .before .before .if1 .left in
+    let r : length (a .room .now) ≡ 5888 = c .before .before .before .before .before .before .before .before .pre in
     all-taken (a .bytes .now) h (c .before .before .before .before .if2 .left) (a .room .now) _ _ r (omega (arith, w .0))
     (words-read (a .bytes .now) (a .room .now) _ _ (w .0) (w .1) (omega arith))
 

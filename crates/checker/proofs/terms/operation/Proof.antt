@@ -13,7 +13,7 @@ operated-requires c κs = search needs
 
 returns : tie.Need-returns
 unfolding flow
-returns c = λ k o w m. and-parts _ (c .before .parts .ensures k o w) (c .operated .ensures k o w m)
+returns c = λ k o w. and-parts _ (c .before .parts .ensures k o w) (c .operated .ensures k o w)
 
 pub operation-spec : {M : Type 1} → statement M
 operation-spec = tie.close (tie.spec parts-requires operated-requires returns)

@@ -17,7 +17,7 @@ use Rattle.queries.specs.Passes.{Masked}
 use Rattle.queries.proofs.Given.{sized}
 use Rattle.queries.proofs.Laws.{row-in}
 use Rattle.firing.proofs.Effects.{effect-as, for-code, things-effect}
-use Rattle.firing.proofs.Fitted.{fitted, thing-fitted, two-words, sending}
+use Rattle.firing.proofs.Fitted.{fitted, thing-fitted, sending}
 use borrow.Author.Needs.{needs}
 use Rattle.firing.proofs.fire.add.Statement.{statement}
 use Rattle.firing.proofs.fire.add.Tie as tie
@@ -89,7 +89,7 @@ operate-at-requires : tie.Need-operate-at-requires
 operate-at-requires c κs =
     let s = c .before .before .before .before .before .before .before .before .before in let a = s .args in let e = a .e in let w = a .words .now in let l = a .l in
     let z = (sized w (a .links .now) (a .masks .now) l (s .pre .0) (a .est .now) (s .pre .1)) in let p = fitted l (a .masks .now) w e (a .f) whats.Operate (c .before .before .enum-told7 .given .1) (s .pre .2) in
-    (z, p .0, p .1, p .2, two-words w (a .links .now) (a .masks .now) l (s .pre .0))
+    (z, p .0, p .1, p .2)
 
 enum-told-8 : tie.Need-enum-told-8
 enum-told-8 c = search needs
@@ -221,7 +221,7 @@ unfolding effect twoRule code
 returns-7 c =
     let s = c .before .before .before .before .before .before .before .before .before .before .before .before .before .before in let a = s .args in let e = a .e in let w = a .words .now in let l = a .l in
     effect-as (code w) (e .what) whats.Operate (e .x) (e .y) (e .z) (a .f) (a .est .now) _ _ (c .before .before .before .before .before .before .before .enum-told7 .given .1)
-    (for-code l (λ k. WellFormed k (a .est .now) × (k .names ≡ 32)) (λ k. twoRule k (e .x) (operation (operationOf (e .z))) (e .x + 1) (e .y)) (a .est .now) _ _ (code w) (c .before .before .before .before .operate-at .ensures) (s .pre .0 .laid) (s .pre .1, refl))
+    (for-code l (λ k. WellFormed k (a .est .now)) (λ k. twoRule k (e .x) (operation (operationOf (e .z))) (e .x + 1) (e .y)) (a .est .now) _ _ (code w) (c .before .before .before .before .operate-at .ensures) (s .pre .0 .laid) (s .pre .1))
 
 same-length-15 : tie.Need-same-length-15
 same-length-15 c = search needs

@@ -8,7 +8,8 @@ use Rattle.rows.specs.declared.layout.Layout.{Layout}
 use native.Mathlib.Omega.{arith}
 use Rattle.rows.specs.Rows.{Poured}
 use Rattle.queries.proofs.Laws.{row-in}
-use Rattle.firing.proofs.Full.{full, none-yet, one-more, fill-fired}
+use Rattle.rows.proofs.Full.{full, none-yet, one-more}
+use Rattle.firing.proofs.Full.{fill-fired}
 use Rattle.firing.proofs.Fires.{small}
 use Rattle.firing.proofs.targets.fill.Statement.{statement}
 use Rattle.firing.proofs.targets.fill.Tie as tie

@@ -1,7 +1,7 @@
 -- `firing::terms::operate_at` meets its contract. Assumes nothing.
 use Prim.Native.Nat.{_+_}
 use native.Mathlib.Omega.{arith}
-use Rattle.queries.proofs.Laws.{value-in}
+use Rattle.queries.proofs.Laws.{value-in, some-words}
 use Rattle.firing.proofs.Operated.{operated}
 use borrow.Author.Needs.{needs}
 use Rattle.firing.proofs.terms.operate_at.Statement.{statement}
@@ -19,7 +19,13 @@ mul-results-of-2 c = search needs
 results-of-requires : tie.Need-results-of-requires
 results-of-requires c κs =
     let s = c .before .before .before in let a = s .args in
-    (value-in (a .l) (a .est .now) (s .pre .0) (a .p + 1) (s .pre .1), value-in (a .l) (a .est .now) (s .pre .0) (a .d) (s .pre .2), s .pre .4)
+    let z = s .pre .0 in (
+      value-in (a .l) (a .est .now) z (a .p + 1) (s .pre .1),
+      value-in (a .l) (a .est .now) z (a .d) (s .pre .2),
+      z .lead,
+      omega (arith, z .wide),
+      z .most,
+    )
 
 mul-put-word : tie.Need-mul-put-word
 mul-put-word c = search needs
@@ -27,7 +33,7 @@ mul-put-word c = search needs
 put-word-requires : tie.Need-put-word-requires
 put-word-requires c κs =
     let s = c .before .before .before .before .before .before in let a = s .args in
-    (value-in (a .l) (a .est .now) (s .pre .0) (a .p) (omega (arith, s .pre .1)), omega (arith, s .pre .4))
+    (value-in (a .l) (a .est .now) (s .pre .0) (a .p) (omega (arith, s .pre .1)), some-words (a .l) (a .est .now) (s .pre .0))
 
 same-length : tie.Need-same-length
 same-length c = search needs

@@ -9,9 +9,9 @@ use native.Mathlib.Omega.{arith}
 use native.Mathlib.Numerals.{add-one}
 use lib.ListN.{length, getD, take, drop, length-set}
 use borrow.Author.Needs.{needs}
-use Rattle.table.proofs.Limits.{size-le}
+use Rattle.table.proofs.Widths.{no-wide-word}
 use Rattle.listing.specs.Listing.{depths as Listing·depths}
-use Rattle.listing.proofs.Depths.{Waits, waits-start, depths-length, depth-inside, depth-first, depth-low, depth-room, depth-on}
+use Rattle.listing.proofs.Depths.{narrow-size, Waits, waits-start, depths-length, depth-inside, depth-first, depth-low, depth-room, depth-on}
 use Rattle.listing.proofs.depth.find_depths.Statement.{statement}
 use Rattle.listing.proofs.depth.find_depths.Tie as tie
 
@@ -25,12 +25,17 @@ abbrev μ-loop : tie.MeasureT-loop
 
 loop-holds : tie.Need-loop-holds Inv-loop μ-loop
 loop-holds c =
-    let s = c .before .before in (search needs, size-le (s .args .words .now) (s .pre .0), refl, refl, search needs, waits-start (s .args .words .now) (s .pre .0), refl)
+    let s = c .before .before in (search needs, narrow-size (s .args .words .now) (s .pre .0), refl, refl, search needs, waits-start (s .args .words .now) (s .pre .0), refl)
 
 array-read-d : tie.Need-array-read-d Inv-loop μ-loop
 array-read-d c =
     let l = c .before .loop in
-    omega (arith, l .inv .3, depth-inside (c .before .before .before .before .args .words .now) (l .stack) (l .top) (l .i) (l .inv .5) (c .loop-test .taken))
+    omega (
+      arith,
+      l .inv .3,
+      depth-inside (c .before .before .before .before .args .words .now) (l .stack) (l .top) (l .i) (l .inv .5) (c .loop-test .taken)
+          (no-wide-word (c .before .before .before .before .args .words .now) (c .before .before .before .before .pre .0) (l .i) (c .loop-test .taken)),
+    )
 
 mul-w : tie.Need-mul-w Inv-loop μ-loop
 mul-w c = search needs
@@ -51,10 +56,11 @@ push-left-requires : tie.Need-push-left-requires Inv-loop μ-loop
 push-left-requires c κs =
     let l = c .before .before .before .loop in
     let ws = c .before .before .before .before .before .before .args .words .now in
-    let t = c .before .before .loop-test .taken in (
-      depth-room ws (l .stack) (l .top) (l .i) (l .inv .5) t (omega arith),
-      omega (arith, depth-inside ws (l .stack) (l .top) (l .i) (l .inv .5) t),
-      depth-low ws (l .stack) (l .top) (l .i) (l .inv .5) t,
+    let t = c .before .before .loop-test .taken in
+    let five = no-wide-word ws (c .before .before .before .before .before .before .pre .0) (l .i) t in (
+      depth-room ws (l .stack) (l .top) (l .i) (l .inv .5) t five (omega arith),
+      omega (arith, depth-inside ws (l .stack) (l .top) (l .i) (l .inv .5) t five),
+      depth-low ws (l .stack) (l .top) (l .i) (l .inv .5) t five,
     )
 
 add-i : tie.Need-add-i Inv-loop μ-loop
@@ -69,14 +75,15 @@ loop-again c =
     let s = c .before .before .before .before .before .before .before .before in
     let ws = s .args .words .now in
     let t = c .before .before .before .before .loop-test .taken in
+    let five = no-wide-word ws (s .pre .0) (l .i) t in
     let p = c .before .push-left .ensures in
-    let d = depth-first ws (l .stack) (l .top) (l .i) (l .inv .5) t in (
+    let d = depth-first ws (l .stack) (l .top) (l .i) (l .inv .5) t five in (
       omega arith,
       l .inv .1,
       simp length-set (l .inv .2),
       search needs,
-      omega (arith, p .0, depth-inside ws (l .stack) (l .top) (l .i) (l .inv .5) t, l .inv .3),
-      depth-on ws (l .stack) (l .top) (l .i) (l .inv .5) t (c .before .push-left .last .0) (c .before .push-left .result) (p .1),
+      omega (arith, p .0, depth-inside ws (l .stack) (l .top) (l .i) (l .inv .5) t five, l .inv .3),
+      depth-on ws (l .stack) (l .top) (l .i) (l .inv .5) t five (c .before .push-left .last .0) (c .before .push-left .result) (p .1),
       taken-more (l .depths) (Listing·depths ws) (l .i) _ (omega arith) (omega (arith, depths-length ws (s .pre .0))) d (l .inv .6),
     )
 

@@ -12,8 +12,8 @@ use borrow.Author.Needs.{needs}
 use Rattle.listing.proofs.read.place.Statement.{statement}
 use Rattle.listing.proofs.read.place.Tie as tie
 
-read-requires : tie.Need-read-requires
-read-requires c κs = search needs
+read-narrow-requires : tie.Need-read-narrow-requires
+read-narrow-requires c κs = search needs
 
 enum-known-r : tie.Need-enum-known-r
 enum-known-r c = search needs
@@ -22,7 +22,7 @@ returns : tie.Need-returns
 unfolding answered left number place outcome
 returns c =
     let s = c .before .before .before .before .before .before .before in
-    (sym (table-refused (s .args .words .now) (s .args .spaces .now) (length (s .args .out .now)) _ _ (sym (c .before .before .before .read .ensures) ∙ ap outcome (c .before .r .given .1))), refl)
+    (sym (table-refused (s .args .words .now) (s .args .spaces .now) (length (s .args .out .now)) _ _ (sym (c .before .before .before .read-narrow .ensures) ∙ ap outcome (c .before .r .given .1))), refl)
 
 enum-told : tie.Need-enum-told
 enum-told c = search needs
@@ -30,7 +30,7 @@ enum-told c = search needs
 place-accepted-requires : tie.Need-place-accepted-requires
 unfolding outcome
 place-accepted-requires c κs =
-    sym (c .before .before .before .read .ensures) ∙ ap outcome (c .before .enum-told .given .1)
+    sym (c .before .before .before .read-narrow .ensures) ∙ ap outcome (c .before .enum-told .given .1)
 
 same-length : tie.Need-same-length
 same-length c = search needs
@@ -42,7 +42,7 @@ pub place-spec : {M : Type 1} → statement M
 place-spec =
     tie.close
     (tie.spec
-    read-requires
+    read-narrow-requires
     enum-known-r
     returns
     enum-told

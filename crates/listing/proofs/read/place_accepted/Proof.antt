@@ -5,7 +5,7 @@ use mathlib.Core.List.{List, _++_}
 use native.Mathlib.Omega.{arith}
 use lib.ListN.{length, drop, take}
 use lib.Seq.{length-take-le}
-use Rattle.table.proofs.Limits.{size-le}
+use Rattle.listing.proofs.Depths.{narrow-size}
 use Rattle.listing.specs.Listing.{misplaced, left}
 use Rattle.listing.specs.Answer.{number, place, answered}
 use Rattle.listing.proofs.Answers.{place-line, place-short, place-done}
@@ -19,17 +19,17 @@ slice-aggregate-find-depths c = search needs
 find-depths-requires : tie.Need-find-depths-requires
 find-depths-requires c κs =
     let s = c .before .before .before .before in
-    (s .pre, size-le (s .args .words .now) (s .pre))
+    (s .pre, narrow-size (s .args .words .now) (s .pre))
 
 array-share-prefix-depths : tie.Need-array-share-prefix-depths
 array-share-prefix-depths c =
     let s = c .before .before .before .before .before .before in
-    omega (arith, size-le (s .args .words .now) (s .pre), c .before .find-depths .kept .1 .0)
+    omega (arith, narrow-size (s .args .words .now) (s .pre), c .before .find-depths .kept .1 .0)
 
 slice-aggregate-misplaced : tie.Need-slice-aggregate-misplaced
 slice-aggregate-misplaced c =
     let s = c .before .before .before .before .before .before .before in
-    sym (length-take-le _ _ (omega (arith, size-le (s .args .words .now) (s .pre), c .before .before .find-depths .kept .1 .0)))
+    sym (length-take-le _ _ (omega (arith, narrow-size (s .args .words .now) (s .pre), c .before .before .find-depths .kept .1 .0)))
 
 misplaced-requires : tie.Need-misplaced-requires
 misplaced-requires c κs = search needs

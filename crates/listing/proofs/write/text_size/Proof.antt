@@ -7,7 +7,7 @@ use native.Mathlib.Nat.{zero-add}
 use native.Mathlib.Omega.{arith}
 use lib.ListN.{length, getD, take, drop}
 use borrow.Author.Needs.{needs}
-use Rattle.table.proofs.Limits.{size-le}
+use Rattle.listing.proofs.Depths.{narrow-size}
 use Rattle.listing.specs.Spelling.{spelled}
 use Rattle.listing.specs.Listing.{listing}
 use Rattle.listing.proofs.Lines.{rest, rest-start, rest-end, kind-small, depth-there, counted}
@@ -24,7 +24,7 @@ abbrev μ-loop : tie.MeasureT-loop
 loop-holds : tie.Need-loop-holds Inv-loop μ-loop
 loop-holds c =
     let s = c .before .before .before in
-    (search needs, size-le (s .args .words .now) (s .pre .0 .1), search needs, zero-add _ ∙ ap length (rest-start (s .args .words .now) (s .pre .0 .1)))
+    (search needs, narrow-size (s .args .words .now) (s .pre .0 .1), search needs, zero-add _ ∙ ap length (rest-start (s .args .words .now) (s .pre .0 .1)))
 
 shared-slice-read-wide : tie.Need-shared-slice-read-wide Inv-loop μ-loop
 shared-slice-read-wide c =

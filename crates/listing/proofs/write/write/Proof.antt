@@ -12,8 +12,8 @@ use borrow.Author.Needs.{needs}
 use Rattle.listing.proofs.write.write.Statement.{statement}
 use Rattle.listing.proofs.write.write.Tie as tie
 
-read-requires : tie.Need-read-requires
-read-requires c κs = search needs
+read-narrow-requires : tie.Need-read-narrow-requires
+read-narrow-requires c κs = search needs
 
 enum-known-r : tie.Need-enum-known-r
 enum-known-r c = search needs
@@ -23,7 +23,7 @@ unfolding answered left number place outcome
 returns c =
     let s = c .before .before .before .before .before .before in
     let ws = s .args .words .now in
-    let e = write-refused ws (length (s .args .out .now)) _ _ (sym (c .before .before .before .read .ensures) ∙ ap outcome (c .before .r .given .1)) in
+    let e = write-refused ws (length (s .args .out .now)) _ _ (sym (c .before .before .before .read-narrow .ensures) ∙ ap outcome (c .before .r .given .1)) in
     (sym e, sym (ap (λ (a : Answered). left a (listing ws) (s .args .out .now)) e))
 
 enum-told : tie.Need-enum-told
@@ -32,7 +32,7 @@ enum-told c = search needs
 write-accepted-requires : tie.Need-write-accepted-requires
 unfolding outcome
 write-accepted-requires c κs =
-    sym (c .before .before .before .read .ensures) ∙ ap outcome (c .before .enum-told .given .1)
+    sym (c .before .before .before .read-narrow .ensures) ∙ ap outcome (c .before .enum-told .given .1)
 
 same-length : tie.Need-same-length
 same-length c = search needs
@@ -47,7 +47,7 @@ pub write-spec : {M : Type 1} → statement M
 write-spec =
     tie.close
     (tie.spec
-    read-requires
+    read-narrow-requires
     enum-known-r
     returns
     enum-told

@@ -4,7 +4,7 @@ use mathlib.Core.Path.{refl, sym, ap, _∙_}
 use mathlib.Core.List.{_++_}
 use native.Mathlib.Omega.{arith}
 use lib.ListN.{length, drop}
-use Rattle.table.proofs.Limits.{size-le}
+use Rattle.listing.proofs.Depths.{narrow-size}
 use Rattle.listing.specs.Keywords.{styleLetter, entries, packed, packedAll, letters}
 use Rattle.listing.specs.Listing.{done, left, listing}
 use Rattle.listing.specs.Answer.{number, place, answered}
@@ -19,7 +19,7 @@ slice-aggregate-find-depths c = search needs
 find-depths-requires : tie.Need-find-depths-requires
 find-depths-requires c κs =
     let s = c .before .before .before in
-    (s .pre, size-le (s .args .words .now) (s .pre))
+    (s .pre, narrow-size (s .args .words .now) (s .pre))
 
 slice-aggregate-text-size : tie.Need-slice-aggregate-text-size
 slice-aggregate-text-size c = search needs

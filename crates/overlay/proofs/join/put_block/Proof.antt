@@ -10,7 +10,7 @@ use lib.ListN.{length, getD}
 use borrow.Author.Needs.{needs}
 use Rattle.table.specs.Words.{argument}
 use Rattle.blocks.specs.Blocks.{blocks, nameOf, permsOf}
-use Rattle.blocks.proofs.Tables.{table}
+use Rattle.blocks.proofs.Narrow.{table}
 use Rattle.overlay.specs.declared.search.Span.the-variants as spans
 use Rattle.overlay.specs.Lookup.{Sought, found, seek, sought}
 use Rattle.overlay.specs.Parts.{part, spanOf, given}

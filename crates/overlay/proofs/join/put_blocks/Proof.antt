@@ -11,9 +11,11 @@ use native.Mathlib.Omega.{arith}
 use lib.Arith.{le-zero}
 use lib.ListN.{length, take, drop}
 use borrow.Author.Needs.{needs}
-use Rattle.table.specs.Scan.{accepted, reading}
+use Rattle.table.specs.Words.{narrow}
+use Rattle.table.specs.Scan.{accepted, narrowReading}
 use Rattle.blocks.specs.Blocks.{blockLength, cut, blocks}
-use Rattle.blocks.proofs.Tables.{Cuts, table as accepted-table}
+use Rattle.blocks.proofs.Tables.{Cuts}
+use Rattle.blocks.proofs.Narrow.{table as accepted-table}
 use Rattle.blocks.proofs.Places.{Here, here}
 use Rattle.overlay.specs.Parts.{part, given, some, AppendedTo}
 use Rattle.overlay.proofs.Seek.{sought-part}
@@ -28,7 +30,7 @@ parts new other bs = map (given new (blocks other)) bs
 
 record Going (out₀ : List ℕ) (start : ℕ) (table other : List ℕ) (new : Bool) (out : List ℕ) (left at end count : ℕ) : Type 0 where
   inside : at ≤ length table
-  cuts : Cuts left (drop at table)
+  cuts : Cuts narrow left (drop at table)
   room : end + 1024 * left ≤ start + 32768
   few : count + left ≤ 32
   same : length out ≡ length out₀
@@ -39,8 +41,8 @@ record Going (out₀ : List ℕ) (start : ℕ) (table other : List ℕ) (new : B
 
 -- one block more
 module _ {out₀ table other out : List ℕ} {start left at end count : ℕ} {new : Bool}
-    (g : Going out₀ start table other new out left at end count) (ta : reading table ≡ accepted) (oa : reading other ≡ accepted)
-    (some-left : 0 < left) (r : Here table left at) where
+    (g : Going out₀ start table other new out left at end count) (ta : narrowReading table ≡ accepted) (oa : narrowReading other ≡ accepted)
+    (some-left : 0 < left) (r : Here narrow table left at) where
   abbrev block : List ℕ
   block = take (r .size) (drop at table)
 
@@ -123,7 +125,7 @@ loop-holds c =
     let few : c .argument-of .result ≤ 32 = subst (λ (k : ℕ). k ≤ 32) (sym n) (t .few) in
     record {
       inside = t .inside;
-      cuts = subst (λ (k : ℕ). Cuts k (drop 1 ws)) (sym n) (t .cuts);
+      cuts = subst (λ (k : ℕ). Cuts narrow k (drop 1 ws)) (sym n) (t .cuts);
       room = omega arith;
       few = omega arith;
       same = refl;
@@ -134,8 +136,8 @@ loop-holds c =
     }
 
 -- the block at the loop's place
-at-loop : (c : tie.In-loop Inv-loop μ-loop) → Here (c .before .before .before .before .before .before .before .args .table .now) (c .before .loop .left) (c .before .loop .at)
-at-loop c = let l = c .before .loop in here _ (l .left) (l .at) (search needs) (l .inv .inside) (l .inv .cuts)
+at-loop : (c : tie.In-loop Inv-loop μ-loop) → Here narrow (c .before .before .before .before .before .before .before .args .table .now) (c .before .loop .left) (c .before .loop .at)
+at-loop c = let l = c .before .loop in here narrow _ (l .left) (l .at) (search needs) (l .inv .inside) (l .inv .cuts)
 
 block-end-requires : tie.Need-block-end-requires Inv-loop μ-loop
 block-end-requires c κs = (accepted-table _ (c .before .before .before .before .before .before .before .pre .1) .short, c .before .loop .inv .inside)

@@ -6,8 +6,10 @@ use native.Mathlib.Omega.{arith}
 use lib.Arith.{le-zero}
 use lib.ListN.{length, take, drop}
 use borrow.Author.Needs.{needs}
+use Rattle.table.specs.Words.{narrow}
 use Rattle.blocks.specs.Blocks.{cut, blocks}
-use Rattle.blocks.proofs.Tables.{Cuts, table}
+use Rattle.blocks.proofs.Tables.{Cuts}
+use Rattle.blocks.proofs.Narrow.{table}
 use Rattle.blocks.proofs.Places.{Here, here}
 use Rattle.overlay.specs.declared.search.Span.the-variants as spans
 use Rattle.overlay.specs.Lookup.{sought, seek}
@@ -18,7 +20,7 @@ use Rattle.overlay.proofs.search.seek.Tie as tie
 
 abbrev Inv-loop : tie.InvT-loop
 Inv-loop words name perms left₀ at₀ left at =
-    (at ≤ length words) × Cuts left (drop at words) × (sought words name perms ≡ seek name perms at (cut left (drop at words)))
+    (at ≤ length words) × Cuts narrow left (drop at words) × (sought words name perms ≡ seek name perms at (cut left (drop at words)))
 
 abbrev μ-loop : tie.MeasureT-loop
 μ-loop words name perms left₀ at₀ left at = left
@@ -37,13 +39,13 @@ loop-holds c =
     let t = table ws (c .before .before .before .pre) in
     let n = c .argument-of .ensures in (
       t .inside,
-      subst (λ (k : ℕ). Cuts k (drop 1 ws)) (sym n) (t .cuts),
+      subst (λ (k : ℕ). Cuts narrow k (drop 1 ws)) (sym n) (t .cuts),
       ap (λ (k : ℕ). seek (a .name) (a .perms) 1 (cut k (drop 1 ws))) (sym n),
     )
 
 -- the block at the loop's place
-at-loop : (c : tie.In-loop Inv-loop μ-loop) → Here (c .before .before .before .before .before .args .words .now) (c .before .loop .left) (c .before .loop .at)
-at-loop c = let l = c .before .loop in here _ (l .left) (l .at) (search needs) (l .inv .0) (l .inv .1)
+at-loop : (c : tie.In-loop Inv-loop μ-loop) → Here narrow (c .before .before .before .before .before .args .words .now) (c .before .loop .left) (c .before .loop .at)
+at-loop c = let l = c .before .loop in here narrow _ (l .left) (l .at) (search needs) (l .inv .0) (l .inv .1)
 
 block-end-requires : tie.Need-block-end-requires Inv-loop μ-loop
 block-end-requires c κs = (table _ (c .before .before .before .before .before .pre) .short, c .before .loop .inv .0)
@@ -76,7 +78,7 @@ loop-again c =
     let e : l .at + r .size ≡ c .before .before .block-end .result =
     ap (λ (k : ℕ). l .at + k) (r .sized) ∙ sym (c .before .before .block-end .ensures) in (
       subst (λ (q : ℕ). q ≤ length ws) e (r .inside),
-      subst (λ (q : ℕ). Cuts (l .left - 1) (drop q ws)) e (r .rest),
+      subst (λ (q : ℕ). Cuts narrow (l .left - 1) (drop q ws)) e (r .rest),
       l .inv .2
           ∙ seek-on (a .name) (a .perms) ws (l .left) (l .at) r (sym (c .before .has-key .ensures) ∙ c .if1 .left)
           ∙ ap (λ (q : ℕ). seek (a .name) (a .perms) q (cut (l .left - 1) (drop q ws))) e,

@@ -1,34 +1,37 @@
 -- `printout::handlers::block_line` meets its contract: the word at the flags' place has the permissions and the flag. Assumes nothing.
-use mathlib.Core.Path.{sym}
+use mathlib.Core.Path.{sym, _∙_}
 use native.Mathlib.Omega.{arith}
+use Rattle.table.specs.Code.{code}
+use Rattle.calls.proofs.Bounds.{size-small, row-small, flags-base}
 use Rattle.text.proofs.Writing.{reworded}
-use Rattle.printout.proofs.HandlerLaws.{line-is, flags-place, small, row-small, est-short, word-inside, permissions-read, flag-read}
+use Rattle.printout.proofs.HandlerLaws.{line-is, small, est-short, word-inside, permissions-read, flag-read}
 use borrow.Author.Needs.{needs}
 use Rattle.printout.proofs.handlers.block_line.Statement.{statement}
 use Rattle.printout.proofs.handlers.block_line.Tie as tie
 
 of-requires : tie.Need-of-requires
-of-requires c κs = let s = c .before .before .before in small (s .args .words .now) (s .args .est .now) (s .pre .0)
+of-requires c κs = search needs
 
 flags-requires : tie.Need-flags-requires
 flags-requires c κs =
     let s = c .before .before .before .before in
-    let o = c .of .ensures in
-    let n = small (s .args .words .now) (s .args .est .now) (s .pre .0) in
-    (omega (arith, o .0), omega (arith, o .1, row-small (s .args .words .now) (s .args .est .now) (s .pre .0)), omega (arith, s .pre .1))
+    let r = s .pre .0 .readable in
+    let n = small (s .args .words .now) (s .args .est .now) (s .pre .0) in (
+      size-small (s .args .words .now) r (c .of .result) (c .of .ensures),
+      row-small (s .args .words .now) r (c .of .result) (c .of .ensures),
+      omega (arith, s .pre .1),
+    )
 
 mul-w : tie.Need-mul-w
 mul-w c =
     let s = c .before .before .before .before .before in
-    let o = c .before .of .ensures in
-    let e = flags-place (s .args .words .now) (c .before .of .result) (s .args .p) _ (o .0) (o .1) (c .flags .ensures) in
+    let e = flags-base (code (s .args .words .now)) (c .before .of .result) (c .before .of .ensures) (s .args .p) ∙ sym (c .flags .ensures) in
     omega (arith, word-inside (s .args .words .now) (s .args .est .now) (s .pre .0) (s .args .p) _ (s .pre .1) e, est-short (s .args .words .now) (s .args .est .now) (s .pre .0))
 
 shared-slice-read-w : tie.Need-shared-slice-read-w
 shared-slice-read-w c =
     let s = c .before .before .before .before .before .before in
-    let o = c .before .before .of .ensures in
-    let e = flags-place (s .args .words .now) (c .before .before .of .result) (s .args .p) _ (o .0) (o .1) (c .before .flags .ensures) in
+    let e = flags-base (code (s .args .words .now)) (c .before .before .of .result) (c .before .before .of .ensures) (s .args .p) ∙ sym (c .before .flags .ensures) in
     word-inside (s .args .words .now) (s .args .est .now) (s .pre .0) (s .args .p) _ (s .pre .1) e
 
 within-requires : tie.Need-within-requires
@@ -45,8 +48,7 @@ returns c =
     let s = c .before .before .before .before .before .before .before .before .before .before .before .before in
     let at-of = c .before .before .before .before .before .before .before .before in
     let at-line = c .before .before in
-    let o = at-of .of .ensures in
-    let e = flags-place (s .args .words .now) (at-of .of .result) (s .args .p) _ (o .0) (o .1) (c .before .before .before .before .before .before .before .flags .ensures) in
+    let e = flags-base (code (s .args .words .now)) (at-of .of .result) (at-of .of .ensures) (s .args .p) ∙ sym (c .before .before .before .before .before .before .before .flags .ensures) in
     let live = flag-read (s .args .words .now) (s .args .est .now) (s .pre .0) (s .args .p) _ (s .pre .1) e in
     let held = permissions-read (s .args .words .now) (s .args .est .now) (s .pre .0) (s .args .p) _ (s .pre .1) e (s .args .rho) in
     let entry = c .before .before .before .before .within .ensures in

@@ -1,29 +1,15 @@
 -- `printout::limit::tell_within` meets its contract. Assumes nothing.
-use mathlib.Core.Path.{sym, ap, _∙_}
-use Rattle.verdict.specs.Limits.{limitedAnswer}
+use mathlib.Core.Path.{sym, _∙_}
+use native.Mathlib.Omega.{arith}
+use Rattle.calculus.specs.Answer.{refused}
 use Rattle.text.proofs.Writing.{reworded}
-use Rattle.printout.specs.Program.{answerText}
-use Rattle.printout.proofs.Texts.{held-under}
+use Rattle.printout.proofs.Texts.{wide-text, if-wide}
 use borrow.Author.Needs.{needs}
 use Rattle.printout.proofs.limit.tell_within.Statement.{statement}
 use Rattle.printout.proofs.limit.tell_within.Tie as tie
 
-verdict-within-requires : tie.Need-verdict-within-requires
-verdict-within-requires c κs = search needs
-
-enum-known-v : tie.Need-enum-known-v
-enum-known-v c = search needs
-
-answer-text-requires : tie.Need-answer-text-requires
-unfolding limitedAnswer
-answer-text-requires c κs =
-    let s = c .before .before .before .before .before .before .before .before .before .before .before .before .before .before .before .before in
-    let a = s .args in
-    let v = c .before .before .before .before .before .before .before .before .before .verdict-within .ensures in
-    (held-under (a .words .now) (a .rho) (a .bound) (a .ceiling) (a .est .now) (a .work .now) _ _ (sym (ap limitedAnswer (c .before .before .before .v .given .1)) ∙ v .0) (v .1 .0), s .pre)
-
-enum-known-n : tie.Need-enum-known-n
-enum-known-n c = search needs
+is-wide-requires : tie.Need-is-wide-requires
+is-wide-requires c κs = search needs
 
 refusal-line-requires : tie.Need-refusal-line-requires
 refusal-line-requires c κs = search needs
@@ -31,57 +17,44 @@ refusal-line-requires c κs = search needs
 same-length : tie.Need-same-length
 same-length c = search needs
 
+returns : tie.Need-returns
+returns c =
+    let s = c .before .before .before .before .before .before .before .before .before .before in
+    let ws = s .args .words .now in
+    let e = sym (c .before .before .before .before .before .is-wide .ensures) ∙ c .before .before .before .before .if1 .taken in
+    record {
+      wrote = reworded (wide-text ws (s .args .rho) _ e) (c .before .before .refusal-line .ensures .0);
+      estimates = if-wide ws (s .args .est .now) _ e;
+      works = if-wide ws (s .args .work .now) _ e;
+    }
+
+tell-narrow-within-requires : tie.Need-tell-narrow-within-requires
+tell-narrow-within-requires c κs =
+    let s = c .before .before .before .before .before .before .before .before .before in
+    (s .pre, sym (c .before .before .before .before .is-wide .ensures) ∙ c .before .before .before .if1 .left)
+
 same-length-2 : tie.Need-same-length-2
 same-length-2 c = search needs
 
 same-length-3 : tie.Need-same-length-3
 same-length-3 c = search needs
 
-returns : tie.Need-returns
-unfolding limitedAnswer
-returns c =
-    let a = c .before .before .before .before .before .before .before .before .before .before .before .before .before .before .before .before .before .before .before .args in
-    let v = c .before .before .before .before .before .before .before .before .before .before .before .before .verdict-within .ensures in
-    record {
-      wrote = reworded (ap (answerText (a .rho) (a .words .now)) (sym (ap limitedAnswer (c .before .before .before .before .before .before .v .given .1)) ∙ v .0)) (c .before .before .answer-text .ensures);
-      estimates = v .1 .0;
-      works = v .1 .1;
-    }
-
 same-length-4 : tie.Need-same-length-4
 same-length-4 c = search needs
 
-same-length-5 : tie.Need-same-length-5
-same-length-5 c = search needs
-
-same-length-6 : tie.Need-same-length-6
-same-length-6 c = search needs
-
 returns-2 : tie.Need-returns-2
-unfolding limitedAnswer answerText
-returns-2 c =
-    let a = c .before .before .before .before .before .before .before .before .before .before .before .before .before .before .before .before .before .before .args in
-    let v = c .before .before .before .before .before .before .before .before .before .before .before .verdict-within .ensures in
-    record {
-      wrote = reworded (ap (answerText (a .rho) (a .words .now)) (sym (ap limitedAnswer (c .before .before .before .before .before .n .given .1)) ∙ v .0)) (c .before .before .refusal-line .ensures .0);
-      estimates = v .1 .0;
-      works = v .1 .1;
-    }
+returns-2 c = search needs
 
 pub tell-within-spec : {M : Type 1} → statement M
 tell-within-spec =
     tie.close
     (tie.spec
-    verdict-within-requires
-    enum-known-v
-    answer-text-requires
-    enum-known-n
+    is-wide-requires
     refusal-line-requires
     same-length
+    returns
+    tell-narrow-within-requires
     same-length-2
     same-length-3
-    returns
     same-length-4
-    same-length-5
-    same-length-6
     returns-2)

@@ -1,23 +1,37 @@
 -- `printout::system::tell` meets its contract. Assumes nothing.
-use mathlib.Core.Path.{ap}
+use mathlib.Core.Path.{sym, _∙_}
+use native.Mathlib.Omega.{arith}
+use Rattle.calculus.specs.Answer.{refused}
 use Rattle.text.proofs.Writing.{reworded}
-use Rattle.printout.specs.Program.{answerText}
-use Rattle.printout.proofs.Texts.{held-after}
+use Rattle.printout.proofs.Texts.{wide-text, if-wide}
 use borrow.Author.Needs.{needs}
 use Rattle.printout.proofs.system.tell.Statement.{statement}
 use Rattle.printout.proofs.system.tell.Tie as tie
 
-verdict-requires : tie.Need-verdict-requires
-verdict-requires c κs = search needs
+is-wide-requires : tie.Need-is-wide-requires
+is-wide-requires c κs = search needs
 
-answer-text-requires : tie.Need-answer-text-requires
-answer-text-requires c κs =
-    let s = c .before .before .before .before .before .before .before .before .before .before .before .before .before in
-    let v = c .before .before .before .before .before .before .verdict .ensures in
-    (held-after (s .args .words .now) (s .args .rho) (s .args .bound) (s .args .est .now) (s .args .work .now) _ _ (v .0) (v .1 .0), s .pre)
+refusal-line-requires : tie.Need-refusal-line-requires
+refusal-line-requires c κs = search needs
 
 same-length : tie.Need-same-length
 same-length c = search needs
+
+returns : tie.Need-returns
+returns c =
+    let s = c .before .before .before .before .before .before .before .before .before .before in
+    let ws = s .args .words .now in
+    let e = sym (c .before .before .before .before .before .is-wide .ensures) ∙ c .before .before .before .before .if1 .taken in
+    record {
+      wrote = reworded (wide-text ws (s .args .rho) _ e) (c .before .before .refusal-line .ensures .0);
+      estimates = if-wide ws (s .args .est .now) _ e;
+      works = if-wide ws (s .args .work .now) _ e;
+    }
+
+tell-narrow-requires : tie.Need-tell-narrow-requires
+tell-narrow-requires c κs =
+    let s = c .before .before .before .before .before .before .before .before .before in
+    (s .pre, sym (c .before .before .before .before .is-wide .ensures) ∙ c .before .before .before .if1 .left)
 
 same-length-2 : tie.Need-same-length-2
 same-length-2 c = search needs
@@ -25,23 +39,22 @@ same-length-2 c = search needs
 same-length-3 : tie.Need-same-length-3
 same-length-3 c = search needs
 
-returns : tie.Need-returns
-returns c =
-    let s = c .before .before .before .before .before .before .before .before .before .before .before .before .before .before .before .before in
-    let v = c .before .before .before .before .before .before .before .before .before .verdict .ensures in
-    record {
-      wrote = reworded (ap (answerText (s .args .rho) (s .args .words .now)) (v .0)) (c .before .before .answer-text .ensures);
-      estimates = v .1 .0;
-      works = v .1 .1 .0;
-    }
+same-length-4 : tie.Need-same-length-4
+same-length-4 c = search needs
+
+returns-2 : tie.Need-returns-2
+returns-2 c = search needs
 
 pub tell-spec : {M : Type 1} → statement M
 tell-spec =
     tie.close
     (tie.spec
-    verdict-requires
-    answer-text-requires
+    is-wide-requires
+    refusal-line-requires
     same-length
+    returns
+    tell-narrow-requires
     same-length-2
     same-length-3
-    returns)
+    same-length-4
+    returns-2)

@@ -2,19 +2,20 @@
 use Prim.Native.Nat.{_≤_}
 use native.Mathlib.Omega.{arith}
 use Rattle.table.specs.Code.{code}
-use Rattle.table.proofs.Limits.{size-le}
+use Rattle.calls.proofs.Bounds.{size-small, lead-small}
 use Rattle.calculus.specs.Estimate.{mostFacts}
-use Rattle.calls.proofs.Bounds.{laid-out}
 use Rattle.solver.proofs.Least.{found-in, most-is}
 use borrow.Author.Needs.{needs}
 use Rattle.solver.proofs.analyse.find.Statement.{statement}
 use Rattle.solver.proofs.analyse.find.Tie as tie
 
 of-requires : tie.Need-of-requires
-of-requires c κs = size-le (c .before .before .before .args .words .now) (c .before .before .before .pre .readable)
+of-requires c κs = search needs
 
 most-facts-requires : tie.Need-most-facts-requires
-most-facts-requires c κs = (omega (arith, c .of .ensures .0, size-le (c .before .before .before .before .args .words .now) (c .before .before .before .before .pre .readable)), omega (arith, c .of .ensures .2))
+most-facts-requires c κs =
+    let s = c .before .before .before .before in
+    (size-small (s .args .words .now) (s .pre .readable) (c .of .result) (c .of .ensures), lead-small (s .args .words .now) (s .pre .readable) (c .of .result) (c .of .ensures))
 
 solve-in-requires : tie.Need-solve-in-requires
 solve-in-requires c κs = search needs
@@ -27,7 +28,7 @@ same-length-2 c = search needs
 
 returns : tie.Need-returns
 returns c =
-    let h : mostFacts (code (c .before .before .before .before .before .before .before .before .before .before .before .before .args .words .now)) ≤ c .before .before .before .before .before .before .before .most-facts .result = omega (arith, most-is (code (c .before .before .before .before .before .before .before .before .before .before .before .before .args .words .now)) (c .before .before .before .before .before .before .before .before .of .result) (laid-out (c .before .before .before .before .before .before .before .before .before .before .before .before .args .words .now) (c .before .before .before .before .before .before .before .before .of .result) (c .before .before .before .before .before .before .before .before .of .ensures .0) (c .before .before .before .before .before .before .before .before .of .ensures .1) (c .before .before .before .before .before .before .before .before .of .ensures .2)), c .before .before .before .before .before .before .before .most-facts .ensures) in
+    let h : mostFacts (code (c .before .before .before .before .before .before .before .before .before .before .before .before .args .words .now)) ≤ c .before .before .before .before .before .before .before .most-facts .result = omega (arith, most-is (code (c .before .before .before .before .before .before .before .before .before .before .before .before .args .words .now)) (c .before .before .before .before .before .before .before .before .of .result) (c .before .before .before .before .before .before .before .before .of .ensures), c .before .before .before .before .before .before .before .most-facts .ensures) in
     found-in (c .before .before .before .before .before .before .before .before .before .before .before .before .args .words .now) (c .before .before .before .before .before .before .before .before .before .before .before .before .pre .readable) (c .before .before .before .before .before .before .before .before .before .before .before .before .args .rho .bits) _ h (c .before .before .before .before .before .before .before .before .before .before .before .before .args .est .now) (c .before .before .before .before .before .before .before .before .before .before .before .before .args .work .now) _ _ _ (c .before .before .before .before .solve-in .ensures)
 
 pub find-spec : {M : Type 1} → statement M

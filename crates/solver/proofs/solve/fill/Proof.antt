@@ -1,5 +1,4 @@
 -- `solver::solve::fill` meets its contract. Four rows fit into 144 words. Assumes nothing.
-use mathlib.Core.Path.{sym}
 use Rattle.solver.proofs.Zeros.{zeros-at}
 use Rattle.calls.proofs.Bounds.{row-bound}
 use Rattle.solver.proofs.Begun.{ready-of}
@@ -12,7 +11,7 @@ slice-aggregate-fill-masks : tie.Need-slice-aggregate-fill-masks
 slice-aggregate-fill-masks c = search needs
 
 fill-masks-requires : tie.Need-fill-masks-requires
-fill-masks-requires c κs = (c .before .before .before .before .pre .0 .readable, (sym (c .before .before .before .before .pre .0 .laid .row), (zeros-at 144, (omega (arith, c .before .before .before .before .pre .0 .laid .row, row-bound (c .before .before .before .before .args .words .now) (c .before .before .before .before .pre .0 .readable)), omega arith))))
+fill-masks-requires c κs = ((c .before .before .before .before .pre .0 .readable, c .before .before .before .before .pre .0 .laid), (zeros-at 144, (omega (arith, c .before .before .before .before .pre .0 .laid .row, row-bound (c .before .before .before .before .args .words .now) (c .before .before .before .before .pre .0 .readable)), omega arith)))
 
 slice-aggregate-run : tie.Need-slice-aggregate-run
 slice-aggregate-run c = search needs

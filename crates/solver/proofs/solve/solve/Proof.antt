@@ -3,22 +3,20 @@ use mathlib.Core.Path.{ap, _∙_}
 use Prim.Native.Nat.{ℕ}
 use lib.ListN.{replicate}
 use Rattle.table.specs.Code.{code}
-use Rattle.table.proofs.Limits.{size-le}
 use Rattle.solver.proofs.Zeros.{clear-all}
-use Rattle.calls.proofs.Bounds.{laid-out}
 use native.Mathlib.Omega.{arith}
 use borrow.Author.Needs.{needs}
 use Rattle.solver.proofs.solve.solve.Statement.{statement}
 use Rattle.solver.proofs.solve.solve.Tie as tie
 
 of-requires : tie.Need-of-requires
-of-requires c κs = size-le (c .before .before .before .args .words .now) (c .before .before .before .pre .0)
+of-requires c κs = search needs
 
 least-requires : tie.Need-least-requires
-least-requires c κs = ((c .before .before .before .before .before .before .pre .0, laid-out (c .before .before .before .before .before .before .args .words .now) (c .before .before .of .result) (c .before .before .of .ensures .0) (c .before .before .of .ensures .1) (c .before .before .of .ensures .2)), (c .before .before .before .before .before .before .pre .1 .0, omega (arith, c .before .before .before .before .before .before .pre .1 .1)))
+least-requires c κs = ((c .before .before .before .before .before .before .pre .0, c .before .before .of .ensures), (c .before .before .before .before .before .before .pre .1 .0, omega (arith, c .before .before .before .before .before .before .pre .1 .1)))
 
 leak-requires : tie.Need-leak-requires
-leak-requires c κs = record { readable = c .before .before .before .before .before .before .before .before .before .before .before .before .before .pre .0; laid = laid-out (c .before .before .before .before .before .before .before .before .before .before .before .before .before .args .words .now) (c .before .before .before .before .before .before .before .before .before .of .result) (c .before .before .before .before .before .before .before .before .before .of .ensures .0) (c .before .before .before .before .before .before .before .before .before .of .ensures .1) (c .before .before .before .before .before .before .before .before .before .of .ensures .2); linked = c .before .before .before .before .before .before .least .ensures .1; long = c .before .before .before .before .before .before .least .kept .1 .1 .0 ∙ c .before .before .before .before .before .before .before .before .before .before .before .before .before .pre .1 .0 }
+leak-requires c κs = record { readable = c .before .before .before .before .before .before .before .before .before .before .before .before .before .pre .0; laid = c .before .before .before .before .before .before .before .before .before .of .ensures; linked = c .before .before .before .before .before .before .least .ensures .1; long = c .before .before .before .before .before .before .least .kept .1 .1 .0 ∙ c .before .before .before .before .before .before .before .before .before .before .before .before .before .pre .1 .0 }
 
 clear-requires : tie.Need-clear-requires
 clear-requires c κs = search needs

@@ -30,10 +30,10 @@ abbrev μ-term : Measures 1 term-kinds.ps ℕ
 μ-term κs a = 65 - a .1 .1 .0
 
 abbrev Inv-loop : term-lts.InvT-loop
-Inv-loop words at depth binders w count next₀ i₀ next i = (i ≤ count) × Left words at depth binders w next i
+Inv-loop words at depth binders names w count next₀ i₀ next i = (i ≤ count) × Left names words at depth binders w next i
 
 abbrev μ-loop : term-lts.MeasureT-loop
-μ-loop words at depth binders w count next₀ i₀ next i = count - i
+μ-loop words at depth binders names w count next₀ i₀ next i = count - i
 
 module _ (t : ℕ) where
   -- what `term` is given at the measure t, and what a call of it asks below t
@@ -58,14 +58,14 @@ module _ (t : ℕ) where
   -- the term's word may stand
   accepts : (c : term-lts.After-enum-told claims entry term.Post Inv-loop μ-loop) (keys : List ℕ) (h : ℕ) (s : List ℕ)
       → length s ≡ c .before .before .before .before .before .before .args .binders
-      → fault keys (getD (c .before .before .before .before .before .before .args .words .now) (c .before .before .before .before .before .before .args .at) 0) (termTask (c .before .before .before .before .before .before .args .depth) h s) ≡ 0
+      → fault (c .before .before .before .before .before .before .args .names) keys (getD (c .before .before .before .before .before .before .args .words .now) (c .before .before .before .before .before .before .args .at) 0) (termTask (c .before .before .before .before .before .before .args .depth) h s) ≡ 0
   unfolding outcome
   accepts c keys h s e = judged-zero _ _ (sym (c .before .before .term-word .ensures keys h s e) ∙ ap outcome (c .enum-told .given .1))
 
   fine : (c : term-lts.After-enum-told claims entry term.Post Inv-loop μ-loop) → c .before .before .before .before .before .before .args .depth ≤ 64
   fine c =
       let s : List ℕ = replicate (c .before .before .before .before .before .before .args .binders) 0 in
-      shallow [] _ _ 0 s (accepts c [] 0 s (length-replicate _ 0))
+      shallow _ [] _ _ 0 s (accepts c [] 0 s (length-replicate _ 0))
 
   small : (c : term-lts.After-binds claims entry term.Post Inv-loop μ-loop) → c .binds .result ≤ 1
   small c =
@@ -75,22 +75,22 @@ module _ (t : ℕ) where
   -- what is left once the next part is read
   after-part : (c : term-lts.After-term claims entry term.Post Inv-loop μ-loop) (r : Step) → c .term .result ≡ r → (keys : List ℕ) (h : ℕ) (s : List ℕ) (ts : List Task)
       → length s ≡ c .before .before .before .before .before .before .before .before .before .before .before .args .binders
-      → scan (drop (c .before .before .before .before .before .before .before .before .before .before .before .args .at) (c .before .before .before .before .before .before .before .before .before .before .before .args .words .now)) keys (c .before .before .before .before .before .before .before .before .before .before .before .args .at) (termTask (c .before .before .before .before .before .before .before .before .before .before .before .args .depth) h s ∷ ts)
-      ≡ afterStep r (c .before .before .before .before .before .before .before .before .before .before .before .args .words .now) keys
+      → scan (c .before .before .before .before .before .before .before .before .before .before .before .args .names) (drop (c .before .before .before .before .before .before .before .before .before .before .before .args .at) (c .before .before .before .before .before .before .before .before .before .before .before .args .words .now)) keys (c .before .before .before .before .before .before .before .before .before .before .before .args .at) (termTask (c .before .before .before .before .before .before .before .before .before .before .before .args .depth) h s ∷ ts)
+      ≡ afterStep r (c .before .before .before .before .before .before .before .before .before .before .before .args .names) (c .before .before .before .before .before .before .before .before .before .before .before .args .words .now) keys
       (partTasks (c .before .before .before .before .before .before .before .before .before .before .before .args .at) (c .before .before .before .before .before .before .before .before .before .before .before .args .depth) h s
       (drop (c .before .before .before .loop .i + 1) (parts (getD (c .before .before .before .before .before .before .before .before .before .before .before .args .words .now) (c .before .before .before .before .before .before .before .before .before .before .before .args .at) 0))) ++ ts)
   after-part c r q =
-      left-part (c .before .before .before .before .before .before .before .before .before .before .before .args .words .now) (c .before .before .before .before .before .before .before .before .before .before .before .args .at) (c .before .before .before .before .before .before .before .before .before .before .before .args .depth) (c .before .before .before .before .before .before .before .before .before .before .before .args .binders) _ (c .before .before .before .loop .next) _
+      left-part _ (c .before .before .before .before .before .before .before .before .before .before .before .args .words .now) (c .before .before .before .before .before .before .before .before .before .before .before .args .at) (c .before .before .before .before .before .before .before .before .before .before .before .args .depth) (c .before .before .before .before .before .before .before .before .before .before .before .args .binders) _ (c .before .before .before .loop .next) _
       (c .before .before .before .loop .inv .1)
       (subst (λ (m : ℕ). c .before .before .before .loop .i < m) (c .before .before .before .before .arity-of .ensures) (c .before .before .loop-test .taken))
       (c .before .binds .result)
       (c .before .binds .ensures)
-      (afterStep r (c .before .before .before .before .before .before .before .before .before .before .before .args .words .now))
-      (λ keys h s ts e. c .term .ensures keys h s ts e ∙ ap (λ (x : Step). afterStep x (c .before .before .before .before .before .before .before .before .before .before .before .args .words .now) keys ts) q)
+      (afterStep r (c .before .before .before .before .before .before .before .before .before .before .before .args .names) (c .before .before .before .before .before .before .before .before .before .before .before .args .words .now))
+      (λ keys h s ts e. c .term .ensures keys h s ts e ∙ ap (λ (x : Step). afterStep x (c .before .before .before .before .before .before .before .before .before .before .before .args .names) (c .before .before .before .before .before .before .before .before .before .before .before .args .words .now) keys ts) q)
 
   returns : term-lts.Need-returns claims entry term.Post Inv-loop μ-loop
   unfolding afterStep number place missing
-  returns c = λ keys h s ts e. none-left _ keys _ (termTask _ h s) ts (c .if1 .taken)
+  returns c = λ keys h s ts e. none-left _ _ keys _ (termTask _ h s) ts (c .if1 .taken)
 
   mul-w : term-lts.Need-mul-w claims entry term.Post Inv-loop μ-loop
   mul-w c = search needs
@@ -109,7 +109,7 @@ module _ (t : ℕ) where
   returns-2 c keys h s ts e =
       let at = c .before .before .before .before .before .before .before .args .at in
       let words = c .before .before .before .before .before .before .before .args .words .now in
-      stops words keys at (termTask _ h s) ts (omega arith) _ _
+      stops _ words keys at (termTask _ h s) ts (omega arith) _ _
       (sym (ap outcome (c .before .r .given .1)) ∙ c .before .before .before .term-word .ensures keys h s e)
 
   enum-told : term-lts.Need-enum-told claims entry term.Post Inv-loop μ-loop
@@ -122,7 +122,7 @@ module _ (t : ℕ) where
   add-next c = search needs
 
   loop-holds : term-lts.Need-loop-holds claims entry term.Post Inv-loop μ-loop
-  loop-holds c = (zero≤, left-none (c .before .before .before .before .before .before .before .args .words .now) (c .before .before .before .before .before .before .before .args .at) _ _ (omega arith) (accepts (c .before)))
+  loop-holds c = (zero≤, left-none _ (c .before .before .before .before .before .before .before .args .words .now) (c .before .before .before .before .before .before .before .args .at) _ _ (omega arith) (accepts (c .before)))
 
   add-term : term-lts.Need-add-term claims entry term.Post Inv-loop μ-loop
   add-term c = let d : c .before .before .before .before .before .before .before .before .before .args .depth ≤ 64 = fine (c .before .before .before) in omega arith
@@ -167,7 +167,7 @@ module _ (t : ℕ) where
   returns-4 : term-lts.Need-returns-4 claims entry term.Post Inv-loop μ-loop
   unfolding afterStep
   returns-4 c =
-      left-all (c .before .before .before .before .before .before .before .before .before .args .words .now) (c .before .before .before .before .before .before .before .before .before .args .at) (c .before .before .before .before .before .before .before .before .before .args .depth) (c .before .before .before .before .before .before .before .before .before .args .binders) _ (c .before .loop .next) _
+      left-all _ (c .before .before .before .before .before .before .before .before .before .args .words .now) (c .before .before .before .before .before .before .before .before .before .args .at) (c .before .before .before .before .before .before .before .before .before .args .depth) (c .before .before .before .before .before .before .before .before .before .args .binders) _ (c .before .loop .next) _
       (c .before .loop .inv .1)
       (subst (λ (m : ℕ). m ≤ c .before .loop .i) (c .before .before .arity-of .ensures) (c .loop-test .left))
 

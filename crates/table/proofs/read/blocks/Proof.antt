@@ -29,35 +29,35 @@ one-key keys (suc n) key h l =
     let inside : n < length (set keys n key) = simp length-set l in
     rw (sub-one, drop-cons (set keys n key) n 0, getD-set-same keys n key 0, drop-set-lt (suc n) keys n key (le-refl (suc n)))
 
-module _ (words keys : List ℕ) (at left : ℕ) where
+module _ (names : ℕ) (words keys : List ℕ) (at left : ℕ) where
   -- what is left where a block ended in r
   after-block : (q r : BlockStep) → q ≡ r → 0 < left
-      → ((ts : List Task) → scan (drop at words) keys at (name ∷ ts) ≡ afterBlock q words keys ts)
-      → scan (drop at words) keys at (replicate left name) ≡ afterBlock r words keys (replicate (left - 1) name)
+      → ((ts : List Task) → scan names (drop at words) keys at (name ∷ ts) ≡ afterBlock q names words keys ts)
+      → scan names (drop at words) keys at (replicate left name) ≡ afterBlock r names words keys (replicate (left - 1) name)
   after-block q r e h post =
-      ap (λ (ts : List Task). scan (drop at words) keys at ts) (one-more left h)
+      ap (λ (ts : List Task). scan names (drop at words) keys at ts) (one-more left h)
       ∙ post (replicate (left - 1) name)
-      ∙ ap (λ (x : BlockStep). afterBlock x words keys (replicate (left - 1) name)) e
+      ∙ ap (λ (x : BlockStep). afterBlock x names words keys (replicate (left - 1) name)) e
 
   -- no block is left
-  trailing : left ≤ 0 → at < length words → scan (drop at words) keys at (replicate left name) ≡ refused 12 at
+  trailing : left ≤ 0 → at < length words → scan names (drop at words) keys at (replicate left name) ≡ refused 12 at
   unfolding scan
   trailing l h = rw (le-zero l, drop-cons words at 0)
 
-  all-read : left ≤ 0 → length words ≤ at → scan (drop at words) keys at (replicate left name) ≡ accepted
+  all-read : left ≤ 0 → length words ≤ at → scan names (drop at words) keys at (replicate left name) ≡ accepted
   unfolding scan
   all-read l h = rw (le-zero l, drop-of-length-le words h)
 
 abbrev Inv-loop : tie.InvT-loop
-Inv-loop words count keys₀ start₀ left₀ at₀ keys start left at =
-    (length keys ≡ 32) × (left ≤ start) × (start ≤ 32)
-    × (scan (drop 1 words) [] 1 (replicate count name) ≡ scan (drop at words) (drop start keys) at (replicate left name))
+Inv-loop words count names keys₀ start₀ left₀ at₀ keys start left at =
+    (length keys ≡ 64) × (left ≤ start) × (start ≤ 64)
+    × (scan names (drop 1 words) [] 1 (replicate count name) ≡ scan names (drop at words) (drop start keys) at (replicate left name))
 
 abbrev μ-loop : tie.MeasureT-loop
-μ-loop words count keys₀ start₀ left₀ at₀ keys start left at = left
+μ-loop words count names keys₀ start₀ left₀ at₀ keys start left at = left
 
 loop-holds : tie.Need-loop-holds Inv-loop μ-loop
-loop-holds c = (refl, c .before .pre, search needs, refl)
+loop-holds c = (refl, c .before .pre .0, search needs, refl)
 
 slice-aggregate-block : tie.Need-slice-aggregate-block Inv-loop μ-loop
 slice-aggregate-block c = search needs
@@ -72,7 +72,7 @@ returns : tie.Need-returns Inv-loop μ-loop
 unfolding outcome afterBlock
 returns c =
     let l = c .before .before .before .before .before .before .loop in
-    sym (l .inv .3 ∙ after-block _ (drop (l .start) (l .keys)) (l .at) (l .left) _ _ (c .before .r .given .1) (search needs) (c .before .before .before .block .ensures))
+    sym (l .inv .3 ∙ after-block _ _ (drop (l .start) (l .keys)) (l .at) (l .left) _ _ (c .before .r .given .1) (search needs) (c .before .before .before .block .ensures))
 
 enum-known-next : tie.Need-enum-known-next Inv-loop μ-loop
 enum-known-next c = search needs
@@ -102,8 +102,8 @@ loop-again c =
       search needs,
       search needs,
       l .inv .3
-          ∙ after-block _ (drop (l .start) (l .keys)) (l .at) (l .left) _ _ (c .before .next .given .1) (search needs) (c .before .before .before .block .ensures)
-          ∙ ap (λ (ks : List ℕ). scan (drop next (c .before .before .before .before .before .before .before .before .args .words .now)) ks next (replicate (l .left - 1) name))
+          ∙ after-block _ _ (drop (l .start) (l .keys)) (l .at) (l .left) _ _ (c .before .next .given .1) (search needs) (c .before .before .before .block .ensures)
+          ∙ ap (λ (ks : List ℕ). scan (c .before .before .before .before .before .before .before .before .args .names) (drop next (c .before .before .before .before .before .before .before .before .args .words .now)) ks next (replicate (l .left - 1) name))
           (sym (one-key (l .keys) (l .start) key (search needs) (search needs))),
     )
 
@@ -111,13 +111,13 @@ returns-2 : tie.Need-returns-2 Inv-loop μ-loop
 unfolding outcome number place
 returns-2 c =
     let l = c .before .before .loop in
-    sym (l .inv .3 ∙ trailing (c .before .before .before .before .args .words .now) _ (l .at) (l .left) (search needs) (search needs))
+    sym (l .inv .3 ∙ trailing _ (c .before .before .before .before .args .words .now) _ (l .at) (l .left) (search needs) (search needs))
 
 returns-3 : tie.Need-returns-3 Inv-loop μ-loop
 unfolding outcome
 returns-3 c =
     let l = c .before .before .loop in
-    sym (l .inv .3 ∙ all-read (c .before .before .before .before .args .words .now) _ (l .at) (l .left) (search needs) (search needs))
+    sym (l .inv .3 ∙ all-read _ (c .before .before .before .before .args .words .now) _ (l .at) (l .left) (search needs) (search needs))
 
 pub blocks-spec : {M : Type 1} → statement M
 blocks-spec =

@@ -18,37 +18,42 @@ use Rattle.table.proofs.read.term_word.Statement.{statement}
 use Rattle.table.proofs.read.term_word.Tie as tie
 
 -- the fault of a term's word, by the tests before it that do not hold and the one that does
-module _ (keys : List ℕ) (w d h : ℕ) (s : List ℕ) where
-  low : kind w < 16 → fault keys w (term d h s) ≡ 7
+module _ (names : ℕ) (keys : List ℕ) (w d h : ℕ) (s : List ℕ) where
+  low : kind w < 16 → fault names keys w (term d h s) ≡ 7
   unfolding fault tests
   low k = hit _ 7 _ (lt-ltb _ _ k)
 
   module _ (k : 16 ≤ kind w) where
-    high : 36 < kind w → fault keys w (term d h s) ≡ 7
+    high : 36 < kind w → fault names keys w (term d h s) ≡ 7
     unfolding fault tests
     high l = miss _ 7 _ (le-ltb _ _ k) ∙ hit _ 7 _ (lt-ltb _ _ l)
 
     module _ (l : kind w ≤ 36) where
-      range : limit w ≤ argument w → fault keys w (term d h s) ≡ 9
+      range : limit w ≤ argument w → fault names keys w (term d h s) ≡ 9
       unfolding fault tests
       range a = miss _ 7 _ (le-ltb _ _ k) ∙ miss _ 7 _ (le-ltb _ _ l) ∙ hit _ 9 _ (le-leb _ _ a)
 
       module _ (a : argument w < limit w) where
-        free : (eqb (kind w) 20 && leb (length s) (argument w)) ≡ true → fault keys w (term d h s) ≡ 10
+        unknown : (eqb (kind w) 19 && leb names (argument w)) ≡ true → fault names keys w (term d h s) ≡ 9
         unfolding fault tests
-        free u = miss _ 7 _ (le-ltb _ _ k) ∙ miss _ 7 _ (le-ltb _ _ l) ∙ miss _ 9 _ (lt-leb _ _ a) ∙ hit _ 10 _ u
+        unknown u = miss _ 7 _ (le-ltb _ _ k) ∙ miss _ 7 _ (le-ltb _ _ l) ∙ miss _ 9 _ (lt-leb _ _ a) ∙ hit _ 9 _ u
 
-        module _ (u : (eqb (kind w) 20 && leb (length s) (argument w)) ≡ false) where
-          deep : 64 < d → fault keys w (term d h s) ≡ 11
+        module _ (x : (eqb (kind w) 19 && leb names (argument w)) ≡ false) where
+          free : (eqb (kind w) 20 && leb (length s) (argument w)) ≡ true → fault names keys w (term d h s) ≡ 10
           unfolding fault tests
-          deep e =
-              miss _ 7 _ (le-ltb _ _ k) ∙ miss _ 7 _ (le-ltb _ _ l) ∙ miss _ 9 _ (lt-leb _ _ a) ∙ miss _ 10 _ u ∙ hit _ 11 _ (lt-ltb _ _ e)
+          free u = miss _ 7 _ (le-ltb _ _ k) ∙ miss _ 7 _ (le-ltb _ _ l) ∙ miss _ 9 _ (lt-leb _ _ a) ∙ miss _ 9 _ x ∙ hit _ 10 _ u
 
-          fine : d ≤ 64 → fault keys w (term d h s) ≡ 0
-          unfolding fault tests
-          fine e =
-              miss _ 7 _ (le-ltb _ _ k) ∙ miss _ 7 _ (le-ltb _ _ l) ∙ miss _ 9 _ (lt-leb _ _ a) ∙ miss _ 10 _ u
-              ∙ miss _ 11 _ (le-ltb _ _ e) ∙ none
+          module _ (u : (eqb (kind w) 20 && leb (length s) (argument w)) ≡ false) where
+            deep : 64 < d → fault names keys w (term d h s) ≡ 11
+            unfolding fault tests
+            deep e =
+                miss _ 7 _ (le-ltb _ _ k) ∙ miss _ 7 _ (le-ltb _ _ l) ∙ miss _ 9 _ (lt-leb _ _ a) ∙ miss _ 9 _ x ∙ miss _ 10 _ u ∙ hit _ 11 _ (lt-ltb _ _ e)
+
+            fine : d ≤ 64 → fault names keys w (term d h s) ≡ 0
+            unfolding fault tests
+            fine e =
+                miss _ 7 _ (le-ltb _ _ k) ∙ miss _ 7 _ (le-ltb _ _ l) ∙ miss _ 9 _ (lt-leb _ _ a) ∙ miss _ 9 _ x ∙ miss _ 10 _ u
+                ∙ miss _ 11 _ (le-ltb _ _ e) ∙ none
 
 -- what the answer says, from the fault
 said : (n m at : ℕ) → n ≡ m → judged m at ≡ judged n at
@@ -61,6 +66,13 @@ variable w s p q e t u =
     let p′ = sym p in
     let q′ = sym q in (λ i. eqb (p′ i) 20 && leb (e i) (q′ i)) ∙ sym t ∙ u
 
+-- the test of a name
+naming : {k a : ℕ} {r v : Bool} (n w : ℕ) → k ≡ kind w → a ≡ argument w → r ≡ (eqb k 19 && leb n a) → r ≡ v
+    → (eqb (kind w) 19 && leb n (argument w)) ≡ v
+naming n w p q t u =
+    let p′ = sym p in
+    let q′ = sym q in (λ i. eqb (p′ i) 19 && leb n (q′ i)) ∙ sym t ∙ u
+
 kind-of-requires : tie.Need-kind-of-requires
 kind-of-requires c κs = search needs
 
@@ -69,33 +81,40 @@ argument-of-requires c κs = search needs
 
 returns : tie.Need-returns
 unfolding outcome number place judged
-returns c = λ keys h s e. said _ 7 _ (low keys _ _ h s (omega arith))
+returns c = λ keys h s e. said _ 7 _ (low _ keys _ _ h s (omega arith))
 
 returns-2 : tie.Need-returns-2
 unfolding outcome number place judged
-returns-2 c = λ keys h s e. said _ 7 _ (high keys _ _ h s (omega arith) (omega arith))
+returns-2 c = λ keys h s e. said _ 7 _ (high _ keys _ _ h s (omega arith) (omega arith))
 
 limit-of-requires : tie.Need-limit-of-requires
 limit-of-requires c κs = search needs
 
 returns-3 : tie.Need-returns-3
 unfolding outcome number place judged
-returns-3 c = λ keys h s e. said _ 9 _ (range keys _ _ h s (omega arith) (omega arith) (omega arith))
+returns-3 c = λ keys h s e. said _ 9 _ (range _ keys _ _ h s (omega arith) (omega arith) (omega arith))
+
+unnamed-requires : tie.Need-unnamed-requires
+unnamed-requires c κs = search needs
+
+returns-4 : tie.Need-returns-4
+unfolding outcome number place judged
+returns-4 c = λ keys h s e. said _ 9 _ (unknown _ keys _ _ h s (omega arith) (omega arith) (omega arith) (naming _ _ (c .before .before .before .before .before .before .before .kind-of .ensures) (c .before .before .before .before .before .before .argument-of .ensures) (c .before .unnamed .ensures) (c .if4 .taken)))
 
 unbound-requires : tie.Need-unbound-requires
 unbound-requires c κs = search needs
 
-returns-4 : tie.Need-returns-4
-unfolding outcome number place judged
-returns-4 c = λ keys h s e. said _ 10 _ (free keys _ _ h s (omega arith) (omega arith) (omega arith) (variable _ s (c .before .before .before .before .before .before .before .kind-of .ensures) (c .before .before .before .before .before .before .argument-of .ensures) e (c .before .unbound .ensures) (c .if4 .taken)))
-
 returns-5 : tie.Need-returns-5
 unfolding outcome number place judged
-returns-5 c = λ keys h s e. said _ 11 _ (deep keys _ _ h s (omega arith) (omega arith) (omega arith) (variable _ s (c .before .before .before .before .before .before .before .before .kind-of .ensures) (c .before .before .before .before .before .before .before .argument-of .ensures) e (c .before .before .unbound .ensures) (c .before .if4 .left)) (omega arith))
+returns-5 c = λ keys h s e. said _ 10 _ (free _ keys _ _ h s (omega arith) (omega arith) (omega arith) (naming _ _ (c .before .before .before .before .before .before .before .before .before .kind-of .ensures) (c .before .before .before .before .before .before .before .before .argument-of .ensures) (c .before .before .before .unnamed .ensures) (c .before .before .if4 .left)) (variable _ s (c .before .before .before .before .before .before .before .before .before .kind-of .ensures) (c .before .before .before .before .before .before .before .before .argument-of .ensures) e (c .before .unbound .ensures) (c .if5 .taken)))
 
 returns-6 : tie.Need-returns-6
 unfolding outcome number place judged
-returns-6 c = λ keys h s e. said _ 0 _ (fine keys _ _ h s (omega arith) (omega arith) (omega arith) (variable _ s (c .before .before .before .before .before .before .before .before .kind-of .ensures) (c .before .before .before .before .before .before .before .argument-of .ensures) e (c .before .before .unbound .ensures) (c .before .if4 .left)) (omega arith))
+returns-6 c = λ keys h s e. said _ 11 _ (deep _ keys _ _ h s (omega arith) (omega arith) (omega arith) (naming _ _ (c .before .before .before .before .before .before .before .before .before .before .kind-of .ensures) (c .before .before .before .before .before .before .before .before .before .argument-of .ensures) (c .before .before .before .before .unnamed .ensures) (c .before .before .before .if4 .left)) (variable _ s (c .before .before .before .before .before .before .before .before .before .before .kind-of .ensures) (c .before .before .before .before .before .before .before .before .before .argument-of .ensures) e (c .before .before .unbound .ensures) (c .before .if5 .left)) (omega arith))
+
+returns-7 : tie.Need-returns-7
+unfolding outcome number place judged
+returns-7 c = λ keys h s e. said _ 0 _ (fine _ keys _ _ h s (omega arith) (omega arith) (omega arith) (naming _ _ (c .before .before .before .before .before .before .before .before .before .before .kind-of .ensures) (c .before .before .before .before .before .before .before .before .before .argument-of .ensures) (c .before .before .before .before .unnamed .ensures) (c .before .before .before .if4 .left)) (variable _ s (c .before .before .before .before .before .before .before .before .before .before .kind-of .ensures) (c .before .before .before .before .before .before .before .before .before .argument-of .ensures) e (c .before .before .unbound .ensures) (c .before .if5 .left)) (omega arith))
 
 pub term-word-spec : {M : Type 1} → statement M
 term-word-spec =
@@ -107,7 +126,9 @@ term-word-spec =
     returns-2
     limit-of-requires
     returns-3
-    unbound-requires
+    unnamed-requires
     returns-4
+    unbound-requires
     returns-5
-    returns-6)
+    returns-6
+    returns-7)

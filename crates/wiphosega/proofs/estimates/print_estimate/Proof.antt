@@ -2,6 +2,7 @@
 use mathlib.Core.Path.{sym}
 use native.Mathlib.Omega.{arith}
 use lib.Seq.{length-take-le}
+use Rattle.senders.proofs.Laws.{laid-size, row-few}
 use borrow.Author.Needs.{needs}
 use Rattle.wiphosega.proofs.estimates.print_estimate.Statement.{statement}
 use Rattle.wiphosega.proofs.estimates.print_estimate.Tie as tie
@@ -13,7 +14,9 @@ of-requires : tie.Need-of-requires
 of-requires c κs = search needs
 
 words-requires : tie.Need-words-requires
-words-requires c κs = search needs
+words-requires c κs =
+    let ws = c .before .before .before .before .args .words .now in
+    (laid-size ws (c .before .if1 .left) (c .of .result) (c .of .ensures), row-few ws (c .before .if1 .left) (c .of .result) (c .of .ensures))
 
 returns-2 : tie.Need-returns-2
 returns-2 c = search needs

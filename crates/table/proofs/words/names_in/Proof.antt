@@ -1,0 +1,30 @@
+-- `table::words::names_in` meets its contract.
+-- Assumes nothing.
+use mathlib.Core.Path.{_≡_, sym, ap}
+use mathlib.Core.List.{List}
+use Prim.Native.Nat.{ℕ, _≤_}
+use native.Mathlib.Omega.{arith}
+use lib.ListN.{length, getD, List·getD-eq-default}
+use Rattle.table.specs.Words.{namesOf}
+use borrow.Author.Needs.{needs}
+use Rattle.table.proofs.words.names_in.Statement.{statement}
+use Rattle.table.proofs.words.names_in.Tie as tie
+
+none : (ws : List ℕ) → length ws ≡ 0 → 32 ≡ namesOf (getD ws 0 0)
+unfolding namesOf
+none ws e = sym (ap namesOf (List·getD-eq-default ws 0 {n = 0} (omega arith)))
+
+returns : tie.Need-returns
+returns c = none (c .before .before .args .words .now) (c .if1 .taken)
+
+shared-slice-read-names-of : tie.Need-shared-slice-read-names-of
+shared-slice-read-names-of c = search needs
+
+names-of-requires : tie.Need-names-of-requires
+names-of-requires c κs = search needs
+
+returns-2 : tie.Need-returns-2
+returns-2 c = search needs
+
+pub names-in-spec : {M : Type 1} → statement M
+names-in-spec = tie.close (tie.spec returns shared-slice-read-names-of names-of-requires returns-2)

@@ -1,0 +1,1 @@
+// The converters keep the leak: definitions and laws. There is no code here.

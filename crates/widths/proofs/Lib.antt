@@ -1,0 +1,9 @@
+pub mod Samples
+pub mod Words
+pub mod Codes
+pub mod Refusals
+pub mod Scans
+pub mod Names
+pub mod Theorems
+pub mod Lengths
+pub mod Places

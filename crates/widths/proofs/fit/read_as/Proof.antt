@@ -1,0 +1,63 @@
+-- `widths::fit::read_as` meets its contract.
+-- Assumes nothing.
+use mathlib.Core.Path.{_≡_, sym, ap, _∙_}
+use lib.ListN.{getD}
+use Rattle.table.specs.Words.{kind}
+use Rattle.table.specs.Answer.{number, place, outcome}
+use Rattle.widths.specs.Answers.{faultNumber, faultPlace, checkedAs}
+use Rattle.widths.proofs.Refusals.{of-kind, other-kind, no-word}
+use borrow.Author.Needs.{needs}
+use Rattle.widths.proofs.fit.read_as.Statement.{statement}
+use Rattle.widths.proofs.fit.read_as.Tie as tie
+
+returns : tie.Need-returns
+unfolding checkedAs faultNumber faultPlace number place
+returns c = sym (no-word _ _ (c .if1 .taken))
+
+shared-slice-read-kind-of : tie.Need-shared-slice-read-kind-of
+shared-slice-read-kind-of c = search needs
+
+kind-of-requires : tie.Need-kind-of-requires
+kind-of-requires c κs = search needs
+
+returns-2 : tie.Need-returns-2
+unfolding checkedAs faultNumber faultPlace number place
+returns-2 c =
+    sym (other-kind _ _ (λ h. c .if2 .taken (c .before .kind-of .ensures ∙ h)))
+
+-- word 0 has the kind
+kind-is : (c : tie.Else2) → kind (getD (c .before .before .before .before .before .args .words .now) 0 0) ≡ c .before .before .before .before .before .args .kind
+kind-is c = sym (c .before .kind-of .ensures) ∙ c .if2 .left
+
+read-requires : tie.Need-read-requires
+read-requires c κs = search needs
+
+enum-known-r : tie.Need-enum-known-r
+enum-known-r c = search needs
+
+enum-told : tie.Need-enum-told
+enum-told c = search needs
+
+returns-3 : tie.Need-returns-3
+unfolding checkedAs faultNumber faultPlace outcome
+returns-3 c =
+    sym (of-kind _ _ (kind-is (c .before .before .before .before)) ∙ sym (c .before .before .before .read .ensures) ∙ ap outcome (c .before .r .given .1))
+
+returns-4 : tie.Need-returns-4
+unfolding checkedAs outcome
+returns-4 c =
+    sym (of-kind _ _ (kind-is (c .before .before .before)) ∙ sym (c .before .before .read .ensures) ∙ ap outcome (c .enum-told .given .1))
+
+pub read-as-spec : {M : Type 1} → statement M
+read-as-spec =
+    tie.close
+    (tie.spec
+    returns
+    shared-slice-read-kind-of
+    kind-of-requires
+    returns-2
+    read-requires
+    enum-known-r
+    enum-told
+    returns-3
+    returns-4)

@@ -1,0 +1,51 @@
+-- `widths::numbers::fault_number` meets its contract. Assumes nothing.
+use mathlib.Core.Path.{sym, ap, _∙_}
+use Rattle.widths.specs.Answers.{faultNumber}
+use borrow.Author.Needs.{needs}
+use Rattle.widths.proofs.numbers.fault_number.Statement.{statement}
+use Rattle.widths.proofs.numbers.fault_number.Tie as tie
+
+enum-known-f : tie.Need-enum-known-f
+enum-known-f c = search needs
+
+refusal-number-requires : tie.Need-refusal-number-requires
+refusal-number-requires c κs = search needs
+
+enum-told : tie.Need-enum-told
+enum-told c = search needs
+
+enum-told-2 : tie.Need-enum-told-2
+enum-told-2 c = search needs
+
+enum-told-3 : tie.Need-enum-told-3
+enum-told-3 c = search needs
+
+returns : tie.Need-returns
+unfolding faultNumber
+returns c = c .refusal-number .ensures ∙ sym (ap faultNumber (c .before .before .f .given .1))
+
+returns-2 : tie.Need-returns-2
+unfolding faultNumber
+returns-2 c = sym (ap faultNumber (c .enum-told .given .1))
+
+returns-3 : tie.Need-returns-3
+unfolding faultNumber
+returns-3 c = sym (ap faultNumber (c .enum-told2 .given .1))
+
+returns-4 : tie.Need-returns-4
+unfolding faultNumber
+returns-4 c = sym (ap faultNumber (c .enum-told3 .given .1))
+
+pub fault-number-spec : {M : Type 1} → statement M
+fault-number-spec =
+    tie.close
+    (tie.spec
+    enum-known-f
+    refusal-number-requires
+    enum-told
+    enum-told-2
+    enum-told-3
+    returns
+    returns-2
+    returns-3
+    returns-4)
