@@ -97,6 +97,16 @@ uint64_t wiphosega_lookup(const uint8_t *base, size_t base_bytes, const uint8_t 
 
 uint64_t wiphosega_join(const uint8_t *base, size_t base_bytes, const uint8_t *overlay, size_t overlay_bytes, uint8_t *out, size_t out_bytes);
 
+/* The converters, in the library of listings: a narrow table made wide (word 0 of kind 1 becomes one of kind 5), and a wide one made narrow; the
+   other words stay. The answer is how many bytes were written, as many as the system has. Refused: 2^32 + number * 65536 + place, by 30 (the bytes
+   are no whole words), 1 at 0 (word 0 has the other kind, or there is no word), the table's numbers 1 to 12, for wiphosega_narrow 55 (over 32
+   handlers, place 0) and 56 (at the first word with a name over 31), and last 57 (the output is too short, place 0). The output counts whole words:
+   4,096 bytes are enough. A refusal leaves all bytes of the output as they were, and any other answer those behind what was written. For pointers the
+   same holds as above. */
+uint64_t wiphosega_widen(const uint8_t *system, size_t system_bytes, uint8_t *out, size_t out_bytes);
+
+uint64_t wiphosega_narrow(const uint8_t *system, size_t system_bytes, uint8_t *out, size_t out_bytes);
+
 /* The fingerprint of a system, as the report on a class has it, in the library of listings: the published hash FNV-1a of 32 bits, of the bytes of
    its words. For the pointer the same holds as above. */
 uint32_t wiphosega_fingerprint(const uint8_t *system, size_t system_bytes);

@@ -1,3 +1,4 @@
 pub mod Interface
 pub mod Manifest
 pub mod Overlay
+pub mod Converters

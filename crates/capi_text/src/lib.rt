@@ -1,4 +1,5 @@
-// Listings for programs in C, over bytes. Fingerprints, manifests and overlays stand in files of their own.
+// Listings for programs in C, over bytes. Fingerprints, manifests, overlays and converters stand in files of their own.
+mod converters;
 mod fingerprints;
 mod manifests;
 mod overlays;

@@ -6,3 +6,5 @@ pub mod Checks
 pub mod PairLaws
 pub mod Runs
 pub mod Packed
+pub mod Conversions
+pub mod Others

@@ -35,7 +35,7 @@ part-lines text start end k count e f g h =
     omega (arith, ap length f, length-drop start text, length-drop end text) in
     ap (λ (m : ℕ). take m (drop start text)) n ∙ ap (λ (l : List ℕ). take (length l - length (fromLine count l)) l) e
 
-pub numbers-long : length numbers ≡ 36
+pub numbers-long : length numbers ≡ 39
 unfolding numbers
 numbers-long = refl
 

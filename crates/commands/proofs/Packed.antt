@@ -1,26 +1,20 @@
 -- Laws of the command `pack`.
-use Prim.Native.Nat.{ℕ, _+_, _-_, _*_, _/_, _≤_, _<_, min}
-use mathlib.Core.Path.{_≡_, refl, sym, ap, ap₂, subst, _∙_}
-use mathlib.Core.Bool.{Bool, true, false}
+use Prim.Native.Nat.{ℕ, _+_, _-_, _*_, _≤_, _<_}
+use mathlib.Core.Path.{_≡_, sym, ap, ap₂, _∙_}
 use mathlib.Core.List.{List, [], _∷_, _++_, append-nil, append-assoc}
 use native.Mathlib.Omega.{arith}
 use borrow.Author.Tests.{lt-ltb, le-ltb}
-use lib.Dec.{ltb}
 use lib.ListN.{length, take, drop, length-append, length-drop, drop-of-length-le}
 use lib.Seq.{take-all, take-at, drop-at, drop-drop}
 use Rattle.text.specs.Text.{bytes}
 use Rattle.text.specs.Writing.{Wrote}
-use Rattle.text.proofs.Writing.{reworded}
 use Rattle.little_endian.specs.LittleEndian.{bytesOf, wholeWords}
 use Rattle.little_endian.proofs.Laws.{length-bytesOf, bytesOf-append}
 use Rattle.listing.specs.Listing.{Answered, done, refusal, left, readAs}
 use Rattle.listing.specs.Listing.{wordsOf as Listing·wordsOf}
 use Rattle.listing.proofs.Places.{read-words}
 use Rattle.report.specs.Lines.{refusalLine}
-use Rattle.commands.specs.declared.arguments.Value.{Value}
-use Rattle.commands.specs.Meanings.{help}
-use Rattle.commands.specs.Arguments.{valueOf}
-use Rattle.commands.specs.Printed.{answerText, packed, systemText, packText, packedFor, otherText, same}
+use Rattle.commands.specs.Printed.{answerText, packed, systemText, packText}
 
 -- ---- the bytes of a system, written in two parts
 
@@ -90,12 +84,3 @@ module _ (ρ : ℕ) (text : List ℕ) where
   unfolding packText answerText
   pack-done words zeros n e q =
       ap (systemText ρ) (read-words text words zeros n e q) ∙ sym (ap (λ (a : Answered). answerText a (systemText ρ (Listing·wordsOf text))) e)
-
-module _ (command first input : List ℕ) where
-  pub other-pack : same command (bytes "pack") ≡ true → packedFor (valueOf 16 first) input ≡ otherText command first input
-  unfolding otherText
-  other-pack e = rw (otherText, e)
-
-  pub other-none : same command (bytes "pack") ≡ false → help ≡ otherText command first input
-  unfolding otherText
-  other-none e = rw (otherText, e)

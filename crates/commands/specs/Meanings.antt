@@ -37,7 +37,7 @@ pub record Behind (text : List ℕ) (start k place : ℕ) : Type 0 where
 unfoldable pub numbers : List ℕ
 numbers =
     1 ∷ 2 ∷ 3 ∷ 4 ∷ 5 ∷ 6 ∷ 7 ∷ 8 ∷ 9 ∷ 10 ∷ 11 ∷ 12 ∷ 20 ∷ 21 ∷ 22 ∷ 23 ∷ 30 ∷ 31 ∷ 40 ∷ 41 ∷ 42 ∷ 43 ∷ 44 ∷ 45 ∷ 46 ∷ 47 ∷ 48 ∷ 49 ∷ 50
-    ∷ 51 ∷ 52 ∷ 53 ∷ 54 ∷ 58 ∷ 59 ∷ 61 ∷ []
+    ∷ 51 ∷ 52 ∷ 53 ∷ 54 ∷ 55 ∷ 56 ∷ 57 ∷ 58 ∷ 59 ∷ 61 ∷ []
 
 -- a line for each of them, and one for every other number
 unfoldable pub page : List ℕ
@@ -75,6 +75,9 @@ page =
     ++ bytes "The estimate has more or fewer words than the system asks for.\n"
     ++ bytes "The estimate has a bit set that stands for nothing.\n"
     ++ bytes "The estimate breaks a rule of this word.\n"
+    ++ bytes "A narrow system has no room for more than 32 handlers.\n"
+    ++ bytes "A narrow system has no name over 31.\n"
+    ++ bytes "The output has no room for the converted system.\n"
     ++ bytes "The stream ends inside a system.\n"
     ++ bytes "A system of a stream has more than 256 words.\n"
     ++ bytes "The stream goes on after 10,000 systems.\n"
@@ -111,4 +114,6 @@ help =
     ++ bytes "wiphosega block NAME SET   the same in, that handler's lines out, the second listing's if it has it\n"
     ++ bytes "wiphosega manifest         a manifest in, its version and permission set out\n"
     ++ bytes "wiphosega pack RHO         a listing in, a system of the stream of a class out; RHO in hexadecimal digits\n"
+    ++ bytes "wiphosega widen            the words of a narrow system in, those of the wide one out\n"
+    ++ bytes "wiphosega narrow           the words of a wide system in, those of the narrow one out\n"
     ++ bytes "wiphosega explain NUMBER   the meaning of a refusal's number\n"

@@ -1,4 +1,4 @@
--- What the program prints, from the bytes of its arguments and of its input (document 02, wishes 1, 4, 5 and 14).
+-- What the program prints, from the bytes of its arguments and of its input (document 02, wishes 1, 4, 5, 13 and 14).
 use Prim.Native.Nat.{ℕ, zero, suc, _+_, _-_, _%_}
 use mathlib.Core.Bool.{Bool, true, false, _&&_}
 use mathlib.Core.List.{List, [], _∷_, _++_}
@@ -14,6 +14,8 @@ use Rattle.overlay.specs.Lookup.{Place, inBase, inOverlay, placeOf}
 use Rattle.overlay.specs.Lookup as lookup
 use Rattle.overlay.specs.Join.{joined, joinAnswer}
 use Rattle.overlay.specs.Join as join
+use Rattle.widths.specs.Converters.{converted, convertAnswer}
+use Rattle.widths.specs.Converters as widths
 use Rattle.report.specs.Lines.{refusalLine}
 use Rattle.commands.specs.declared.arguments.Value.{Value}
 use Rattle.commands.specs.declared.arguments.Value.the-variants.{Number, Other}
@@ -148,6 +150,19 @@ unfolding packText
 packedFor (Number ρ) input = packText ρ input
 packedFor Other input = help
 
+-- ---- widen, narrow: the words of a system in, those of the converted system out
+
+unfoldable pub convertedText : (wide : Bool) → List ℕ → List ℕ
+convertedText wide words =
+    elim (convertAnswer wide words 1024) [
+      | widths.written n ↦ bytesOf (converted wide words)
+      | widths.refusal number place ↦ refusalLine number place
+    ]
+
+unfoldable pub convertText : (wide : Bool) (input : List ℕ) → List ℕ
+unfolding convertedText
+convertText wide input = elim (length input % 4) [ zero ↦ convertedText wide (wordsOf input) | suc n ↦ refusalLine 30 0 ]
+
 -- ---- the program
 
 -- so many bytes more than the input has are room for the text of every command
@@ -162,8 +177,15 @@ same (a ∷ l) (b ∷ bs) = eqb a b && same l bs
 
 -- the commands that stand after the others, and the help where none is named
 unfoldable pub otherText : (command first input : List ℕ) → List ℕ
-unfolding packedFor same
-otherText command first input = elim (same command (bytes "pack")) [ true ↦ packedFor (valueOf 16 first) input | false ↦ help ]
+unfolding packedFor convertText same
+otherText command first input =
+    elim (same command (bytes "pack")) [
+      | true ↦ packedFor (valueOf 16 first) input
+      | false ↦ elim (same command (bytes "widen")) [
+        | true ↦ convertText true input
+        | false ↦ elim (same command (bytes "narrow")) [ true ↦ convertText false input | false ↦ help ]
+      ]
+    ]
 
 -- what is printed for a command, its two arguments and the input
 unfoldable pub printed : (command first second input : List ℕ) → List ℕ

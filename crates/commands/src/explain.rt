@@ -8,7 +8,7 @@ ghost use Rattle.text.specs.Writing.{Wrote};
 ghost use Rattle.commands.specs.Meanings.{numbers, position, meaning as Meanings·meaning};
 ghost use Rattle.commands.specs.Meanings.{sentence as Meanings·sentence, help as Meanings·help};
 
-const NUMBERS: [u32; 36] = [
+const NUMBERS: [u32; 39] = [
     1,
     2,
     3,
@@ -42,6 +42,9 @@ const NUMBERS: [u32; 36] = [
     52,
     53,
     54,
+    55,
+    56,
+    57,
     58,
     59,
     61,
@@ -53,7 +56,7 @@ fn row(n: u32) -> usize
 {
     let listed = NUMBERS;
     let mut i = 0;
-    while i < 36 {
+    while i < 39 {
         if listed[i] == n {
             return i;
         }
@@ -103,6 +106,9 @@ fn meaning(out: &mut [u8], at: usize, n: u32) -> usize
            The estimate has more or fewer words than the system asks for.\n\
            The estimate has a bit set that stands for nothing.\n\
            The estimate breaks a rule of this word.\n\
+           A narrow system has no room for more than 32 handlers.\n\
+           A narrow system has no name over 31.\n\
+           The output has no room for the converted system.\n\
            The stream ends inside a system.\n\
            A system of a stream has more than 256 words.\n\
            The stream goes on after 10,000 systems.\n\
@@ -143,6 +149,8 @@ pub fn help(out: &mut [u8]) -> usize
            wiphosega block NAME SET   the same in, that handler's lines out, the second listing's if it has it\n\
            wiphosega manifest         a manifest in, its version and permission set out\n\
            wiphosega pack RHO         a listing in, a system of the stream of a class out; RHO in hexadecimal digits\n\
+           wiphosega widen            the words of a narrow system in, those of the wide one out\n\
+           wiphosega narrow           the words of a wide system in, those of the narrow one out\n\
            wiphosega explain NUMBER   the meaning of a refusal's number\n",
     )
 }

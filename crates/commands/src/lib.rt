@@ -1,6 +1,7 @@
 // What the program prints: the text of each command, written into lent bytes from its arguments and its input.
 pub mod arguments;
 mod checking;
+mod converters;
 pub mod explain;
 mod lines;
 mod listings;
@@ -11,6 +12,7 @@ mod packing;
 use crate::arguments::Value;
 use crate::arguments::value_of;
 use crate::checking::check_text;
+use crate::converters::convert_text;
 use crate::explain::help;
 use crate::explain::sentence;
 use crate::listings::text_text;
@@ -76,6 +78,12 @@ fn other_text(command: &[u8], first: &[u8], input: &[u8], out: &mut [u8]) -> usi
 {
     if check::same(command, b"pack") {
         return packed_for(value_of(first, 16), input, out);
+    }
+    if check::same(command, b"widen") {
+        return convert_text(true, input, out);
+    }
+    if check::same(command, b"narrow") {
+        return convert_text(false, input, out);
     }
     help(out)
 }

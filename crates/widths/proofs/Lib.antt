@@ -5,3 +5,5 @@ pub mod Refusals
 pub mod Scans
 pub mod Names
 pub mod Theorems
+pub mod Lengths
+pub mod Places

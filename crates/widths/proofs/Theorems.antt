@@ -15,8 +15,9 @@ use Rattle.table.proofs.Faults.{stands}
 use Rattle.table.proofs.Stack.{refused-not-accepted, at-start, at-step}
 use Rattle.table.proofs.Widths.{narrow-names, narrow-accepted, narrow-kind}
 use Rattle.table.proofs.Blocks.{head-word}
+use Rattle.table.proofs.Limits.{size-le}
 use Rattle.widths.specs.Converters.{rekinded, widened, narrowed, readAs, namesFit, fitsNarrow, narrowable, Answer, written, refusal}
-use Rattle.widths.specs.Converters.{answer, outAfter, widenAnswer, narrowAnswer}
+use Rattle.widths.specs.Converters.{kindFor, converted, convertible, answer, outAfter, convertAnswer, convertOut}
 use Rattle.widths.proofs.Words.{length-kept, first-word, kind-given, argument-kept}
 use Rattle.widths.proofs.Codes.{some-words, names-widened, names-narrowed}
 use Rattle.widths.proofs.Refusals.{of-kind, accepted-kind, few-handlers}
@@ -126,12 +127,12 @@ narrow-table ws e =
     of-kind 1 ws (⊎-elim (λ h. h) (λ h. absurd (narrow-kind ws e h)) (s .0)) ∙ r
 
 -- `narrow` after `widen` is refused for its room alone, and so is `widen` after `narrow`
-pub narrow-after-widen : (ws : List ℕ) (room : ℕ) → readAs 1 ws ≡ accepted → narrowAnswer (widened ws) room ≡ answer accepted (length ws) room
-unfolding narrowAnswer
+pub narrow-after-widen : (ws : List ℕ) (room : ℕ) → readAs 1 ws ≡ accepted → convertAnswer false (widened ws) room ≡ answer accepted (length ws) room
+unfolding convertAnswer convertible
 narrow-after-widen ws room e = rw (widened-narrowable ws e, length-kept 5 ws)
 
-pub widen-after-narrow : (ws : List ℕ) (room : ℕ) → narrowable ws ≡ accepted → widenAnswer (narrowed ws) room ≡ answer accepted (length ws) room
-unfolding widenAnswer
+pub widen-after-narrow : (ws : List ℕ) (room : ℕ) → narrowable ws ≡ accepted → convertAnswer true (narrowed ws) room ≡ answer accepted (length ws) room
+unfolding convertAnswer convertible
 widen-after-narrow ws room e = rw (narrowed-accepted ws e, length-kept 1 ws)
 
 -- A call that is not refused had a table that could be converted; as many words were written as it has, and there was room.
@@ -145,23 +146,28 @@ answer-written accepted words room n e = go (ltb room words) (ltb-false room wor
     go true f h = let z : _≡_ {A = ℕ} 0 1 = cc in absurd (zero-one z)
     go false f h = (refl, cc, f refl)
 
--- the output then starts with the converted words
-starts-with : (k : ℕ) (ws out : List ℕ) (n : ℕ) (a : Answer) → a ≡ written n → n ≡ length ws → take n (outAfter a (rekinded k ws) out) ≡ rekinded k ws
-unfolding outAfter
-starts-with k ws out n a e m =
-    ap (λ (b : Answer). take n (outAfter b (rekinded k ws) out)) e ∙ take-at (rekinded k ws) (drop n out) n (length-kept k ws ∙ sym m)
+-- what can be converted was accepted as a table of the other width, and is then one of this width
+pub converted-accepted : (wide : Bool) (ws : List ℕ) → convertible wide ws ≡ accepted
+    → (reading ws ≡ accepted) × (readAs (kindFor wide) (converted wide ws) ≡ accepted)
+unfolding convertible
+converted-accepted true ws e = (accepted-kind 1 ws e .1, widened-accepted ws e)
+converted-accepted false ws e = (wide-table ws e .1, narrowed-accepted ws e)
 
-module _ (ws out : List ℕ) (n : ℕ) where
-  pub widen-writes : widenAnswer ws (length out) ≡ written n
-      → (take n (outAfter (widenAnswer ws (length out)) (widened ws) out) ≡ widened ws) × (readAs 5 (widened ws) ≡ accepted)
-  unfolding widenAnswer
-  widen-writes e =
-      let a = answer-written (readAs 1 ws) (length ws) (length out) n e in
-      (starts-with 5 ws out n _ e (a .1), widened-accepted ws (a .0))
+module _ (wide : Bool) (ws out : List ℕ) (n : ℕ) (e : convertAnswer wide ws (length out) ≡ written n) where
+  unfoldable done : (convertible wide ws ≡ accepted) × (n ≡ length ws) × (length ws ≤ length out)
+  unfolding convertAnswer
+  done = answer-written (convertible wide ws) (length ws) (length out) n e
 
-  pub narrow-writes : narrowAnswer ws (length out) ≡ written n
-      → (take n (outAfter (narrowAnswer ws (length out)) (narrowed ws) out) ≡ narrowed ws) × (readAs 1 (narrowed ws) ≡ accepted)
-  unfolding narrowAnswer
-  narrow-writes e =
-      let a = answer-written (narrowable ws) (length ws) (length out) n e in
-      (starts-with 1 ws out n _ e (a .1), narrowed-accepted ws (a .0))
+  -- the output starts with the converted words
+  pub converted-written : take n (convertOut wide ws out) ≡ converted wide ws
+  unfolding convertOut outAfter
+  converted-written =
+      ap (λ (a : Answer). take n (outAfter a (converted wide ws) out)) e
+      ∙ take-at (converted wide ws) (drop n out) n (length-kept (kindFor wide) ws ∙ sym (done .1))
+
+  -- which are a table of this width
+  pub written-accepted : readAs (kindFor wide) (converted wide ws) ≡ accepted
+  written-accepted = converted-accepted wide ws (done .0) .1
+
+  pub written-few : n ≤ 1024
+  written-few = omega (arith, done .1, size-le ws (converted-accepted wide ws (done .0) .0))

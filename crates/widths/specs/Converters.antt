@@ -19,6 +19,14 @@ widened = rekinded 5
 abbrev pub narrowed : List ℕ → List ℕ
 narrowed = rekinded 1
 
+-- made wide, or narrow
+abbrev pub kindFor : (wide : Bool) → ℕ
+kindFor true = 5
+kindFor false = 1
+
+abbrev pub converted : (wide : Bool) → List ℕ → List ℕ
+converted wide = rekinded (kindFor wide)
+
 -- the code of words with another number of names
 abbrev pub withNames : ℕ → Code → Code
 withNames n c =
@@ -54,6 +62,12 @@ fitsNarrow ws = elim (ltb narrow (argument (getD ws 0 0))) [ true ↦ refused 55
 unfoldable pub narrowable : List ℕ → Outcome
 narrowable ws = elim (readAs 5 ws) [ refused n p ↦ refused n p | accepted ↦ fitsNarrow ws ]
 
+-- a table that can be made wide, or narrow
+unfoldable pub convertible : (wide : Bool) → List ℕ → Outcome
+unfolding narrowable
+convertible true ws = readAs 1 ws
+convertible false ws = narrowable ws
+
 -- ---- the answer, and the output slice afterwards
 
 -- how many words were written, or the refusal
@@ -66,12 +80,12 @@ unfoldable pub answer : Outcome → (words room : ℕ) → Answer
 answer (refused n p) words room = refusal n p
 answer accepted words room = elim (ltb room words) [ true ↦ refusal 57 0 | false ↦ written words ]
 
+unfoldable pub convertAnswer : (wide : Bool) → List ℕ → (room : ℕ) → Answer
+convertAnswer wide ws room = answer (convertible wide ws) (length ws) room
+
 unfoldable pub outAfter : Answer → (words out : List ℕ) → List ℕ
 outAfter (written n) ws out = ws ++ drop n out
 outAfter (refusal n p) ws out = out
 
-unfoldable pub widenAnswer : List ℕ → (room : ℕ) → Answer
-widenAnswer ws room = answer (readAs 1 ws) (length ws) room
-
-unfoldable pub narrowAnswer : List ℕ → (room : ℕ) → Answer
-narrowAnswer ws room = answer (narrowable ws) (length ws) room
+unfoldable pub convertOut : (wide : Bool) (words out : List ℕ) → List ℕ
+convertOut wide ws out = outAfter (convertAnswer wide ws (length out)) (converted wide ws) out

@@ -6,10 +6,11 @@ use crate::fit::check_narrow;
 use crate::fit::read_as;
 use table::words::argument_of;
 ghost use mathlib.Core.Path.{_≡_};
+ghost use mathlib.Core.Bool.{true, false};
 ghost use mathlib.Core.List.{_++_};
 ghost use Prim.Native.Nat.{_<_, _≤_};
 ghost use lib.ListN.{length, getD, drop};
-ghost use Rattle.widths.specs.Converters.{rekinded, widened, narrowed, answer, outAfter, widenAnswer, narrowAnswer};
+ghost use Rattle.widths.specs.Converters.{rekinded, answer, outAfter, convertAnswer, convertOut};
 ghost use Rattle.widths.specs.Answers.{convertedAs, checkedAs};
 
 // The word at a place, where word 0 has the kind.
@@ -38,7 +39,7 @@ fn copy_as(words: &[u32], kind: u32, out: &mut [u32])
 }
 
 // The words of a checked table, of which word 0 has the kind.
-fn convert(words: &[u32], checked: Checked, kind: u32, out: &mut [u32]) -> Converted
+fn put(words: &[u32], checked: Checked, kind: u32, out: &mut [u32]) -> Converted
     requires { ⌜ kind ≤ 255 ⌝ }
     ensures answer { λ r. ⌜ convertedAs r ≡ answer (checkedAs checked) (length (now (words .entry))) (length (now (out .entry))) ⌝ }
     ensures out { λ r. ⌜ now (out .exit) ≡ outAfter (answer (checkedAs checked) (length (now (words .entry))) (length (now (out .entry)))) (rekinded kind (now (words .entry))) (now (out .entry)) ⌝ }
@@ -53,18 +54,30 @@ fn convert(words: &[u32], checked: Checked, kind: u32, out: &mut [u32]) -> Conve
     Converted::Words(words.len())
 }
 
-// A narrow table as a wide one.
-pub fn widen(words: &[u32], out: &mut [u32]) -> Converted
-    ensures answer { λ r. ⌜ convertedAs r ≡ widenAnswer (now (words .entry)) (length (now (out .entry))) ⌝ }
-    ensures out { λ r. ⌜ now (out .exit) ≡ outAfter (widenAnswer (now (words .entry)) (length (now (out .entry)))) (widened (now (words .entry))) (now (out .entry)) ⌝ }
+// A narrow table made wide, or a wide one made narrow.
+pub fn convert(wide: bool, words: &[u32], out: &mut [u32]) -> Converted
+    ensures answer { λ r. ⌜ convertedAs r ≡ convertAnswer wide (now (words .entry)) (length (now (out .entry))) ⌝ }
+    ensures out { λ r. ⌜ now (out .exit) ≡ convertOut wide (now (words .entry)) (now (out .entry)) ⌝ }
 {
-    convert(words, read_as(words, 1), 5, out)
+    if wide {
+        put(words, read_as(words, 1), 5, out)
+    } else {
+        put(words, check_narrow(words), 1, out)
+    }
 }
 
-// A wide table as a narrow one.
-pub fn narrow(words: &[u32], out: &mut [u32]) -> Converted
-    ensures answer { λ r. ⌜ convertedAs r ≡ narrowAnswer (now (words .entry)) (length (now (out .entry))) ⌝ }
-    ensures out { λ r. ⌜ now (out .exit) ≡ outAfter (narrowAnswer (now (words .entry)) (length (now (out .entry)))) (narrowed (now (words .entry))) (now (out .entry)) ⌝ }
+// A narrow table made wide.
+pub fn widen(words: &[u32], out: &mut [u32]) -> Converted
+    ensures answer { λ r. ⌜ convertedAs r ≡ convertAnswer true (now (words .entry)) (length (now (out .entry))) ⌝ }
+    ensures out { λ r. ⌜ now (out .exit) ≡ convertOut true (now (words .entry)) (now (out .entry)) ⌝ }
 {
-    convert(words, check_narrow(words), 1, out)
+    convert(true, words, out)
+}
+
+// A wide table made narrow.
+pub fn narrow(words: &[u32], out: &mut [u32]) -> Converted
+    ensures answer { λ r. ⌜ convertedAs r ≡ convertAnswer false (now (words .entry)) (length (now (out .entry))) ⌝ }
+    ensures out { λ r. ⌜ now (out .exit) ≡ convertOut false (now (words .entry)) (now (out .entry)) ⌝ }
+{
+    convert(false, words, out)
 }

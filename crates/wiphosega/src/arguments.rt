@@ -34,7 +34,13 @@ fn has_input(word: &[u8]) -> bool {
     if check::same(word, b"check") {
         return true;
     }
-    check::same(word, b"pack")
+    if check::same(word, b"pack") {
+        return true;
+    }
+    if check::same(word, b"widen") {
+        return true;
+    }
+    check::same(word, b"narrow")
 }
 
 // The command that a word names.

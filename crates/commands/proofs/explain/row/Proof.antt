@@ -10,10 +10,10 @@ use Rattle.commands.proofs.explain.row.Statement.{statement}
 use Rattle.commands.proofs.explain.row.Tie as tie
 
 abbrev Inv-loop : tie.InvT-loop
-Inv-loop n listed i₀ i = (i ≤ 36) × (position n numbers ≡ i + position n (drop i numbers))
+Inv-loop n listed i₀ i = (i ≤ 39) × (position n numbers ≡ i + position n (drop i numbers))
 
 abbrev μ-loop : tie.MeasureT-loop
-μ-loop n listed i₀ i = 36 - i
+μ-loop n listed i₀ i = 39 - i
 
 loop-holds : tie.Need-loop-holds Inv-loop μ-loop
 unfolding numbers

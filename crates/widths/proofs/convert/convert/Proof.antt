@@ -1,52 +1,45 @@
 -- `widths::convert::convert` meets its contract.
 -- Assumes nothing.
-use mathlib.Core.Path.{sym, ap, _∙_}
-use Rattle.widths.specs.Converters.{rekinded}
-use Rattle.widths.specs.Answers.{faultNumber, faultPlace, convertedAs, checkedAs}
-use Rattle.widths.proofs.Refusals.{stopped, no-room, all-written}
+use Rattle.widths.specs.Converters.{convertible, convertAnswer, convertOut}
 use borrow.Author.Needs.{needs}
 use Rattle.widths.proofs.convert.convert.Statement.{statement}
 use Rattle.widths.proofs.convert.convert.Tie as tie
 
-enum-known-checked : tie.Need-enum-known-checked
-enum-known-checked c = search needs
+read-as-requires : tie.Need-read-as-requires
+read-as-requires c κs = search needs
 
-returns : tie.Need-returns
-unfolding convertedAs checkedAs
-returns c =
-    let q = stopped _ _ _ _ _ _ (ap checkedAs (c .before .checked .given .1)) in
-    (sym (q .0), sym (q .1))
+put-requires : tie.Need-put-requires
+put-requires c κs = search needs
 
-enum-told : tie.Need-enum-told
-enum-told c = search needs
+check-narrow-requires : tie.Need-check-narrow-requires
+check-narrow-requires c κs = search needs
 
-returns-2 : tie.Need-returns-2
-unfolding convertedAs checkedAs faultNumber faultPlace
-returns-2 c =
-    let q = no-room _ _ _ _ (ap checkedAs (c .before .enum-told .given .1)) (c .if1 .taken) in
-    (sym (q .0), sym (q .1))
-
-copy-as-requires : tie.Need-copy-as-requires
-copy-as-requires c κs = search needs
+put-requires-2 : tie.Need-put-requires-2
+put-requires-2 c κs = search needs
 
 same-length : tie.Need-same-length
 same-length c = search needs
 
-returns-3 : tie.Need-returns-3
-unfolding convertedAs checkedAs
-returns-3 c =
-    let a = c .before .before .before .before .before .before .before .before .before .args in
-    let q = all-written _ _ (rekinded (a .kind) (a .words .now)) (a .out .now) (ap checkedAs (c .before .before .before .before .before .enum-told .given .1)) (c .before .before .before .before .if1 .left) in
-    (sym (q .0), c .before .before .copy-as .ensures ∙ sym (q .1))
+returns : tie.Need-returns
+unfolding convertAnswer convertOut convertible
+returns c = rw (c .before .before .before .before .before .if1 .taken) (rw (c .before .before .before .before .read-as .ensures) at (c .before .before .put .ensures))
+
+same-length-2 : tie.Need-same-length-2
+same-length-2 c = search needs
+
+returns-2 : tie.Need-returns-2
+unfolding convertAnswer convertOut convertible
+returns-2 c = rw (c .before .before .before .before .before .if1 .left) (rw (c .before .before .before .before .check-narrow .ensures) at (c .before .before .put2 .ensures))
 
 pub convert-spec : {M : Type 1} → statement M
 convert-spec =
     tie.close
     (tie.spec
-    enum-known-checked
-    returns
-    enum-told
-    returns-2
-    copy-as-requires
+    read-as-requires
+    put-requires
+    check-narrow-requires
+    put-requires-2
     same-length
-    returns-3)
+    returns
+    same-length-2
+    returns-2)
