@@ -1,0 +1,13 @@
+pub mod Exchange
+pub mod Renumbering
+pub mod Tasks
+pub mod Standing
+pub mod Nodes
+pub mod Codes
+pub mod Sets
+pub mod Injections
+pub mod Facts
+pub mod Answers
+pub mod Reports
+pub mod Theorem
+pub mod Printed

@@ -1,0 +1,1 @@
+// Block order does not matter: statement and proof. There is no code here.

@@ -1,0 +1,1 @@
+// Renamed words: definitions and laws. There is no code here.
