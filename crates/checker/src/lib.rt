@@ -1,9 +1,9 @@
 // Whether an estimate obeys the flow rules: a test for each kind of word, in the order of the clauses. Nothing is written.
-pub mod senders;
-pub mod sends;
-pub mod terms;
-pub mod tests;
-pub mod things;
+mod senders;
+mod sends;
+mod terms;
+mod tests;
+mod things;
 
 use crate::senders::unaware_of;
 use crate::sends::Sending;

@@ -19,6 +19,7 @@ ghost use Rattle.rows.specs.Laid.{LaidOut, Sized};
 ghost use Rattle.rows.specs.Rows.{Poured};
 ghost use Rattle.clauses.specs.Asks.{rowAt, sortAt};
 ghost use Rattle.queries.specs.Passes.{Masked};
+ghost use Rattle.worklist.specs.Memory.{Kept};
 ghost use Rattle.firing.specs.Fired.{FiredFor, FiredIn};
 
 // ---- rows
@@ -133,6 +134,7 @@ pub fn put_word(est: &mut [u32], h: &mut [u32], l: Layout, r: usize, bits: u32) 
 pub fn fill(est: &mut [u32], h: &mut [u32], l: Layout, r: usize) -> usize
     requires { ⌜ Sized l (now est) × (r < 2 * l .size) ⌝ }
     ensures { λ x. ⌜ FiredFor l (λ c. WellFormed c (now (est .entry))) (λ c. Fill c (rowAt r)) (now (est .entry)) (now (est .exit)) x ⌝ }
+    ensures { λ _. ⌜ Kept (now (h .entry)) (now (h .exit)) ⌝ }
 {
     let row = l.row;
     let lead = l.lead;
@@ -200,6 +202,7 @@ fn start(est: &mut [u32], l: Layout, q: usize) -> usize
 pub fn wake(est: &mut [u32], h: &mut [u32], l: Layout, q: usize) -> usize
     requires { ⌜ Sized l (now est) × (q < l .size) ⌝ }
     ensures { λ x. ⌜ FiredIn l (Put (L q) 0) (now (est .entry)) (now (est .exit)) x ⌝ }
+    ensures { λ _. ⌜ Kept (now (h .entry)) (now (h .exit)) ⌝ }
 {
     let added = start(est, l, q);
     grew_live(h, q, added);

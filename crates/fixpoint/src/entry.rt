@@ -1,8 +1,8 @@
 // What the opponent's permissions ask of the blocks whose guards let it in.
 use checker::opens;
-use firing::targets::fill;
-use firing::targets::mark;
-use firing::targets::wake;
+use firing::fill;
+use firing::mark;
+use firing::wake;
 use permset::PermSet;
 use rows::layout::Layout;
 ghost use Prim.Native.Nat.{_+_, _*_, _<_};

@@ -15,6 +15,7 @@ use crate::sets::take_low;
 use crate::sets::take_turn;
 use rows::layout::Layout;
 ghost use Prim.Native.Nat.{_≤_};
+ghost use Rattle.worklist.specs.Memory.{Kept};
 
 // Where nothing waits.
 pub const NOTHING: usize = NONE;
@@ -30,7 +31,9 @@ pub fn next(
     l: Layout,
     turn: usize,
 ) -> usize
-    ensures { λ r. ⌜ r ≤ 4096 ⌝ }
+    ensures turn { λ r. ⌜ r ≤ 4096 ⌝ }
+    ensures memory { λ _. ⌜ Kept (now (h .entry)) (now (h .exit)) ⌝ }
+    ensures choices { λ _. ⌜ Kept (now (out .entry)) (now (out .exit)) ⌝ }
 {
     let from = turn % TURNS;
     clear(out);

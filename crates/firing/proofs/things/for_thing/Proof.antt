@@ -91,7 +91,7 @@ unfolding forThing
 returns c =
     let s = c .before .before .before .before .before .before .before .before .before .before .before in let a = s .args in
     thing-as (a .l) (a .what) whats.Enter (a .x) (a .y) (a .f) _ _ _ (c .before .before .before .before .before .before .before .enum-told .given .1)
-    (rw add-one at (c .before .before .before .before .wake .ensures))
+    (rw add-one at (c .before .before .before .before .wake .ensures .0))
 
 same-length-3 : tie.Need-same-length-3
 same-length-3 c = search needs
