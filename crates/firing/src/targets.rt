@@ -159,7 +159,8 @@ pub fn pass(
     b: usize,
 ) -> usize
     requires { ⌜ Sized l (now est) × (a < 2 * l .size) × (b < 2 * l .size) × (m < 4) × (4 * l .row ≤ length (now masks)) ⌝ }
-    ensures { λ x. ⌜ FiredFor l (λ c. WellFormed c (now (est .entry)) × Masked c l (now (masks .entry))) (λ c. Pass c (rowAt a) (sortAt m c) (rowAt b)) (now (est .entry)) (now (est .exit)) x ⌝ }
+    ensures { λ x. ⌜ FiredFor l (λ c. WellFormed c (now (est .entry))
+        × Masked c l (now (masks .entry))) (λ c. Pass c (rowAt a) (sortAt m c) (rowAt b)) (now (est .entry)) (now (est .exit)) x ⌝ }
 {
     let row = l.row;
     let at = m * row;
@@ -171,7 +172,8 @@ pub fn pass(
 // The permissions `bits` in P(p).
 pub fn permit(est: &mut [u32], h: &mut [u32], l: Layout, p: usize, bits: u32) -> usize
     requires { ⌜ Sized l (now est) × (p < l .size) × (bits < 2 ^ width) ⌝ }
-    ensures { λ x. ⌜ FiredFor l (λ c. WellFormed c (now (est .entry))) (λ c. every width (λ i. Only (member bits i) (Put (P p) i))) (now (est .entry)) (now (est .exit)) x ⌝ }
+    ensures { λ x. ⌜ FiredFor l (λ c. WellFormed c (now (est .entry))) (λ c. every width (λ i. Only (member bits i) (Put (P p) i))) (now (est .entry))
+        (now (est .exit)) x ⌝ }
 {
     let added = gain(est, l, p, bits);
     grew_perms(h, p, added);

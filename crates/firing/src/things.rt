@@ -43,7 +43,8 @@ fn for_thing(
 // The effect for each thing of the mask z in C(x + 1).
 pub fn each_thing(est: &mut [u32], masks: &[u32], h: &mut [u32], l: Layout, e: Effect) -> usize
     requires { ⌜ Sized l (now est) × Each l (now masks) e ⌝ }
-    ensures { λ r. ⌜ FiredFor l (λ c. Masked c l (now (masks .entry))) (λ c. every (c .size) (atThing c (e .what) (e .x) (e .y) (e .z))) (now (est .entry)) (now (est .exit)) r ⌝ }
+    ensures { λ r. ⌜ FiredFor l (λ c. Masked c l (now (masks .entry))) (λ c. every (c .size) (atThing c (e .what) (e .x) (e .y) (e .z)))
+        (now (est .entry)) (now (est .exit)) r ⌝ }
 {
     let what = e.what;
     let x = e.x;
@@ -69,7 +70,8 @@ pub fn one_thing(
     f: usize,
 ) -> usize
     requires { ⌜ Sized l (now est) × Each l (now masks) e × (f < l .size) ⌝ }
-    ensures { λ r. ⌜ FiredFor l (λ c. Masked c l (now (masks .entry))) (λ c. atThing c (e .what) (e .x) (e .y) (e .z) f) (now (est .entry)) (now (est .exit)) r ⌝ }
+    ensures { λ r. ⌜ FiredFor l (λ c. Masked c l (now (masks .entry))) (λ c. atThing c (e .what) (e .x) (e .y) (e .z) f) (now (est .entry))
+        (now (est .exit)) r ⌝ }
 {
     let what = e.what;
     let x = e.x;

@@ -22,7 +22,8 @@ const OPPONENT: usize = 7;
 // The opponent's data is in B(p), and the opponent is a sender of p.
 fn admit(est: &mut [u32], h: &mut [u32], l: Layout, p: usize) -> usize
     requires { ⌜ Sized l (now est) × (p < l .size) ⌝ }
-    ensures { λ r. ⌜ FiredFor l (λ c. WellFormed c (now (est .entry))) (λ c. Fill c (rowAt (2 * p + 1)) and Put (rowAt (2 * p)) 7) (now (est .entry)) (now (est .exit)) r ⌝ }
+    ensures { λ r. ⌜ FiredFor l (λ c. WellFormed c (now (est .entry))) (λ c. Fill c (rowAt (2 * p + 1)) and Put (rowAt (2 * p)) 7) (now (est .entry))
+        (now (est .exit)) r ⌝ }
 {
     let filled = fill(est, h, l, 2 * p + 1);
     filled + mark(est, l, 2 * p, OPPONENT)
@@ -31,7 +32,8 @@ fn admit(est: &mut [u32], h: &mut [u32], l: Layout, p: usize) -> usize
 // The block at p is live, and admits the opponent.
 fn let_in(est: &mut [u32], h: &mut [u32], l: Layout, p: usize) -> usize
     requires { ⌜ Sized l (now est) × (p < l .size) ⌝ }
-    ensures { λ r. ⌜ FiredFor l (λ c. WellFormed c (now (est .entry))) (λ c. live p and Fill c (rowAt (2 * p + 1)) and Put (rowAt (2 * p)) 7) (now (est .entry)) (now (est .exit)) r ⌝ }
+    ensures { λ r. ⌜ FiredFor l (λ c. WellFormed c (now (est .entry))) (λ c. live p and Fill c (rowAt (2 * p + 1)) and Put (rowAt (2 * p)) 7)
+        (now (est .entry)) (now (est .exit)) r ⌝ }
 {
     let started = wake(est, h, l, p);
     started + admit(est, h, l, p)

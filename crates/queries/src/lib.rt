@@ -131,8 +131,10 @@ pub fn starts(
     sender: PermSet,
     b: usize,
 ) -> bool
-    requires { ⌜ (b < length (now words)) × (2 * (x + 1) * l .row + l .row ≤ length (now est)) × (32 + argument (getD (now words) b 0) < 32 * l .row) × (x < 1024) ⌝ }
-    ensures { λ r. ⌜ ((c : Code) → LaidOut c l → x + 1 < l .size → 32 + argument (getD (now (words .entry)) b 0) < elements c → r ≡ startsAt c (now (words .entry)) (now (est .entry)) x (required .bits) (sender .bits) b) ⌝ }
+    requires { ⌜ (b < length (now words)) × (2 * (x + 1) * l .row + l .row ≤ length (now est)) × (32 + argument (getD (now words) b 0) < 32 * l .row)
+        × (x < 1024) ⌝ }
+    ensures { λ r. ⌜ ((c : Code) → LaidOut c l → x + 1 < l .size → 32 + argument (getD (now (words .entry)) b 0) < elements c → r
+        ≡ startsAt c (now (words .entry)) (now (est .entry)) x (required .bits) (sender .bits) b) ⌝ }
 {
     let receiver = handler_at(words, b);
     let name = receiver.name;
