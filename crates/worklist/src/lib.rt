@@ -10,4 +10,4 @@ pub mod notes;
 pub mod plan;
 mod sets;
 mod things;
-mod view;
+pub mod view;

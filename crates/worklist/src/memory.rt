@@ -3,10 +3,11 @@
 //     ROWS                    2 + 64 words: a bit for each turn whose row waits
 //     LIVE                    1 + 32 words: a bit for each word that waits with the words that are live with it
 //     PERMISSIONS             1 + 32 words: a bit for each word whose permissions wait
-//     TURN + 3r               the turn of the row r, where 2p is C(p) and 2p + 1 is B(p)
+//     TURN + 3r               the turn of the row r, where 2p is C(p) and 2p + 1 is B(p); TURNS more once r has had it
 //     ROW + 3t                the row of the turn t
 //     PARENT + 6p             the word that p is a part of; 0 if there is none
 //     USE + 6p                of a binder its last use, of a use the one before it; 0 if there is none
+//     RECEIVER + 6p           of a send, the only block of the names that it sends to; MOST if there is none, 0 if there are more
 //     at_followers(n, f)      1 + n / 32 + 1 words: a bit for each word that acts on the thing f, or sends to the block f
 //
 // The first words of a set are its summary: a bit for each word after them that has a bit.
@@ -42,6 +43,9 @@ pub const ROW: usize = TURN + 1;
 pub const PARENT: usize = TURN + 2;
 
 pub const USE: usize = TURN + 5;
+
+// A send is no binder and no use.
+pub const RECEIVER: usize = USE;
 
 // One more than the largest number that a word holds.
 pub const LIMIT: usize = 4294967296;
