@@ -40,9 +40,6 @@ fn join_row(est: &mut [u32], row: usize, a: usize, b: usize) -> usize
 {
     let from = a * row;
     let to = b * row;
-    if !row::lacks(est, row, from, to) {
-        return 0;
-    }
     let mut scratch = [0u32; 36];
     row::copy(&est[from..from + row], &mut scratch);
     row::join(&mut est[to..to + row], &scratch[..row])
@@ -118,6 +115,18 @@ pub fn flow(est: &mut [u32], h: &mut [u32], l: Layout, a: usize, b: usize) -> us
     let added = join_row(est, l.row, a, b);
     grew_row(h, b, added);
     added
+}
+
+// The same, with a test first: for rows that often have nothing new.
+pub fn flow_if(est: &mut [u32], h: &mut [u32], l: Layout, a: usize, b: usize) -> usize
+    requires { ⌜ (a * l .row + l .row ≤ length (now est)) × (b * l .row + l .row ≤ length (now est)) × (l .row ≤ 36) ⌝ }
+    ensures { λ x. ⌜ FiredIn l (Sub (rowAt a) (rowAt b)) (now (est .entry)) (now (est .exit)) x ⌝ }
+{
+    let row = l.row;
+    if !row::lacks(est, row, a * row, b * row) {
+        return 0;
+    }
+    flow(est, h, l, a, b)
 }
 
 // Bits of the first word of the row r.

@@ -5,6 +5,7 @@ use firing::mark;
 use firing::wake;
 use permset::PermSet;
 use rows::layout::Layout;
+use worklist::past;
 ghost use Prim.Native.Nat.{_+_, _*_, _<_};
 ghost use Rattle.table.specs.Code.{code};
 ghost use Rattle.calculus.specs.Constraint.{put as Put, _and_};
@@ -58,16 +59,23 @@ pub fn enter(
 }
 
 // The entries of all blocks.
-pub fn enter_all(words: &[u32], est: &mut [u32], h: &mut [u32], l: Layout, rho: PermSet) -> usize
+pub fn enter_all(
+    words: &[u32],
+    links: &[u32],
+    est: &mut [u32],
+    h: &mut [u32],
+    l: Layout,
+    rho: PermSet,
+) -> usize
     requires { ⌜ Accepted (now words) l × Sized l (now est) × WellFormed (code (now words)) (now est) ⌝ }
     ensures { λ r. ⌜ Grown (code (now (words .entry))) (rho .bits) (now (est .entry)) (now (est .exit)) r ⌝ }
 {
     let size = l.size;
     let mut added = 0;
-    let mut p = 0;
+    let mut p = 1;
     while p < size {
         added += enter(words, est, h, l, rho, p);
-        p += 1;
+        p = past(links, p + 3);
     }
     added
 }

@@ -24,7 +24,8 @@ unfoldable pub permissionsWait : ℕ
 permissionsWait = setWords 1 32
 
 -- for each word six: the turn of the row C(p), the row of a turn, the word that it is a part of, the turn of the row B(p), the row of a turn, and of a
--- binder its last use, of a use the one before it; 0 where there is none
+-- binder its last use, of a use the one before it, 0 where there is none; of a send the only block of the names that it sends to. A row that has had its
+-- turn has 2,048 added to it.
 unfoldable pub plan : ℕ → ℕ
 plan n = 6 * n
 

@@ -17,3 +17,4 @@ pub use crate::choices::choice_clause;
 pub use crate::choices::choice_place;
 pub use crate::choices::choice_target;
 pub use crate::choices::count;
+pub use crate::view::past;

@@ -36,6 +36,9 @@ pub const PARENT: usize = TURN + 2;
 
 pub const USE: usize = TURN + 5;
 
+// A send is no binder and no use.
+pub const RECEIVER: usize = USE;
+
 // One more than the largest number that a word holds.
 pub const LIMIT: usize = 4294967296;
 

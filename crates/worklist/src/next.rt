@@ -8,6 +8,7 @@ use crate::memory::MOST;
 use crate::memory::PERMISSIONS;
 use crate::memory::TURN;
 use crate::memory::TURNS;
+use crate::memory::put;
 use crate::memory::row_of;
 use crate::sets::NONE;
 use crate::sets::take_high;
@@ -47,7 +48,9 @@ pub fn next(
     }
     let t = take_turn(h, from);
     if t < TURNS {
-        row_grew(words, links, masks, est, h, out, l, row_of(h, t));
+        let r = row_of(h, t);
+        put(h, TURN + 3 * r, TURNS + t);
+        row_grew(words, links, masks, est, h, out, l, r);
         return t + 1;
     }
     let p = take_high(h, PERMISSIONS);
