@@ -1,4 +1,4 @@
--- The arrays of src/room.rt are as long as a memory and a list of choices for 64, 256, 512 and 1,024 words of a table. Computed.
+-- The words of a memory and of a list of choices for 64, 256, 512 and 1,024 words of a table, computed: the lengths that src/room.rt writes as numbers.
 use mathlib.Core.Path.{_≡_, refl}
 use mathlib.Core.List.{[], _∷_}
 use Rattle.worklist.specs.Memory.{setWords, rowsWait, liveWait, permissionsWait, plan, followers, memoryWords, choiceWords}
