@@ -16,7 +16,8 @@ ghost use Rattle.capi.specs.Interface.{bytesAnswer, estimateBytes, workB
 
 fn of_words(words: &[u32], rho: u32, bound: u32, estimate: &mut [u8], work: &mut [u8]) -> u64
     requires { ⌜ length (now words) ≤ 256 ⌝ }
-    ensures { λ r. ⌜ Answered (now (words .entry)) rho (answer (now (words .entry)) rho bound (length (now (estimate .entry)) / 4) (length (now (work .entry)) / 4)) (now (estimate .entry)) (now (work .entry)) r (now (estimate .exit)) (now (work .exit)) ⌝ }
+    ensures { λ r. ⌜ Answered (now (words .entry)) rho (answer (now (words .entry)) rho bound (length (now (estimate .entry)) / 4)
+        (length (now (work .entry)) / 4)) (now (estimate .entry)) (now (work .entry)) r (now (estimate .exit)) (now (work .exit)) ⌝ }
 {
     let v = with_bytes(words, rho, bound, estimate, work);
     answer_number(v)
@@ -32,7 +33,9 @@ fn of_system(
     words: &mut [u32],
 ) -> u64
     requires { ⌜ (length (now system) ≤ 1024) × (length (now words) ≡ 256) ⌝ }
-    ensures { λ r. ⌜ Answered (wordsOf (now (system .entry))) rho (answer (wordsOf (now (system .entry))) rho bound (length (now (estimate .entry)) / 4) (length (now (work .entry)) / 4)) (now (estimate .entry)) (now (work .entry)) r (now (estimate .exit)) (now (work .exit)) ⌝ }
+    ensures { λ r. ⌜ Answered (wordsOf (now (system .entry))) rho (answer (wordsOf (now (system .entry))) rho bound
+        (length (now (estimate .entry)) / 4) (length (now (work .entry)) / 4)) (now (estimate .entry)) (now (work .entry)) r (now (estimate .exit))
+        (now (work .exit)) ⌝ }
 {
     let n = words_of(system, words);
     of_words(&words[..n], rho, bound, estimate, work)
@@ -49,8 +52,10 @@ pub extern "C" fn wiphosega_verdict(
     work: &mut [u8],
 ) -> u64
     ensures answer { λ r. ⌜ r ≡ answerNumber (bytesAnswer (now (system .entry)) rho bound (length (now (estimate .entry))) (length (now (work .entry)))) ⌝ }
-    ensures estimate { λ _. ⌜ now (estimate .exit) ≡ estimateBytes (wordsOf (now (system .entry))) rho (bytesAnswer (now (system .entry)) rho bound (length (now (estimate .entry))) (length (now (work .entry)))) (now (estimate .entry)) ⌝ }
-    ensures work { λ _. ⌜ now (work .exit) ≡ workBytes (wordsOf (now (system .entry))) (bytesAnswer (now (system .entry)) rho bound (length (now (estimate .entry))) (length (now (work .entry)))) (now (work .entry)) ⌝ }
+    ensures estimate { λ _. ⌜ now (estimate .exit) ≡ estimateBytes (wordsOf (now (system .entry))) rho
+        (bytesAnswer (now (system .entry)) rho bound (length (now (estimate .entry))) (length (now (work .entry)))) (now (estimate .entry)) ⌝ }
+    ensures work { λ _. ⌜ now (work .exit) ≡ workBytes (wordsOf (now (system .entry))) (bytesAnswer (now (system .entry)) rho bound
+        (length (now (estimate .entry))) (length (now (work .entry)))) (now (work .entry)) ⌝ }
     ensures correct { λ r. ⌜ CorrectNumber (wordsOf (now (system .entry))) rho bound (now (estimate .exit)) r ⌝ }
     ensures guarantee { λ r. ⌜ GuaranteedNumber (wordsOf (now (system .entry))) rho r ⌝ }
 {

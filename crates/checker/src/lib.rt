@@ -1,9 +1,9 @@
 // Whether an estimate obeys the flow rules: a test for each kind of word, in the order of the clauses. Nothing is written.
-pub mod senders;
-pub mod sends;
-pub mod terms;
-pub mod tests;
-pub mod things;
+mod senders;
+mod sends;
+mod terms;
+mod tests;
+mod things;
 
 use crate::senders::unaware_of;
 use crate::sends::Sending;
@@ -190,7 +190,8 @@ fn lacking(
     below: usize,
 ) -> usize
     requires { ⌜ Ready (now words) (now links) (now masks) l × WellFormed (code (now words)) (now est) × (p < l .size) × (below ≤ l .size) ⌝ }
-    ensures { λ r. ⌜ First (code (now (words .entry))) (sets (code (now (words .entry))) (now (est .entry))) (λ b. Sender (code (now (words .entry))) b p (code (now (words .entry)) .node p)) below r ⌝ }
+    ensures { λ r. ⌜ First (code (now (words .entry))) (sets (code (now (words .entry))) (now (est .entry)))
+        (λ b. Sender (code (now (words .entry))) b p (code (now (words .entry)) .node p)) below r ⌝ }
 {
     let w = words[p];
     if kind_of(w) != 35 {

@@ -52,7 +52,8 @@ fn first_unaware(
     below: usize,
 ) -> usize
     requires { ⌜ Sent (now words) (now masks) (now est) l s × LinksOf (now words) (now links) × (home < l .size) × (below ≤ l .size) ⌝ }
-    ensures { λ r. ⌜ First (code (now (words .entry))) (sets (code (now (words .entry))) (now (est .entry))) (toSender (code (now (words .entry))) s home) below r ⌝ }
+    ensures { λ r. ⌜ First (code (now (words .entry))) (sets (code (now (words .entry))) (now (est .entry)))
+        (toSender (code (now (words .entry))) s home) below r ⌝ }
 {
     let mut b = 1;
     while b < below {
@@ -76,7 +77,8 @@ pub fn unaware_of(
     below: usize,
 ) -> usize
     requires { ⌜ Sent (now words) (now masks) (now est) l s × LinksOf (now words) (now links) × (home < l .size) × (below ≤ l .size) ⌝ }
-    ensures { λ r. ⌜ First (code (now (words .entry))) (sets (code (now (words .entry))) (now (est .entry))) (λ b. some (C (s .d)) (sendable (code (now (words .entry)))) (toSender (code (now (words .entry))) s home b)) below r ⌝ }
+    ensures { λ r. ⌜ First (code (now (words .entry))) (sets (code (now (words .entry))) (now (est .entry)))
+        (λ b. some (C (s .d)) (sendable (code (now (words .entry)))) (toSender (code (now (words .entry))) s home b)) below r ⌝ }
 {
     if !has_some(est, masks, l, 2 * s.d, MESSAGES) {
         return below;

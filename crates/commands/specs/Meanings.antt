@@ -44,9 +44,9 @@ unfoldable pub page : List ℕ
 page =
     bytes "The system is empty, or its first word is not `system`.\n"
     ++ bytes "The system has more than 1,024 words.\n"
-    ++ bytes "The system has more than 32 handlers.\n"
+    ++ bytes "The system has more than 32 handlers, or 64 if it is wide.\n"
     ++ bytes "A word of a handler is missing or is another one: `handler`, `permissions` and `guard` come first, in this order.\n"
-    ++ bytes "The name of the handler is over 31.\n"
+    ++ bytes "The name of the handler is over 31, or 63 if the system is wide.\n"
     ++ bytes "An earlier handler has the same name and the same permissions.\n"
     ++ bytes "A term has to stand here, and this word is none.\n"
     ++ bytes "The system ends where a term is still needed.\n"

@@ -75,9 +75,9 @@ fn meaning(out: &mut [u8], at: usize, n: u32) -> usize
         at,
         b"The system is empty, or its first word is not `system`.\n\
            The system has more than 1,024 words.\n\
-           The system has more than 32 handlers.\n\
+           The system has more than 32 handlers, or 64 if it is wide.\n\
            A word of a handler is missing or is another one: `handler`, `permissions` and `guard` come first, in this order.\n\
-           The name of the handler is over 31.\n\
+           The name of the handler is over 31, or 63 if the system is wide.\n\
            An earlier handler has the same name and the same permissions.\n\
            A term has to stand here, and this word is none.\n\
            The system ends where a term is still needed.\n\

@@ -91,7 +91,8 @@ fn other_text(command: &[u8], first: &[u8], input: &[u8], out: &mut [u8]) -> usi
 // The text of a command.
 fn print(command: &[u8], first: &[u8], second: &[u8], input: &[u8], out: &mut [u8]) -> usize
     requires { ⌜ room + length (now input) ≤ length (now out) ⌝ }
-    ensures { λ r. ⌜ Wrote (now (out .entry)) 0 (printed (now (command .entry)) (now (first .entry)) (now (second .entry)) (now (input .entry))) (now (out .exit)) r ⌝ }
+    ensures { λ r. ⌜ Wrote (now (out .entry)) 0 (printed (now (command .entry)) (now (first .entry)) (now (second .entry)) (now (input .entry)))
+        (now (out .exit)) r ⌝ }
 {
     if check::same(command, b"text") {
         return text_text(input, out);
@@ -120,8 +121,10 @@ fn print(command: &[u8], first: &[u8], second: &[u8], input: &[u8], out: &mut [u
 // The text of a command with its two arguments and its input, at the start of the output, and how many bytes it has. Nothing is written
 // where the output has not 81,920 bytes more than the input, which is room for every text.
 pub fn run(command: &[u8], first: &[u8], second: &[u8], input: &[u8], out: &mut [u8]) -> usize
-    ensures size { λ r. ⌜ r ≡ printedSize (printed (now (command .entry)) (now (first .entry)) (now (second .entry)) (now (input .entry))) (length (now (input .entry))) (length (now (out .entry))) ⌝ }
-    ensures out { λ _. ⌜ now (out .exit) ≡ outAfter (printed (now (command .entry)) (now (first .entry)) (now (second .entry)) (now (input .entry))) (length (now (input .entry))) (now (out .entry)) ⌝ }
+    ensures size { λ r. ⌜ r ≡ printedSize (printed (now (command .entry)) (now (first .entry)) (now (second .entry)) (now (input .entry)))
+        (length (now (input .entry))) (length (now (out .entry))) ⌝ }
+    ensures out { λ _. ⌜ now (out .exit) ≡ outAfter (printed (now (command .entry)) (now (first .entry)) (now (second .entry)) (now (input .entry)))
+        (length (now (input .entry))) (now (out .entry)) ⌝ }
     ensures fits { λ r. ⌜ r ≤ length (now (out .entry)) ⌝ }
 {
     if out.len() < 81920 {

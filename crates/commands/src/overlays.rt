@@ -116,7 +116,8 @@ fn place_text(
     out: &mut [u8],
 ) -> usize
     requires { ⌜ (length (now first) ≤ length (now out)) × (length (now second) ≤ length (now out)) × (96 ≤ length (now out)) ⌝ }
-    ensures { λ r. ⌜ PlacedAs (now (first .entry)) (now (second .entry)) (placeOf (now (base .entry)) (now (overlay .entry)) name perms) (now (out .entry)) (now (out .exit)) r ⌝ }
+    ensures { λ r. ⌜ PlacedAs (now (first .entry)) (now (second .entry)) (placeOf (now (base .entry)) (now (overlay .entry)) name perms)
+        (now (out .entry)) (now (out .exit)) r ⌝ }
 {
     match find(base, overlay, name, perms) {
         Found::Base(a, e) => put_lines(out, first, a, e - a),

@@ -45,7 +45,8 @@ fn fire_things(
     f: usize,
 ) -> usize
     requires { ⌜ Sized l (now est) × Each l (now masks) e × (f < l .size) ⌝ }
-    ensures { λ r. ⌜ FiredFor l (λ c. Masked c l (now (masks .entry))) (λ c. things c (e .what) (e .x) (e .y) (e .z) f) (now (est .entry)) (now (est .exit)) r ⌝ }
+    ensures { λ r. ⌜ FiredFor l (λ c. Masked c l (now (masks .entry))) (λ c. things c (e .what) (e .x) (e .y) (e .z) f) (now (est .entry))
+        (now (est .exit)) r ⌝ }
 {
     if f == 0 {
         each_thing(est, masks, h, l, e)
@@ -88,7 +89,8 @@ fn add(
     f: usize,
 ) -> usize
     requires { ⌜ Ready (now words) (now links) (now masks) l × WellFormed (code (now words)) (now est) × Addable l (now masks) (now words) e f ⌝ }
-    ensures { λ r. ⌜ Fired (code (now (words .entry))) (effect (code (now (words .entry))) (e .what) (e .x) (e .y) (e .z) f) (now (est .entry)) (now (est .exit)) r ⌝ }
+    ensures { λ r. ⌜ Fired (code (now (words .entry))) (effect (code (now (words .entry))) (e .what) (e .x) (e .y) (e .z) f) (now (est .entry))
+        (now (est .exit)) r ⌝ }
 {
     let what = e.what;
     let x = e.x;

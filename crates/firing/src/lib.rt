@@ -1,8 +1,12 @@
 // The one writer of an estimate: what a clause asks is added where its guard passes, and the bits that this adds are counted. What grows is noted in the
-// memory of the worklist, of which nothing is promised.
-pub mod fire;
-pub mod sends;
+// memory of the worklist, of which its length is promised (`Kept` of worklist/specs/Memory.antt).
+mod fire;
+mod sends;
 pub mod step;
-pub mod targets;
-pub mod terms;
-pub mod things;
+mod targets;
+mod terms;
+mod things;
+
+pub use crate::targets::fill;
+pub use crate::targets::mark;
+pub use crate::targets::wake;

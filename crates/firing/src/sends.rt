@@ -35,7 +35,8 @@ pub struct Sender {
 
 // The block of the send at x.
 pub fn sender_of(words: &[u32], links: &[u32], x: usize) -> Sender
-    ensures { λ r. ⌜ (r .perms .bits ≡ itemPerms (itemAt (now (words .entry)) (linkAt (now (links .entry)) x .home))) × (r .home ≡ linkAt (now (links .entry)) x .home) ⌝ }
+    ensures { λ r. ⌜ (r .perms .bits ≡ itemPerms (itemAt (now (words .entry)) (linkAt (now (links .entry)) x .home)))
+        × (r .home ≡ linkAt (now (links .entry)) x .home) ⌝ }
 {
     let home = link_at(links, x).home;
     let perms = permissions_of(words, links, x);
@@ -53,7 +54,8 @@ fn deliver(
     b: usize,
 ) -> usize
     requires { ⌜ Sized l (now est) × (p < l .size) × (d < l .size) × (b < l .size) × (4 * l .row ≤ length (now masks)) ⌝ }
-    ensures { λ x. ⌜ FiredFor l (λ c. WellFormed c (now (est .entry)) × Masked c l (now (masks .entry))) (λ c. Put (L b) 0 and Pass c (rowAt (2 * d)) (sortAt 3 c) (rowAt (2 * b + 1)) and sub (P b) (P p)) (now (est .entry)) (now (est .exit)) x ⌝ }
+    ensures { λ x. ⌜ FiredFor l (λ c. WellFormed c (now (est .entry)) × Masked c l (now (masks .entry)))
+        (λ c. Put (L b) 0 and Pass c (rowAt (2 * d)) (sortAt 3 c) (rowAt (2 * b + 1)) and sub (P b) (P p)) (now (est .entry)) (now (est .exit)) x ⌝ }
 {
     let started = wake(est, h, l, b);
     let passed = pass(est, masks, h, l, 2 * d, 3, 2 * b + 1);
@@ -72,7 +74,9 @@ fn deliver_from(
     b: usize,
 ) -> usize
     requires { ⌜ Sized l (now est) × (p < l .size) × (d < l .size) × (b < l .size) × (4 * l .row ≤ length (now masks)) × (home < l .size) ⌝ }
-    ensures { λ x. ⌜ FiredFor l (λ c. WellFormed c (now (est .entry)) × Masked c l (now (masks .entry))) (λ c. (Put (L b) 0 and Pass c (rowAt (2 * d)) (sortAt 3 c) (rowAt (2 * b + 1)) and sub (P b) (P p)) and Put (rowAt (2 * b)) (32 * l .lead + home)) (now (est .entry)) (now (est .exit)) x ⌝ }
+    ensures { λ x. ⌜ FiredFor l (λ c. WellFormed c (now (est .entry)) × Masked c l (now (masks .entry)))
+        (λ c. (Put (L b) 0 and Pass c (rowAt (2 * d)) (sortAt 3 c) (rowAt (2 * b + 1)) and sub (P b) (P p)) and Put (rowAt (2 * b))
+        (32 * l .lead + home)) (now (est .entry)) (now (est .exit)) x ⌝ }
 {
     let started = deliver(est, masks, h, l, p, d, b);
     started + mark(est, l, 2 * b, 32 * l.lead + home)
@@ -112,7 +116,8 @@ pub fn send_all(
     own: Sender,
 ) -> usize
     requires { ⌜ Ready (now words) (now links) (now masks) l × Sends (now words) (now masks) (now est) l e own × (e .z < 4294967296) ⌝ }
-    ensures { λ r. ⌜ Fired (code (now (words .entry))) (each (code (now (words .entry)) .blocks) (atBlock (code (now (words .entry))) (e .x) (e .y) (e .z))) (now (est .entry)) (now (est .exit)) r ⌝ }
+    ensures { λ r. ⌜ Fired (code (now (words .entry))) (each (code (now (words .entry)) .blocks) (atBlock (code (now (words .entry))) (e .x) (e .y)
+        (e .z))) (now (est .entry)) (now (est .exit)) r ⌝ }
 {
     let mut added = 0;
     let mut b = 1;

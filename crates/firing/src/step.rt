@@ -9,6 +9,7 @@ ghost use lib.ListN.{length};
 ghost use Rattle.table.specs.Code.{code};
 ghost use Rattle.calculus.specs.Layout.{WellFormed};
 ghost use Rattle.queries.specs.Ready.{Ready};
+ghost use Rattle.worklist.specs.Memory.{Kept};
 ghost use Rattle.firing.specs.Fired.{Fired};
 ghost use Rattle.firing.specs.Step.{stepAt};
 
@@ -26,6 +27,7 @@ pub fn step(
 ) -> usize
     requires { ⌜ Ready (now words) (now links) (now masks) l × WellFormed (code (now words)) (now est) × (p < l .size) × (f < l .size) ⌝ }
     ensures { λ r. ⌜ Fired (code (now (words .entry))) (stepAt (now (words .entry)) (now (links .entry)) p k f) (now (est .entry)) (now (est .exit)) r ⌝ }
+    ensures { λ _. ⌜ Kept (now (h .entry)) (now (h .exit)) ⌝ }
 {
     if !is_live(est, l, p) {
         return 0;

@@ -19,6 +19,7 @@ ghost use Rattle.rows.specs.Laid.{LaidOut, Sized};
 ghost use Rattle.rows.specs.Rows.{Poured};
 ghost use Rattle.clauses.specs.Asks.{rowAt, sortAt};
 ghost use Rattle.queries.specs.Passes.{Masked};
+ghost use Rattle.worklist.specs.Memory.{Kept};
 ghost use Rattle.firing.specs.Fired.{FiredFor, FiredIn};
 
 // ---- rows
@@ -39,9 +40,6 @@ fn join_row(est: &mut [u32], row: usize, a: usize, b: usize) -> usize
 {
     let from = a * row;
     let to = b * row;
-    if !row::lacks(est, row, from, to) {
-        return 0;
-    }
     let mut scratch = [0u32; 36];
     row::copy(&est[from..from + row], &mut scratch);
     row::join(&mut est[to..to + row], &scratch[..row])
@@ -119,6 +117,18 @@ pub fn flow(est: &mut [u32], h: &mut [u32], l: Layout, a: usize, b: usize) -> us
     added
 }
 
+// The same, with a test first: for rows that often have nothing new.
+pub fn flow_if(est: &mut [u32], h: &mut [u32], l: Layout, a: usize, b: usize) -> usize
+    requires { ⌜ (a * l .row + l .row ≤ length (now est)) × (b * l .row + l .row ≤ length (now est)) × (l .row ≤ 36) ⌝ }
+    ensures { λ x. ⌜ FiredIn l (Sub (rowAt a) (rowAt b)) (now (est .entry)) (now (est .exit)) x ⌝ }
+{
+    let row = l.row;
+    if !row::lacks(est, row, a * row, b * row) {
+        return 0;
+    }
+    flow(est, h, l, a, b)
+}
+
 // Bits of the first word of the row r.
 pub fn put_word(est: &mut [u32], h: &mut [u32], l: Layout, r: usize, bits: u32) -> usize
     requires { ⌜ (r * l .row + l .row ≤ length (now est)) × (0 < l .row) ⌝ }
@@ -133,6 +143,7 @@ pub fn put_word(est: &mut [u32], h: &mut [u32], l: Layout, r: usize, bits: u32) 
 pub fn fill(est: &mut [u32], h: &mut [u32], l: Layout, r: usize) -> usize
     requires { ⌜ Sized l (now est) × (r < 2 * l .size) ⌝ }
     ensures { λ x. ⌜ FiredFor l (λ c. WellFormed c (now (est .entry))) (λ c. Fill c (rowAt r)) (now (est .entry)) (now (est .exit)) x ⌝ }
+    ensures { λ _. ⌜ Kept (now (h .entry)) (now (h .exit)) ⌝ }
 {
     let row = l.row;
     let lead = l.lead;
@@ -157,7 +168,8 @@ pub fn pass(
     b: usize,
 ) -> usize
     requires { ⌜ Sized l (now est) × (a < 2 * l .size) × (b < 2 * l .size) × (m < 4) × (4 * l .row ≤ length (now masks)) ⌝ }
-    ensures { λ x. ⌜ FiredFor l (λ c. WellFormed c (now (est .entry)) × Masked c l (now (masks .entry))) (λ c. Pass c (rowAt a) (sortAt m c) (rowAt b)) (now (est .entry)) (now (est .exit)) x ⌝ }
+    ensures { λ x. ⌜ FiredFor l (λ c. WellFormed c (now (est .entry))
+        × Masked c l (now (masks .entry))) (λ c. Pass c (rowAt a) (sortAt m c) (rowAt b)) (now (est .entry)) (now (est .exit)) x ⌝ }
 {
     let row = l.row;
     let at = m * row;
@@ -169,7 +181,8 @@ pub fn pass(
 // The permissions `bits` in P(p).
 pub fn permit(est: &mut [u32], h: &mut [u32], l: Layout, p: usize, bits: u32) -> usize
     requires { ⌜ Sized l (now est) × (p < l .size) × (bits < 2 ^ width) ⌝ }
-    ensures { λ x. ⌜ FiredFor l (λ c. WellFormed c (now (est .entry))) (λ c. every width (λ i. Only (member bits i) (Put (P p) i))) (now (est .entry)) (now (est .exit)) x ⌝ }
+    ensures { λ x. ⌜ FiredFor l (λ c. WellFormed c (now (est .entry))) (λ c. every width (λ i. Only (member bits i) (Put (P p) i))) (now (est .entry))
+        (now (est .exit)) x ⌝ }
 {
     let added = gain(est, l, p, bits);
     grew_perms(h, p, added);
@@ -200,6 +213,7 @@ fn start(est: &mut [u32], l: Layout, q: usize) -> usize
 pub fn wake(est: &mut [u32], h: &mut [u32], l: Layout, q: usize) -> usize
     requires { ⌜ Sized l (now est) × (q < l .size) ⌝ }
     ensures { λ x. ⌜ FiredIn l (Put (L q) 0) (now (est .entry)) (now (est .exit)) x ⌝ }
+    ensures { λ _. ⌜ Kept (now (h .entry)) (now (h .exit)) ⌝ }
 {
     let added = start(est, l, q);
     grew_live(h, q, added);

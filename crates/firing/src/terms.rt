@@ -23,7 +23,8 @@ ghost use Rattle.firing.specs.Fired.{FiredFor, FiredIn};
 // The parts p + 1, b and d, which are live with p; b and d may be 0.
 pub fn parts(est: &mut [u32], h: &mut [u32], l: Layout, p: usize, b: usize, d: usize) -> usize
     requires { ⌜ Sized l (now est) × (p + 1 < l .size) × (b < l .size) × (d < l .size) ⌝ }
-    ensures { λ x. ⌜ FiredIn l (Part p (p + 1) and only (not (eqb b 0)) (Part p b) and only (not (eqb d 0)) (Part p d)) (now (est .entry)) (now (est .exit)) x ⌝ }
+    ensures { λ x. ⌜ FiredIn l (Part p (p + 1) and only (not (eqb b 0)) (Part p b) and only (not (eqb d 0)) (Part p d)) (now (est .entry))
+        (now (est .exit)) x ⌝ }
 {
     let first = part(est, h, l, p, p + 1);
     let second = part_if(est, h, l, p, b);
@@ -55,7 +56,8 @@ fn operation_of(o: usize) -> Operation
 // The results of the operation o on the rows a and d, as bits of the first word of a row.
 pub fn results_of(est: &[u32], l: Layout, o: usize, a: usize, d: usize) -> u32
     requires { ⌜ (a * l .row + l .row ≤ length (now est)) × (d * l .row + l .row ≤ length (now est)) × (1 ≤ l .lead) × (l .lead ≤ l .row) × (l .row ≤ 36) ⌝ }
-    ensures { λ r. ⌜ r ≡ operationMask (operationOf o) (take (l .lead) (drop (a * l .row) (now (est .entry)))) (take (l .lead) (drop (d * l .row) (now (est .entry)))) ⌝ }
+    ensures { λ r. ⌜ r ≡ operationMask (operationOf o) (take (l .lead) (drop (a * l .row) (now (est .entry))))
+        (take (l .lead) (drop (d * l .row) (now (est .entry)))) ⌝ }
 {
     results::operate_at(est, l.lead, operation_of(o), a * l.row, d * l.row)
 }
@@ -63,7 +65,8 @@ pub fn results_of(est: &[u32], l: Layout, o: usize, a: usize, d: usize) -> u32
 // The results of the operation o on C(p + 1) and C(d) in C(p).
 pub fn operate_at(est: &mut [u32], h: &mut [u32], l: Layout, p: usize, d: usize, o: usize) -> usize
     requires { ⌜ Sized l (now est) × (p + 1 < l .size) × (d < l .size) × (d ≡ p → ⊥) ⌝ }
-    ensures { λ x. ⌜ FiredFor l (λ c. WellFormed c (now (est .entry))) (λ c. twoRule c p (operation·two (operationOf o)) (p + 1) d) (now (est .entry)) (now (est .exit)) x ⌝ }
+    ensures { λ x. ⌜ FiredFor l (λ c. WellFormed c (now (est .entry))) (λ c. twoRule c p (operation·two (operationOf o)) (p + 1) d) (now (est .entry))
+        (now (est .exit)) x ⌝ }
 {
     let bits = results_of(est, l, o, 2 * (p + 1), 2 * d);
     put_word(est, h, l, 2 * p, bits)

@@ -1,5 +1,5 @@
 // What an effect asks for each thing of a mask in a value set.
-use crate::targets::flow;
+use crate::targets::flow_if;
 use crate::targets::lift;
 use crate::targets::wake;
 use clauses::Effect;
@@ -33,9 +33,9 @@ fn for_thing(
     match what {
         What::Enter => wake(est, h, l, f + 1),
         What::Lower => lift(est, h, l, f + 1, x),
-        What::Hand => flow(est, h, l, y, 2 * f + 1),
-        What::Take => flow(est, h, l, 2 * f + 1, y),
-        What::Back => flow(est, h, l, 2 * (f + 1), y),
+        What::Hand => flow_if(est, h, l, y, 2 * f + 1),
+        What::Take => flow_if(est, h, l, 2 * f + 1, y),
+        What::Back => flow_if(est, h, l, 2 * (f + 1), y),
         _ => 0,
     }
 }
@@ -43,7 +43,8 @@ fn for_thing(
 // The effect for each thing of the mask z in C(x + 1).
 pub fn each_thing(est: &mut [u32], masks: &[u32], h: &mut [u32], l: Layout, e: Effect) -> usize
     requires { ⌜ Sized l (now est) × Each l (now masks) e ⌝ }
-    ensures { λ r. ⌜ FiredFor l (λ c. Masked c l (now (masks .entry))) (λ c. every (c .size) (atThing c (e .what) (e .x) (e .y) (e .z))) (now (est .entry)) (now (est .exit)) r ⌝ }
+    ensures { λ r. ⌜ FiredFor l (λ c. Masked c l (now (masks .entry))) (λ c. every (c .size) (atThing c (e .what) (e .x) (e .y) (e .z)))
+        (now (est .entry)) (now (est .exit)) r ⌝ }
 {
     let what = e.what;
     let x = e.x;
@@ -69,7 +70,8 @@ pub fn one_thing(
     f: usize,
 ) -> usize
     requires { ⌜ Sized l (now est) × Each l (now masks) e × (f < l .size) ⌝ }
-    ensures { λ r. ⌜ FiredFor l (λ c. Masked c l (now (masks .entry))) (λ c. atThing c (e .what) (e .x) (e .y) (e .z) f) (now (est .entry)) (now (est .exit)) r ⌝ }
+    ensures { λ r. ⌜ FiredFor l (λ c. Masked c l (now (masks .entry))) (λ c. atThing c (e .what) (e .x) (e .y) (e .z) f) (now (est .entry))
+        (now (est .exit)) r ⌝ }
 {
     let what = e.what;
     let x = e.x;

@@ -1,2 +1,3 @@
 pub mod Grows
 pub mod Tried
+pub mod Rooms

@@ -82,7 +82,7 @@ fn begin(
     ensures { λ r. ⌜ Grown (code (now (words .entry))) (rho .bits) (now (est .entry)) (now (est .exit)) r ⌝ }
 {
     prepare(words, links, h);
-    let entered = enter_all(words, est, h, l, rho);
+    let entered = enter_all(words, links, est, h, l, rho);
     if room < entered {
         return entered;
     }

@@ -1,10 +1,11 @@
 // What the opponent's permissions ask of the blocks whose guards let it in.
 use checker::opens;
-use firing::targets::fill;
-use firing::targets::mark;
-use firing::targets::wake;
+use firing::fill;
+use firing::mark;
+use firing::wake;
 use permset::PermSet;
 use rows::layout::Layout;
+use worklist::past;
 ghost use Prim.Native.Nat.{_+_, _*_, _<_};
 ghost use Rattle.table.specs.Code.{code};
 ghost use Rattle.calculus.specs.Constraint.{put as Put, _and_};
@@ -22,7 +23,8 @@ const OPPONENT: usize = 7;
 // The opponent's data is in B(p), and the opponent is a sender of p.
 fn admit(est: &mut [u32], h: &mut [u32], l: Layout, p: usize) -> usize
     requires { ⌜ Sized l (now est) × (p < l .size) ⌝ }
-    ensures { λ r. ⌜ FiredFor l (λ c. WellFormed c (now (est .entry))) (λ c. Fill c (rowAt (2 * p + 1)) and Put (rowAt (2 * p)) 7) (now (est .entry)) (now (est .exit)) r ⌝ }
+    ensures { λ r. ⌜ FiredFor l (λ c. WellFormed c (now (est .entry))) (λ c. Fill c (rowAt (2 * p + 1)) and Put (rowAt (2 * p)) 7) (now (est .entry))
+        (now (est .exit)) r ⌝ }
 {
     let filled = fill(est, h, l, 2 * p + 1);
     filled + mark(est, l, 2 * p, OPPONENT)
@@ -31,7 +33,8 @@ fn admit(est: &mut [u32], h: &mut [u32], l: Layout, p: usize) -> usize
 // The block at p is live, and admits the opponent.
 fn let_in(est: &mut [u32], h: &mut [u32], l: Layout, p: usize) -> usize
     requires { ⌜ Sized l (now est) × (p < l .size) ⌝ }
-    ensures { λ r. ⌜ FiredFor l (λ c. WellFormed c (now (est .entry))) (λ c. live p and Fill c (rowAt (2 * p + 1)) and Put (rowAt (2 * p)) 7) (now (est .entry)) (now (est .exit)) r ⌝ }
+    ensures { λ r. ⌜ FiredFor l (λ c. WellFormed c (now (est .entry))) (λ c. live p and Fill c (rowAt (2 * p + 1)) and Put (rowAt (2 * p)) 7)
+        (now (est .entry)) (now (est .exit)) r ⌝ }
 {
     let started = wake(est, h, l, p);
     started + admit(est, h, l, p)
@@ -56,16 +59,23 @@ pub fn enter(
 }
 
 // The entries of all blocks.
-pub fn enter_all(words: &[u32], est: &mut [u32], h: &mut [u32], l: Layout, rho: PermSet) -> usize
+pub fn enter_all(
+    words: &[u32],
+    links: &[u32],
+    est: &mut [u32],
+    h: &mut [u32],
+    l: Layout,
+    rho: PermSet,
+) -> usize
     requires { ⌜ Accepted (now words) l × Sized l (now est) × WellFormed (code (now words)) (now est) ⌝ }
     ensures { λ r. ⌜ Grown (code (now (words .entry))) (rho .bits) (now (est .entry)) (now (est .exit)) r ⌝ }
 {
     let size = l.size;
     let mut added = 0;
-    let mut p = 0;
+    let mut p = 1;
     while p < size {
         added += enter(words, est, h, l, rho, p);
-        p += 1;
+        p = past(links, p + 3);
     }
     added
 }

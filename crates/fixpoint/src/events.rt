@@ -1,11 +1,11 @@
 // What the worklist chooses, fired.
 use firing::step::step;
 use rows::layout::Layout;
-use worklist::choices::choice_at;
-use worklist::choices::choice_clause;
-use worklist::choices::choice_place;
-use worklist::choices::choice_target;
-use worklist::choices::count;
+use worklist::choice_at;
+use worklist::choice_clause;
+use worklist::choice_place;
+use worklist::choice_target;
+use worklist::count;
 use worklist::next::NOTHING;
 use worklist::next::next;
 ghost use mathlib.Core.Path.{_≡_};

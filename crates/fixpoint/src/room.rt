@@ -1,4 +1,4 @@
-// Memory for the worklist by the size of the table: TURN + 6n + n (n / 32 + 2) words for n words of a table, and 3n + 8 for the choices.
+// Memory for the worklist and its choices by the size of the table, as worklist/specs/Memory.antt counts them (proofs/Rooms.antt).
 use crate::closing::settle;
 use permset::PermSet;
 use rows::layout::Layout;

@@ -59,7 +59,8 @@ fn values_text(rho: Value, bound: Value, ceiling: Value, input: &[u8], out: &mut
 
 fn leak_text(rho: &[u8], bound: &[u8], ceiling: &[u8], input: &[u8], out: &mut [u8]) -> usize
     requires { ⌜ 4096 ≤ length (now out) ⌝ }
-    ensures { λ r. ⌜ Wrote (now (out .entry)) 0 (leakText (now (rho .entry)) (now (bound .entry)) (now (ceiling .entry)) (now (input .entry))) (now (out .exit)) r ⌝ }
+    ensures { λ r. ⌜ Wrote (now (out .entry)) 0 (leakText (now (rho .entry)) (now (bound .entry)) (now (ceiling .entry)) (now (input .entry)))
+        (now (out .exit)) r ⌝ }
 {
     let p = value_of(rho, 16);
     let b = value_or(bound, 16, 0);
@@ -70,8 +71,10 @@ fn leak_text(rho: &[u8], bound: &[u8], ceiling: &[u8], input: &[u8], out: &mut [
 // The text for three arguments and an input, at the start of the output, and how many bytes it has. Nothing is written where the output has not
 // 81,920 bytes more than the input, as for the other commands.
 pub fn run(rho: &[u8], bound: &[u8], ceiling: &[u8], input: &[u8], out: &mut [u8]) -> usize
-    ensures size { λ r. ⌜ r ≡ printedSize (leakText (now (rho .entry)) (now (bound .entry)) (now (ceiling .entry)) (now (input .entry))) (length (now (input .entry))) (length (now (out .entry))) ⌝ }
-    ensures out { λ _. ⌜ now (out .exit) ≡ outAfter (leakText (now (rho .entry)) (now (bound .entry)) (now (ceiling .entry)) (now (input .entry))) (length (now (input .entry))) (now (out .entry)) ⌝ }
+    ensures size { λ r. ⌜ r ≡ printedSize (leakText (now (rho .entry)) (now (bound .entry)) (now (ceiling .entry)) (now (input .entry)))
+        (length (now (input .entry))) (length (now (out .entry))) ⌝ }
+    ensures out { λ _. ⌜ now (out .exit) ≡ outAfter (leakText (now (rho .entry)) (now (bound .entry)) (now (ceiling .entry)) (now (input .entry)))
+        (length (now (input .entry))) (now (out .entry)) ⌝ }
     ensures fits { λ r. ⌜ r ≤ length (now (out .entry)) ⌝ }
 {
     if out.len() < 81920 {

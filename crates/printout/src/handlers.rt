@@ -35,7 +35,9 @@ fn block_line(
     h: Handler,
 ) -> usize
     requires { ⌜ Printable (now words) (now est) × (p < length (now words)) × (c .at + 96 ≤ length (now out)) ⌝ }
-    ensures { λ r. ⌜ Wrote (now (out .entry)) (c .at) (handlerLine (c .position) (h .name) (within (h .guard .bits) rho) (sets (code (now (words .entry))) (now (est .entry)) (L p) 0) (permissionsAt (code (now (words .entry))) rho (now (est .entry)) p)) (now (out .exit)) r ⌝ }
+    ensures { λ r. ⌜ Wrote (now (out .entry)) (c .at) (handlerLine (c .position) (h .name) (within (h .guard .bits) rho)
+        (sets (code (now (words .entry))) (now (est .entry)) (L p) 0) (permissionsAt (code (now (words .entry))) rho (now (est .entry)) p))
+        (now (out .exit)) r ⌝ }
     ensures { λ r. ⌜ r ≤ c .at + 96 ⌝ }
 {
     let at = Layout::of(words).flags(p);
@@ -68,7 +70,8 @@ fn handler_at(words: &[u32], rho: u32, est: &[u32], out: &mut [u8], p: usize, c:
 // The lines of all handlers, from the place `start` on.
 pub fn handler_lines(words: &[u32], rho: u32, est: &[u32], out: &mut [u8], start: usize) -> usize
     requires { ⌜ Printable (now words) (now est) × (start + 3072 ≤ length (now out)) ⌝ }
-    ensures { λ r. ⌜ Wrote (now (out .entry)) start (handlerLines (code (now (words .entry))) rho (now (est .entry)) 0 (code (now (words .entry)) .blocks)) (now (out .exit)) r ⌝ }
+    ensures { λ r. ⌜ Wrote (now (out .entry)) start (handlerLines (code (now (words .entry))) rho (now (est .entry)) 0
+        (code (now (words .entry)) .blocks)) (now (out .exit)) r ⌝ }
 {
     let mut c = Cursor {
         at: start,

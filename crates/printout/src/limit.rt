@@ -24,7 +24,8 @@ fn tell_narrow_within(
     out: &mut [u8],
 ) -> usize
     requires { ⌜ (room ≤ length (now out)) × (eqb (kind (getD (now words) 0 0)) 5 ≡ false) ⌝ }
-    ensures { λ r. ⌜ ToldUnder (now (words .entry)) rho bound ceiling (now (est .entry)) (now (work .entry)) (now (out .entry)) r (now (est .exit)) (now (work .exit)) (now (out .exit)) ⌝ }
+    ensures { λ r. ⌜ ToldUnder (now (words .entry)) rho bound ceiling (now (est .entry)) (now (work .entry)) (now (out .entry)) r (now (est .exit))
+        (now (work .exit)) (now (out .exit)) ⌝ }
 {
     match verdict_within(words, rho, bound, ceiling, est, work) {
         Limited::Judged(v) => answer_text(v, words, rho, est, out),
@@ -43,7 +44,8 @@ pub fn tell_within(
     out: &mut [u8],
 ) -> usize
     requires { ⌜ room ≤ length (now out) ⌝ }
-    ensures { λ r. ⌜ ToldUnder (now (words .entry)) rho bound ceiling (now (est .entry)) (now (work .entry)) (now (out .entry)) r (now (est .exit)) (now (work .exit)) (now (out .exit)) ⌝ }
+    ensures { λ r. ⌜ ToldUnder (now (words .entry)) rho bound ceiling (now (est .entry)) (now (work .entry)) (now (out .entry)) r (now (est .exit))
+        (now (work .exit)) (now (out .exit)) ⌝ }
 {
     if is_wide(words) {
         return refusal_line(out, 0, 1, 0);

@@ -50,7 +50,8 @@ fn own_text(words: &[u32], rho: u32, bound: u32, out: &mut [u8]) -> usize
 // The text of words that are ρ, the bound and the system.
 fn words_text(words: &[u32], out: &mut [u8]) -> usize
     requires { ⌜ (2 ≤ length (now words)) × (length (now words) ≤ 258) × (room ≤ length (now out)) ⌝ }
-    ensures { λ r. ⌜ Wrote (now (out .entry)) 0 (systemText (getD (now (words .entry)) 0 0) (getD (now (words .entry)) 1 0) (drop 2 (now (words .entry)))) (now (out .exit)) r ⌝ }
+    ensures { λ r. ⌜ Wrote (now (out .entry)) 0 (systemText (getD (now (words .entry)) 0 0) (getD (now (words .entry)) 1 0)
+        (drop 2 (now (words .entry)))) (now (out .exit)) r ⌝ }
 {
     own_text(&words[2..], words[0], words[1], out)
 }

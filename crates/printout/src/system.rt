@@ -26,7 +26,13 @@ ghost use Rattle.printout.specs.Answers.{Held, HeldFor, Told};
 
 fn report_line(r: Report, over: bool, first: u32, out: &mut [u8], at: usize) -> usize
     requires { ⌜ at + 96 ≤ length (now out) ⌝ }
-    ensures { λ n. ⌜ Wrote (now (out .entry)) at (verdictLine (record { leak = r .leak .bits; bound = r .bound .bits; over = over; first = first; facts = r .facts })) (now (out .exit)) n ⌝ }
+    ensures { λ n. ⌜ Wrote (now (out .entry)) at (verdictLine (record {
+      leak = r .leak .bits;
+      bound = r .bound .bits;
+      over = over;
+      first = first;
+      facts = r .facts;
+    })) (now (out .exit)) n ⌝ }
     ensures { λ n. ⌜ n ≤ at + 96 ⌝ }
 {
     let leak = r.leak;
@@ -50,7 +56,8 @@ pub fn answer_line(v: Verdict, out: &mut [u8], at: usize) -> usize
 // The lines of the handlers, by the estimate in the first words of a slice.
 fn handlers_of(words: &[u32], rho: u32, est: &[u32], out: &mut [u8], at: usize) -> usize
     requires { ⌜ Held (now words) rho (now est) × (at + 3072 ≤ length (now out)) ⌝ }
-    ensures { λ r. ⌜ Wrote (now (out .entry)) at (handlerLines (code (now (words .entry))) rho (estimate (code (now (words .entry))) rho) 0 (code (now (words .entry)) .blocks)) (now (out .exit)) r ⌝ }
+    ensures { λ r. ⌜ Wrote (now (out .entry)) at (handlerLines (code (now (words .entry))) rho (estimate (code (now (words .entry))) rho) 0
+        (code (now (words .entry)) .blocks)) (now (out .exit)) r ⌝ }
 {
     let need = words_needed(words);
     handler_lines(words, rho, &est[..need], out, at)
@@ -79,7 +86,8 @@ fn tell_narrow(
     out: &mut [u8],
 ) -> usize
     requires { ⌜ (room ≤ length (now out)) × (eqb (kind (getD (now words) 0 0)) 5 ≡ false) ⌝ }
-    ensures { λ r. ⌜ Told (now (words .entry)) rho bound (now (est .entry)) (now (work .entry)) (now (out .entry)) r (now (est .exit)) (now (work .exit)) (now (out .exit)) ⌝ }
+    ensures { λ r. ⌜ Told (now (words .entry)) rho bound (now (est .entry)) (now (work .entry)) (now (out .entry)) r (now (est .exit))
+        (now (work .exit)) (now (out .exit)) ⌝ }
 {
     let v = verdict(words, rho, bound, est, work);
     answer_text(v, words, rho, est, out)
@@ -95,7 +103,8 @@ pub fn tell(
     out: &mut [u8],
 ) -> usize
     requires { ⌜ room ≤ length (now out) ⌝ }
-    ensures { λ r. ⌜ Told (now (words .entry)) rho bound (now (est .entry)) (now (work .entry)) (now (out .entry)) r (now (est .exit)) (now (work .exit)) (now (out .exit)) ⌝ }
+    ensures { λ r. ⌜ Told (now (words .entry)) rho bound (now (est .entry)) (now (work .entry)) (now (out .entry)) r (now (est .exit))
+        (now (work .exit)) (now (out .exit)) ⌝ }
 {
     if is_wide(words) {
         return refusal_line(out, 0, 1, 0);
@@ -112,10 +121,14 @@ pub fn system_text(
     work: &mut [u32],
     out: &mut [u8],
 ) -> usize
-    ensures size { λ r. ⌜ r ≡ textSize (answerText rho (now (words .entry)) (unlessWide (now (words .entry)) (refused 1 0) (answer (now (words .entry)) rho bound (length (now (est .entry))) (length (now (work .entry)))))) (length (now (out .entry))) ⌝ }
-    ensures text { λ _. ⌜ now (out .exit) ≡ textAfter (answerText rho (now (words .entry)) (unlessWide (now (words .entry)) (refused 1 0) (answer (now (words .entry)) rho bound (length (now (est .entry))) (length (now (work .entry)))))) (now (out .entry)) ⌝ }
-    ensures estimate { λ _. ⌜ now (est .exit) ≡ withRoom (length (now (out .entry))) (now (est .entry)) (unlessWide (now (words .entry)) (now (est .entry)) (estimateAfter (now (words .entry)) rho bound (now (est .entry)) (now (work .entry)))) ⌝ }
-    ensures work { λ _. ⌜ now (work .exit) ≡ withRoom (length (now (out .entry))) (now (work .entry)) (unlessWide (now (words .entry)) (now (work .entry)) (workAfter (now (words .entry)) rho bound (now (est .entry)) (now (work .entry)))) ⌝ }
+    ensures size { λ r. ⌜ r ≡ textSize (answerText rho (now (words .entry)) (unlessWide (now (words .entry)) (refused 1 0)
+        (answer (now (words .entry)) rho bound (length (now (est .entry))) (length (now (work .entry)))))) (length (now (out .entry))) ⌝ }
+    ensures text { λ _. ⌜ now (out .exit) ≡ textAfter (answerText rho (now (words .entry)) (unlessWide (now (words .entry)) (refused 1 0)
+        (answer (now (words .entry)) rho bound (length (now (est .entry))) (length (now (work .entry)))))) (now (out .entry)) ⌝ }
+    ensures estimate { λ _. ⌜ now (est .exit) ≡ withRoom (length (now (out .entry))) (now (est .entry))
+        (unlessWide (now (words .entry)) (now (est .entry)) (estimateAfter (now (words .entry)) rho bound (now (est .entry)) (now (work .entry)))) ⌝ }
+    ensures work { λ _. ⌜ now (work .exit) ≡ withRoom (length (now (out .entry))) (now (work .entry))
+        (unlessWide (now (words .entry)) (now (work .entry)) (workAfter (now (words .entry)) rho bound (now (est .entry)) (now (work .entry)))) ⌝ }
     ensures fits { λ r. ⌜ r ≤ length (now (out .entry)) ⌝ }
 {
     if out.len() < 3168 {

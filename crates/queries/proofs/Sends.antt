@@ -26,15 +26,9 @@ pub second-tells : (x z a b : Bool) → x ≡ true → x ≡ a → z ≡ b → z
 second-tells x z true b e f g = g
 second-tells x z false b e f g = absurd (true≢false (sym e ∙ f))
 
-module _ (ws : List ℕ) (b : ℕ) (h : Handler) (e : h ≡ handlerAt ws b) where
-  pub name-is : h .name ≡ argument (getD ws b 0)
-  unfolding handlerAt
-  name-is = ap (λ (x : Handler). x .name) e
-
-  pub answer-is : (r s : ℕ) (d : Delivery) (t : Bool) → d ≡ judged (h .name) r s h → t ≡ delivered d
-      → t ≡ delivered (judged (argument (getD ws b 0)) r s (handlerAt ws b))
-  unfolding handlerAt
-  answer-is r s d t f g = g ∙ ap delivered (f ∙ ap (λ (x : Handler). judged (x .name) r s x) e)
+pub answer-is : (n m r s : ℕ) (h k : Handler) (d : Delivery) (t : Bool) → n ≡ m → h ≡ k → d ≡ judged n r s h → t ≡ delivered d
+    → t ≡ delivered (judged m r s k)
+answer-is n m r s h k d t e f g i = i ∙ ap delivered (g ∙ ap (λ (x : ℕ). judged x r s h) e ∙ ap (judged m r s) f)
 
 and-head : (x y : Bool) → x && y ≡ true → x ≡ true
 and-head true y e = refl

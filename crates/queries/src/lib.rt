@@ -5,6 +5,7 @@ use delivery::judge;
 use permset::PermSet;
 use rows::layout::Layout;
 use rows::row::any;
+use table::words::argument_of;
 use table_links::handler_at;
 ghost use mathlib.Core.Path.{_≡_};
 ghost use Prim.Native.Nat.{_+_, _*_, _/_, _%_, _^_, _<_, _≤_};
@@ -131,13 +132,15 @@ pub fn starts(
     sender: PermSet,
     b: usize,
 ) -> bool
-    requires { ⌜ (b < length (now words)) × (2 * (x + 1) * l .row + l .row ≤ length (now est)) × (32 + argument (getD (now words) b 0) < 32 * l .row) × (x < 1024) ⌝ }
-    ensures { λ r. ⌜ ((c : Code) → LaidOut c l → x + 1 < l .size → 32 + argument (getD (now (words .entry)) b 0) < elements c → r ≡ startsAt c (now (words .entry)) (now (est .entry)) x (required .bits) (sender .bits) b) ⌝ }
+    requires { ⌜ (b < length (now words)) × (2 * (x + 1) * l .row + l .row ≤ length (now est)) × (32 + argument (getD (now words) b 0) < 32 * l .row)
+        × (x < 1024) ⌝ }
+    ensures { λ r. ⌜ ((c : Code) → LaidOut c l → x + 1 < l .size → 32 + argument (getD (now (words .entry)) b 0) < elements c → r
+        ≡ startsAt c (now (words .entry)) (now (est .entry)) x (required .bits) (sender .bits) b) ⌝ }
 {
-    let receiver = handler_at(words, b);
-    let name = receiver.name;
+    let name = argument_of(words[b]);
     if !has(est, l, 2 * (x + 1), 32 + name as usize) {
         return false;
     }
+    let receiver = handler_at(words, b);
     judge(name, required, sender, receiver).delivered()
 }

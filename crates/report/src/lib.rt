@@ -45,7 +45,8 @@ pub fn verdict_line(
     facts: usize,
 ) -> usize
     requires { ⌜ at + 96 ≤ length (now out) ⌝ }
-    ensures { λ r. ⌜ Wrote (now (out .entry)) at (verdictLine (record { leak = leak; bound = bound; over = over; first = first; facts = facts })) (now (out .exit)) r ⌝ }
+    ensures { λ r. ⌜ Wrote (now (out .entry)) at (verdictLine (record { leak = leak; bound = bound; over = over; first = first; facts = facts }))
+        (now (out .exit)) r ⌝ }
     ensures { λ r. ⌜ r ≤ at + 96 ⌝ }
 {
     let a = set_field(out, at, b"leak ", leak);

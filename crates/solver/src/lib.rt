@@ -1,7 +1,7 @@
 // The least estimate of an accepted table, and its leak.
 pub mod analyse;
-pub mod memory;
-pub mod solve;
+mod memory;
+mod solve;
 
 use calls::Fault;
 use comparison::Findings;

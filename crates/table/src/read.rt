@@ -84,7 +84,8 @@ fn term_word(w: u32, at: usize, depth: usize, binders: usize, names: u32) -> Rea
 // The term at a place, with its parts, whatever is to come after it.
 fn term(words: &[u32], at: usize, depth: usize, binders: usize, names: u32) -> Step
     requires { ⌜ binders ≤ depth ⌝ }
-    ensures { λ r. ⌜ ((keys : List ℕ) (h : ℕ) (s : List ℕ) (ts : List Task) → length s ≡ binders → scan names (drop at (now (words .entry))) keys at (term depth h s ∷ ts) ≡ afterStep r names (now (words .entry)) keys ts) ⌝ }
+    ensures { λ r. ⌜ ((keys : List ℕ) (h : ℕ) (s : List ℕ) (ts : List Task) → length s ≡ binders
+        → scan names (drop at (now (words .entry))) keys at (term depth h s ∷ ts) ≡ afterStep r names (now (words .entry)) keys ts) ⌝ }
 {
     if words.len() <= at {
         return Step::Refused(Refusal::NoTerm(at));
@@ -138,7 +139,8 @@ fn used(keys: &[u32], start: usize, key: u32) -> bool
 // The block at a place, whatever is to come after it.
 fn block(words: &[u32], at: usize, keys: &[u32], start: usize, names: u32) -> BlockStep
     requires { ⌜ names ≤ 64 ⌝ }
-    ensures { λ r. ⌜ ((ts : List Task) → scan names (drop at (now (words .entry))) (drop start (now (keys .entry))) at (name ∷ ts) ≡ afterBlock r names (now (words .entry)) (drop start (now (keys .entry))) ts) ⌝ }
+    ensures { λ r. ⌜ ((ts : List Task) → scan names (drop at (now (words .entry))) (drop start (now (keys .entry))) at (name ∷ ts)
+        ≡ afterBlock r names (now (words .entry)) (drop start (now (keys .entry))) ts) ⌝ }
 {
     let Found::Argument(name) = block_word(words, at, 2) else {
         return BlockStep::Refused(Refusal::NotBlock(at));

@@ -42,7 +42,8 @@ fn copy_as(words: &[u32], kind: u32, out: &mut [u32])
 fn put(words: &[u32], checked: Checked, kind: u32, out: &mut [u32]) -> Converted
     requires { ⌜ kind ≤ 255 ⌝ }
     ensures answer { λ r. ⌜ convertedAs r ≡ answer (checkedAs checked) (length (now (words .entry))) (length (now (out .entry))) ⌝ }
-    ensures out { λ r. ⌜ now (out .exit) ≡ outAfter (answer (checkedAs checked) (length (now (words .entry))) (length (now (out .entry)))) (rekinded kind (now (words .entry))) (now (out .entry)) ⌝ }
+    ensures out { λ r. ⌜ now (out .exit) ≡ outAfter (answer (checkedAs checked) (length (now (words .entry))) (length (now (out .entry))))
+        (rekinded kind (now (words .entry))) (now (out .entry)) ⌝ }
 {
     if let Checked::Refused(f) = checked {
         return Converted::Refused(f);

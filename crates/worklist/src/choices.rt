@@ -1,5 +1,5 @@
 // Choices: clause k of the word p, for the target f of its effect or (0) for all of them, each packed into a word of a list whose first word
-// counts them. A full list takes no more; 3n + 8 words are enough for what an event calls for in a table of n words.
+// counts them. A full list takes no more; `choiceWords` of specs/Memory.antt are enough for what an event calls for.
 use crate::memory::LIMIT;
 use crate::memory::get;
 use crate::memory::put;
@@ -7,13 +7,14 @@ use crate::memory::word;
 use crate::sets::waits;
 ghost use mathlib.Core.Path.{_≡_};
 ghost use Prim.Native.Nat.{_+_, _*_, _/_, _%_, _<_};
+ghost use lib.ListN.{getD};
 
 // A choice has room for targets and words below PLACES, and for clauses below CLAUSES.
 const PLACES: usize = 1024;
 
 const CLAUSES: usize = 4096;
 
-pub fn choice_word(k: usize, p: usize, f: usize) -> u32
+fn choice_word(k: usize, p: usize, f: usize) -> u32
     ensures { λ r. ⌜ r ≡ (k % 4096 * 1024 + p % 1024) * 1024 + f % 1024 ⌝ }
 {
     ((k % CLAUSES * PLACES + p % PLACES) * PLACES + f % PLACES) as u32
@@ -39,13 +40,15 @@ pub fn choice_target(w: u32) -> usize
 
 // How many choices a list has.
 pub fn count(out: &[u32]) -> usize
-    ensures { λ r. ⌜ r < 4294967296 ⌝ }
+    ensures { λ r. ⌜ (r ≡ getD (now (out .entry)) 0 0) × (r < 4294967296) ⌝ }
 {
     get(out, 0)
 }
 
 // The choice at a place of a list, from 1 on; clause 0 of word 0 past the end.
-pub fn choice_at(out: &[u32], i: usize) -> u32 {
+pub fn choice_at(out: &[u32], i: usize) -> u32
+    ensures { λ r. ⌜ r ≡ getD (now (out .entry)) i 0 ⌝ }
+{
     word(out, i)
 }
 
@@ -70,7 +73,7 @@ pub fn choose_some(out: &mut [u32], k: usize, e: usize, p: usize) {
     }
 }
 
-// A clause that reads the row r, unless r waits: then it comes to all its readers at its turn.
+// A clause that reads the row r, unless r waits or has not grown yet: then it comes to all its readers at its turn.
 pub fn choose_unless(h: &[u32], out: &mut [u32], r: usize, k: usize, p: usize, f: usize)
     requires { ⌜ r < 65536 ⌝ }
 {

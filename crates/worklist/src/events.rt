@@ -4,9 +4,12 @@ use crate::choices::choose_some;
 use crate::choices::choose_unless;
 use crate::kinds;
 use crate::memory::MOST;
+use crate::memory::RECEIVER;
+use crate::memory::get;
 use crate::memory::parent;
 use crate::memory::use_of;
 use crate::memory::word;
+use crate::sets::waits;
 use crate::things::follow_names;
 use crate::things::meet_new;
 use crate::things::notify;
@@ -164,7 +167,20 @@ fn plain_part(out: &mut [u32], kind: u32, d: usize, p: usize, i: usize)
 }
 
 // A part of the send at p, whose message is at d: what is sent goes to the one block of its names, or to all where they have more.
-fn send_part(
+fn send_part(h: &[u32], out: &mut [u32], d: usize, p: usize)
+    requires { ⌜ (d < 2048) × (p < 1024) ⌝ }
+{
+    let b = get(h, RECEIVER + 6 * p);
+    if waits(h, 2 * (p + 1)) {
+        return;
+    }
+    if b < MOST {
+        choose_unless(h, out, 2 * d, kinds::SEND_SEND, p, b);
+    }
+}
+
+// The names that the send at p sends to, which may have new blocks.
+fn names_grew(
     words: &[u32],
     links: &[u32],
     est: &[u32],
@@ -176,10 +192,8 @@ fn send_part(
 )
     requires { ⌜ (d < 2048) × (p < 1024) ⌝ }
 {
-    let b = follow_names(words, links, est, h, l, p);
-    if b < MOST {
-        choose_unless(h, out, 2 * d, kinds::SEND_SEND, p, b);
-    }
+    follow_names(words, links, est, h, l, p);
+    send_part(h, out, d, p);
 }
 
 // The value of i, a part of p, has grown.
@@ -216,7 +230,11 @@ fn part_grew(
                 choose(out, kinds::ASSIGN_HAND, p, 0);
             }
         }
-        kinds::SEND => send_part(words, links, est, h, out, l, d, p),
+        kinds::SEND => if first {
+            names_grew(words, links, est, h, out, l, d, p);
+        } else {
+            send_part(h, out, d, p);
+        },
         _ => plain_part(out, kind, d, p, i),
     }
 }

@@ -1,7 +1,7 @@
 // The memory of the schedule and its choices: what waits, and which clauses an event calls for. It sees the estimate and never writes it.
-// Nothing is promised of what a memory `h` or a list `out` holds. What any of the lent slices says is never trusted: a word past the end reads 0,
-// a write there does nothing, and every loop ends by its own count; so no caller has anything to show.
-pub mod choices;
+// specs/Memory.antt describes a memory `h` and a list `out`, and names what is promised of them: their length. What any of the lent slices says is
+// never trusted: a word past the end reads 0, a write there does nothing, and every loop ends by its own count; so no caller has anything to show.
+mod choices;
 mod events;
 mod kinds;
 mod memory;
@@ -11,3 +11,10 @@ pub mod plan;
 mod sets;
 mod things;
 mod view;
+
+pub use crate::choices::choice_at;
+pub use crate::choices::choice_clause;
+pub use crate::choices::choice_place;
+pub use crate::choices::choice_target;
+pub use crate::choices::count;
+pub use crate::view::past;

@@ -1,17 +1,7 @@
-// The memory h of the schedule, for a table of n words, at most 1,024: TURN + 6n words, and n / 32 + 2 for each of the n words.
-//
-//     ROWS                    2 + 64 words: a bit for each turn whose row waits
-//     LIVE                    1 + 32 words: a bit for each word that waits with the words that are live with it
-//     PERMISSIONS             1 + 32 words: a bit for each word whose permissions wait
-//     TURN + 3r               the turn of the row r, where 2p is C(p) and 2p + 1 is B(p)
-//     ROW + 3t                the row of the turn t
-//     PARENT + 6p             the word that p is a part of; 0 if there is none
-//     USE + 6p                of a binder its last use, of a use the one before it; 0 if there is none
-//     at_followers(n, f)      1 + n / 32 + 1 words: a bit for each word that acts on the thing f, or sends to the block f
-//
-// The first words of a set are its summary: a bit for each word after them that has a bit.
+// Where the parts of a memory stand, which `memoryWords` of specs/Memory.antt lists, and how they are read and written.
+ghost use mathlib.Core.Path.{_≡_};
 ghost use Prim.Native.Nat.{_+_, _/_, _<_, _≤_};
-ghost use lib.ListN.{length};
+ghost use lib.ListN.{length, getD};
 
 // The most words of a table, and the most turns: two rows for each.
 pub const MOST: usize = 1024;
@@ -29,12 +19,15 @@ pub const TURN_TOPS: usize = TURN_WORDS / BITS;
 
 pub const TOPS: usize = WORDS / BITS;
 
+// The three sets of what waits.
 pub const ROWS: usize = 0;
 
 pub const LIVE: usize = ROWS + TURN_TOPS + TURN_WORDS;
 
 pub const PERMISSIONS: usize = LIVE + TOPS + WORDS;
 
+// The plan: TURN + 3r has the turn of the row r, where 2p is C(p) and 2p + 1 is B(p), ROW + 3t the row of the turn t, PARENT + 6p the word that p is a
+// part of, and USE + 6p the last use of a binder or the use before a use.
 pub const TURN: usize = PERMISSIONS + TOPS + WORDS;
 
 pub const ROW: usize = TURN + 1;
@@ -43,9 +36,13 @@ pub const PARENT: usize = TURN + 2;
 
 pub const USE: usize = TURN + 5;
 
+// A send is no binder and no use.
+pub const RECEIVER: usize = USE;
+
 // One more than the largest number that a word holds.
 pub const LIMIT: usize = 4294967296;
 
+// The set of the followers of f.
 pub fn at_followers(n: usize, f: usize) -> usize
     ensures { λ r. ⌜ r < 131072 ⌝ }
 {
@@ -54,7 +51,9 @@ pub fn at_followers(n: usize, f: usize) -> usize
 }
 
 // The word at a place, 0 past the end.
-pub fn word(h: &[u32], i: usize) -> u32 {
+pub fn word(h: &[u32], i: usize) -> u32
+    ensures { λ r. ⌜ r ≡ getD (now (h .entry)) i 0 ⌝ }
+{
     if i < h.len() { h[i] } else { 0 }
 }
 
@@ -67,7 +66,7 @@ pub fn put_word(h: &mut [u32], i: usize, w: u32) {
 
 // The same as numbers.
 pub fn get(h: &[u32], i: usize) -> usize
-    ensures { λ r. ⌜ r < 4294967296 ⌝ }
+    ensures { λ r. ⌜ (r ≡ getD (now (h .entry)) i 0) × (r < 4294967296) ⌝ }
 {
     word(h, i) as usize
 }

@@ -8,6 +8,7 @@ use crate::memory::MOST;
 use crate::memory::PERMISSIONS;
 use crate::memory::TURN;
 use crate::memory::TURNS;
+use crate::memory::put;
 use crate::memory::row_of;
 use crate::sets::NONE;
 use crate::sets::take_high;
@@ -15,6 +16,7 @@ use crate::sets::take_low;
 use crate::sets::take_turn;
 use rows::layout::Layout;
 ghost use Prim.Native.Nat.{_≤_};
+ghost use Rattle.worklist.specs.Memory.{Kept};
 
 // Where nothing waits.
 pub const NOTHING: usize = NONE;
@@ -30,7 +32,9 @@ pub fn next(
     l: Layout,
     turn: usize,
 ) -> usize
-    ensures { λ r. ⌜ r ≤ 4096 ⌝ }
+    ensures turn { λ r. ⌜ r ≤ 4096 ⌝ }
+    ensures memory { λ _. ⌜ Kept (now (h .entry)) (now (h .exit)) ⌝ }
+    ensures choices { λ _. ⌜ Kept (now (out .entry)) (now (out .exit)) ⌝ }
 {
     let from = turn % TURNS;
     clear(out);
@@ -44,7 +48,9 @@ pub fn next(
     }
     let t = take_turn(h, from);
     if t < TURNS {
-        row_grew(words, links, masks, est, h, out, l, row_of(h, t));
+        let r = row_of(h, t);
+        put(h, TURN + 3 * r, TURNS + t);
+        row_grew(words, links, masks, est, h, out, l, r);
         return t + 1;
     }
     let p = take_high(h, PERMISSIONS);

@@ -9,9 +9,12 @@ use crate::memory::TURN_TOPS;
 use crate::memory::TURNS;
 use crate::memory::turn_of;
 use crate::sets::add;
+ghost use Rattle.worklist.specs.Memory.{Kept};
 
 // The row r, where 2p is C(p) and 2p + 1 is B(p).
-pub fn note_row(h: &mut [u32], r: usize) {
+pub fn note_row(h: &mut [u32], r: usize)
+    ensures { λ _. ⌜ Kept (now (h .entry)) (now (h .exit)) ⌝ }
+{
     let row = r % TURNS;
     if TURN + 3 * row < h.len() {
         let turn = turn_of(h, row);
@@ -20,14 +23,18 @@ pub fn note_row(h: &mut [u32], r: usize) {
 }
 
 // The word q is live.
-pub fn note_live(h: &mut [u32], q: usize) {
+pub fn note_live(h: &mut [u32], q: usize)
+    ensures { λ _. ⌜ Kept (now (h .entry)) (now (h .exit)) ⌝ }
+{
     if TURN <= h.len() {
         add(h, LIVE, TOPS, q % MOST);
     }
 }
 
 // The permissions of the word p.
-pub fn note_perms(h: &mut [u32], p: usize) {
+pub fn note_perms(h: &mut [u32], p: usize)
+    ensures { λ _. ⌜ Kept (now (h .entry)) (now (h .exit)) ⌝ }
+{
     if TURN <= h.len() {
         add(h, PERMISSIONS, TOPS, p % MOST);
     }

@@ -15,6 +15,7 @@ use crate::view::close;
 use crate::view::kind_within;
 ghost use Prim.Native.Nat.{_<_, _≤_};
 ghost use lib.ListN.{length};
+ghost use Rattle.worklist.specs.Memory.{Kept};
 
 // The next turn, and the innermost word that is not done, 0 if there is none.
 struct Place {
@@ -135,7 +136,9 @@ fn prepare_word(words: &[u32], links: &[u32], h: &mut [u32], place: Place, p: us
 }
 
 // Fills a memory of zeros; nothing for more than MOST words.
-pub fn prepare(words: &[u32], links: &[u32], h: &mut [u32]) {
+pub fn prepare(words: &[u32], links: &[u32], h: &mut [u32])
+    ensures { λ _. ⌜ Kept (now (h .entry)) (now (h .exit)) ⌝ }
+{
     let n = words.len();
     if n == 0 {
         return;

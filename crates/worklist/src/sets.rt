@@ -3,15 +3,17 @@ use crate::memory::BITS;
 use crate::memory::MOST;
 use crate::memory::ROWS;
 use crate::memory::TOPS;
+use crate::memory::TURN;
 use crate::memory::TURN_TOPS;
 use crate::memory::TURN_WORDS;
+use crate::memory::TURNS;
 use crate::memory::WORDS;
 use crate::memory::at_followers;
+use crate::memory::get;
 use crate::memory::has_bit;
 use crate::memory::highest;
 use crate::memory::lowest;
 use crate::memory::set_bit;
-use crate::memory::turn_of;
 use crate::memory::word;
 ghost use Prim.Native.Nat.{_+_, _/_, _<_, _≤_};
 ghost use lib.ListN.{length};
@@ -124,11 +126,15 @@ pub fn take_turn(h: &mut [u32], t: usize) -> usize
     NONE
 }
 
-// Whether the row r waits.
+// Whether the row r waits, or has not grown yet.
 pub fn waits(h: &[u32], r: usize) -> bool
     requires { ⌜ r < 65536 ⌝ }
 {
-    has_bit(h, ROWS + TURN_TOPS, turn_of(h, r))
+    let turn = get(h, TURN + 3 * r);
+    if turn < TURNS {
+        return true;
+    }
+    has_bit(h, ROWS + TURN_TOPS, turn - TURNS)
 }
 
 // The word p follows f, a thing or a block; whether that is new.

@@ -4,11 +4,12 @@ use crate::choices::choose_unless;
 use crate::kinds;
 use crate::memory::BITS;
 use crate::memory::MOST;
+use crate::memory::RECEIVER;
 use crate::memory::TURNS;
 use crate::memory::at_followers;
 use crate::memory::has_bit;
 use crate::memory::lowest;
-use crate::memory::word;
+use crate::memory::put;
 use crate::sets::follow;
 use crate::sets::next_follower;
 use crate::view::flags;
@@ -20,6 +21,7 @@ use crate::view::width;
 use rows::layout::Layout;
 use table::words::argument_of;
 ghost use Prim.Native.Nat.{_<_, _≤_};
+ghost use lib.ListN.{length};
 
 // The masks, by their numbers.
 const FUNCTIONS: usize = 0;
@@ -136,9 +138,9 @@ fn follow_name(
     b: usize,
     found: usize,
 ) -> usize
-    requires { ⌜ at < 4294967296 ⌝ }
+    requires { ⌜ (at < 4294967296) × (b < length (now words)) ⌝ }
 {
-    let name = argument_of(word(words, b)) as usize;
+    let name = argument_of(words[b]) as usize;
     if !has_bit(est, at, NAMES + name) {
         return found;
     }
@@ -146,26 +148,19 @@ fn follow_name(
     if found == MOST { b } else { 0 }
 }
 
-// The blocks of a name in C(p + 1) are followed by the send at p. Answers the only one; MOST if there is none, 0 if there are more.
-pub fn follow_names(
-    words: &[u32],
-    links: &[u32],
-    est: &[u32],
-    h: &mut [u32],
-    l: Layout,
-    p: usize,
-) -> usize
+// The blocks of a name in C(p + 1) are followed by the send at p, and noted as its receivers.
+pub fn follow_names(words: &[u32], links: &[u32], est: &[u32], h: &mut [u32], l: Layout, p: usize)
     requires { ⌜ p < 1024 ⌝ }
 {
     let at = row_at(l, 2 * (p + 1));
-    let end = l.size % TURNS;
+    let end = words.len() % TURNS;
     let mut found = MOST;
     let mut b = 1;
     while b < end {
         found = follow_name(words, est, h, l.size, at, p, b, found);
         b = past(links, b + 3);
     }
-    found
+    put(h, RECEIVER + 6 * p, found);
 }
 
 // The word p, which acts on f, takes what f holds or gives.

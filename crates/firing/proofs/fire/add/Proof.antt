@@ -143,7 +143,7 @@ unfolding effect
 returns c =
     let s = c .before .before .before .before .before .before .before .before .before .before .before .before .before .before in let a = s .args in let e = a .e in let w = a .words .now in let l = a .l in
     effect-as (code w) (e .what) whats.Live (e .x) (e .y) (e .z) (a .f) (a .est .now) _ _ (c .before .before .before .before .before .before .before .enum-told .given .1)
-    (for-code l (λ k. Unit {0}) (λ k. put (L (e .x)) 0) (a .est .now) _ _ (code w) (c .before .before .before .before .wake .ensures) (s .pre .0 .laid) tt)
+    (for-code l (λ k. Unit {0}) (λ k. put (L (e .x)) 0) (a .est .now) _ _ (code w) (c .before .before .before .before .wake .ensures .0) (s .pre .0 .laid) tt)
 
 same-length-3 : tie.Need-same-length-3
 same-length-3 c = search needs
@@ -169,7 +169,7 @@ unfolding effect
 returns-3 c =
     let s = c .before .before .before .before .before .before .before .before .before .before .before .before .before .before in let a = s .args in let e = a .e in let w = a .words .now in let l = a .l in
     effect-as (code w) (e .what) whats.Fill (e .x) (e .y) (e .z) (a .f) (a .est .now) _ _ (c .before .before .before .before .before .before .before .enum-told3 .given .1)
-    (for-code l (λ k. WellFormed k (a .est .now)) (λ k. fill k (rowAt (e .x))) (a .est .now) _ _ (code w) (c .before .before .before .before .fill .ensures) (s .pre .0 .laid) (s .pre .1))
+    (for-code l (λ k. WellFormed k (a .est .now)) (λ k. fill k (rowAt (e .x))) (a .est .now) _ _ (code w) (c .before .before .before .before .fill .ensures .0) (s .pre .0 .laid) (s .pre .1))
 
 same-length-7 : tie.Need-same-length-7
 same-length-7 c = search needs

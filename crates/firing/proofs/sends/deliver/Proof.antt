@@ -40,7 +40,7 @@ add-result c =
 add-result-2 : tie.Need-add-result-2
 add-result-2 c =
     let s = c .before .before .before .before .before .before .before .before .before .before .before .before .before .before .before .before .before .before .before .before .before .before .before .before in let a = s .args in
-    omega (arith, c .before .before .before .before .before .before .before .before .before .before .before .before .before .before .before .before .before .before .wake .ensures .count, c .before .before .before .before .before .before .before .before .before .before .before .pass .ensures .count, c .before .before .before .before .lift .ensures .count, sum-fits _ _ _ _ _ (c .before .before .before .before .before .before .before .before .before .before .before .pass .ensures .count) (c .before .before .before .before .lift .ensures .count), facts-most (c .before .before .before .before .lift .last .0), c .before .before .before .before .lift .kept .0, c .before .before .before .before .before .before .before .before .before .before .before .pass .kept .0, c .before .before .before .before .before .before .before .before .before .before .before .before .before .before .before .before .before .before .wake .kept .0, s .pre .0 .short)
+    omega (arith, c .before .before .before .before .before .before .before .before .before .before .before .before .before .before .before .before .before .before .wake .ensures .0 .count, c .before .before .before .before .before .before .before .before .before .before .before .pass .ensures .count, c .before .before .before .before .lift .ensures .count, sum-fits _ _ _ _ _ (c .before .before .before .before .before .before .before .before .before .before .before .pass .ensures .count) (c .before .before .before .before .lift .ensures .count), facts-most (c .before .before .before .before .lift .last .0), c .before .before .before .before .lift .kept .0, c .before .before .before .before .before .before .before .before .before .before .before .pass .kept .0, c .before .before .before .before .before .before .before .before .before .before .before .before .before .before .before .before .before .before .wake .kept .0, s .pre .0 .short)
 
 same-length : tie.Need-same-length
 same-length c = search needs
@@ -53,7 +53,7 @@ returns c =
     let s = c .before .before .before .before .before .before .before .before .before .before .before .before .before .before .before .before .before .before .before .before .before .before .before .before in let a = s .args in
     and-for (a .l) (a .est .now) _ _ _ _ (λ k. WellFormed k (a .est .now) × Masked k (a .l) (a .masks .now)) (λ k. WellFormed k _ × Masked k (a .l) (a .masks .now))
     (λ k. put (L (a .b)) 0) (λ k. pass k (rowAt (2 * a .d)) (sortAt 3 k) (rowAt (2 * a .b + 1)) and sub (P (a .b)) (P (a .p)))
-    (in-for (a .l) _ (put (L (a .b)) 0) (a .est .now) _ _ (c .before .before .before .before .before .before .before .before .before .before .before .before .before .before .before .before .before .before .wake .ensures))
+    (in-for (a .l) _ (put (L (a .b)) 0) (a .est .now) _ _ (c .before .before .before .before .before .before .before .before .before .before .before .before .before .before .before .before .before .before .wake .ensures .0))
     (and-for (a .l) _ _ _ _ _ (λ k. WellFormed k _ × Masked k (a .l) (a .masks .now)) (λ k. Unit {0}) (λ k. pass k (rowAt (2 * a .d)) (sortAt 3 k) (rowAt (2 * a .b + 1))) (λ k. sub (P (a .b)) (P (a .p)))
     (c .before .before .before .before .before .before .before .before .before .before .before .pass .ensures) (c .before .before .before .before .lift .ensures) (λ k o x e. tt))
     (λ k o x e. (live-well k (a .b) (omega (arith, s .pre .3, o .size)) (a .est .now) _ (x .0) e, x .1))

@@ -37,13 +37,15 @@ same-length c = search needs
 
 returns : tie.Need-returns
 returns c =
-    let s = c .before .before .before .before .before .before .before .before in let a = s .args in let d = code (a .words .now) in
-    record {
-      words =
-          sym (fire-given-not d (L (a .p)) 0 (asks d (clauseAt (a .words .now) (a .links .now) (plain d) (a .p) (a .k)) (a .f)) (a .est .now)
-          (sym (c .before .is-live .ensures d (s .pre .0 .laid)) ∙ not-so _ (c .if1 .taken)));
-      count = omega arith;
-    }
+    let s = c .before .before .before .before .before .before .before .before in let a = s .args in let d = code (a .words .now) in (
+      record {
+        words =
+            sym (fire-given-not d (L (a .p)) 0 (asks d (clauseAt (a .words .now) (a .links .now) (plain d) (a .p) (a .k)) (a .f)) (a .est .now)
+            (sym (c .before .is-live .ensures d (s .pre .0 .laid)) ∙ not-so _ (c .if1 .taken)));
+        count = omega arith;
+      },
+      refl,
+    )
 
 mul-clause : tie.Need-mul-clause
 mul-clause c =
@@ -80,14 +82,16 @@ returns-2 c =
     let s = c .before .before .before .before .before .before .before .before .before .before .before .before .before .before .before .before .before in let a = s .args in let w = a .words .now in let d = code w in let old = a .est .now in
     let made = c .before .before .before .before .before .before .before .clause .ensures ∙ clause-is w (a .links .now) (a .masks .now) (a .l) (s .pre .0) (a .p) (a .k) in
     let live = sym (c .before .before .before .before .before .before .before .before .before .before .is-live .ensures d (s .pre .0 .laid)) ∙ so _ (c .before .before .before .before .before .before .before .before .before .if1 .left) in
-    let f = c .before .before .before .before .fire .ensures in
-    record {
-      words =
-          f .words
-          ∙ ap (λ (x : Clause). fire d (asks d x (a .f)) old) made
-          ∙ sym (fire-given d (L (a .p)) 0 (asks d (clauseAt w (a .links .now) (plain d) (a .p) (a .k)) (a .f)) old live);
-      count = f .count;
-    }
+    let f = c .before .before .before .before .fire .ensures in (
+      record {
+        words =
+            f .words
+            ∙ ap (λ (x : Clause). fire d (asks d x (a .f)) old) made
+            ∙ sym (fire-given d (L (a .p)) 0 (asks d (clauseAt w (a .links .now) (plain d) (a .p) (a .k)) (a .f)) old live);
+        count = f .count;
+      },
+      c .before .before .before .before .fire .kept .1 .1 .1 .1 .0,
+    )
 
 pub step-spec : {M : Type 1} → statement M
 step-spec =

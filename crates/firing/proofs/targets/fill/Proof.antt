@@ -70,7 +70,7 @@ returns : tie.Need-returns Inv-loop μ-loop
 returns c =
     let s = c .before .before .before .before .before .before .before .before in let a = s .args in
     let i = c .before .before .before .before .before .loop in
-    fill-fired (a .l) (a .est .now) _ _ (a .r) (s .pre .1) (last (a .l) (a .est .now) _ (a .r) (i .k) _ (i .inv .2) (omega (arith, c .before .before .before .before .loop-test .left, i .inv .1)))
+    (fill-fired (a .l) (a .est .now) _ _ (a .r) (s .pre .1) (last (a .l) (a .est .now) _ (a .r) (i .k) _ (i .inv .2) (omega (arith, c .before .before .before .before .loop-test .left, i .inv .1))), search needs)
 
 pub fill-spec : {M : Type 1} → statement M
 fill-spec =

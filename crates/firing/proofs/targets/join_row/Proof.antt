@@ -1,12 +1,10 @@
--- `firing::targets::join_row` meets its contract: where nothing is lacking nothing changes; else the row is copied and or-ed in. Assumes nothing.
+-- `firing::targets::join_row` meets its contract: the row is copied and or-ed in. Assumes nothing.
 use mathlib.Core.Path.{sym, ap, _∙_}
 use Prim.Native.Nat.{_+_, _-_, _*_}
 use native.Mathlib.Omega.{arith}
 use lib.ListN.{take, drop}
 use lib.Seq.{length-take-le, take-at}
-use borrow.Author.Tests.{not-true}
-use Rattle.calculus.specs.Layout.{masked}
-use Rattle.rows.proofs.Laws.{length-row, length-part, same-part, row-joined, nothing-added}
+use Rattle.rows.proofs.Laws.{length-row, length-part, same-part, row-joined}
 use borrow.Author.Needs.{needs}
 use Rattle.firing.proofs.targets.join_row.Statement.{statement}
 use Rattle.firing.proofs.targets.join_row.Tie as tie
@@ -16,17 +14,6 @@ mul-from c = search needs
 
 mul-to : tie.Need-mul-to
 mul-to c = search needs
-
-lacks-requires : tie.Need-lacks-requires
-lacks-requires c κs = search needs
-
-same-length : tie.Need-same-length
-same-length c = search needs
-
-returns : tie.Need-returns
-returns c =
-    let s = c .before .before .before .before in let a = s .args in
-    nothing-added (a .est .now) (a .b * a .row) (take (a .row) (drop (a .a * a .row) (a .est .now))) (a .row) (length-row (a .est .now) (a .a * a .row) (a .row) (omega arith)) (omega arith) (sym (c .before .lacks .ensures) ∙ not-true _ (c .if1 .taken))
 
 add-copy : tie.Need-add-copy
 add-copy c = search needs
@@ -69,21 +56,21 @@ array-share-prefix-scratch c = search needs
 
 slice-aggregate-join : tie.Need-slice-aggregate-join
 slice-aggregate-join c =
-    let s = c .before .before .before .before .before .before .before .before .before .before .before in let a = s .args in
+    let s = c .before .before .before .before .before .before .before .before in let a = s .args in
     sym (length-take-le (a .row) _ (omega (arith, s .pre, c .before .before .before .copy .kept .1 .0)))
 
 join-requires : tie.Need-join-requires
 join-requires c κs =
-    let s = c .before .before .before .before .before .before .before .before .before .before .before in let a = s .args in
+    let s = c .before .before .before .before .before .before .before .before in let a = s .args in
     let part = length-part (a .est .now) (a .b * a .row) (a .row) (omega (arith, s .pre)) in
     (length-take-le (a .row) _ (omega (arith, s .pre, c .before .before .before .copy .kept .1 .0)) ∙ sym part, omega (arith, part, s .pre))
 
-same-length-2 : tie.Need-same-length-2
-same-length-2 c = search needs
+same-length : tie.Need-same-length
+same-length c = search needs
 
-returns-2 : tie.Need-returns-2
-returns-2 c =
-    let s = c .before .before .before .before .before .before .before .before .before .before .before .before .before .before in let a = s .args in
+returns : tie.Need-returns
+returns c =
+    let s = c .before .before .before .before .before .before .before .before .before .before .before in let a = s .args in
     let from = a .a * a .row in
     row-joined (a .est .now) (a .b * a .row) (a .row) _ _ (take (a .row) (drop (a .a * a .row) (a .est .now))) _
     (ap (take (a .row)) (c .before .before .before .before .before .before .copy .ensures)
@@ -97,9 +84,6 @@ join-row-spec =
     (tie.spec
     mul-from
     mul-to
-    lacks-requires
-    same-length
-    returns
     add-copy
     mul-copy
     sub-copy
@@ -115,5 +99,5 @@ join-row-spec =
     array-share-prefix-scratch
     slice-aggregate-join
     join-requires
-    same-length-2
-    returns-2)
+    same-length
+    returns)

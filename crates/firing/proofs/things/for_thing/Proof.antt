@@ -40,43 +40,43 @@ lift-requires c κs =
 enum-told-3 : tie.Need-enum-told-3
 enum-told-3 c = search needs
 
-mul-flow : tie.Need-mul-flow
-mul-flow c = search needs
+mul-flow-if : tie.Need-mul-flow-if
+mul-flow-if c = search needs
 
-add-flow : tie.Need-add-flow
-add-flow c = search needs
+add-flow-if : tie.Need-add-flow-if
+add-flow-if c = search needs
 
-flow-requires : tie.Need-flow-requires
-flow-requires c κs =
+flow-if-requires : tie.Need-flow-if-requires
+flow-if-requires c κs =
     let s = c .before .before .before .before .before .before in let a = s .args in
     (row-in (a .l) (a .est .now) (s .pre .0) (a .y) (s .pre .1 .row), row-in (a .l) (a .est .now) (s .pre .0) (2 * a .f + 1) (omega (arith, s .pre .1 .thing)), s .pre .0 .most)
 
 enum-told-4 : tie.Need-enum-told-4
 enum-told-4 c = search needs
 
-mul-flow-2 : tie.Need-mul-flow-2
-mul-flow-2 c = search needs
+mul-flow-if-2 : tie.Need-mul-flow-if-2
+mul-flow-if-2 c = search needs
 
-add-flow-2 : tie.Need-add-flow-2
-add-flow-2 c = search needs
+add-flow-if-2 : tie.Need-add-flow-if-2
+add-flow-if-2 c = search needs
 
-flow-requires-2 : tie.Need-flow-requires-2
-flow-requires-2 c κs =
+flow-if-requires-2 : tie.Need-flow-if-requires-2
+flow-if-requires-2 c κs =
     let s = c .before .before .before .before .before .before in let a = s .args in
     (row-in (a .l) (a .est .now) (s .pre .0) (2 * a .f + 1) (omega (arith, s .pre .1 .thing)), row-in (a .l) (a .est .now) (s .pre .0) (a .y) (s .pre .1 .row), s .pre .0 .most)
 
 enum-told-5 : tie.Need-enum-told-5
 enum-told-5 c = search needs
 
-add-flow-3 : tie.Need-add-flow-3
-add-flow-3 c = search needs
+add-flow-if-3 : tie.Need-add-flow-if-3
+add-flow-if-3 c = search needs
 
-mul-flow-3 : tie.Need-mul-flow-3
-mul-flow-3 c = search needs
+mul-flow-if-3 : tie.Need-mul-flow-if-3
+mul-flow-if-3 c = search needs
 
-flow-requires-3 : tie.Need-flow-requires-3
+flow-if-requires-3 : tie.Need-flow-if-requires-3
 unfolding entering
-flow-requires-3 c κs =
+flow-if-requires-3 c κs =
     let s = c .before .before .before .before .before .before in let a = s .args in
     (row-in (a .l) (a .est .now) (s .pre .0) (2 * (a .f + 1)) (omega (arith, s .pre .1 .body (ap entering (c .before .before .enum-told5 .given .1)))), row-in (a .l) (a .est .now) (s .pre .0) (a .y) (s .pre .1 .row), s .pre .0 .most)
 
@@ -91,7 +91,7 @@ unfolding forThing
 returns c =
     let s = c .before .before .before .before .before .before .before .before .before .before .before in let a = s .args in
     thing-as (a .l) (a .what) whats.Enter (a .x) (a .y) (a .f) _ _ _ (c .before .before .before .before .before .before .before .enum-told .given .1)
-    (rw add-one at (c .before .before .before .before .wake .ensures))
+    (rw add-one at (c .before .before .before .before .wake .ensures .0))
 
 same-length-3 : tie.Need-same-length-3
 same-length-3 c = search needs
@@ -117,7 +117,7 @@ unfolding forThing
 returns-3 c =
     let s = c .before .before .before .before .before .before .before .before .before .before .before in let a = s .args in
     thing-as (a .l) (a .what) whats.Hand (a .x) (a .y) (a .f) _ _ _ (c .before .before .before .before .before .before .before .enum-told3 .given .1)
-    (rw (row-B (a .f)) at (c .before .before .before .before .flow .ensures))
+    (rw (row-B (a .f)) at (c .before .before .before .before .flow-if .ensures))
 
 same-length-7 : tie.Need-same-length-7
 same-length-7 c = search needs
@@ -130,7 +130,7 @@ unfolding forThing
 returns-4 c =
     let s = c .before .before .before .before .before .before .before .before .before .before .before in let a = s .args in
     thing-as (a .l) (a .what) whats.Take (a .x) (a .y) (a .f) _ _ _ (c .before .before .before .before .before .before .before .enum-told4 .given .1)
-    (rw (row-B (a .f)) at (c .before .before .before .before .flow2 .ensures))
+    (rw (row-B (a .f)) at (c .before .before .before .before .flow-if2 .ensures))
 
 same-length-9 : tie.Need-same-length-9
 same-length-9 c = search needs
@@ -143,7 +143,7 @@ unfolding forThing
 returns-5 c =
     let s = c .before .before .before .before .before .before .before .before .before .before .before in let a = s .args in
     thing-as (a .l) (a .what) whats.Back (a .x) (a .y) (a .f) _ _ _ (c .before .before .before .before .before .before .before .enum-told5 .given .1)
-    (rw (row-C (a .f + 1), add-one) at (c .before .before .before .before .flow3 .ensures))
+    (rw (row-C (a .f + 1), add-one) at (c .before .before .before .before .flow-if3 .ensures))
 
 returns-6 : tie.Need-returns-6
 returns-6 c =
@@ -161,17 +161,17 @@ for-thing-spec =
     add-lift
     lift-requires
     enum-told-3
-    mul-flow
-    add-flow
-    flow-requires
+    mul-flow-if
+    add-flow-if
+    flow-if-requires
     enum-told-4
-    mul-flow-2
-    add-flow-2
-    flow-requires-2
+    mul-flow-if-2
+    add-flow-if-2
+    flow-if-requires-2
     enum-told-5
-    add-flow-3
-    mul-flow-3
-    flow-requires-3
+    add-flow-if-3
+    mul-flow-if-3
+    flow-if-requires-3
     same-length
     same-length-2
     returns

@@ -31,7 +31,7 @@ mark-requires c κs =
 add-result : tie.Need-add-result
 add-result c =
     let s = c .before .before .before .before .before .before .before .before .before .before .before .before .before in let f = c .before .before .before .before .before .before .before .before .fill in let m = c .before .before .mark in
-    omega (arith, sum-fits (s .args .est .now) _ _ _ _ (f .ensures .count) (m .ensures .count), m .kept .0, f .kept .0, s .pre .0 .short)
+    omega (arith, sum-fits (s .args .est .now) _ _ _ _ (f .ensures .0 .count) (m .ensures .count), m .kept .0, f .kept .0, s .pre .0 .short)
 
 same-length : tie.Need-same-length
 same-length c = search needs
@@ -43,7 +43,7 @@ returns : tie.Need-returns
 returns c =
     let a = c .before .before .before .before .before .before .before .before .before .before .before .before .before .args in
     and-for (a .l) (a .est .now) _ _ _ _ (λ k. WellFormed k (a .est .now)) (λ k. Unit {0}) (λ k. fill k (rowAt (2 * a .p + 1))) (λ k. put (rowAt (2 * a .p)) 7)
-    (c .before .before .before .before .before .before .before .before .fill .ensures) (c .before .before .mark .ensures) (λ k o x e. tt)
+    (c .before .before .before .before .before .before .before .before .fill .ensures .0) (c .before .before .mark .ensures) (λ k o x e. tt)
 
 pub admit-spec : {M : Type 1} → statement M
 admit-spec =

@@ -1,5 +1,5 @@
 -- `fixpoint::entry::enter_all` meets its contract. The loop's invariant: what was done so far is sound. Assumes nothing.
-use Prim.Native.Nat.{_-_, _≤_}
+use Prim.Native.Nat.{_-_}
 use mathlib.Core.Path.{_≡_, refl, _∙_}
 use native.Mathlib.Omega.{arith}
 use lib.ListN.{length}
@@ -12,31 +12,43 @@ use Rattle.fixpoint.proofs.entry.enter_all.Statement.{statement}
 use Rattle.fixpoint.proofs.entry.enter_all.Tie as tie
 
 abbrev Inv-loop : tie.InvT-loop
-Inv-loop words est₀ h₀ l rho size added₀ p₀ est h added p =
-    (length est ≡ length est₀) × (length h ≡ length h₀) × (p ≤ size) × Grown (code words) (rho .bits) est₀ est added
+Inv-loop words links est₀ h₀ l rho size added₀ p₀ est h added p =
+    (length est ≡ length est₀) × (length h ≡ length h₀) × Grown (code words) (rho .bits) est₀ est added
 
 abbrev μ-loop : tie.MeasureT-loop
-μ-loop words est₀ h₀ l rho size added₀ p₀ est h added p = size - p
+μ-loop words links est₀ h₀ l rho size added₀ p₀ est h added p = size - p
 
 loop-holds : tie.Need-loop-holds Inv-loop μ-loop
-loop-holds c = (refl, refl, omega arith, grown-none (code (c .before .before .before .args .words .now)) (c .before .before .before .args .rho .bits) (c .before .before .before .args .est .now))
+loop-holds c = let a = c .before .before .before .before .args in (refl, refl, grown-none (code (a .words .now)) (a .rho .bits) (a .est .now))
 
 enter-requires : tie.Need-enter-requires Inv-loop μ-loop
-enter-requires c κs = (c .before .before .before .before .before .before .before .pre .0, sized-again (c .before .before .before .before .before .before .before .args .l) (c .before .before .before .before .before .before .before .args .est .now) _ (c .before .before .before .before .before .before .before .pre .1) (c .before .before .before .loop .inv .0), c .before .before .before .loop .inv .3 .sound .well (c .before .before .before .before .before .before .before .pre .2), c .before .before .loop-test .taken)
+enter-requires c κs =
+    let s = c .before .before .before .before .before .before .before .before in let i = c .before .before .before .loop .inv in
+    (s .pre .0, sized-again (s .args .l) (s .args .est .now) _ (s .pre .1) (i .0), i .2 .sound .well (s .pre .2), c .before .before .loop-test .taken)
 
 add-added : tie.Need-add-added Inv-loop μ-loop
 add-added c =
-    let g = grown-then (code (c .before .before .before .before .before .before .before .before .before .before .before .before .args .words .now)) (c .before .before .before .before .before .before .before .before .before .before .before .before .args .rho .bits) (c .before .before .before .before .before .before .before .before .loop .inv .3) (entered (code (c .before .before .before .before .before .before .before .before .before .before .before .before .args .words .now)) (c .before .before .before .before .before .before .before .before .before .before .before .before .args .rho .bits) (linked (c .before .before .before .before .before .before .before .before .before .before .before .before .args .words .now) (c .before .before .before .before .before .before .before .before .before .before .before .before .pre .0 .readable)) (c .before .before .before .before .before .before .before .before .loop .p) (omega (arith, c .before .before .before .before .before .before .before .before .before .before .before .before .pre .0 .laid .size, c .before .before .before .before .before .before .before .loop-test .taken)) (c .before .before .before .before .enter .ensures)) in
-    omega (arith, few-sized (c .before .before .before .before .before .before .before .before .before .before .before .before .args .l) (c .before .before .before .before .before .before .before .before .before .before .before .before .args .est .now) _ _ (sized-again (c .before .before .before .before .before .before .before .before .before .before .before .before .args .l) (c .before .before .before .before .before .before .before .before .before .before .before .before .args .est .now) _ (c .before .before .before .before .before .before .before .before .before .before .before .before .pre .1) (c .before .before .before .before .enter .kept .1 .0 ∙ c .before .before .before .before .before .before .before .before .loop .inv .0)) (g .count))
+    let s = c .before .before .before .before .before .before .before .before .before .before .before .before .before in let a = s .args in let i = c .before .before .before .before .before .before .before .before .loop in let e = c .before .before .before .before .enter in
+    let step = entered (code (a .words .now)) (a .rho .bits) (linked (a .words .now) (s .pre .0 .readable)) (i .p) (omega (arith, s .pre .0 .laid .size, c .before .before .before .before .before .before .before .loop-test .taken)) (e .ensures) in
+    omega (arith, few-sized (a .l) (a .est .now) _ _ (sized-again (a .l) (a .est .now) _ (s .pre .1) (e .kept .1 .0 ∙ i .inv .0)) (grown-then (code (a .words .now)) (a .rho .bits) (i .inv .2) step .count))
 
-add-p : tie.Need-add-p Inv-loop μ-loop
-add-p c = search needs
+add-past : tie.Need-add-past Inv-loop μ-loop
+add-past c = search needs
+
+past-requires : tie.Need-past-requires Inv-loop μ-loop
+past-requires c κs = omega (arith, c .before .before .before .before .before .before .before .before .before .before .before .before .before .pre .1 .size, c .before .before .before .before .before .before .before .loop-test .taken)
 
 loop-less : tie.Need-loop-less Inv-loop μ-loop
-loop-less c = omega (arith, c .before .before .before .before .before .before .before .loop-test .taken)
+loop-less c = omega (arith, c .before .before .before .before .before .before .before .before .loop-test .taken, c .past .ensures)
 
 loop-again : tie.Need-loop-again Inv-loop μ-loop
-loop-again c = (c .before .before .before .before .enter .kept .1 .0 ∙ c .before .before .before .before .before .before .before .before .loop .inv .0, c .before .before .before .before .enter .kept .1 .1 .0 ∙ c .before .before .before .before .before .before .before .before .loop .inv .1, omega (arith, c .before .before .before .before .before .before .before .loop-test .taken), grown-then (code (c .before .before .before .before .before .before .before .before .before .before .before .before .args .words .now)) (c .before .before .before .before .before .before .before .before .before .before .before .before .args .rho .bits) (c .before .before .before .before .before .before .before .before .loop .inv .3) (entered (code (c .before .before .before .before .before .before .before .before .before .before .before .before .args .words .now)) (c .before .before .before .before .before .before .before .before .before .before .before .before .args .rho .bits) (linked (c .before .before .before .before .before .before .before .before .before .before .before .before .args .words .now) (c .before .before .before .before .before .before .before .before .before .before .before .before .pre .0 .readable)) (c .before .before .before .before .before .before .before .before .loop .p) (omega (arith, c .before .before .before .before .before .before .before .before .before .before .before .before .pre .0 .laid .size, c .before .before .before .before .before .before .before .loop-test .taken)) (c .before .before .before .before .enter .ensures)))
+loop-again c =
+    let s = c .before .before .before .before .before .before .before .before .before .before .before .before .before .before in let a = s .args in let i = c .before .before .before .before .before .before .before .before .before .loop in let e = c .before .before .before .before .before .enter in (
+      e .kept .1 .0 ∙ i .inv .0,
+      e .kept .1 .1 .0 ∙ i .inv .1,
+      grown-then (code (a .words .now)) (a .rho .bits) (i .inv .2)
+          (entered (code (a .words .now)) (a .rho .bits) (linked (a .words .now) (s .pre .0 .readable)) (i .p) (omega (arith, s .pre .0 .laid .size, c .before .before .before .before .before .before .before .before .loop-test .taken)) (e .ensures)),
+    )
 
 same-length : tie.Need-same-length Inv-loop μ-loop
 same-length c = c .before .loop .inv .0
@@ -45,7 +57,7 @@ same-length-2 : tie.Need-same-length-2 Inv-loop μ-loop
 same-length-2 c = c .before .loop .inv .1
 
 returns : tie.Need-returns Inv-loop μ-loop
-returns c = c .before .loop .inv .3
+returns c = c .before .loop .inv .2
 
 pub enter-all-spec : {M : Type 1} → statement M
 enter-all-spec =
@@ -56,7 +68,8 @@ enter-all-spec =
     loop-holds
     enter-requires
     add-added
-    add-p
+    add-past
+    past-requires
     loop-less
     loop-again
     same-length

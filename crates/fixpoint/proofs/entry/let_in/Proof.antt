@@ -23,7 +23,7 @@ admit-requires c κs =
 add-result : tie.Need-add-result
 add-result c =
     let s = c .before .before .before .before .before .before .before .before .before .before .before .before .before .before .before .before in let w = c .before .before .before .before .before .before .before .before .before .before .before .wake in let a = c .before .before .before .before .admit in
-    omega (arith, sum-fits (s .args .est .now) _ _ _ _ (w .ensures .count) (a .ensures .count), a .kept .0, w .kept .0, s .pre .0 .short)
+    omega (arith, sum-fits (s .args .est .now) _ _ _ _ (w .ensures .0 .count) (a .ensures .count), a .kept .0, w .kept .0, s .pre .0 .short)
 
 same-length : tie.Need-same-length
 same-length c = search needs
@@ -36,7 +36,7 @@ returns c =
     let s = c .before .before .before .before .before .before .before .before .before .before .before .before .before .before .before .before in let a = s .args in
     and-for (a .l) (a .est .now) _ _ _ _ (λ k. WellFormed k (a .est .now)) (λ k. WellFormed k _) (λ k. put (L (a .p)) 0)
     (λ k. fill k (rowAt (2 * a .p + 1)) and put (rowAt (2 * a .p)) 7)
-    (in-for (a .l) _ (put (L (a .p)) 0) (a .est .now) _ _ (c .before .before .before .before .before .before .before .before .before .before .before .wake .ensures)) (c .before .before .before .before .admit .ensures)
+    (in-for (a .l) _ (put (L (a .p)) 0) (a .est .now) _ _ (c .before .before .before .before .before .before .before .before .before .before .before .wake .ensures .0)) (c .before .before .before .before .admit .ensures)
     (λ k o x e. live-well k (a .p) (omega (arith, s .pre .1, o .size)) (a .est .now) _ x e)
 
 pub let-in-spec : {M : Type 1} → statement M

@@ -12,7 +12,7 @@ returns : tie.Need-returns
 returns c = (omega arith, λ h. refl)
 
 returns-2 : tie.Need-returns-2
-returns-2 c = (c .count .ensures, λ h. absurd (omega (arith, h, c .before .if1 .left)))
+returns-2 c = (c .count .ensures .1, λ h. absurd (omega (arith, h, c .before .if1 .left)))
 
 pub number-spec : {M : Type 1} → statement M
 number-spec =
