@@ -11,3 +11,4 @@ pub mod Answers
 pub mod Reports
 pub mod Theorem
 pub mod Printed
+pub mod Samples
