@@ -1,5 +1,5 @@
 -- The node of a term whose parts stand at the renumbered places is the renumbered node.
-use Prim.Native.Nat.{ℕ}
+use Prim.Native.Nat.{ℕ, _≤_}
 use mathlib.Core.Path.{_≡_, refl, ap, ap₂}
 use mathlib.Core.List.{List}
 use mathlib.Core.Bool.{Bool}
@@ -10,9 +10,8 @@ use Rattle.table.specs.Words.{kind, argument, firstKind, parts, partsByKind, li
 use Rattle.table.specs.Code.{Node, one, two, bind, while, branch, update, cell, read, apply, sequence, get, delete, assign, operation, send, termNode}
 use Rattle.table.proofs.TermWords.{Rows, done, _▸_, by-kind}
 use Rattle.renaming.specs.Renaming.{renameNode}
-use Prim.Native.Nat.{_≤_}
 
--- of the parts that a term has
+-- Of the parts that a term has; `table/proofs/Nodes` has the same for parts that stand where they stood.
 PartsAt : (ℕ → ℕ) → ℕ → ℕ → ℕ → ℕ → ℕ → ℕ → ℕ → Term → ℕ → List Bool → Type 0
 PartsAt π a b d a′ b′ d′ k t l bs =
     (T (ltb 0 (length bs)) → a′ ≡ π a) → (T (ltb 1 (length bs)) → b′ ≡ π b) → (T (ltb 2 (length bs)) → d′ ≡ π d)
