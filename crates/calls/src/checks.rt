@@ -15,7 +15,7 @@ pub enum Checked {
 }
 
 // A bound with bits above the permissions, save the standing bound, which means the empty set.
-pub fn stray_bound(bound: u32) -> bool
+fn stray_bound(bound: u32) -> bool
     ensures { λ r. ⌜ r ≡ strayBound bound ⌝ }
 {
     16777216 <= bound && bound != 0x80000000

@@ -2,14 +2,15 @@
 use Prim.Native.Nat.{ℕ, zero, suc, _+_, _^_, _<_, _≤_}
 use mathlib.Core.Path.{_≡_, refl, sym, _∙_}
 use mathlib.Core.Bool.{Bool, true, false}
-use mathlib.Core.List.{List, [], _∷_, _++_}
+use mathlib.Core.List.{List, [], _∷_}
 use native.Mathlib.Omega.{arith}
 use lib.Dec.{leb, ltb}
 use lib.ListN.{length}
 use borrow.Author.Tests.{ltb-false}
 use Rattle.permset.specs.Sets.{width}
-use Rattle.table.specs.Scan.{Task, head, Outcome, accepted, refused as unreadable, firstOf, fault, keep, next, scan, namesAt, reading}
+use Rattle.table.specs.Scan.{Outcome, accepted, refused as unreadable, firstOf, reading}
 use Rattle.table.specs.Code.{code}
+use Rattle.table.proofs.Refusals.{reading-bounded, bounded-place}
 use Rattle.calculus.specs.Layout.{estimateWords}
 use Rattle.calculus.specs.Estimate.{whole, estimate}
 use Rattle.calculus.specs.Answer.{Verdict, Answer, refused, verdict, workWords, callerTests, judge, analysis, answer}
@@ -20,20 +21,6 @@ use Rattle.comparison.specs.declared.Verdict.{Verdict as Declared·Verdict}
 use Rattle.comparison.specs.declared.Verdict.the-variants as variants
 use Rattle.comparison.specs.Values.{answerOf}
 use Rattle.interface.specs.Places.{PlaceFits}
-
-pub scan-place : (names : ℕ) (ws keys : List ℕ) (at : ℕ) (ts : List Task) (n p : ℕ) → scan names ws keys at ts ≡ unreadable n p → p ≤ at + length ws
-unfolding scan
-scan-place names [] keys at [] n p e = let z : _≡_ {A = ℕ} 0 1 = cc in absurd (omega arith)
-scan-place names [] keys at (t ∷ ts) n p e = let q : at ≡ p = cc in omega arith
-scan-place names (w ∷ ws) keys at [] n p e = let q : at ≡ p = cc in omega arith
-scan-place names (w ∷ ws) keys at (t ∷ ts) n p e =
-    go (fault names keys w t) e (scan-place names ws (keep keys w t) (suc at) (next at w t ++ ts) n p)
-  where
-    go : (f : ℕ)
-        → (elim f as (λ k. Outcome) [ zero ↦ scan names ws (keep keys w t) (suc at) (next at w t ++ ts) | suc k ↦ unreadable (suc k) at ]) ≡ unreadable n p
-        → (scan names ws (keep keys w t) (suc at) (next at w t ++ ts) ≡ unreadable n p → p ≤ suc at + length ws) → p ≤ at + suc (length ws)
-    go zero h more = omega (arith, more h)
-    go (suc k) h more = let q : at ≡ p = cc in omega arith
 
 -- the last two of four tests do not hold where none does
 none-holds : (a b d e : Bool) → firstOf ((a, 20) ∷ (b, 20) ∷ (d, 21) ∷ (e, 22) ∷ []) ≡ 0 → (d ≡ false) × (e ≡ false)
@@ -73,7 +60,7 @@ module _ (ws : List ℕ) (ρ bound est work : ℕ) where
       go (unreadable m q) r h = let z : _≡_ {A = ℕ} 0 1 = cc in absurd (omega arith)
 
   answer-place : (n p : ℕ) → answer ws ρ bound est work ≡ refused n p → p ≤ length ws
-  unfolding answer analysis reading
+  unfolding answer analysis
   answer-place n p e = go (reading ws) refl e
     where
       start : (m : ℕ) → called m ≡ refused n p → p ≤ length ws
@@ -88,7 +75,7 @@ module _ (ws : List ℕ) (ρ bound est work : ℕ) where
       go accepted r h = start found h
       go (unreadable m q) r h =
           let same : q ≡ p = cc in
-          omega (arith, scan-place (namesAt ws) ws [] 0 (head (length ws) ∷ []) m q r)
+          omega (arith, bounded-place (length ws) (reading ws) m q (reading-bounded ws) r)
 
   pub place-fits : (v : Declared·Verdict) → answerOf v ≡ answer ws ρ bound est work → length ws < 65536 → PlaceFits v
   unfolding answerOf

@@ -1,4 +1,4 @@
--- A converter told over bytes: 30 comes first, a slice of 1,024 words has room for every table, and the place of a refusal is small.
+-- A converter told over bytes: 30 comes first, a slice of 1,024 words has room for every table, and number and place of a refusal are small.
 use Prim.Native.Nat.{ℕ, zero, suc, _*_, _/_, _%_, _≤_}
 use mathlib.Core.Path.{_≡_, refl, sym, ap, _∙_}
 use mathlib.Core.Bool.{Bool, true, false}
@@ -15,7 +15,7 @@ use Rattle.widths.specs.Converters.{convertible, written, answer, convertAnswer
 use Rattle.widths.specs.Converters as widths
 use Rattle.widths.proofs.Theorems.{answer-written, converted-accepted}
 use Rattle.widths.proofs.Lengths.{answer-first}
-use Rattle.widths.proofs.Places.{convert-place}
+use Rattle.widths.proofs.Places.{convert-bounded}
 use Rattle.capi_text.specs.Interface.{placed}
 use Rattle.capi_text.specs.Converters.{convertedBytes, convertedAnswer}
 
@@ -62,6 +62,7 @@ module _ (wide : Bool) (ws : List ℕ) (size : ℕ) where
           let z : _≡_ {A = ℕ} 0 1 = cc in
           absurd (omega arith)
 
-pub place-small : (wide : Bool) (ws out : List ℕ) (n p : ℕ) → convertAnswer wide ws (length out) ≡ widths.refusal n p → p ≤ 1025
-place-small wide ws out n p e =
-    omega (arith, convert-place (take 1025 ws) wide (length out) n p (answer-first wide ws out ∙ e), length-take 1025 ws)
+pub converted-small : (wide : Bool) (ws out : List ℕ) (n p : ℕ) → convertAnswer wide ws (length out) ≡ widths.refusal n p → (n ≤ 57) × (p ≤ 1025)
+converted-small wide ws out n p e =
+    let h = convert-bounded (take 1025 ws) wide (length out) n p (answer-first wide ws out ∙ e) in
+    (h .0, omega (arith, h .1, length-take 1025 ws))

@@ -1,4 +1,4 @@
--- Bit 32 of an answer says whether it is a refusal, for all bytes: of a manifest, of a look-up and of a join. Assumes nothing.
+-- Bit 32 of an answer says whether it is a refusal, for all bytes: of a manifest, of a look-up, of a join and of a converter. Assumes nothing.
 use Prim.Native.Nat.{ℕ, zero, suc, _+_, _-_, _*_, _/_, _%_, _^_, _<_, _≤_}
 use mathlib.Core.Path.{_≡_, refl, sym, ap, subst, _∙_}
 use mathlib.Core.Bool.{Bool, true, false}
@@ -18,9 +18,15 @@ use Rattle.overlay.specs.Lookup as lookup
 use Rattle.overlay.specs.Join.{Answer, written, joinAnswer}
 use Rattle.overlay.specs.Join as join
 use Rattle.overlay.proofs.Theorems.{joined-few}
+use Rattle.table.proofs.Limits.{size-le}
+use Rattle.widths.specs.Converters.{convertible, convertAnswer}
+use Rattle.widths.specs.Converters as widths
+use Rattle.widths.proofs.Theorems.{answer-written, converted-accepted}
 use Rattle.capi_text.specs.Interface.{answerNumber}
 use Rattle.capi_text.specs.Manifest.{outcomeNumber}
 use Rattle.capi_text.specs.Overlay.{oddNumber, lookupAnswer, placeNumber, joinBytes, joinedAnswer}
+use Rattle.capi_text.specs.Converters.{convertedBytes, convertedAnswer}
+use Rattle.capi_text.proofs.Converted.{odd-bytes, whole-words, converted-small}
 use Rattle.capi_text.proofs.TwoTables.{Inside, place-small, odd-small, lookup-odd, lookup-even, join-odd, join-even, join-refused-small}
 
 unfoldable pub refusedBit : Outcome → ℕ
@@ -136,3 +142,34 @@ joined-bounded base overlay size = go (ℕ-discrete (oddNumber base overlay) 0)
 pub join-bit-32 : (base overlay : List ℕ) (size : ℕ)
     → answerNumber (joinedAnswer base overlay size) / 2 ^ 32 % 2 ≡ answeredBit (joinedAnswer base overlay size)
 join-bit-32 base overlay size = answered-bit (joinedAnswer base overlay size) (joined-bounded base overlay size)
+
+-- ---- a table of the other width
+
+converted-bounded : (wide : Bool) (system : List ℕ) (size : ℕ) → Bounded (convertedAnswer wide system size)
+unfolding convertedBytes convertAnswer
+converted-bounded wide system size = go (ℕ-discrete (length system % 4) 0)
+  where
+    words : List ℕ
+    words = replicate (size / 4) 0
+
+    room : length words ≡ size / 4
+    room = length-replicate {A = ℕ} (size / 4) 0
+
+    by : (a : widths.Answer) → convertAnswer wide (wordsOf system) (length words) ≡ a → Bounded (convertedBytes a)
+    by (widths.written n) e =
+        let a = answer-written (convertible wide (wordsOf system)) (length (wordsOf system)) (length words) n e in
+        omega (arith, a .1, size-le (wordsOf system) (converted-accepted wide (wordsOf system) (a .0) .0))
+    by (widths.refusal n p) e =
+        let h = converted-small wide (wordsOf system) words n p e in
+        (omega (arith, h .0), h .1)
+
+    go : Dec (length system % 4 ≡ 0) → Bounded (convertedAnswer wide system size)
+    go (yes e) =
+        subst Bounded
+        (sym (whole-words wide system size e ∙ ap (λ (k : ℕ). convertedBytes (convertAnswer wide (wordsOf system) k)) (sym room)))
+        (by (convertAnswer wide (wordsOf system) (length words)) refl)
+    go (no h) = subst Bounded (sym (odd-bytes wide system size h)) (omega arith, omega arith)
+
+pub converted-bit-32 : (wide : Bool) (system : List ℕ) (size : ℕ)
+    → answerNumber (convertedAnswer wide system size) / 2 ^ 32 % 2 ≡ answeredBit (convertedAnswer wide system size)
+converted-bit-32 wide system size = answered-bit (convertedAnswer wide system size) (converted-bounded wide system size)

@@ -13,7 +13,8 @@ use Rattle.listing.proofs.Depths.{narrow-size}
 use Rattle.table.proofs.Stack.{refused-not-accepted}
 use Rattle.little_endian.specs.LittleEndian.{wordsOf}
 use Rattle.listing.specs.Listing.{Answered, done, refusal}
-use Rattle.listing.proofs.Places.{first-small, no-test-small, table-place, table-number, reading-first}
+use Rattle.table.proofs.Refusals.{first-small, no-test-small}
+use Rattle.listing.proofs.Places.{table-place, table-number, reading-first}
 use Rattle.blocks.specs.Blocks.{blocks}
 use Rattle.overlay.specs.Lookup.{tablesRead, Sought, nothing, found, sought, Place, inBase, inOverlay, placeOf}
 use Rattle.overlay.specs.Lookup as lookup

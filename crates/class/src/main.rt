@@ -2,7 +2,7 @@
 // into one buffer.
 use class_report::Status;
 use class_report::Tally;
-use class_report::counts::new;
+use class_report::new;
 use class_report::steps::step;
 use class_report::window::keep;
 use libc::STDIN_FILENO;

@@ -1,11 +1,12 @@
 // The report on a class: a stream of systems in, a line for each and the totals out.
-pub mod counts;
+mod counts;
 mod judge;
 mod lines;
 pub mod steps;
 mod stream;
 pub mod window;
 
+pub use crate::counts::new;
 use permset::PermSet;
 
 // What an analysis says of a system. `outcomeOf` of specs/Report.antt gives each its number, place or leak.

@@ -2,7 +2,7 @@
 pub mod arguments;
 mod checking;
 mod converters;
-pub mod explain;
+mod explain;
 mod lines;
 mod listings;
 mod manifests;
@@ -13,7 +13,7 @@ use crate::arguments::Value;
 use crate::arguments::value_of;
 use crate::checking::check_text;
 use crate::converters::convert_text;
-use crate::explain::help;
+pub use crate::explain::help;
 use crate::explain::sentence;
 use crate::listings::text_text;
 use crate::listings::words_text;

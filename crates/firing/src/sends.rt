@@ -8,7 +8,7 @@ use clauses::make::permissions_of;
 use permset::PermSet;
 use queries::starts;
 use rows::layout::Layout;
-use table::words::kind_of;
+use table::kind_of;
 use table_links::link_at;
 ghost use mathlib.Core.Path.{_≡_};
 ghost use Prim.Native.Nat.{_+_, _*_, _^_, _<_, _≤_};

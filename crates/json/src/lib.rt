@@ -1,7 +1,7 @@
 // JSON text (RFC 8259): where a value of it ends, and the characters of its strings. A place is an index into the text.
 pub mod bytes;
-pub mod numbers;
-pub mod strings;
+mod numbers;
+mod strings;
 pub mod units;
 pub mod values;
 

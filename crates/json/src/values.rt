@@ -148,7 +148,7 @@ pub fn first(text: &[u8], at: usize, keyed: bool) -> Ending
 }
 
 // The value at a place.
-pub fn value(text: &[u8], at: usize, nest: usize) -> Ending
+fn value(text: &[u8], at: usize, nest: usize) -> Ending
     ensures { λ r. ⌜ ended (now (text .entry)) r ≡ value nest (drop at (now (text .entry))) ⌝ }
 {
     match start(text, at) {

@@ -4,7 +4,7 @@ mod systems;
 use crate::systems::system_leak;
 use commands::arguments::Value;
 use commands::arguments::value_of;
-use commands::explain::help;
+use commands::help;
 use listing::Answer;
 use listing::numbers::refusal_number;
 use listing::numbers::refusal_place;

@@ -9,7 +9,7 @@ use native.Mathlib.Decide.{decLt}
 use lib.Dec.{leb, leb→le}
 use lib.ListN.{length, getD, drop, take, replicate, length-append, length-replicate, List·getD-map, List·getD-eq-default}
 use lib.Seq.{drop-append-add, getD-drop, take-append-seam, drop-drop}
-use Rattle.table.proofs.words.Table.{at}
+use Rattle.table.proofs.Constants.{at}
 use Rattle.listing.specs.Keywords.{Entry, unused, entries, entryOf, styleLetter, packed, packedAll, letters}
 
 -- every keyword has at most 11 letters

@@ -1,7 +1,6 @@
 -- The places of refusals are small, and only the last test of the reader looks at the room.
 use Prim.Native.Nat.{ℕ, zero, suc, _+_, _*_, _<_, _≤_}
 use mathlib.Core.Path.{_≡_, refl, sym, ap, _∙_, subst}
-use mathlib.Core.Logic.{_⊎_, inl, inr, ⊎-elim}
 use mathlib.Core.Bool.{Bool, true, false}
 use mathlib.Core.List.{List, [], _∷_, _++_, map}
 use native.Mathlib.Decide.{decLt}
@@ -10,8 +9,9 @@ use lib.Dec.{eqb, ltb}
 use lib.ListN.{length, getD, take, drop, length-map}
 use lib.Seq.{length-take-le, getD-take, take-all, take-at}
 use borrow.Author.Tests.{ltb-false, le-ltb}
-use Rattle.table.specs.Scan.{Task, head, name, perms, guard, term, Outcome, accepted, refused, firstOf, tests, fault, missing, keep, next, scan, namesAt, reading, narrowReading}
+use Rattle.table.specs.Scan.{Outcome, accepted, refused, firstOf, narrowReading}
 use Rattle.table.specs.Words.{kind}
+use Rattle.table.proofs.Refusals.{narrow-bounded, bounded-number, bounded-place}
 use Rattle.listing.proofs.Depths.{narrow-size}
 use native.Mathlib.Decide.{ℕ-discrete}
 use Rattle.listing.specs.Spelling.{feed}
@@ -22,84 +22,12 @@ use Rattle.listing.proofs.Theorems.{read-count, read-accepted}
 
 -- ---- places
 
-scan-place : (names : ℕ) (ws keys : List ℕ) (at : ℕ) (ts : List Task) (n p : ℕ) → scan names ws keys at ts ≡ refused n p → p ≤ at + length ws
-unfolding scan
-scan-place names [] keys at [] n p e = let z : _≡_ {A = ℕ} 0 1 = cc in absurd (omega arith)
-scan-place names [] keys at (t ∷ ts) n p e = let q : at ≡ p = cc in omega arith
-scan-place names (w ∷ ws) keys at [] n p e = let q : at ≡ p = cc in omega arith
-scan-place names (w ∷ ws) keys at (t ∷ ts) n p e =
-    go (fault names keys w t) e (scan-place names ws (keep keys w t) (suc at) (next at w t ++ ts) n p)
-  where
-    go : (f : ℕ)
-        → (elim f as (λ k. Outcome) [ zero ↦ scan names ws (keep keys w t) (suc at) (next at w t ++ ts) | suc k ↦ refused (suc k) at ]) ≡ refused n p
-        → (scan names ws (keep keys w t) (suc at) (next at w t ++ ts) ≡ refused n p → p ≤ suc at + length ws) → p ≤ at + suc (length ws)
-    go zero h more = omega (arith, more h)
-    go (suc k) h more = let q : at ≡ p = cc in omega arith
-
--- a table that is refused, as wide or as none
-narrow-refused : (ws : List ℕ) (n p : ℕ) → narrowReading ws ≡ refused n p → (((n ≡ 1) × (p ≡ 0)) ⊎ (reading ws ≡ refused n p))
-unfolding narrowReading
-narrow-refused ws n p e = go (eqb (kind (getD ws 0 0)) 5) e
-  where
-    go : (b : Bool) → elim b [ true ↦ refused 1 0 | false ↦ reading ws ] ≡ refused n p → (((n ≡ 1) × (p ≡ 0)) ⊎ (reading ws ≡ refused n p))
-    go true q = inl (cc, cc)
-    go false q = inr q
-
 pub table-place : (ws : List ℕ) (n p : ℕ) → narrowReading ws ≡ refused n p → p ≤ length ws
-unfolding reading
-table-place ws n p e =
-    ⊎-elim (λ h. omega (arith, h .1)) (λ h. omega (arith, scan-place (namesAt ws) ws [] 0 (head (length ws) ∷ []) n p h)) (narrow-refused ws n p e)
+table-place ws n p = bounded-place (length ws) (narrowReading ws) n p (narrow-bounded ws)
 
 -- the number: one of the table's
-pub first-small : (b : Bool) (n m : ℕ) (ts : List (Bool × ℕ)) → n ≤ m → firstOf ts ≤ m → firstOf ((b, n) ∷ ts) ≤ m
-unfolding firstOf
-first-small true n m ts h k = h
-first-small false n m ts h k = k
-
-pub no-test-small : (m : ℕ) → firstOf [] ≤ m
-unfolding firstOf
-no-test-small m = omega arith
-
-fault-small : (names : ℕ) (keys : List ℕ) (w : ℕ) (t : Task) → fault names keys w t ≤ 12
-unfolding fault tests
-fault-small names keys w (head n) =
-    first-small _ 1 12 _ (omega arith) (first-small _ 2 12 _ (omega arith) (first-small _ 3 12 _ (omega arith) (no-test-small 12)))
-fault-small names keys w name = first-small _ 4 12 _ (omega arith) (first-small _ 5 12 _ (omega arith) (no-test-small 12))
-fault-small names keys w (perms n) = first-small _ 4 12 _ (omega arith) (first-small _ 6 12 _ (omega arith) (no-test-small 12))
-fault-small names keys w guard = first-small _ 4 12 _ (omega arith) (no-test-small 12)
-fault-small names keys w (term d h s) =
-    first-small _ 7 12 _ (omega arith)
-    (first-small _ 7 12 _ (omega arith)
-    (first-small _ 9 12 _ (omega arith)
-    (first-small _ 9 12 _ (omega arith)
-    (first-small _ 10 12 _ (omega arith) (first-small _ 11 12 _ (omega arith) (no-test-small 12))))))
-
-missing-small : (t : Task) → missing t ≤ 12
-unfolding missing
-missing-small (head n) = omega arith
-missing-small name = omega arith
-missing-small (perms n) = omega arith
-missing-small guard = omega arith
-missing-small (term d h s) = omega arith
-
-scan-number : (names : ℕ) (ws keys : List ℕ) (at : ℕ) (ts : List Task) (n p : ℕ) → scan names ws keys at ts ≡ refused n p → n ≤ 12
-unfolding scan
-scan-number names [] keys at [] n p e = let z : _≡_ {A = ℕ} 0 1 = cc in absurd (omega arith)
-scan-number names [] keys at (t ∷ ts) n p e = let q : missing t ≡ n = cc in omega (arith, missing-small t)
-scan-number names (w ∷ ws) keys at [] n p e = let q : 12 ≡ n = cc in omega arith
-scan-number names (w ∷ ws) keys at (t ∷ ts) n p e =
-    go (fault names keys w t) (fault-small names keys w t) e (scan-number names ws (keep keys w t) (suc at) (next at w t ++ ts) n p)
-  where
-    go : (f : ℕ) → f ≤ 12
-        → (elim f as (λ k. Outcome) [ zero ↦ scan names ws (keep keys w t) (suc at) (next at w t ++ ts) | suc k ↦ refused (suc k) at ]) ≡ refused n p
-        → (scan names ws (keep keys w t) (suc at) (next at w t ++ ts) ≡ refused n p → n ≤ 12) → n ≤ 12
-    go zero s h more = more h
-    go (suc k) s h more = let q : suc k ≡ n = cc in omega arith
-
 pub table-number : (ws : List ℕ) (n p : ℕ) → narrowReading ws ≡ refused n p → n ≤ 12
-unfolding reading
-table-number ws n p e =
-    ⊎-elim (λ h. omega (arith, h .0)) (λ h. scan-number (namesAt ws) ws [] 0 (head (length ws) ∷ []) n p h) (narrow-refused ws n p e)
+table-number ws n p = bounded-number (length ws) (narrowReading ws) n p (narrow-bounded ws)
 
 -- the place that an answer tells, if it tells one, is at most m
 abbrev pub Within : ℕ → Answered → Type 0

@@ -18,7 +18,7 @@ use Rattle.table.proofs.Stack.{reach}
 use Rattle.table.proofs.Parts.{place-stands}
 use Rattle.table.proofs.Widths.{narrow-accepted, no-wide-word}
 use Rattle.table.proofs.TermWords.{argument-lt}
-use Rattle.table.proofs.words.Table.{at}
+use Rattle.table.proofs.Constants.{at}
 use Rattle.text.specs.Text.{decimal, set}
 use Rattle.listing.specs.Keywords.{Style, omitted, hex, whole, signed, Entry, unused, entries, entryOf, used}
 use Rattle.listing.specs.Spelling.{space, feed, minus, signedDecimal, spelledArgument, lineOf, spelled, prefix, guessedKind, guessed, same, spells, lineWord}

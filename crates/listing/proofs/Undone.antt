@@ -11,7 +11,7 @@ use lib.Seq.{drop-append-seam}
 use borrow.Author.Tests.{eq-eqb, ne-eqb, lt-ltb, le-ltb, ltb-true, ltb-false}
 use Rattle.table.specs.Words.{kind, argument, wordOf}
 use Rattle.table.proofs.TermWords.{kind-wordOf, argument-wordOf, wordOf-parts, argument-lt}
-use Rattle.table.proofs.words.Table.{at}
+use Rattle.table.proofs.Constants.{at}
 use Rattle.text.specs.Text.{digits, value, glyph, numeral, decimal, set}
 use Rattle.text.proofs.Digits.{Below, digits-below, digits-value}
 use Rattle.listing.specs.Keywords.{Style, omitted, hex, whole, signed, Entry, unused, entries, entryOf, used}

@@ -1,14 +1,21 @@
 // The depth of each word of an accepted table, with a stack of the depths that wait. The stack grows downwards: `top` is its first entry.
-use table::words::argument_of;
-use table::words::arity_of;
-use table::words::kind_of;
+use table::argument_of;
+use table::arity_of;
+use table::kind_of;
 ghost use mathlib.Core.Path.{_≡_};
 ghost use mathlib.Core.List.{_++_};
-ghost use Prim.Native.Nat.{_+_, _≤_};
+ghost use Prim.Native.Nat.{_+_, _≤_, _<_};
 ghost use lib.ListN.{length, take, drop, replicate};
 ghost use Rattle.table.specs.Scan.{accepted, narrowReading};
 ghost use Rattle.listing.specs.Listing.{depths as Listing·depths};
 ghost use Rattle.listing.specs.Depths.{leaves};
+
+// A depth as a number of words.
+pub fn wide(x: u8) -> usize
+    ensures { λ r. ⌜ (r ≡ x) × (r < 256) ⌝ }
+{
+    x as usize
+}
 
 // The depth d, so many times.
 fn push(stack: &mut [u8], top: usize, count: usize, d: u8) -> usize

@@ -2,11 +2,11 @@
 use crate::Answer;
 use crate::Refusal;
 use crate::depth::find_depths;
+use crate::depth::wide;
 use crate::guess::line_word;
 use crate::keywords::LETTERS;
-use crate::write::wide;
 use table::Reading;
-use table::words::kind_of;
+use table::kind_of;
 ghost use mathlib.Core.Path.{_≡_};
 ghost use mathlib.Core.List.{List, _++_, map};
 ghost use mathlib.Core.Logic.{_⊎_};

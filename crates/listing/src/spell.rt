@@ -1,6 +1,6 @@
 // How a word is spelled. `letters` are the keywords as crate::keywords holds them.
-use table::words::argument_of;
-use table::words::kind_of;
+use table::argument_of;
+use table::kind_of;
 use text::number_field;
 use text::put;
 use text::set_field;

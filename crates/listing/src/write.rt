@@ -2,6 +2,7 @@
 use crate::Answer;
 use crate::Refusal;
 use crate::depth::find_depths;
+use crate::depth::wide;
 use crate::keywords::LETTERS;
 use crate::spell::spell;
 use table::Reading;
@@ -18,12 +19,6 @@ ghost use Rattle.listing.specs.Spelling.{space, spelled};
 ghost use Rattle.listing.specs.Listing.{indented, listing, written, left, textAfter};
 ghost use Rattle.listing.specs.Listing.{depths as Listing·depths};
 ghost use Rattle.listing.specs.Answer.{answered};
-
-pub fn wide(x: u8) -> usize
-    ensures { λ r. ⌜ (r ≡ x) × (r < 256) ⌝ }
-{
-    x as usize
-}
 
 // So many spaces.
 fn put_spaces(out: &mut [u8], at: usize, count: usize) -> usize

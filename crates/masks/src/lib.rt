@@ -2,7 +2,7 @@
 use results::digit;
 use rows::layout::Layout;
 use rows::row::set;
-use table::words::kind_of;
+use table::kind_of;
 ghost use mathlib.Core.Path.{_≡_};
 ghost use Prim.Native.Nat.{ℕ, _+_, _*_, _<_, _≤_};
 ghost use lib.ListN.{length, getD, replicate};

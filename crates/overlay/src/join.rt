@@ -6,7 +6,7 @@ use crate::check;
 use crate::search::Span;
 use crate::search::block_end;
 use crate::search::seek;
-use table::words::argument_of;
+use table::argument_of;
 ghost use mathlib.Core.Path.{_≡_};
 ghost use mathlib.Core.List.{map};
 ghost use Prim.Native.Nat.{_+_, _≤_};

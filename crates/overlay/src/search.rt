@@ -1,6 +1,6 @@
 // The search for a block in an accepted table.
-use table::words::argument_of;
-use table::words::arity_of;
+use table::argument_of;
+use table::arity_of;
 ghost use mathlib.Core.Path.{_≡_};
 ghost use Prim.Native.Nat.{_+_, _≤_};
 ghost use lib.ListN.{length, drop};

@@ -97,12 +97,8 @@ module _ {out text out′ : List ℕ} {r : ℕ} where
         ),
       )
 
--- with room, what is left is what the call leaves
-pub left-with : {A : Type 0} (size : ℕ) (before after : A) → room ≤ size → after ≡ withRoom size before after
-unfolding withRoom
-left-with size before after h = sym (ap (λ (b : Bool). elim b [ true ↦ before | false ↦ after ]) (le-ltb size room h))
-
-pub left-without : {A : Type 0} (size : ℕ) (before after : A) → size < room → before ≡ withRoom size before after
+-- without room, what is left is what there was
+left-without : {A : Type 0} (size : ℕ) (before after : A) → size < room → before ≡ withRoom size before after
 unfolding withRoom
 left-without size before after h = sym (ap (λ (b : Bool). elim b [ true ↦ before | false ↦ after ]) (lt-ltb size room h))
 

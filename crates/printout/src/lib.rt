@@ -2,4 +2,6 @@
 mod handlers;
 pub mod limit;
 pub mod program;
-pub mod system;
+mod system;
+
+pub use crate::system::answer_line;

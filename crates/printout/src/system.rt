@@ -21,7 +21,7 @@ ghost use Rattle.calculus.specs.Answer.{refused, answer, estimateAfter, workAft
 ghost use Rattle.comparison.specs.Values.{answerOf};
 ghost use Rattle.text.specs.Writing.{Wrote};
 ghost use Rattle.report.specs.Lines.{verdictLine};
-ghost use Rattle.printout.specs.Program.{handlerLines, firstLine, answerText, unlessWide, room, withRoom, textAfter, textSize};
+ghost use Rattle.printout.specs.Program.{handlerLines, firstLine, answerText, unlessWide, room};
 ghost use Rattle.printout.specs.Answers.{Held, HeldFor, Told};
 
 fn report_line(r: Report, over: bool, first: u32, out: &mut [u8], at: usize) -> usize
@@ -110,29 +110,4 @@ pub fn tell(
         return refusal_line(out, 0, 1, 0);
     }
     tell_narrow(words, rho, bound, est, work, out)
-}
-
-// The text of a system at the start of `out`, and how long it is. A slice of less than 3,168 bytes gets nothing, and nothing is looked at.
-pub fn system_text(
-    words: &[u32],
-    rho: u32,
-    bound: u32,
-    est: &mut [u32],
-    work: &mut [u32],
-    out: &mut [u8],
-) -> usize
-    ensures size { λ r. ⌜ r ≡ textSize (answerText rho (now (words .entry)) (unlessWide (now (words .entry)) (refused 1 0)
-        (answer (now (words .entry)) rho bound (length (now (est .entry))) (length (now (work .entry)))))) (length (now (out .entry))) ⌝ }
-    ensures text { λ _. ⌜ now (out .exit) ≡ textAfter (answerText rho (now (words .entry)) (unlessWide (now (words .entry)) (refused 1 0)
-        (answer (now (words .entry)) rho bound (length (now (est .entry))) (length (now (work .entry)))))) (now (out .entry)) ⌝ }
-    ensures estimate { λ _. ⌜ now (est .exit) ≡ withRoom (length (now (out .entry))) (now (est .entry))
-        (unlessWide (now (words .entry)) (now (est .entry)) (estimateAfter (now (words .entry)) rho bound (now (est .entry)) (now (work .entry)))) ⌝ }
-    ensures work { λ _. ⌜ now (work .exit) ≡ withRoom (length (now (out .entry))) (now (work .entry))
-        (unlessWide (now (words .entry)) (now (work .entry)) (workAfter (now (words .entry)) rho bound (now (est .entry)) (now (work .entry)))) ⌝ }
-    ensures fits { λ r. ⌜ r ≤ length (now (out .entry)) ⌝ }
-{
-    if out.len() < 3168 {
-        return 0;
-    }
-    tell(words, rho, bound, est, work, out)
 }

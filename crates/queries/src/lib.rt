@@ -5,7 +5,7 @@ use delivery::judge;
 use permset::PermSet;
 use rows::layout::Layout;
 use rows::row::any;
-use table::words::argument_of;
+use table::argument_of;
 use table_links::handler_at;
 ghost use mathlib.Core.Path.{_≡_};
 ghost use Prim.Native.Nat.{_+_, _*_, _/_, _%_, _^_, _<_, _≤_};

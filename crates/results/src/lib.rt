@@ -12,7 +12,7 @@ ghost use Rattle.calculus.specs.Estimate.{same, facts};
 ghost use Rattle.calculus.specs.ResultWords.{signEntry, signsBelow, nonzero, sameMask, apart, apartMask, equalMask, operationMask};
 ghost use Rattle.results.specs.Signs.{signTable};
 
-pub fn constant_bit(k: Constant) -> u32
+fn constant_bit(k: Constant) -> u32
     ensures { λ r. ⌜ r ≡ 2 ^ constantElement k ⌝ }
 {
     match k {
@@ -23,7 +23,7 @@ pub fn constant_bit(k: Constant) -> u32
     }
 }
 
-pub fn sign_bit(n: u32) -> u32
+fn sign_bit(n: u32) -> u32
     ensures { λ r. ⌜ r ≡ 2 ^ sign n ⌝ }
 {
     if n == 0 {
@@ -36,7 +36,7 @@ pub fn sign_bit(n: u32) -> u32
 }
 
 // Digit i of a word.
-pub fn has_digit(x: u32, i: u32) -> bool
+fn has_digit(x: u32, i: u32) -> bool
     requires { ⌜ i < 32 ⌝ }
     ensures { λ r. ⌜ r ≡ member x i ⌝ }
 {
@@ -203,7 +203,7 @@ fn compare(x: u32, y: u32, a: &[u32], d: &[u32]) -> u32
 }
 
 // The results of an operation on two sides; 7 is not compared.
-pub fn operate(o: Operation, x: u32, y: u32, a: &[u32], d: &[u32]) -> u32
+fn operate(o: Operation, x: u32, y: u32, a: &[u32], d: &[u32]) -> u32
     requires { ⌜ (length (now a) ≡ length (now d)) × (length (now a) ≤ 36) ⌝ }
     ensures { λ r. ⌜ r ≡ operationMask o (x ∷ now (a .entry)) (y ∷ now (d .entry)) ⌝ }
 {

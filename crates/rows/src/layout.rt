@@ -1,5 +1,5 @@
 // Where the rows and words of an estimate stand.
-use table::words::names_in;
+use table::names_in;
 ghost use mathlib.Core.Path.{_≡_};
 ghost use Prim.Native.Nat.{_+_, _*_, _<_, _≤_};
 ghost use Rattle.table.specs.Code.{code};

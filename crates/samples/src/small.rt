@@ -1,5 +1,5 @@
 // The samples that document 01 writes out.
-use printout::system::answer_line;
+use printout::answer_line;
 use test_tables::tables::RELAY;
 use test_tables::tables::copy;
 use test_tables::tables::head;

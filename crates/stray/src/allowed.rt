@@ -3,7 +3,7 @@ use crate::Holding;
 use masks::set_if;
 use masks::word_makes;
 use rows::layout::Layout;
-use table::words::kind_of;
+use table::kind_of;
 ghost use mathlib.Core.Path.{_≡_};
 ghost use Prim.Native.Nat.{ℕ, _+_, _*_, _≤_};
 ghost use lib.ListN.{length, getD};

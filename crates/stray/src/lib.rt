@@ -1,5 +1,5 @@
 // Stray bits of an estimate: the first word of a slice that has one.
-pub mod allowed;
+mod allowed;
 pub mod search;
 
 // What a row may hold past the plain elements: things that words make, or blocks.

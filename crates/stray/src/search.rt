@@ -2,7 +2,7 @@
 use crate::Holding;
 use crate::allowed::allow;
 use rows::layout::Layout;
-use table::words::kind_of;
+use table::kind_of;
 ghost use mathlib.Core.Path.{_≡_};
 ghost use Prim.Native.Nat.{_+_, _*_, _<_, _≤_};
 ghost use lib.ListN.{length};

@@ -1,3 +1,6 @@
+pub mod Constants
+pub mod Outside
+pub mod ByKind
 pub mod TermWords
 pub mod Faults
 pub mod Items
@@ -9,6 +12,7 @@ pub mod Scopes
 pub mod Linked
 pub mod Distinct
 pub mod Limits
+pub mod Refusals
 pub mod LinkReads
 pub mod LinkEnds
 pub mod LinkBinders

@@ -80,6 +80,11 @@ module _ (a b d a′ b′ d′ : ℕ) where
       ▸ (λ x y z. refl)  -- exercise
       ▸ done
 
+  pub parts-alike : (w : ℕ) → 16 ≤ kind w → kind w ≤ 36 → (T (ltb 0 (length (parts w))) → a ≡ a′) → (T (ltb 1 (length (parts w))) → b ≡ b′)
+      → (T (ltb 2 (length (parts w))) → d ≡ d′) → termNode (termOf w) a b d ≡ termNode (termOf w) a′ b′ d′
+  unfolding PartsAt
+  parts-alike w low high = by-kind (PartsAt a b d a′ b′ d′) w low high (rows (argument w))
+
 -- ---- items apart
 
 gap-no-term : (t : Term) → items.Gap ≡ items.Term t → ⊥
@@ -167,12 +172,11 @@ module _ (ws : List ℕ) (e : reading ws ≡ accepted) (l : List ℕ) (room : le
   term-node : (p d h : ℕ) (s : List ℕ) → p < length ws → taskAt ws p ≡ term d h s
       → termNode (termOf (getD ws p 0)) (part ws p 0) (part ws p 1) (part ws p 2)
       ≡ termNode (termOf (getD ws p 0)) (suc p) (endAt (suc p)) (endAt (endAt (suc p)))
-  unfolding PartsAt arity
+  unfolding arity
   term-node p d h s i t =
       let w = getD ws p 0 in
       let f = term-stands ws e p d h s i t in
-      by-kind (PartsAt (part ws p 0) (part ws p 1) (part ws p 2) (suc p) (endAt (suc p)) (endAt (endAt (suc p)))) w (f .0) (f .1)
-      (rows (part ws p 0) (part ws p 1) (part ws p 2) (suc p) (endAt (suc p)) (endAt (endAt (suc p))) (argument w))
+      parts-alike (part ws p 0) (part ws p 1) (part ws p 2) (suc p) (endAt (suc p)) (endAt (endAt (suc p))) w (f .0) (f .1)
       (λ x. part-zero ws p) (λ x. second (ltb→lt 1 (length (parts w)) x)) (λ x. third (ltb→lt 2 (length (parts w)) x))
     where
       end-of : (q : ℕ) → q < length ws → endOf ws q ≡ endAt q

@@ -2,8 +2,14 @@
 pub mod numbers;
 mod packing;
 pub mod read;
-pub mod words;
+mod words;
 
+pub use crate::words::argument_of;
+pub use crate::words::arity_of;
+pub use crate::words::binds;
+pub use crate::words::kind_of;
+pub use crate::words::names_in;
+pub use crate::words::term_of;
 use permset::PermSet;
 
 pub enum Constant {

@@ -4,7 +4,7 @@ use crate::Converted;
 use crate::Fault;
 use crate::fit::check_narrow;
 use crate::fit::read_as;
-use table::words::argument_of;
+use table::argument_of;
 ghost use mathlib.Core.Path.{_≡_};
 ghost use mathlib.Core.Bool.{true, false};
 ghost use mathlib.Core.List.{_++_};

@@ -1,6 +1,6 @@
 // The help, printed.
 pub fn help() {
     let mut text = [0u8; 4096];
-    let size = commands::explain::help(&mut text);
+    let size = commands::help(&mut text);
     console::text(&text[..size]);
 }

@@ -19,7 +19,7 @@ use crate::view::past;
 use crate::view::row_at;
 use crate::view::width;
 use rows::layout::Layout;
-use table::words::argument_of;
+use table::argument_of;
 ghost use Prim.Native.Nat.{_<_, _≤_};
 ghost use lib.ListN.{length};
 

@@ -4,7 +4,7 @@ use crate::memory::MOST;
 use crate::memory::TURNS;
 use crate::memory::word;
 use rows::layout::Layout;
-use table::words::kind_of;
+use table::kind_of;
 use table_links::link_at;
 ghost use Prim.Native.Nat.{_<_};
 ghost use lib.ListN.{length};

@@ -7,7 +7,7 @@ use native.Mathlib.Omega.{arith}
 use lib.Dec.{eqb, eqb→eq}
 use lib.ListN.{getD, replicate, List·getD-eq-default}
 use Rattle.table.specs.Words.{kind, firstKind}
-use Rattle.table.proofs.words.Table.{at}
+use Rattle.table.proofs.Constants.{at}
 use Rattle.masks.specs.Masks.{makesByKind, wordMakes}
 use Rattle.masks.proofs.Sorts.{other-word}
 use borrow.Author.Needs.{needs}

@@ -6,7 +6,7 @@ use Prim.Native.Nat.{ℕ, _*_, _/_, _%_, _^_, _≤_, _<_}
 use lib.Dec.{eqb, ltb, eqb→eq}
 use lib.ListN.{getD}
 use borrow.Author.Tests.{eq-eqb, ne-eqb, lt-ltb, le-ltb}
-use Rattle.table.proofs.words.Table.{at}
+use Rattle.table.proofs.Constants.{at}
 use Rattle.calculus.proofs.SignResults.{sumMasks, lessMasks}
 use Rattle.results.specs.Signs.{signTable}
 use borrow.Author.Needs.{needs}

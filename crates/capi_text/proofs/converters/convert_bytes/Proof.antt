@@ -10,7 +10,7 @@ use Rattle.widths.specs.Converters.{converted}
 use Rattle.widths.specs.Answers.{convertedAs}
 use Rattle.widths.proofs.Theorems.{converted-written, written-few}
 use Rattle.capi_text.specs.Interface.{answerNumber}
-use Rattle.capi_text.proofs.Converted.{odd-bytes, whole-words, room-done, room-not, place-small}
+use Rattle.capi_text.proofs.Converted.{odd-bytes, whole-words, room-done, room-not, converted-small}
 use borrow.Author.Needs.{needs}
 use Rattle.capi_text.proofs.converters.convert_bytes.Statement.{statement}
 use Rattle.capi_text.proofs.converters.convert_bytes.Tie as tie
@@ -53,7 +53,7 @@ fault-answer-requires c κs =
     let s = c .before .before .before .before .before .before .before .before .before in
     let j = c .before .before .before .before .convert-in in
     let e = sym (j .ensures .0) ∙ ap convertedAs (c .before .f .given .1) in
-    omega (arith, place-small (s .args .wide) (wordsOf (s .args .system .now)) (replicate 1024 0) _ _ e)
+    omega (arith, converted-small (s .args .wide) (wordsOf (s .args .system .now)) (replicate 1024 0) _ _ e .1)
 
 same-length : tie.Need-same-length
 same-length c = search needs

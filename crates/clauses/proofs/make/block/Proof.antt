@@ -5,7 +5,7 @@ use Rattle.clauses.proofs.make.block.Statement.{statement}
 use Rattle.clauses.proofs.make.block.Tie as tie
 use Rattle.clauses.specs.Clauses.{ofBlock, free}
 use Rattle.clauses.proofs.Arms.{arm, past}
-use Rattle.table.proofs.words.Outside.{outside}
+use Rattle.table.proofs.Outside.{outside}
 
 add-of : tie.Need-add-of
 add-of c = search needs

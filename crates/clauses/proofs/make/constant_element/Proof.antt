@@ -6,7 +6,7 @@ use lib.ListN.{List·getD-eq-default}
 use Rattle.table.specs.declared.Constant.the-variants.{Undefined, Unit, True, False}
 use Rattle.table.specs.Words.{constantOf, constantNumber}
 use Rattle.calculus.specs.Elements.{constantElement}
-use Rattle.table.proofs.words.Outside.{outside}
+use Rattle.table.proofs.Outside.{outside}
 use Rattle.clauses.proofs.make.constant_element.Statement.{statement}
 use Rattle.clauses.proofs.make.constant_element.Tie as tie
 

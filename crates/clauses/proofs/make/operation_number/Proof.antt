@@ -5,7 +5,7 @@ use Prim.Native.Nat.{ℕ}
 use lib.ListN.{List·getD-eq-default}
 use Rattle.table.specs.declared.Operation.the-variants.{Add, Less, Equal}
 use Rattle.table.specs.Words.{operationOf, operationNumber}
-use Rattle.table.proofs.words.Outside.{outside}
+use Rattle.table.proofs.Outside.{outside}
 use Rattle.clauses.proofs.make.operation_number.Statement.{statement}
 use Rattle.clauses.proofs.make.operation_number.Tie as tie
 

@@ -5,7 +5,7 @@ use Rattle.clauses.proofs.make.variable.Statement.{statement}
 use Rattle.clauses.proofs.make.variable.Tie as tie
 use Rattle.clauses.specs.Clauses.{ofVariable, free}
 use Rattle.clauses.proofs.Arms.{arm, past}
-use Rattle.table.proofs.words.Outside.{outside}
+use Rattle.table.proofs.Outside.{outside}
 
 mul-flow : tie.Need-mul-flow
 mul-flow c = search needs

@@ -8,7 +8,7 @@ use lib.ListN.{length, getD, drop}
 use lib.Arith.{le-zero}
 use borrow.Author.Needs.{needs}
 use Rattle.table.specs.Code.{skip}
-use Rattle.table.proofs.words.ByKind.{arity-small}
+use Rattle.table.proofs.ByKind.{arity-small}
 use Rattle.table.proofs.Parts.{skip-zero}
 use Rattle.overlay.proofs.Ends.{skip-past, skip-on}
 use Rattle.overlay.proofs.search.term_end.Statement.{statement}

@@ -5,7 +5,7 @@ use Prim.Native.Nat.{ℕ}
 use lib.ListN.{length}
 use borrow.Author.Needs.{needs}
 use Rattle.table.specs.Words.{parts, arity}
-use Rattle.table.proofs.words.ByKind.{partsAt, parts-past, arity-packed}
+use Rattle.table.proofs.ByKind.{partsAt, parts-past, arity-packed}
 use Rattle.table.proofs.words.arity_of.Statement.{statement}
 use Rattle.table.proofs.words.arity_of.Tie as tie
 

@@ -9,7 +9,7 @@ use native.Mathlib.Omega.{arith}
 use lib.ListN.{length, getD}
 use borrow.Author.Needs.{needs, zero≤}
 use Rattle.table.specs.Words.{parts, mark}
-use Rattle.table.proofs.words.ByKind.{partsAt, mark-packed, mark-past, small-at, parts-past}
+use Rattle.table.proofs.ByKind.{partsAt, mark-packed, mark-past, small-at, parts-past}
 use Rattle.table.proofs.words.binds.Statement.{statement}
 use Rattle.table.proofs.words.binds.Tie as tie
 

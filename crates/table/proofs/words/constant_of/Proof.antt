@@ -5,7 +5,7 @@ use mathlib.Core.List.{[], _∷_}
 use lib.ListN.{List·getD-eq-default}
 use Rattle.table.specs.declared.Constant.the-variants.{Undefined, Unit, True, False}
 use Rattle.table.specs.Words.{constantOf}
-use Rattle.table.proofs.words.Outside.{outside}
+use Rattle.table.proofs.Outside.{outside}
 use Rattle.table.proofs.words.constant_of.Statement.{statement}
 use Rattle.table.proofs.words.constant_of.Tie as tie
 

@@ -5,7 +5,7 @@ use Prim.Native.Nat.{ℕ}
 use lib.ListN.{getD, List·getD-eq-default}
 use borrow.Author.Needs.{needs}
 use Rattle.table.specs.Words.{limitsByKind, limit}
-use Rattle.table.proofs.words.Outside.{outside}
+use Rattle.table.proofs.Outside.{outside}
 use Rattle.table.proofs.words.limit_of.Statement.{statement}
 use Rattle.table.proofs.words.limit_of.Tie as tie
 

@@ -5,7 +5,7 @@ use mathlib.Core.List.{[], _∷_}
 use lib.ListN.{List·getD-eq-default}
 use Rattle.table.specs.declared.Operation.the-variants.{Add, Less, Equal}
 use Rattle.table.specs.Words.{operationOf}
-use Rattle.table.proofs.words.Outside.{outside}
+use Rattle.table.proofs.Outside.{outside}
 use Rattle.table.proofs.words.operation_of.Statement.{statement}
 use Rattle.table.proofs.words.operation_of.Tie as tie
 

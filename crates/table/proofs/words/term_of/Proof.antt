@@ -7,7 +7,7 @@ use borrow.Author.Needs.{needs}
 use Rattle.table.specs.declared.Term.{Term}
 use Rattle.table.specs.declared.Term.the-variants as terms
 use Rattle.table.specs.Words.{termsByKind, termOf}
-use Rattle.table.proofs.words.Outside.{outside}
+use Rattle.table.proofs.Outside.{outside}
 use Rattle.table.proofs.words.term_of.Statement.{statement}
 use Rattle.table.proofs.words.term_of.Tie as tie
 

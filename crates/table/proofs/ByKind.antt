@@ -10,7 +10,7 @@ use lib.Arith.{digits-div, digits-mod}
 use lib.Dec.{eqb, leb, eqb→eq, leb→le}
 use lib.ListN.{length, getD, replicate, List·getD-map, List·getD-eq-default}
 use Rattle.table.specs.Words.{kind, firstKind, partsByKind, parts, mark, arity}
-use Rattle.table.proofs.words.Table.{at}
+use Rattle.table.proofs.Constants.{at}
 
 -- the parts of the kind at place k
 unfoldable pub partsAt : ℕ → List Bool

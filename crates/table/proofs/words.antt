@@ -1,4 +1,0 @@
--- Laws that the proofs of the words share.
-pub mod ByKind
-pub mod Outside
-pub mod Table
