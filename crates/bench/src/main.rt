@@ -58,22 +58,22 @@ fn argument(at: usize, otherwise: usize) -> usize {
 }
 
 fn refusal(f: Fault) {
-    console::refusal(fault_number(f), fault_place(f));
+    output::refusal(fault_number(f), fault_place(f));
 }
 
 fn findings(s: Findings) {
     let leak = s.leak;
-    console::text(b"leak ");
+    output::text(b"leak ");
     io::print_hex(STDOUT_FILENO, leak.bits as u64, 6);
-    console::text(b" facts ");
+    output::text(b" facts ");
     io::print_decimal(STDOUT_FILENO, s.facts as u64);
-    console::text(b"\n");
+    output::text(b"\n");
 }
 
 fn answer(a: Bounded) {
     match a {
         Bounded::Refused(f) => refusal(f),
-        Bounded::Over(n) => console::refusal(23, n),
+        Bounded::Over(n) => output::refusal(23, n),
         Bounded::Solved(s) => findings(s),
     }
 }
@@ -118,7 +118,7 @@ fn bench_words(words: &[u32]) {
 fn bench(input: &[u8]) {
     let fault = feeder_fault(input.len());
     if fault != 0 {
-        console::refusal(fault, 0);
+        output::refusal(fault, 0);
         return;
     }
     let mut words = [0u32; 1026];

@@ -38,11 +38,12 @@ fn join_row(est: &mut [u32], row: usize, a: usize, b: usize) -> usize
     requires { ⌜ (a * row + row ≤ length (now est)) × (b * row + row ≤ length (now est)) × (row ≤ 36) ⌝ }
     ensures { λ x. ⌜ Poured (now (est .entry)) (now (est .exit)) (b * row) (take row (drop (a * row) (now (est .entry)))) x ⌝ }
 {
-    let from = a * row;
     let to = b * row;
-    let mut scratch = [0u32; 36];
-    row::copy(&est[from..from + row], &mut scratch);
-    row::join(&mut est[to..to + row], &scratch[..row])
+    let mut new = [0u32; 36];
+    if !row::lacked(est, row, a * row, to, &mut new) {
+        return 0;
+    }
+    row::join(&mut est[to..to + row], &new[..row])
 }
 
 // What the row a has of a mask in the row b.
@@ -50,14 +51,12 @@ fn join_masked(est: &mut [u32], mask: &[u32], row: usize, a: usize, b: usize) ->
     requires { ⌜ (a * row + row ≤ length (now est)) × (b * row + row ≤ length (now est)) × (row ≤ 36) × (length (now mask) ≡ row) ⌝ }
     ensures { λ x. ⌜ Poured (now (est .entry)) (now (est .exit)) (b * row) (masked (now (mask .entry)) (take row (drop (a * row) (now (est .entry))))) x ⌝ }
 {
-    let from = a * row;
     let to = b * row;
-    if !row::lacks_masked(est, mask, row, from, to) {
+    let mut new = [0u32; 36];
+    if !row::lacked_masked(est, mask, row, a * row, to, &mut new) {
         return 0;
     }
-    let mut scratch = [0u32; 36];
-    row::copy_masked(&est[from..from + row], mask, &mut scratch);
-    row::join(&mut est[to..to + row], &scratch[..row])
+    row::join(&mut est[to..to + row], &new[..row])
 }
 
 // Bits of the word of permissions and flag of p.
@@ -115,18 +114,6 @@ pub fn flow(est: &mut [u32], h: &mut [u32], l: Layout, a: usize, b: usize) -> us
     let added = join_row(est, l.row, a, b);
     grew_row(h, b, added);
     added
-}
-
-// The same, with a test first: for rows that often have nothing new.
-pub fn flow_if(est: &mut [u32], h: &mut [u32], l: Layout, a: usize, b: usize) -> usize
-    requires { ⌜ (a * l .row + l .row ≤ length (now est)) × (b * l .row + l .row ≤ length (now est)) × (l .row ≤ 36) ⌝ }
-    ensures { λ x. ⌜ FiredIn l (Sub (rowAt a) (rowAt b)) (now (est .entry)) (now (est .exit)) x ⌝ }
-{
-    let row = l.row;
-    if !row::lacks(est, row, a * row, b * row) {
-        return 0;
-    }
-    flow(est, h, l, a, b)
 }
 
 // Bits of the first word of the row r.

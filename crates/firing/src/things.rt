@@ -1,5 +1,5 @@
 // What an effect asks for each thing of a mask in a value set.
-use crate::targets::flow_if;
+use crate::targets::flow;
 use crate::targets::lift;
 use crate::targets::wake;
 use clauses::Effect;
@@ -33,9 +33,9 @@ fn for_thing(
     match what {
         What::Enter => wake(est, h, l, f + 1),
         What::Lower => lift(est, h, l, f + 1, x),
-        What::Hand => flow_if(est, h, l, y, 2 * f + 1),
-        What::Take => flow_if(est, h, l, 2 * f + 1, y),
-        What::Back => flow_if(est, h, l, 2 * (f + 1), y),
+        What::Hand => flow(est, h, l, y, 2 * f + 1),
+        What::Take => flow(est, h, l, 2 * f + 1, y),
+        What::Back => flow(est, h, l, 2 * (f + 1), y),
         _ => 0,
     }
 }

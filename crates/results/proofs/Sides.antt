@@ -40,16 +40,6 @@ facts-first x xs l = ap (λ (n : ℕ). n + facts xs) (sym (ones-word x l))
 
 -- from the place i on
 module _ (ws : List ℕ) (i : ℕ) where
-  pub nonzero-here : i < length ws → (getD ws i 0 ≡ 0 → ⊥) → nonzero (drop i ws) ≡ true
-  nonzero-here h n = ap nonzero (step ws i h) ∙ nonzero-first (getD ws i 0) (drop (i + 1) ws) n
-
-  pub nonzero-later : i < length ws → getD ws i 0 ≡ 0 → nonzero (drop i ws) ≡ nonzero (drop (i + 1) ws)
-  nonzero-later h e = ap nonzero (step ws i h) ∙ nonzero-rest (getD ws i 0) (drop (i + 1) ws) e
-
-  pub nonzero-done : length ws ≤ i → nonzero (drop i ws) ≡ false
-  unfolding nonzero
-  nonzero-done h = ap nonzero (drop-of-length-le ws h)
-
   pub facts-later : i < length ws → getD ws i 0 < 2 ^ 32 → facts (drop i ws) ≡ ones (getD ws i 0) + facts (drop (i + 1) ws)
   facts-later h l = ap facts (step ws i h) ∙ facts-first (getD ws i 0) (drop (i + 1) ws) l
 

@@ -1,5 +1,6 @@
 // What a word gives by itself, as bits of the first word of a row: constants, the signs of numbers, and the results of operations.
 use rows::row::any;
+use rows::row::some;
 use table::Constant;
 use table::Operation;
 ghost use mathlib.Core.Path.{_≡_};
@@ -102,20 +103,6 @@ fn signs(sum: bool, x: u32, y: u32) -> u32
     r
 }
 
-// Whether some word is not 0.
-fn any_digit(words: &[u32]) -> bool
-    ensures { λ r. ⌜ r ≡ nonzero (now (words .entry)) ⌝ }
-{
-    let mut i = 0;
-    while i < words.len() {
-        if words[i] != 0 {
-            return true;
-        }
-        i += 1;
-    }
-    false
-}
-
 // Whether two lists of words of one length are the same.
 fn alike(a: &[u32], d: &[u32]) -> bool
     requires { ⌜ length (now a) ≡ length (now d) ⌝ }
@@ -151,7 +138,7 @@ fn count(words: &[u32]) -> u32
 fn any_element(x: u32, a: &[u32]) -> bool
     ensures { λ r. ⌜ r ≡ nonzero (x ∷ now (a .entry)) ⌝ }
 {
-    if x != 0 { true } else { any_digit(a) }
+    if x != 0 { true } else { some(a) }
 }
 
 fn same_bits(x: u32, y: u32, a: &[u32], d: &[u32]) -> u32

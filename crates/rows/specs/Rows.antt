@@ -3,7 +3,7 @@ use Prim.Native.Nat.{ℕ, _+_}
 use mathlib.Core.Path.{_≡_}
 use mathlib.Core.Bool.{Bool, true, false, not, _||_}
 use mathlib.Core.List.{List, [], _∷_}
-use lib.Bits.{bitAnd}
+use lib.Bits.{bitAnd, bitXor}
 use lib.Dec.{eqb}
 use Rattle.calculus.specs.Layout.{pour}
 use Rattle.calculus.specs.Estimate.{facts}
@@ -19,6 +19,12 @@ unfoldable pub lacking : List ℕ → List ℕ → Bool
 lacking [] ys = false
 lacking (x ∷ xs) [] = false
 lacking (x ∷ xs) (y ∷ ys) = not (eqb (bitAnd x y) x) || lacking xs ys
+
+-- what xs has and ys has not
+unfoldable pub missing : List ℕ → List ℕ → List ℕ
+missing [] ys = []
+missing (x ∷ xs) [] = []
+missing (x ∷ xs) (y ∷ ys) = bitXor x (bitAnd x y) ∷ missing xs ys
 
 -- new is old with the words xs or-ed in from the place `at` on, and that added so many digits
 pub record Poured (old new : List ℕ) (at : ℕ) (xs : List ℕ) (added : ℕ) : Type 0 where

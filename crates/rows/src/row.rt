@@ -1,10 +1,11 @@
 // A row by itself, lent from its own start.
 ghost use mathlib.Core.Path.{_≡_};
 ghost use mathlib.Core.List.{[], _∷_, _++_};
-ghost use Prim.Native.Nat.{_+_, _<_, _≤_};
+ghost use Prim.Native.Nat.{_+_, _-_, _<_, _≤_};
 ghost use lib.ListN.{length, drop, take};
 ghost use Rattle.calculus.specs.Layout.{masked};
-ghost use Rattle.rows.specs.Rows.{Poured, meets, lacking};
+ghost use Rattle.calculus.specs.ResultWords.{nonzero};
+ghost use Rattle.rows.specs.Rows.{Poured, meets, lacking, missing};
 
 // Sets bits of the word k, and answers how many that added.
 pub fn set(row: &mut [u32], k: usize, bits: u32) -> usize
@@ -20,8 +21,24 @@ pub fn set(row: &mut [u32], k: usize, bits: u32) -> usize
     u32::count_ones(new ^ old) as usize
 }
 
-// Or-s a row into this one, and answers how many bits that added. No branch: the compiler takes several words at a time.
-pub fn join(row: &mut [u32], from: &[u32]) -> usize
+// How many words of a row are or-ed in or left alone together.
+const BLOCK: usize = 4;
+
+// Whether some word is not 0. No branch: the compiler takes several words at a time.
+pub fn some(words: &[u32]) -> bool
+    ensures { λ r. ⌜ r ≡ nonzero (now (words .entry)) ⌝ }
+{
+    let mut bits = 0u32;
+    let mut i = 0;
+    while i < words.len() {
+        bits |= words[i];
+        i += 1;
+    }
+    bits != 0
+}
+
+// Or-s words into as many others, and answers how many bits that added. No branch here either.
+fn pour(row: &mut [u32], from: &[u32]) -> u32
     requires { ⌜ length (now from) ≡ length (now row) ⌝ }
     requires { ⌜ length (now row) < 4096 ⌝ }
     ensures { λ r. ⌜ Poured (now (row .entry)) (now (row .exit)) 0 (now (from .entry)) r ⌝ }
@@ -35,31 +52,96 @@ pub fn join(row: &mut [u32], from: &[u32]) -> usize
         added += u32::count_ones(new ^ old);
         i += 1;
     }
-    added as usize
+    added
 }
 
-// Copies a row to the front of a slice.
-pub fn copy(from: &[u32], to: &mut [u32])
-    requires { ⌜ length (now from) ≤ length (now to) ⌝ }
-    ensures { λ _. ⌜ now (to .exit) ≡ now (from .entry) ++ drop (length (now (from .entry))) (now (to .entry)) ⌝ }
+// The same from the word `at` on, before `end`, where there is something to or in.
+fn pour_some(row: &mut [u32], from: &[u32], at: usize, end: usize) -> u32
+    requires { ⌜ length (now from) ≡ length (now row) ⌝ }
+    requires { ⌜ (at ≤ end) × (end ≤ length (now row)) × (length (now row) < 4096) ⌝ }
+    ensures { λ r. ⌜ Poured (now (row .entry)) (now (row .exit)) at (take (end - at) (drop at (now (from .entry)))) r ⌝ }
 {
-    let mut i = 0;
-    while i < from.len() {
-        to[i] = from[i];
-        i += 1;
+    if some(&from[at..end]) {
+        pour(&mut row[at..end], &from[at..end])
+    } else {
+        0
     }
 }
 
-// Copies what a row has in common with a mask to the front of a slice.
-pub fn copy_masked(from: &[u32], mask: &[u32], to: &mut [u32])
-    requires { ⌜ (length (now mask) ≡ length (now from)) × (length (now from) ≤ length (now to)) ⌝ }
-    ensures { λ _. ⌜ now (to .exit) ≡ masked (now (mask .entry)) (now (from .entry)) ++ drop (length (now (from .entry))) (now (to .entry)) ⌝ }
+// The same word by word from the word `at` on, for the few behind the last block.
+fn pour_rest(row: &mut [u32], from: &[u32], at: usize) -> usize
+    requires { ⌜ length (now from) ≡ length (now row) ⌝ }
+    requires { ⌜ (at ≤ length (now row)) × (length (now row) < 4096) ⌝ }
+    ensures { λ r. ⌜ Poured (now (row .entry)) (now (row .exit)) at (drop at (now (from .entry))) r ⌝ }
 {
-    let mut i = 0;
-    while i < from.len() {
-        to[i] = mask[i] & from[i];
+    let mut added = 0;
+    let mut i = at;
+    while i < row.len() {
+        added += set(row, i, from[i]);
         i += 1;
     }
+    added
+}
+
+// Or-s a row into this one, and answers how many bits that added.
+pub fn join(row: &mut [u32], from: &[u32]) -> usize
+    requires { ⌜ length (now from) ≡ length (now row) ⌝ }
+    requires { ⌜ length (now row) < 4096 ⌝ }
+    ensures { λ r. ⌜ Poured (now (row .entry)) (now (row .exit)) 0 (now (from .entry)) r ⌝ }
+{
+    let size = row.len();
+    let mut added = 0u32;
+    let mut i = 0;
+    while i + BLOCK <= size {
+        added += pour_some(row, from, i, i + BLOCK);
+        i += BLOCK;
+    }
+    added as usize + pour_rest(row, from, i)
+}
+
+// Writes what the row of so many words at `to` lacks of the one at `from` to the front of a slice; whether it lacks anything.
+pub fn lacked(est: &[u32], row: usize, from: usize, to: usize, new: &mut [u32]) -> bool
+    requires { ⌜ (from + row ≤ length (now est)) × (to + row ≤ length (now est)) × (row ≤ length (now new)) ⌝ }
+    ensures { λ r. ⌜ r ≡ lacking (take row (drop from (now (est .entry)))) (take row (drop to (now (est .entry)))) ⌝ }
+    ensures { λ _. ⌜ now (new .exit)
+        ≡ missing (take row (drop from (now (est .entry)))) (take row (drop to (now (est .entry)))) ++ drop row (now (new .entry)) ⌝ }
+{
+    let mut bits = 0u32;
+    let mut i = 0;
+    while i < row {
+        let x = est[from + i];
+        let y = x ^ (x & est[to + i]);
+        new[i] = y;
+        bits |= y;
+        i += 1;
+    }
+    bits != 0
+}
+
+// The same for what the row at `from` has in common with a mask.
+pub fn lacked_masked(
+    est: &[u32],
+    mask: &[u32],
+    row: usize,
+    from: usize,
+    to: usize,
+    new: &mut [u32],
+) -> bool
+    requires { ⌜ (from + row ≤ length (now est)) × (to + row ≤ length (now est)) × (row ≤ length (now new)) × (length (now mask) ≡ row) ⌝ }
+    ensures { λ r. ⌜ r ≡ lacking (masked (now (mask .entry)) (take row (drop from (now (est .entry))))) (take row (drop to (now (est .entry)))) ⌝ }
+    ensures { λ _. ⌜ now (new .exit) ≡ missing (masked (now (mask .entry)) (take row (drop from (now (est .entry)))))
+        (take row (drop to (now (est .entry)))) ++ drop row (now (new .entry)) ⌝ }
+{
+    let mut bits = 0u32;
+    let mut i = 0;
+    while i < row {
+        let x = mask[i] & est[from + i];
+        let y = x ^ (x & est[to + i]);
+        new[i] = y;
+        bits |= y;
+        i += 1;
+    }
+    bits != 0
 }
 
 // Whether a row has something in common with a mask.

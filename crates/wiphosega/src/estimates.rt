@@ -21,7 +21,7 @@ use text::set_field;
 // So many words, as bytes.
 fn first_words(bytes: &[u8], count: usize) {
     if count <= 72704 {
-        console::first(bytes, 4 * count);
+        output::first(bytes, 4 * count);
     }
 }
 
@@ -47,7 +47,7 @@ pub fn estimate_of(words: &[u32], rho: u32) {
     let mut est = [0u32; 72704];
     let mut work = [0u32; 4096];
     match analyse(words, rho, &mut est, &mut work) {
-        Analysis::Refused(f) => console::refusal(fault_number(f), fault_place(f)),
+        Analysis::Refused(f) => output::refusal(fault_number(f), fault_place(f)),
         Analysis::Solved(_) => print_estimate(&est, words),
     }
 }
@@ -63,7 +63,7 @@ fn obeys(leak: u32) {
     let mut line = [0u8; 64];
     let a = set_field(&mut line, 0, b"obeys leak ", leak);
     let n = put(&mut line, a, b"\n");
-    console::first(&line, n);
+    output::first(&line, n);
 }
 
 fn said(a: Audit) {
@@ -71,7 +71,7 @@ fn said(a: Audit) {
         obeys(s.bits);
         return;
     }
-    console::refusal(audit_number(a), audit_place(a));
+    output::refusal(audit_number(a), audit_place(a));
 }
 
 fn size_of(w: u32) -> usize {
@@ -81,12 +81,12 @@ fn size_of(w: u32) -> usize {
 // The first word says how many the system has; the others are the system and the estimate.
 fn audit_words(words: &[u32], rho: u32) {
     if words.len() == 0 {
-        console::refusal(30, 0);
+        output::refusal(30, 0);
         return;
     }
     let size = size_of(words[0]);
     if words.len() <= size {
-        console::refusal(30, 0);
+        output::refusal(30, 0);
         return;
     }
     let end = size + 1;
@@ -101,7 +101,7 @@ fn audit_room(input: &[u8], rho: u32, room: &mut [u32]) {
 
 fn audit_in(input: &[u8], rho: u32) {
     if input.len() % 4 != 0 {
-        console::refusal(30, 0);
+        output::refusal(30, 0);
         return;
     }
     let mut words = [0u32; 73730];

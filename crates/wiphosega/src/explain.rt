@@ -2,5 +2,5 @@
 pub fn help() {
     let mut text = [0u8; 4096];
     let size = commands::help(&mut text);
-    console::text(&text[..size]);
+    output::text(&text[..size]);
 }

@@ -11,7 +11,7 @@ fn print(input: &[u8]) {
     let s = os::arg(3, &mut second);
     let mut out = [0u8; 212996];
     let n = commands::run(&command[..c], &first[..f], &second[..s], input, &mut out);
-    console::first(&out, n);
+    output::first(&out, n);
 }
 
 // Of a longer input 131,076 bytes are kept: two listings of the most bytes, and a word more, which decide.
@@ -33,7 +33,7 @@ fn print_leak(rho: &[u8], input: &[u8]) {
     let c = os::arg(4, &mut ceiling);
     let mut out = [0u8; 147457];
     let n = leaks::run(rho, &bound[..b], &ceiling[..c], input, &mut out);
-    console::first(&out, n);
+    output::first(&out, n);
 }
 
 fn leak_of(rho: &[u8]) {

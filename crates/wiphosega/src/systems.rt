@@ -19,7 +19,7 @@ pub enum Request {
 }
 
 pub fn refusal(r: Refusal) {
-    console::refusal(refusal_number(r), refusal_place(r));
+    output::refusal(refusal_number(r), refusal_place(r));
 }
 
 fn answer(words: &[u32], request: Request) {

@@ -6,43 +6,19 @@ use borrow.Author.Needs.{needs}
 use Rattle.bench.proofs.bench.Statement.{statement}
 use Rattle.bench.proofs.bench.Tie as tie
 
-feeder-fault-requires : tie.Need-feeder-fault-requires
-feeder-fault-requires c κs = search needs
-
-refusal-requires : tie.Need-refusal-requires
-refusal-requires c κs = search needs
-
-returns : tie.Need-returns
-returns c = search needs
-
-slice-aggregate-words-of : tie.Need-slice-aggregate-words-of
-slice-aggregate-words-of c = search needs
-
-words-of-requires : tie.Need-words-of-requires
-words-of-requires c κs = search needs
-
-array-share-prefix-words : tie.Need-array-share-prefix-words
-array-share-prefix-words c = search needs
-
 slice-aggregate-bench-words : tie.Need-slice-aggregate-bench-words
 slice-aggregate-bench-words c = sym (length-take-le _ _ (omega (arith, c .before .before .words-of .ensures .0, c .before .before .words-of .kept .1 .0)))
-
-bench-words-requires : tie.Need-bench-words-requires
-bench-words-requires c κs = search needs
-
-returns-2 : tie.Need-returns-2
-returns-2 c = search needs
 
 pub bench-spec : {M : Type 1} → statement M
 bench-spec =
     tie.close
     (tie.spec
-    feeder-fault-requires
-    refusal-requires
-    returns
-    slice-aggregate-words-of
-    words-of-requires
-    array-share-prefix-words
+    (λ feeder-fault-requires κs. search needs)
+    (λ refusal-requires κs. search needs)
+    (λ returns. search needs)
+    (λ slice-aggregate-words-of. search needs)
+    (λ words-of-requires κs. search needs)
+    (λ array-share-prefix-words. search needs)
     slice-aggregate-bench-words
-    bench-words-requires
-    returns-2)
+    (λ bench-words-requires κs. search needs)
+    (λ returns-2. search needs))

@@ -12,12 +12,6 @@ use borrow.Author.Needs.{needs}
 use Rattle.capi.proofs.of_system.Statement.{statement}
 use Rattle.capi.proofs.of_system.Tie as tie
 
-words-of-requires : tie.Need-words-of-requires
-words-of-requires c κs = search needs
-
-slice-reshare-prefix-of-words : tie.Need-slice-reshare-prefix-of-words
-slice-reshare-prefix-of-words c = search needs
-
 slice-aggregate-of-words : tie.Need-slice-aggregate-of-words
 slice-aggregate-of-words c =
     let w = c .before .before .before .words-of .ensures in
@@ -28,34 +22,26 @@ of-words-requires c κs =
     let w = c .before .before .before .before .before .words-of .ensures in
     omega (arith, read-length _ _ _ _ (w .0) (w .1), w .0)
 
-same-length : tie.Need-same-length
-same-length c = search needs
-
-same-length-2 : tie.Need-same-length-2
-same-length-2 c = search needs
-
-same-length-3 : tie.Need-same-length-3
-same-length-3 c = search needs
-
 returns : tie.Need-returns
 returns c =
+    let s = c .before .before .before .before in
     let a = c .before .before .before .before .before .before .before .before .before .before .before .before .before .before .before .before .args in
     let p = c .before .before .before .before .before .before .before .before .before .before .before .before .before .before .before .before .pre in
     let w = c .before .before .before .before .before .before .before .before .before .before .words-of .ensures in
     subst
-    (λ (ws : List ℕ). Answered ws (a .rho) (answer ws (a .rho) (a .bound) (length (a .estimate .now) / 4) (length (a .work .now) / 4)) (a .estimate .now) (a .work .now) (c .before .before .before .before .of-words .result) (c .before .before .before .before .of-words .last .1 .1 .1 .0) (c .before .before .before .before .of-words .last .1 .1 .1 .1 .0))
+    (λ (ws : List ℕ). Answered ws (a .rho) (answer ws (a .rho) (a .bound) (length (a .estimate .now) / 4) (length (a .work .now) / 4)) (a .estimate .now) (a .work .now) (s .of-words .result) (s .of-words .last .1 .1 .1 .0) (s .of-words .last .1 .1 .1 .1 .0))
     (system-read (a .system .now) (a .words .now) _ _ (w .0) (w .1) (p .1) (p .0))
-    (c .before .before .before .before .of-words .ensures)
+    (s .of-words .ensures)
 
 pub of-system-spec : {M : Type 1} → statement M
 of-system-spec =
     tie.close
     (tie.spec
-    words-of-requires
-    slice-reshare-prefix-of-words
+    (λ words-of-requires κs. search needs)
+    (λ slice-reshare-prefix-of-words. search needs)
     slice-aggregate-of-words
     of-words-requires
-    same-length
-    same-length-2
-    same-length-3
+    (λ same-length. search needs)
+    (λ same-length-2. search needs)
+    (λ same-length-3. search needs)
     returns)

@@ -9,19 +9,10 @@ use borrow.Author.Needs.{needs}
 use Rattle.capi.proofs.of_words.Statement.{statement}
 use Rattle.capi.proofs.of_words.Tie as tie
 
-with-bytes-requires : tie.Need-with-bytes-requires
-with-bytes-requires c κs = search needs
-
 answer-number-requires : tie.Need-answer-number-requires
 answer-number-requires c κs =
     let a = c .before .before .before .before .before .before .before .before .before .before .args in
     place-fits (a .words .now) (a .rho) (a .bound) _ _ _ (c .before .before .before .before .with-bytes .ensures .0) (omega arith)
-
-same-length : tie.Need-same-length
-same-length c = search needs
-
-same-length-2 : tie.Need-same-length-2
-same-length-2 c = search needs
 
 returns : tie.Need-returns
 returns c =
@@ -36,4 +27,4 @@ returns c =
 pub of-words-spec : {M : Type 1} → statement M
 of-words-spec =
     tie.close
-    (tie.spec with-bytes-requires answer-number-requires same-length same-length-2 returns)
+    (tie.spec (λ with-bytes-requires κs. search needs) answer-number-requires (λ same-length. search needs) (λ same-length-2. search needs) returns)

@@ -6,18 +6,6 @@ use borrow.Author.Needs.{needs}
 use Rattle.capi.proofs.wiphosega_verdict.Statement.{statement}
 use Rattle.capi.proofs.wiphosega_verdict.Tie as tie
 
-system-fault-requires : tie.Need-system-fault-requires
-system-fault-requires c κs = search needs
-
-cast-result : tie.Need-cast-result
-cast-result c = search needs
-
-mul-result : tie.Need-mul-result
-mul-result c = search needs
-
-add-result : tie.Need-add-result
-add-result c = search needs
-
 returns : tie.Need-returns
 returns c =
     let a = c .before .before .before .before .before .args in
@@ -25,18 +13,9 @@ returns c =
     (refused-answered (wordsOf (a .system .now)) (a .rho) (c .before .system-fault .result) (a .estimate .now) (a .work .now))
     (sym (refused-before (a .system .now) (a .rho) (a .bound) _ _ (c .before .system-fault .result) (c .before .system-fault .ensures) (c .if1 .taken)))
 
-slice-aggregate-of-system : tie.Need-slice-aggregate-of-system
-slice-aggregate-of-system c = search needs
-
 of-system-requires : tie.Need-of-system-requires
 of-system-requires c κs =
     (system-size _ (sym (c .before .before .before .before .system-fault .ensures) ∙ c .before .before .before .if1 .left), refl)
-
-same-length : tie.Need-same-length
-same-length c = search needs
-
-same-length-2 : tie.Need-same-length-2
-same-length-2 c = search needs
 
 returns-2 : tie.Need-returns-2
 returns-2 c =
@@ -48,13 +27,13 @@ pub wiphosega-verdict-spec : {M : Type 1} → statement M
 wiphosega-verdict-spec =
     tie.close
     (tie.spec
-    system-fault-requires
-    cast-result
-    mul-result
-    add-result
+    (λ system-fault-requires κs. search needs)
+    (λ cast-result. search needs)
+    (λ mul-result. search needs)
+    (λ add-result. search needs)
     returns
-    slice-aggregate-of-system
+    (λ slice-aggregate-of-system. search needs)
     of-system-requires
-    same-length
-    same-length-2
+    (λ same-length. search needs)
+    (λ same-length-2. search needs)
     returns-2)

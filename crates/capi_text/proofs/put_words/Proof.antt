@@ -12,12 +12,6 @@ use borrow.Author.Needs.{needs}
 use Rattle.capi_text.proofs.put_words.Statement.{statement}
 use Rattle.capi_text.proofs.put_words.Tie as tie
 
-mul-result : tie.Need-mul-result
-mul-result c = search needs
-
-add-result : tie.Need-add-result
-add-result c = search needs
-
 returns : tie.Need-returns
 returns c =
     let a = c .before .before .before .args in
@@ -27,15 +21,6 @@ slice-aggregate-bytes-of : tie.Need-slice-aggregate-bytes-of
 slice-aggregate-bytes-of c =
     let s = c .before .before .before .before in
     sym (length-take-le (s .args .count) (s .args .words .now) (s .pre .0))
-
-bytes-of-requires : tie.Need-bytes-of-requires
-bytes-of-requires c κs = search needs
-
-mul-result-2 : tie.Need-mul-result-2
-mul-result-2 c = search needs
-
-same-length : tie.Need-same-length
-same-length c = search needs
 
 returns-2 : tie.Need-returns-2
 returns-2 c =
@@ -50,4 +35,4 @@ returns-2 c =
 pub put-words-spec : {M : Type 1} → statement M
 put-words-spec =
     tie.close
-    (tie.spec mul-result add-result returns slice-aggregate-bytes-of bytes-of-requires mul-result-2 same-length returns-2)
+    (tie.spec (λ mul-result. search needs) (λ add-result. search needs) returns slice-aggregate-bytes-of (λ bytes-of-requires κs. search needs) (λ mul-result-2. search needs) (λ same-length. search needs) returns-2)

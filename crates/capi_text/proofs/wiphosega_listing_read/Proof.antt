@@ -16,18 +16,6 @@ use borrow.Author.Needs.{needs}
 use Rattle.capi_text.proofs.wiphosega_listing_read.Statement.{statement}
 use Rattle.capi_text.proofs.wiphosega_listing_read.Tie as tie
 
-slice-aggregate-read : tie.Need-slice-aggregate-read
-slice-aggregate-read c = search needs
-
-read-requires : tie.Need-read-requires
-read-requires c κs = search needs
-
-enum-known-count : tie.Need-enum-known-count
-enum-known-count c = search needs
-
-slice-aggregate-put-words : tie.Need-slice-aggregate-put-words
-slice-aggregate-put-words c = search needs
-
 put-words-requires : tie.Need-put-words-requires
 unfolding answered
 put-words-requires c κs =
@@ -36,17 +24,11 @@ put-words-requires c κs =
     let e = sym (r .ensures .0) ∙ ap answered (c .before .before .before .count .given .1) in
     (omega (arith, read-few (s .args .text .now) _ e, r .kept .1 .0), read-few (s .args .text .now) _ e)
 
-enum-known-r : tie.Need-enum-known-r
-enum-known-r c = search needs
-
 refusal-answer-requires : tie.Need-refusal-answer-requires
 refusal-answer-requires c κs =
     let s = c .before .before .before .before .before .before .before .before in
     let r = c .before .before .before .before .read in
     refused-within _ _ _ 65536 (c .before .r .given .1) (r .ensures .0) (read-within (s .args .text .now) 1024)
-
-same-length : tie.Need-same-length
-same-length c = search needs
 
 returns : tie.Need-returns
 unfolding answered
@@ -76,13 +58,13 @@ pub wiphosega-listing-read-spec : {M : Type 1} → statement M
 wiphosega-listing-read-spec =
     tie.close
     (tie.spec
-    slice-aggregate-read
-    read-requires
-    enum-known-count
-    slice-aggregate-put-words
+    (λ slice-aggregate-read. search needs)
+    (λ read-requires κs. search needs)
+    (λ enum-known-count. search needs)
+    (λ slice-aggregate-put-words. search needs)
     put-words-requires
-    enum-known-r
+    (λ enum-known-r. search needs)
     refusal-answer-requires
-    same-length
+    (λ same-length. search needs)
     returns
     returns-2)

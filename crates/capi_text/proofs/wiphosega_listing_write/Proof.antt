@@ -23,28 +23,10 @@ returns c =
     let e = write-odd (s .args .system .now) (length (s .args .text .now)) (c .if1 .taken) in
     (sym (ap answerNumber e), sym (ap (λ (a : Answered). left a (listing (wordsOf (s .args .system .now))) (s .args .text .now)) e))
 
-slice-aggregate-words-of : tie.Need-slice-aggregate-words-of
-slice-aggregate-words-of c = search needs
-
-words-of-requires : tie.Need-words-of-requires
-words-of-requires c κs = search needs
-
-array-share-prefix-words : tie.Need-array-share-prefix-words
-array-share-prefix-words c = search needs
-
 slice-aggregate-write : tie.Need-slice-aggregate-write
 slice-aggregate-write c =
     let o = c .before .before .words-of in
     sym (words-size 1025 (c .before .before .before .before .before .before .before .args .system .now) (replicate 1025 0) (o .last .1 .0) (o .result) refl (o .ensures .0) (o .ensures .1))
-
-write-requires : tie.Need-write-requires
-write-requires c κs = search needs
-
-enum-known-count : tie.Need-enum-known-count
-enum-known-count c = search needs
-
-enum-known-r : tie.Need-enum-known-r
-enum-known-r c = search needs
 
 refusal-answer-requires : tie.Need-refusal-answer-requires
 refusal-answer-requires c κs =
@@ -58,9 +40,6 @@ refusal-answer-requires c κs =
     let h = refused-within _ _ _ (length (take (o .result) vs)) (c .before .r .given .1) (w .0) (write-within (take (o .result) vs) (length (s .args .text .now))) in
     omega arith
 
-same-length : tie.Need-same-length
-same-length c = search needs
-
 returns-2 : tie.Need-returns-2
 unfolding answered answerNumber
 returns-2 c =
@@ -71,9 +50,6 @@ returns-2 c =
     let vs = o .last .1 .0 in
     let a = sym (ap answered (c .before .count .given .1)) ∙ w .0 ∙ write-answer system (replicate 1025 0) vs (o .result) refl (o .ensures .0) (o .ensures .1) (length (s .args .text .now)) (s .args .text .now) (c .before .before .before .before .before .before .before .before .before .before .before .if1 .left) in
     (ap answerNumber a, w .1 ∙ write-left system (replicate 1025 0) vs (o .result) refl (o .ensures .0) (o .ensures .1) (length (s .args .text .now)) (s .args .text .now) (c .before .before .before .before .before .before .before .before .before .before .before .if1 .left))
-
-same-length-2 : tie.Need-same-length-2
-same-length-2 c = search needs
 
 returns-3 : tie.Need-returns-3
 unfolding answered answerNumber
@@ -91,15 +67,15 @@ wiphosega-listing-write-spec =
     tie.close
     (tie.spec
     returns
-    slice-aggregate-words-of
-    words-of-requires
-    array-share-prefix-words
+    (λ slice-aggregate-words-of. search needs)
+    (λ words-of-requires κs. search needs)
+    (λ array-share-prefix-words. search needs)
     slice-aggregate-write
-    write-requires
-    enum-known-count
-    enum-known-r
+    (λ write-requires κs. search needs)
+    (λ enum-known-count. search needs)
+    (λ enum-known-r. search needs)
     refusal-answer-requires
-    same-length
+    (λ same-length. search needs)
     returns-2
-    same-length-2
+    (λ same-length-2. search needs)
     returns-3)

@@ -25,9 +25,6 @@ Inv-loop words links masks est l rho limit p₀ p =
 abbrev μ-loop : tie.MeasureT-loop
 μ-loop words links masks est l rho limit p₀ p = limit - p
 
-unsent-requires : tie.Need-unsent-requires Inv-loop μ-loop
-unsent-requires c κs = search needs
-
 loop-holds : tie.Need-loop-holds Inv-loop μ-loop
 loop-holds c = (omega arith, c .unsent .ensures, λ q h. absurd (omega arith))
 
@@ -40,12 +37,6 @@ returns : tie.Need-returns Inv-loop μ-loop
 returns c =
     let s = c .before .before .before .before .before .before .before .before .before in let a = s .args in let k = code (a .words .now) in let i = c .before .before .before .loop in
     broken-at k (a .rho .bits) (a .est .now) (i .p) (omega (arith, i .inv .1 .most, c .before .before .loop-test .taken)) (i .inv .2) (obeys-is k (a .est .now) (rule-no k (sets k (a .est .now)) (a .rho .bits) (i .p) (answered-no _ (c .if1 .taken) (c .before .word .ensures))))
-
-add-p : tie.Need-add-p Inv-loop μ-loop
-add-p c = search needs
-
-loop-less : tie.Need-loop-less Inv-loop μ-loop
-loop-less c = search needs
 
 loop-again : tie.Need-loop-again Inv-loop μ-loop
 loop-again c =
@@ -63,11 +54,11 @@ broken-spec =
     (tie.spec
     Inv-loop
     μ-loop
-    unsent-requires
+    (λ unsent-requires κs. search needs)
     loop-holds
     word-requires
     returns
-    add-p
-    loop-less
+    (λ add-p. search needs)
+    (λ loop-less. search needs)
     loop-again
     returns-2)

@@ -5,11 +5,8 @@ use Rattle.table.specs.declared.Link.{Link}
 use Rattle.checker.proofs.end.Statement.{statement}
 use Rattle.checker.proofs.end.Tie as tie
 
-link-at-requires : tie.Need-link-at-requires
-link-at-requires c κs = search needs
-
 returns : tie.Need-returns
 returns c = ap (λ (x : Link). x .end) (c .link-at .ensures)
 
 pub end-spec : {M : Type 1} → statement M
-end-spec = tie.close (tie.spec link-at-requires returns)
+end-spec = tie.close (tie.spec (λ link-at-requires κs. search needs) returns)

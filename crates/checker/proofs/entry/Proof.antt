@@ -10,7 +10,10 @@ opens-requires : tie.Need-opens-requires
 opens-requires c κs = (c .before .before .pre .0, c .before .before .pre .3)
 
 returns : tie.Need-returns
-returns c = closed-entry (c .before .before .before .before .args .words .now) (c .before .before .before .before .pre .0 .readable) (c .before .before .before .before .args .p) (in-table (c .before .before .before .before .args .words .now) (c .before .before .before .before .args .l) (c .before .before .before .before .pre .0) (c .before .before .before .before .args .p) (c .before .before .before .before .pre .3) .0) _ (c .before .before .before .before .args .rho .bits) (c .before .opens .ensures) (c .if1 .taken)
+returns c =
+    let s = c .before .before .before .before in
+    let a = s .args in
+    closed-entry (a .words .now) (s .pre .0 .readable) (a .p) (in-table (a .words .now) (a .l) (s .pre .0) (a .p) (s .pre .3) .0) _ (a .rho .bits) (c .before .opens .ensures) (c .if1 .taken)
 
 is-live-requires : tie.Need-is-live-requires
 is-live-requires c κs = (c .before .before .before .before .pre .1, c .before .before .before .before .pre .3)

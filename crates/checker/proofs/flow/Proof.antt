@@ -33,52 +33,25 @@ mul-w c = let s = c .before .before .before .before in let a = s .args in let ws
 shared-slice-read-w : tie.Need-shared-slice-read-w
 shared-slice-read-w c = let s = c .before .before .before .before .before in let a = s .args in let ws = a .words .now in omega (arith, in-words (a .words .now) (a .links .now) (a .masks .now) (a .l) (s .pre .0) (a .est .now) (s .pre .1) (a .p) (s .pre .2))
 
-argument-of-requires : tie.Need-argument-of-requires
-argument-of-requires c κs = search needs
-
-kind-of-requires : tie.Need-kind-of-requires
-kind-of-requires c κs = search needs
-
 add-part : tie.Need-add-part
 add-part c = let s = c .before .before .before .before .before .before .before .before in let a = s .args in let ws = a .words .now in omega (arith, sizes (a .words .now) (a .links .now) (a .masks .now) (a .l) (s .pre .0) (a .est .now) (s .pre .1) (a .p) (s .pre .2) .size, body-in ws (s .pre .0 .readable) (a .p) (in-code (a .words .now) (a .links .now) (a .masks .now) (a .l) (s .pre .0) (a .est .now) (s .pre .1) (a .p) (s .pre .2)) (sym (c .before .kind-of .ensures) ∙ c .match .keys1), s .pre .0 .laid .size)
 
 part-requires : tie.Need-part-requires
 part-requires c κs = let s = c .before .before .before .before .before .before .before .before in let a = s .args in let ws = a .words .now in (sizes (a .words .now) (a .links .now) (a .masks .now) (a .l) (s .pre .0) (a .est .now) (s .pre .1) (a .p) (s .pre .2), s .pre .2, part-at (a .words .now) (a .links .now) (a .masks .now) (a .l) (s .pre .0) (a .est .now) (s .pre .1) (a .p) (s .pre .2) (body-in ws (s .pre .0 .readable) (a .p) (in-code (a .words .now) (a .links .now) (a .masks .now) (a .l) (s .pre .0) (a .est .now) (s .pre .1) (a .p) (s .pre .2)) (sym (c .before .kind-of .ensures) ∙ c .match .keys1)))
 
-constant-element-requires : tie.Need-constant-element-requires
-constant-element-requires c κs = search needs
-
 in-value-requires : tie.Need-in-value-requires
 in-value-requires c κs = let s = c .before .before .before .before .before .before .before .before .before in let a = s .args in let ws = a .words .now in (sizes (a .words .now) (a .links .now) (a .masks .now) (a .l) (s .pre .0) (a .est .now) (s .pre .1) (a .p) (s .pre .2), s .pre .2, omega (arith, c .constant-element .ensures, constant-lt (constantOf (c .before .before .before .argument-of .result)), sizes (a .words .now) (a .links .now) (a .masks .now) (a .l) (s .pre .0) (a .est .now) (s .pre .1) (a .p) (s .pre .2) .lead))
 
-sign-element-requires : tie.Need-sign-element-requires
-sign-element-requires c κs = search needs
-
 in-value-requires-2 : tie.Need-in-value-requires-2
 in-value-requires-2 c κs = let s = c .before .before .before .before .before .before .before .before .before in let a = s .args in let ws = a .words .now in (sizes (a .words .now) (a .links .now) (a .masks .now) (a .l) (s .pre .0) (a .est .now) (s .pre .1) (a .p) (s .pre .2), s .pre .2, omega (arith, c .sign-element .ensures, sign-lt (c .before .before .before .argument-of .result), sizes (a .words .now) (a .links .now) (a .masks .now) (a .l) (s .pre .0) (a .est .now) (s .pre .1) (a .p) (s .pre .2) .lead))
-
-cast-in-value : tie.Need-cast-in-value
-cast-in-value c = search needs
-
-add-in-value : tie.Need-add-in-value
-add-in-value c = search needs
 
 in-value-requires-3 : tie.Need-in-value-requires-3
 unfolding byKind termsByKind termNode
 in-value-requires-3 c κs = let s = c .before .before .before .before .before .before .before .before in let a = s .args in let ws = a .words .now in (sizes (a .words .now) (a .links .now) (a .masks .now) (a .l) (s .pre .0) (a .est .now) (s .pre .1) (a .p) (s .pre .2), s .pre .2, omega (arith, one-linked (a .words .now) (a .links .now) (a .masks .now) (a .l) (s .pre .0) (a .est .now) (s .pre .1) (a .p) (s .pre .2) _ (item-by ws (a .p) 18 (sym (c .before .kind-of .ensures) ∙ c .match .keys4)), c .before .before .argument-of .ensures, sizes (a .words .now) (a .links .now) (a .masks .now) (a .l) (s .pre .0) (a .est .now) (s .pre .1) (a .p) (s .pre .2) .lead))
 
-cast-in-value-2 : tie.Need-cast-in-value-2
-cast-in-value-2 c = search needs
-
-add-in-value-2 : tie.Need-add-in-value-2
-add-in-value-2 c = search needs
-
 in-value-requires-4 : tie.Need-in-value-requires-4
 unfolding byKind termsByKind termNode code
 in-value-requires-4 c κs = let s = c .before .before .before .before .before .before .before .before in let a = s .args in let ws = a .words .now in (sizes (a .words .now) (a .links .now) (a .masks .now) (a .l) (s .pre .0) (a .est .now) (s .pre .1) (a .p) (s .pre .2), s .pre .2, omega (arith, one-linked (a .words .now) (a .links .now) (a .masks .now) (a .l) (s .pre .0) (a .est .now) (s .pre .1) (a .p) (s .pre .2) _ (item-by ws (a .p) 19 (sym (c .before .kind-of .ensures) ∙ c .match .keys5)), c .before .before .argument-of .ensures, s .pre .0 .laid .lead))
-
-link-at-requires : tie.Need-link-at-requires
-link-at-requires c κs = search needs
 
 mul-passed : tie.Need-mul-passed
 unfolding byKind termsByKind termNode
@@ -104,70 +77,28 @@ add-in-value-3 c = let s = c .before .before .before .before .before .before .be
 in-value-requires-5 : tie.Need-in-value-requires-5
 in-value-requires-5 c κs = let s = c .before .before .before .before .before .before .before .before .before in let a = s .args in let ws = a .words .now in (sizes (a .words .now) (a .links .now) (a .masks .now) (a .l) (s .pre .0) (a .est .now) (s .pre .1) (a .p) (s .pre .2), s .pre .2, omega (arith, s .pre .2))
 
-add-end : tie.Need-add-end
-add-end c = search needs
-
-end-requires : tie.Need-end-requires
-end-requires c κs = search needs
-
 apply-requires : tie.Need-apply-requires
 unfolding byKind termsByKind termNode
 apply-requires c κs = let s = c .before .before .before .before .before .before .before .before .before in let a = s .args in let ws = a .words .now in (term-at (a .words .now) (a .links .now) (a .masks .now) (a .l) (s .pre .0) (a .est .now) (s .pre .1) (a .p) (s .pre .2) ((two-linked (a .words .now) (a .links .now) (a .masks .now) (a .l) (s .pre .0) (a .est .now) (s .pre .1) (a .p) (s .pre .2) _ (item-by ws (a .p) 22 (sym (c .before .before .kind-of .ensures) ∙ c .before .match .keys8)) _ (c .end .ensures)) .1 .inside), part-at (a .words .now) (a .links .now) (a .masks .now) (a .l) (s .pre .0) (a .est .now) (s .pre .1) (a .p) (s .pre .2) ((two-linked (a .words .now) (a .links .now) (a .masks .now) (a .l) (s .pre .0) (a .est .now) (s .pre .1) (a .p) (s .pre .2) _ (item-by ws (a .p) 22 (sym (c .before .before .kind-of .ensures) ∙ c .before .match .keys8)) _ (c .end .ensures)) .2 .inside), masks-of (a .words .now) (a .links .now) (a .masks .now) (a .l) (s .pre .0))
-
-add-end-2 : tie.Need-add-end-2
-add-end-2 c = search needs
-
-end-requires-2 : tie.Need-end-requires-2
-end-requires-2 c κs = search needs
 
 bind-requires : tie.Need-bind-requires
 unfolding byKind termsByKind termNode
 bind-requires c κs = let s = c .before .before .before .before .before .before .before .before .before in let a = s .args in let ws = a .words .now in (term-at (a .words .now) (a .links .now) (a .masks .now) (a .l) (s .pre .0) (a .est .now) (s .pre .1) (a .p) (s .pre .2) ((two-linked (a .words .now) (a .links .now) (a .masks .now) (a .l) (s .pre .0) (a .est .now) (s .pre .1) (a .p) (s .pre .2) _ (item-by ws (a .p) 23 (sym (c .before .before .kind-of .ensures) ∙ c .before .match .keys9)) _ (c .end2 .ensures)) .0 .inside), part-at (a .words .now) (a .links .now) (a .masks .now) (a .l) (s .pre .0) (a .est .now) (s .pre .1) (a .p) (s .pre .2) ((two-linked (a .words .now) (a .links .now) (a .masks .now) (a .l) (s .pre .0) (a .est .now) (s .pre .1) (a .p) (s .pre .2) _ (item-by ws (a .p) 23 (sym (c .before .before .kind-of .ensures) ∙ c .before .match .keys9)) _ (c .end2 .ensures)) .1 .inside))
 
-add-end-3 : tie.Need-add-end-3
-add-end-3 c = search needs
-
-end-requires-3 : tie.Need-end-requires-3
-end-requires-3 c κs = search needs
-
 sequence-requires : tie.Need-sequence-requires
 unfolding byKind termsByKind termNode
 sequence-requires c κs = let s = c .before .before .before .before .before .before .before .before .before in let a = s .args in let ws = a .words .now in (term-at (a .words .now) (a .links .now) (a .masks .now) (a .l) (s .pre .0) (a .est .now) (s .pre .1) (a .p) (s .pre .2) ((two-linked (a .words .now) (a .links .now) (a .masks .now) (a .l) (s .pre .0) (a .est .now) (s .pre .1) (a .p) (s .pre .2) _ (item-by ws (a .p) 24 (sym (c .before .before .kind-of .ensures) ∙ c .before .match .keys10)) _ (c .end3 .ensures)) .1 .inside), part-at (a .words .now) (a .links .now) (a .masks .now) (a .l) (s .pre .0) (a .est .now) (s .pre .1) (a .p) (s .pre .2) ((two-linked (a .words .now) (a .links .now) (a .masks .now) (a .l) (s .pre .0) (a .est .now) (s .pre .1) (a .p) (s .pre .2) _ (item-by ws (a .p) 24 (sym (c .before .before .kind-of .ensures) ∙ c .before .match .keys10)) _ (c .end3 .ensures)) .2 .inside))
 
-add-end-4 : tie.Need-add-end-4
-add-end-4 c = search needs
-
-end-requires-4 : tie.Need-end-requires-4
-end-requires-4 c κs = search needs
-
-add-end-5 : tie.Need-add-end-5
-add-end-5 c = search needs
-
-end-requires-5 : tie.Need-end-requires-5
-end-requires-5 c κs = search needs
-
-end-requires-6 : tie.Need-end-requires-6
-end-requires-6 c κs = search needs
-
 branch-requires : tie.Need-branch-requires
 unfolding byKind termsByKind termNode
-branch-requires c κs = let s = c .before .before .before .before .before .before .before .before .before .before .before in let a = s .args in let ws = a .words .now in (term-at (a .words .now) (a .links .now) (a .masks .now) (a .l) (s .pre .0) (a .est .now) (s .pre .1) (a .p) (s .pre .2) ((three-linked (a .words .now) (a .links .now) (a .masks .now) (a .l) (s .pre .0) (a .est .now) (s .pre .1) (a .p) (s .pre .2) _ (item-by ws (a .p) 25 (sym (c .before .before .before .before .kind-of .ensures) ∙ c .before .before .before .match .keys11)) _ (c .before .before .end4 .ensures) _ (c .end6 .ensures ∙ ap (λ (x : ℕ). linkAt (a .links .now) x .end) (c .before .end5 .ensures ∙ sym (c .before .before .end4 .ensures)))) .0 .inside), part-at (a .words .now) (a .links .now) (a .masks .now) (a .l) (s .pre .0) (a .est .now) (s .pre .1) (a .p) (s .pre .2) ((three-linked (a .words .now) (a .links .now) (a .masks .now) (a .l) (s .pre .0) (a .est .now) (s .pre .1) (a .p) (s .pre .2) _ (item-by ws (a .p) 25 (sym (c .before .before .before .before .kind-of .ensures) ∙ c .before .before .before .match .keys11)) _ (c .before .before .end4 .ensures) _ (c .end6 .ensures ∙ ap (λ (x : ℕ). linkAt (a .links .now) x .end) (c .before .end5 .ensures ∙ sym (c .before .before .end4 .ensures)))) .1 .inside), part-at (a .words .now) (a .links .now) (a .masks .now) (a .l) (s .pre .0) (a .est .now) (s .pre .1) (a .p) (s .pre .2) ((three-linked (a .words .now) (a .links .now) (a .masks .now) (a .l) (s .pre .0) (a .est .now) (s .pre .1) (a .p) (s .pre .2) _ (item-by ws (a .p) 25 (sym (c .before .before .before .before .kind-of .ensures) ∙ c .before .before .before .match .keys11)) _ (c .before .before .end4 .ensures) _ (c .end6 .ensures ∙ ap (λ (x : ℕ). linkAt (a .links .now) x .end) (c .before .end5 .ensures ∙ sym (c .before .before .end4 .ensures)))) .2 .inside))
-
-add-end-6 : tie.Need-add-end-6
-add-end-6 c = search needs
-
-end-requires-7 : tie.Need-end-requires-7
-end-requires-7 c κs = search needs
+branch-requires c κs =
+    let t = c .before .before .before .before in
+    let u = c .before .before .before in
+    let s = c .before .before .before .before .before .before .before .before .before .before .before in let a = s .args in let ws = a .words .now in (term-at (a .words .now) (a .links .now) (a .masks .now) (a .l) (s .pre .0) (a .est .now) (s .pre .1) (a .p) (s .pre .2) ((three-linked (a .words .now) (a .links .now) (a .masks .now) (a .l) (s .pre .0) (a .est .now) (s .pre .1) (a .p) (s .pre .2) _ (item-by ws (a .p) 25 (sym (t .kind-of .ensures) ∙ u .match .keys11)) _ (c .before .before .end4 .ensures) _ (c .end6 .ensures ∙ ap (λ (x : ℕ). linkAt (a .links .now) x .end) (c .before .end5 .ensures ∙ sym (c .before .before .end4 .ensures)))) .0 .inside), part-at (a .words .now) (a .links .now) (a .masks .now) (a .l) (s .pre .0) (a .est .now) (s .pre .1) (a .p) (s .pre .2) ((three-linked (a .words .now) (a .links .now) (a .masks .now) (a .l) (s .pre .0) (a .est .now) (s .pre .1) (a .p) (s .pre .2) _ (item-by ws (a .p) 25 (sym (t .kind-of .ensures) ∙ u .match .keys11)) _ (c .before .before .end4 .ensures) _ (c .end6 .ensures ∙ ap (λ (x : ℕ). linkAt (a .links .now) x .end) (c .before .end5 .ensures ∙ sym (c .before .before .end4 .ensures)))) .1 .inside), part-at (a .words .now) (a .links .now) (a .masks .now) (a .l) (s .pre .0) (a .est .now) (s .pre .1) (a .p) (s .pre .2) ((three-linked (a .words .now) (a .links .now) (a .masks .now) (a .l) (s .pre .0) (a .est .now) (s .pre .1) (a .p) (s .pre .2) _ (item-by ws (a .p) 25 (sym (t .kind-of .ensures) ∙ u .match .keys11)) _ (c .before .before .end4 .ensures) _ (c .end6 .ensures ∙ ap (λ (x : ℕ). linkAt (a .links .now) x .end) (c .before .end5 .ensures ∙ sym (c .before .before .end4 .ensures)))) .2 .inside))
 
 repeat-requires : tie.Need-repeat-requires
 unfolding byKind termsByKind termNode
 repeat-requires c κs = let s = c .before .before .before .before .before .before .before .before .before in let a = s .args in let ws = a .words .now in (term-at (a .words .now) (a .links .now) (a .masks .now) (a .l) (s .pre .0) (a .est .now) (s .pre .1) (a .p) (s .pre .2) ((two-linked (a .words .now) (a .links .now) (a .masks .now) (a .l) (s .pre .0) (a .est .now) (s .pre .1) (a .p) (s .pre .2) _ (item-by ws (a .p) 26 (sym (c .before .before .kind-of .ensures) ∙ c .before .match .keys12)) _ (c .end7 .ensures)) .0 .inside), part-at (a .words .now) (a .links .now) (a .masks .now) (a .l) (s .pre .0) (a .est .now) (s .pre .1) (a .p) (s .pre .2) ((two-linked (a .words .now) (a .links .now) (a .masks .now) (a .l) (s .pre .0) (a .est .now) (s .pre .1) (a .p) (s .pre .2) _ (item-by ws (a .p) 26 (sym (c .before .before .kind-of .ensures) ∙ c .before .match .keys12)) _ (c .end7 .ensures)) .1 .inside))
-
-add-end-7 : tie.Need-add-end-7
-add-end-7 c = search needs
-
-end-requires-8 : tie.Need-end-requires-8
-end-requires-8 c κs = search needs
 
 operation-requires : tie.Need-operation-requires
 unfolding byKind termsByKind termNode
@@ -182,40 +113,16 @@ add-in-value-4 c = let s = c .before .before .before .before .before .before .be
 in-value-requires-6 : tie.Need-in-value-requires-6
 in-value-requires-6 c κs = let s = c .before .before .before .before .before .before .before .before .before in let a = s .args in let ws = a .words .now in (sizes (a .words .now) (a .links .now) (a .masks .now) (a .l) (s .pre .0) (a .est .now) (s .pre .1) (a .p) (s .pre .2), s .pre .2, omega (arith, s .pre .2))
 
-add-end-8 : tie.Need-add-end-8
-add-end-8 c = search needs
-
-end-requires-9 : tie.Need-end-requires-9
-end-requires-9 c κs = search needs
-
 get-requires : tie.Need-get-requires
 unfolding byKind termsByKind termNode
 get-requires c κs = let s = c .before .before .before .before .before .before .before .before .before in let a = s .args in let ws = a .words .now in (term-at (a .words .now) (a .links .now) (a .masks .now) (a .l) (s .pre .0) (a .est .now) (s .pre .1) (a .p) (s .pre .2) ((two-linked (a .words .now) (a .links .now) (a .masks .now) (a .l) (s .pre .0) (a .est .now) (s .pre .1) (a .p) (s .pre .2) _ (item-by ws (a .p) 29 (sym (c .before .before .kind-of .ensures) ∙ c .before .match .keys15)) _ (c .end9 .ensures)) .1 .inside), part-at (a .words .now) (a .links .now) (a .masks .now) (a .l) (s .pre .0) (a .est .now) (s .pre .1) (a .p) (s .pre .2) ((two-linked (a .words .now) (a .links .now) (a .masks .now) (a .l) (s .pre .0) (a .est .now) (s .pre .1) (a .p) (s .pre .2) _ (item-by ws (a .p) 29 (sym (c .before .before .kind-of .ensures) ∙ c .before .match .keys15)) _ (c .end9 .ensures)) .2 .inside), masks-of (a .words .now) (a .links .now) (a .masks .now) (a .l) (s .pre .0))
 
-add-end-9 : tie.Need-add-end-9
-add-end-9 c = search needs
-
-end-requires-10 : tie.Need-end-requires-10
-end-requires-10 c κs = search needs
-
-add-end-10 : tie.Need-add-end-10
-add-end-10 c = search needs
-
-end-requires-11 : tie.Need-end-requires-11
-end-requires-11 c κs = search needs
-
-end-requires-12 : tie.Need-end-requires-12
-end-requires-12 c κs = search needs
-
 set-requires : tie.Need-set-requires
 unfolding byKind termsByKind termNode
-set-requires c κs = let s = c .before .before .before .before .before .before .before .before .before .before .before in let a = s .args in let ws = a .words .now in (term-at (a .words .now) (a .links .now) (a .masks .now) (a .l) (s .pre .0) (a .est .now) (s .pre .1) (a .p) (s .pre .2) ((three-linked (a .words .now) (a .links .now) (a .masks .now) (a .l) (s .pre .0) (a .est .now) (s .pre .1) (a .p) (s .pre .2) _ (item-by ws (a .p) 30 (sym (c .before .before .before .before .kind-of .ensures) ∙ c .before .before .before .match .keys16)) _ (c .before .before .end10 .ensures) _ (c .end12 .ensures ∙ ap (λ (x : ℕ). linkAt (a .links .now) x .end) (c .before .end11 .ensures ∙ sym (c .before .before .end10 .ensures)))) .0 .inside), part-at (a .words .now) (a .links .now) (a .masks .now) (a .l) (s .pre .0) (a .est .now) (s .pre .1) (a .p) (s .pre .2) ((three-linked (a .words .now) (a .links .now) (a .masks .now) (a .l) (s .pre .0) (a .est .now) (s .pre .1) (a .p) (s .pre .2) _ (item-by ws (a .p) 30 (sym (c .before .before .before .before .kind-of .ensures) ∙ c .before .before .before .match .keys16)) _ (c .before .before .end10 .ensures) _ (c .end12 .ensures ∙ ap (λ (x : ℕ). linkAt (a .links .now) x .end) (c .before .end11 .ensures ∙ sym (c .before .before .end10 .ensures)))) .1 .inside), part-at (a .words .now) (a .links .now) (a .masks .now) (a .l) (s .pre .0) (a .est .now) (s .pre .1) (a .p) (s .pre .2) ((three-linked (a .words .now) (a .links .now) (a .masks .now) (a .l) (s .pre .0) (a .est .now) (s .pre .1) (a .p) (s .pre .2) _ (item-by ws (a .p) 30 (sym (c .before .before .before .before .kind-of .ensures) ∙ c .before .before .before .match .keys16)) _ (c .before .before .end10 .ensures) _ (c .end12 .ensures ∙ ap (λ (x : ℕ). linkAt (a .links .now) x .end) (c .before .end11 .ensures ∙ sym (c .before .before .end10 .ensures)))) .2 .inside), masks-of (a .words .now) (a .links .now) (a .masks .now) (a .l) (s .pre .0))
-
-add-end-11 : tie.Need-add-end-11
-add-end-11 c = search needs
-
-end-requires-13 : tie.Need-end-requires-13
-end-requires-13 c κs = search needs
+set-requires c κs =
+    let t = c .before .before .before .before in
+    let u = c .before .before .before in
+    let s = c .before .before .before .before .before .before .before .before .before .before .before in let a = s .args in let ws = a .words .now in (term-at (a .words .now) (a .links .now) (a .masks .now) (a .l) (s .pre .0) (a .est .now) (s .pre .1) (a .p) (s .pre .2) ((three-linked (a .words .now) (a .links .now) (a .masks .now) (a .l) (s .pre .0) (a .est .now) (s .pre .1) (a .p) (s .pre .2) _ (item-by ws (a .p) 30 (sym (t .kind-of .ensures) ∙ u .match .keys16)) _ (c .before .before .end10 .ensures) _ (c .end12 .ensures ∙ ap (λ (x : ℕ). linkAt (a .links .now) x .end) (c .before .end11 .ensures ∙ sym (c .before .before .end10 .ensures)))) .0 .inside), part-at (a .words .now) (a .links .now) (a .masks .now) (a .l) (s .pre .0) (a .est .now) (s .pre .1) (a .p) (s .pre .2) ((three-linked (a .words .now) (a .links .now) (a .masks .now) (a .l) (s .pre .0) (a .est .now) (s .pre .1) (a .p) (s .pre .2) _ (item-by ws (a .p) 30 (sym (t .kind-of .ensures) ∙ u .match .keys16)) _ (c .before .before .end10 .ensures) _ (c .end12 .ensures ∙ ap (λ (x : ℕ). linkAt (a .links .now) x .end) (c .before .end11 .ensures ∙ sym (c .before .before .end10 .ensures)))) .1 .inside), part-at (a .words .now) (a .links .now) (a .masks .now) (a .l) (s .pre .0) (a .est .now) (s .pre .1) (a .p) (s .pre .2) ((three-linked (a .words .now) (a .links .now) (a .masks .now) (a .l) (s .pre .0) (a .est .now) (s .pre .1) (a .p) (s .pre .2) _ (item-by ws (a .p) 30 (sym (t .kind-of .ensures) ∙ u .match .keys16)) _ (c .before .before .end10 .ensures) _ (c .end12 .ensures ∙ ap (λ (x : ℕ). linkAt (a .links .now) x .end) (c .before .end11 .ensures ∙ sym (c .before .before .end10 .ensures)))) .2 .inside), masks-of (a .words .now) (a .links .now) (a .masks .now) (a .l) (s .pre .0))
 
 delete-requires : tie.Need-delete-requires
 unfolding byKind termsByKind termNode
@@ -229,31 +136,13 @@ read-requires : tie.Need-read-requires
 unfolding byKind termsByKind termNode
 read-requires c κs = let s = c .before .before .before .before .before .before .before .before in let a = s .args in let ws = a .words .now in (term-at (a .words .now) (a .links .now) (a .masks .now) (a .l) (s .pre .0) (a .est .now) (s .pre .1) (a .p) (s .pre .2) ((one-linked (a .words .now) (a .links .now) (a .masks .now) (a .l) (s .pre .0) (a .est .now) (s .pre .1) (a .p) (s .pre .2) _ (item-by ws (a .p) 33 (sym (c .before .kind-of .ensures) ∙ c .match .keys19))) .inside), masks-of (a .words .now) (a .links .now) (a .masks .now) (a .l) (s .pre .0))
 
-add-end-12 : tie.Need-add-end-12
-add-end-12 c = search needs
-
-end-requires-14 : tie.Need-end-requires-14
-end-requires-14 c κs = search needs
-
 assign-requires : tie.Need-assign-requires
 unfolding byKind termsByKind termNode
 assign-requires c κs = let s = c .before .before .before .before .before .before .before .before .before in let a = s .args in let ws = a .words .now in (term-at (a .words .now) (a .links .now) (a .masks .now) (a .l) (s .pre .0) (a .est .now) (s .pre .1) (a .p) (s .pre .2) ((two-linked (a .words .now) (a .links .now) (a .masks .now) (a .l) (s .pre .0) (a .est .now) (s .pre .1) (a .p) (s .pre .2) _ (item-by ws (a .p) 34 (sym (c .before .before .kind-of .ensures) ∙ c .before .match .keys20)) _ (c .end14 .ensures)) .1 .inside), part-at (a .words .now) (a .links .now) (a .masks .now) (a .l) (s .pre .0) (a .est .now) (s .pre .1) (a .p) (s .pre .2) ((two-linked (a .words .now) (a .links .now) (a .masks .now) (a .l) (s .pre .0) (a .est .now) (s .pre .1) (a .p) (s .pre .2) _ (item-by ws (a .p) 34 (sym (c .before .before .kind-of .ensures) ∙ c .before .match .keys20)) _ (c .end14 .ensures)) .2 .inside), masks-of (a .words .now) (a .links .now) (a .masks .now) (a .l) (s .pre .0))
 
-add-end-13 : tie.Need-add-end-13
-add-end-13 c = search needs
-
-end-requires-15 : tie.Need-end-requires-15
-end-requires-15 c κs = search needs
-
-sending-requires : tie.Need-sending-requires
-sending-requires c κs = search needs
-
 send-requires : tie.Need-send-requires
 unfolding byKind termsByKind termNode
 send-requires c κs = let s = c .before .before .before .before .before .before .before .before .before .before in let a = s .args in let ws = a .words .now in (sent-at (a .words .now) (a .links .now) (a .masks .now) (a .l) (s .pre .0) (a .est .now) (s .pre .1) (a .p) (s .pre .2) (c .before .end15 .result) (c .before .before .before .before .argument-of .result) (c .sending .result) (c .sending .ensures) (term-at (a .words .now) (a .links .now) (a .masks .now) (a .l) (s .pre .0) (a .est .now) (s .pre .1) (a .p) (s .pre .2) ((two-linked (a .words .now) (a .links .now) (a .masks .now) (a .l) (s .pre .0) (a .est .now) (s .pre .1) (a .p) (s .pre .2) _ (item-by ws (a .p) 35 (sym (c .before .before .before .kind-of .ensures) ∙ c .before .before .match .keys21)) _ (c .before .end15 .ensures)) .1 .inside)) (part-at (a .words .now) (a .links .now) (a .masks .now) (a .l) (s .pre .0) (a .est .now) (s .pre .1) (a .p) (s .pre .2) ((two-linked (a .words .now) (a .links .now) (a .masks .now) (a .l) (s .pre .0) (a .est .now) (s .pre .1) (a .p) (s .pre .2) _ (item-by ws (a .p) 35 (sym (c .before .before .before .kind-of .ensures) ∙ c .before .before .match .keys21)) _ (c .before .end15 .ensures)) .2 .inside)), links-of (a .words .now) (a .links .now) (a .masks .now) (a .l) (s .pre .0))
-
-permissions-of-requires : tie.Need-permissions-of-requires
-permissions-of-requires c κs = search needs
 
 exercise-requires : tie.Need-exercise-requires
 unfolding byKind termsByKind termNode
@@ -385,10 +274,11 @@ returns-20 c =
 returns-21 : tie.Need-returns-21
 unfolding byKind termsByKind termNode
 returns-21 c =
+    let t = c .before .before .before .before .before in
     let s = c .before .before .before .before .before .before .before .before .before .before .before in let a = s .args in let ws = a .words .now in
     two-flow (a .words .now) (a .links .now) (a .masks .now) (a .l) (s .pre .0) (a .est .now) (s .pre .1) (a .p) (s .pre .2) _ (item-by ws (a .p) 35 (sym (c .before .before .before .before .kind-of .ensures) ∙ c .before .before .before .match .keys21)) _ (c .before .before .end15 .ensures)
-    (send-at (a .words .now) (a .links .now) (a .masks .now) (a .l) (s .pre .0) (a .est .now) (s .pre .1) (a .p) (s .pre .2) (c .before .before .end15 .result) (c .before .before .before .before .before .argument-of .result) (c .before .sending .result) (c .before .sending .ensures) _ (c .before .before .before .before .before .argument-of .ensures)
-    (c .send .ensures (own-at (a .words .now) (a .links .now) (a .masks .now) (a .l) (s .pre .0) (a .est .now) (s .pre .1) (a .p) (s .pre .2) (c .before .before .end15 .result) (c .before .before .before .before .before .argument-of .result) (c .before .sending .result) (c .before .sending .ensures) _ (item-by ws (a .p) 35 (sym (c .before .before .before .before .kind-of .ensures) ∙ c .before .before .before .match .keys21)))))
+    (send-at (a .words .now) (a .links .now) (a .masks .now) (a .l) (s .pre .0) (a .est .now) (s .pre .1) (a .p) (s .pre .2) (c .before .before .end15 .result) (t .argument-of .result) (c .before .sending .result) (c .before .sending .ensures) _ (t .argument-of .ensures)
+    (c .send .ensures (own-at (a .words .now) (a .links .now) (a .masks .now) (a .l) (s .pre .0) (a .est .now) (s .pre .1) (a .p) (s .pre .2) (c .before .before .end15 .result) (t .argument-of .result) (c .before .sending .result) (c .before .sending .ensures) _ (item-by ws (a .p) 35 (sym (c .before .before .before .before .kind-of .ensures) ∙ c .before .before .before .match .keys21)))))
 
 returns-22 : tie.Need-returns-22
 unfolding byKind termsByKind termNode flow
@@ -409,21 +299,21 @@ flow-spec =
     (tie.spec
     mul-w
     shared-slice-read-w
-    argument-of-requires
-    kind-of-requires
+    (λ argument-of-requires κs. search needs)
+    (λ kind-of-requires κs. search needs)
     add-part
     part-requires
-    constant-element-requires
+    (λ constant-element-requires κs. search needs)
     in-value-requires
-    sign-element-requires
+    (λ sign-element-requires κs. search needs)
     in-value-requires-2
-    cast-in-value
-    add-in-value
+    (λ cast-in-value. search needs)
+    (λ add-in-value. search needs)
     in-value-requires-3
-    cast-in-value-2
-    add-in-value-2
+    (λ cast-in-value-2. search needs)
+    (λ add-in-value-2. search needs)
     in-value-requires-4
-    link-at-requires
+    (λ link-at-requires κs. search needs)
     mul-passed
     add-passed
     mul-passed-2
@@ -431,52 +321,52 @@ flow-spec =
     mul-in-value
     add-in-value-3
     in-value-requires-5
-    add-end
-    end-requires
+    (λ add-end. search needs)
+    (λ end-requires κs. search needs)
     apply-requires
-    add-end-2
-    end-requires-2
+    (λ add-end-2. search needs)
+    (λ end-requires-2 κs. search needs)
     bind-requires
-    add-end-3
-    end-requires-3
+    (λ add-end-3. search needs)
+    (λ end-requires-3 κs. search needs)
     sequence-requires
-    add-end-4
-    end-requires-4
-    add-end-5
-    end-requires-5
-    end-requires-6
+    (λ add-end-4. search needs)
+    (λ end-requires-4 κs. search needs)
+    (λ add-end-5. search needs)
+    (λ end-requires-5 κs. search needs)
+    (λ end-requires-6 κs. search needs)
     branch-requires
-    add-end-6
-    end-requires-7
+    (λ add-end-6. search needs)
+    (λ end-requires-7 κs. search needs)
     repeat-requires
-    add-end-7
-    end-requires-8
+    (λ add-end-7. search needs)
+    (λ end-requires-8 κs. search needs)
     operation-requires
     mul-in-value-2
     add-in-value-4
     in-value-requires-6
-    add-end-8
-    end-requires-9
+    (λ add-end-8. search needs)
+    (λ end-requires-9 κs. search needs)
     get-requires
-    add-end-9
-    end-requires-10
-    add-end-10
-    end-requires-11
-    end-requires-12
+    (λ add-end-9. search needs)
+    (λ end-requires-10 κs. search needs)
+    (λ add-end-10. search needs)
+    (λ end-requires-11 κs. search needs)
+    (λ end-requires-12 κs. search needs)
     set-requires
-    add-end-11
-    end-requires-13
+    (λ add-end-11. search needs)
+    (λ end-requires-13 κs. search needs)
     delete-requires
     cell-requires
     read-requires
-    add-end-12
-    end-requires-14
+    (λ add-end-12. search needs)
+    (λ end-requires-14 κs. search needs)
     assign-requires
-    add-end-13
-    end-requires-15
-    sending-requires
+    (λ add-end-13. search needs)
+    (λ end-requires-15 κs. search needs)
+    (λ sending-requires κs. search needs)
     send-requires
-    permissions-of-requires
+    (λ permissions-of-requires κs. search needs)
     exercise-requires
     other-requires
     returns

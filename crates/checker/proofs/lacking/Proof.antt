@@ -20,9 +20,6 @@ mul-w c = let s = c .before .before .before .before in let a = s .args in omega 
 shared-slice-read-w : tie.Need-shared-slice-read-w
 shared-slice-read-w c = let s = c .before .before .before .before .before in let a = s .args in omega (arith, in-words (a .words .now) (a .links .now) (a .masks .now) (a .l) (s .pre .0) (a .est .now) (s .pre .1) (a .p) (s .pre .2))
 
-kind-of-requires : tie.Need-kind-of-requires
-kind-of-requires c κs = search needs
-
 returns : tie.Need-returns
 returns c =
     let s = c .before .before .before .before .before .before .before in let a = s .args in
@@ -37,21 +34,6 @@ returns-2 c =
     let s = c .before .before .before .before .before .before .before .before .before in let a = s .args in
     first-idle (a .words .now) (a .links .now) (a .masks .now) (a .l) (s .pre .0) (sets (code (a .words .now)) (a .est .now)) (a .p) _ _ (same-node (a .words .now) (a .links .now) (a .masks .now) (a .l) (s .pre .0) (a .est .now) (s .pre .1) (a .p) (s .pre .2) _ (item-by (a .words .now) (a .p) 35 (sym (c .before .before .before .kind-of .ensures) ∙ c .before .before .if1 .left)) _ refl _ refl)
     (sym (c .before .is-live .ensures (code (a .words .now)) (s .pre .0 .laid)) ∙ negated-true (c .if2 .taken)) (a .below)
-
-add-end : tie.Need-add-end
-add-end c = search needs
-
-end-requires : tie.Need-end-requires
-end-requires c κs = search needs
-
-argument-of-requires : tie.Need-argument-of-requires
-argument-of-requires c κs = search needs
-
-sending-requires : tie.Need-sending-requires
-sending-requires c κs = search needs
-
-link-at-requires : tie.Need-link-at-requires
-link-at-requires c κs = search needs
 
 unaware-of-requires : tie.Need-unaware-of-requires
 unfolding byKind termsByKind termNode
@@ -78,14 +60,14 @@ lacking-spec =
     (tie.spec
     mul-w
     shared-slice-read-w
-    kind-of-requires
+    (λ kind-of-requires κs. search needs)
     returns
     is-live-requires
     returns-2
-    add-end
-    end-requires
-    argument-of-requires
-    sending-requires
-    link-at-requires
+    (λ add-end. search needs)
+    (λ end-requires κs. search needs)
+    (λ argument-of-requires κs. search needs)
+    (λ sending-requires κs. search needs)
+    (λ link-at-requires κs. search needs)
     unaware-of-requires
     returns-3)

@@ -15,34 +15,36 @@ mul-kind-of c = omega (arith, in-table (c .before .args .words .now) (c .before 
 shared-slice-read-kind-of : tie.Need-shared-slice-read-kind-of
 shared-slice-read-kind-of c = omega (arith, in-table (c .before .before .args .words .now) (c .before .before .args .l) (c .before .before .pre .0) (c .before .before .args .p) (c .before .before .pre .1) .1)
 
-kind-of-requires : tie.Need-kind-of-requires
-kind-of-requires c κs = search needs
-
 returns : tie.Need-returns
-returns c = shut (c .before .before .before .before .args .words .now) (c .before .before .before .before .pre .0 .readable) (c .before .before .before .before .args .p) (in-table (c .before .before .before .before .args .words .now) (c .before .before .before .before .args .l) (c .before .before .before .before .pre .0) (c .before .before .before .before .args .p) (c .before .before .before .before .pre .1) .0) (c .before .before .before .before .args .rho .bits) (λ z. c .if1 .taken (c .before .kind-of .ensures ∙ z))
+returns c =
+    let s = c .before .before .before .before in
+    let a = s .args in
+    shut (a .words .now) (s .pre .0 .readable) (a .p) (in-table (a .words .now) (a .l) (s .pre .0) (a .p) (s .pre .1) .0) (a .rho .bits) (λ z. c .if1 .taken (c .before .kind-of .ensures ∙ z))
 
 add-argument-of : tie.Need-add-argument-of
-add-argument-of c = omega (arith, in-table (c .before .before .before .before .args .words .now) (c .before .before .before .before .args .l) (c .before .before .before .before .pre .0) (c .before .before .before .before .args .p) (c .before .before .before .before .pre .1) .1, table-short (c .before .before .before .before .args .words .now) (c .before .before .before .before .args .l) (c .before .before .before .before .pre .0))
+add-argument-of c =
+    let s = c .before .before .before .before in
+    let a = s .args in
+    omega (arith, in-table (a .words .now) (a .l) (s .pre .0) (a .p) (s .pre .1) .1, table-short (a .words .now) (a .l) (s .pre .0))
 
 mul-argument-of : tie.Need-mul-argument-of
-mul-argument-of c = omega (arith, in-table (c .before .before .before .before .args .words .now) (c .before .before .before .before .args .l) (c .before .before .before .before .pre .0) (c .before .before .before .before .args .p) (c .before .before .before .before .pre .1) .1, table-short (c .before .before .before .before .args .words .now) (c .before .before .before .before .args .l) (c .before .before .before .before .pre .0))
+mul-argument-of c =
+    let s = c .before .before .before .before in
+    let a = s .args in
+    omega (arith, in-table (a .words .now) (a .l) (s .pre .0) (a .p) (s .pre .1) .1, table-short (a .words .now) (a .l) (s .pre .0))
 
 shared-slice-read-argument-of : tie.Need-shared-slice-read-argument-of
-shared-slice-read-argument-of c = omega (arith, body-in (c .before .before .before .before .before .args .words .now) (c .before .before .before .before .before .pre .0 .readable) (c .before .before .before .before .before .args .p) (in-table (c .before .before .before .before .before .args .words .now) (c .before .before .before .before .before .args .l) (c .before .before .before .before .before .pre .0) (c .before .before .before .before .before .args .p) (c .before .before .before .before .before .pre .1) .0) (sym (c .before .before .kind-of .ensures) ∙ c .before .if1 .left), in-table (c .before .before .before .before .before .args .words .now) (c .before .before .before .before .before .args .l) (c .before .before .before .before .before .pre .0) (c .before .before .before .before .before .args .p) (c .before .before .before .before .before .pre .1) .2)
-
-argument-of-requires : tie.Need-argument-of-requires
-argument-of-requires c κs = search needs
-
-of-requires : tie.Need-of-requires
-of-requires c κs = search needs
-
-within-requires : tie.Need-within-requires
-within-requires c κs = search needs
+shared-slice-read-argument-of c =
+    let s = c .before .before .before .before .before in
+    let a = s .args in
+    omega (arith, body-in (a .words .now) (s .pre .0 .readable) (a .p) (in-table (a .words .now) (a .l) (s .pre .0) (a .p) (s .pre .1) .0) (sym (c .before .before .kind-of .ensures) ∙ c .before .if1 .left), in-table (a .words .now) (a .l) (s .pre .0) (a .p) (s .pre .1) .2)
 
 returns-2 : tie.Need-returns-2
 returns-2 c =
-    c .within .ensures ∙ ap (λ (x : PermSet). within (x .bits) (c .before .before .before .before .before .before .before .before .args .rho .bits)) (c .before .of .ensures) ∙ ap (λ (x : ℕ). within x (c .before .before .before .before .before .before .before .before .args .rho .bits)) (c .before .before .argument-of .ensures)
-    ∙ sym (guard-is (c .before .before .before .before .before .before .before .before .args .words .now) (c .before .before .before .before .before .before .before .before .pre .0 .readable) (c .before .before .before .before .before .before .before .before .args .p) (in-table (c .before .before .before .before .before .before .before .before .args .words .now) (c .before .before .before .before .before .before .before .before .args .l) (c .before .before .before .before .before .before .before .before .pre .0) (c .before .before .before .before .before .before .before .before .args .p) (c .before .before .before .before .before .before .before .before .pre .1) .0) (sym (c .before .before .before .before .before .kind-of .ensures) ∙ c .before .before .before .before .if1 .left) (c .before .before .before .before .before .before .before .before .args .rho .bits))
+    let s = c .before .before .before .before .before .before .before .before in
+    let a = s .args in
+    c .within .ensures ∙ ap (λ (x : PermSet). within (x .bits) (a .rho .bits)) (c .before .of .ensures) ∙ ap (λ (x : ℕ). within x (a .rho .bits)) (c .before .before .argument-of .ensures)
+    ∙ sym (guard-is (a .words .now) (s .pre .0 .readable) (a .p) (in-table (a .words .now) (a .l) (s .pre .0) (a .p) (s .pre .1) .0) (sym (c .before .before .before .before .before .kind-of .ensures) ∙ c .before .before .before .before .if1 .left) (a .rho .bits))
 
 pub opens-spec : {M : Type 1} → statement M
 opens-spec =
@@ -50,12 +52,12 @@ opens-spec =
     (tie.spec
     mul-kind-of
     shared-slice-read-kind-of
-    kind-of-requires
+    (λ kind-of-requires κs. search needs)
     returns
     add-argument-of
     mul-argument-of
     shared-slice-read-argument-of
-    argument-of-requires
-    of-requires
-    within-requires
+    (λ argument-of-requires κs. search needs)
+    (λ of-requires κs. search needs)
+    (λ within-requires κs. search needs)
     returns-2)

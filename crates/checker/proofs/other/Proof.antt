@@ -9,19 +9,10 @@ use Rattle.checker.proofs.other.Tie as tie
 returns : tie.Need-returns
 returns c = record { low = λ h k. nothing-asked _; high = λ h. absurd (omega (arith, c .if1 .taken)) }
 
-mul-in-value : tie.Need-mul-in-value
-mul-in-value c = search needs
-
-add-in-value : tie.Need-add-in-value
-add-in-value c = search needs
-
-in-value-requires : tie.Need-in-value-requires
-in-value-requires c κs = search needs
-
 returns-2 : tie.Need-returns-2
 returns-2 c =
     let a = c .before .before .before .before .args in
     record { low = λ h. absurd (omega (arith, c .before .before .if1 .left)); high = λ h k o. own-is k (a .l) o (a .est .now) (a .p) (c .in-value .ensures k o) }
 
 pub other-spec : {M : Type 1} → statement M
-other-spec = tie.close (tie.spec returns mul-in-value add-in-value in-value-requires returns-2)
+other-spec = tie.close (tie.spec returns (λ mul-in-value. search needs) (λ add-in-value. search needs) (λ in-value-requires κs. search needs) returns-2)

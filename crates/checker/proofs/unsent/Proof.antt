@@ -26,12 +26,6 @@ lacking-requires c κs =
     let s = c .before .before .before .before .before .before .before in let a = s .args in let k = code (a .words .now) in let j = linked (a .words .now) (s .pre .0 .readable) in let e = sets k (a .est .now) in
     (s .pre .0, s .pre .1, c .if1 .taken, omega (arith, c .before .before .loop .inv .1 .most, s .pre .0 .laid .size))
 
-add-p : tie.Need-add-p Inv-loop μ-loop
-add-p c = search needs
-
-loop-less : tie.Need-loop-less Inv-loop μ-loop
-loop-less c = search needs
-
 loop-again : tie.Need-loop-again Inv-loop μ-loop
 loop-again c =
     let s = c .before .before .before .before .before .before .before .before in let a = s .args in let k = code (a .words .now) in let j = linked (a .words .now) (s .pre .0 .readable) in let e = sets k (a .est .now) in let i = c .before .before .before .loop in
@@ -45,4 +39,4 @@ returns c =
 pub unsent-spec : {M : Type 1} → statement M
 unsent-spec =
     tie.close
-    (tie.spec Inv-loop μ-loop loop-holds lacking-requires add-p loop-less loop-again returns)
+    (tie.spec Inv-loop μ-loop loop-holds lacking-requires (λ add-p. search needs) (λ loop-less. search needs) loop-again returns)

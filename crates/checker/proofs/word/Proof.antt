@@ -22,9 +22,6 @@ returns-2 c =
     let s = c .before .before .before .before .before .before .before .before in let a = s .args in
     and-rest _ (answered-yes _ (c .before .before .if1 .left) (c .before .before .before .entry .ensures)) (given-not _ (L (a .p)) 0 (sym (c .before .is-live .ensures (code (a .words .now)) (s .pre .0 .laid)) ∙ negated-true (c .if2 .taken)))
 
-flow-requires : tie.Need-flow-requires
-flow-requires c κs = search needs
-
 returns-3 : tie.Need-returns-3
 returns-3 c =
     let s = c .before .before .before .before .before .before .before .before .before in let a = s .args in
@@ -32,4 +29,4 @@ returns-3 c =
 
 pub word-spec : {M : Type 1} → statement M
 word-spec =
-    tie.close (tie.spec entry-requires returns is-live-requires returns-2 flow-requires returns-3)
+    tie.close (tie.spec entry-requires returns is-live-requires returns-2 (λ flow-requires κs. search needs) returns-3)

@@ -8,18 +8,6 @@ use borrow.Author.Needs.{needs}
 use Rattle.commands.proofs.block_text.Statement.{statement}
 use Rattle.commands.proofs.block_text.Tie as tie
 
-value-of-requires : tie.Need-value-of-requires
-value-of-requires c κs = search needs
-
-value-of-requires-2 : tie.Need-value-of-requires-2
-value-of-requires-2 c κs = search needs
-
-key-text-requires : tie.Need-key-text-requires
-key-text-requires c κs = search needs
-
-same-length : tie.Need-same-length
-same-length c = search needs
-
 returns : tie.Need-returns
 returns c =
     let s = c .before .before .before .before .before .before .before .before .before .before in
@@ -29,8 +17,8 @@ pub block-text-spec : {M : Type 1} → statement M
 block-text-spec =
     tie.close
     (tie.spec
-    value-of-requires
-    value-of-requires-2
-    key-text-requires
-    same-length
+    (λ value-of-requires κs. search needs)
+    (λ value-of-requires-2 κs. search needs)
+    (λ key-text-requires κs. search needs)
+    (λ same-length. search needs)
     returns)

@@ -7,30 +7,9 @@ use borrow.Author.Needs.{needs}
 use Rattle.commands.proofs.explain_text.Statement.{statement}
 use Rattle.commands.proofs.explain_text.Tie as tie
 
-value-of-requires : tie.Need-value-of-requires
-value-of-requires c κs = search needs
-
-enum-known-n : tie.Need-enum-known-n
-enum-known-n c = search needs
-
-sentence-requires : tie.Need-sentence-requires
-sentence-requires c κs = search needs
-
-enum-told : tie.Need-enum-told
-enum-told c = search needs
-
-help-requires : tie.Need-help-requires
-help-requires c κs = search needs
-
-same-length : tie.Need-same-length
-same-length c = search needs
-
 returns : tie.Need-returns
 unfolding valueText
 returns c = reworded (ap valueText (sym (c .before .before .before .before .before .n .given .1) ∙ c .before .before .before .before .before .before .before .value-of .ensures)) (c .before .before .sentence .ensures)
-
-same-length-2 : tie.Need-same-length-2
-same-length-2 c = search needs
 
 returns-2 : tie.Need-returns-2
 unfolding valueText
@@ -40,12 +19,12 @@ pub explain-text-spec : {M : Type 1} → statement M
 explain-text-spec =
     tie.close
     (tie.spec
-    value-of-requires
-    enum-known-n
-    sentence-requires
-    enum-told
-    help-requires
-    same-length
+    (λ value-of-requires κs. search needs)
+    (λ enum-known-n. search needs)
+    (λ sentence-requires κs. search needs)
+    (λ enum-told. search needs)
+    (λ help-requires κs. search needs)
+    (λ same-length. search needs)
     returns
-    same-length-2
+    (λ same-length-2. search needs)
     returns-2)

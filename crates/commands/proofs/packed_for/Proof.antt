@@ -7,29 +7,11 @@ use borrow.Author.Needs.{needs}
 use Rattle.commands.proofs.packed_for.Statement.{statement}
 use Rattle.commands.proofs.packed_for.Tie as tie
 
-enum-known-rho : tie.Need-enum-known-rho
-enum-known-rho c = search needs
-
-pack-text-requires : tie.Need-pack-text-requires
-pack-text-requires c κs = search needs
-
-enum-told : tie.Need-enum-told
-enum-told c = search needs
-
-help-requires : tie.Need-help-requires
-help-requires c κs = search needs
-
-same-length : tie.Need-same-length
-same-length c = search needs
-
 returns : tie.Need-returns
 unfolding packedFor
 returns c =
     let a = c .before .before .before .before .before .before .before .before .before .args in
     reworded (sym (ap (λ (v : Value). packedFor v (a .input .now)) (c .before .before .before .before .before .rho .given .1))) (c .before .before .pack-text .ensures)
-
-same-length-2 : tie.Need-same-length-2
-same-length-2 c = search needs
 
 returns-2 : tie.Need-returns-2
 unfolding packedFor
@@ -41,11 +23,11 @@ pub packed-for-spec : {M : Type 1} → statement M
 packed-for-spec =
     tie.close
     (tie.spec
-    enum-known-rho
-    pack-text-requires
-    enum-told
-    help-requires
-    same-length
+    (λ enum-known-rho. search needs)
+    (λ pack-text-requires κs. search needs)
+    (λ enum-told. search needs)
+    (λ help-requires κs. search needs)
+    (λ same-length. search needs)
     returns
-    same-length-2
+    (λ same-length-2. search needs)
     returns-2)

@@ -11,17 +11,8 @@ use Rattle.commands.proofs.run.Tie as tie
 returns : tie.Need-returns
 returns c = let s = c .before .before .before .before .before .before in let r = run-short (printed (s .args .command .now) (s .args .first .now) (s .args .second .now) (s .args .input .now)) (length (s .args .input .now)) (s .args .out .now) (omega arith) in (r .0, (r .1, r .2))
 
-sub-if2 : tie.Need-sub-if2
-sub-if2 c = search needs
-
 returns-2 : tie.Need-returns-2
 returns-2 c = let s = c .before .before .before .before .before .before .before in let r = run-short (printed (s .args .command .now) (s .args .first .now) (s .args .second .now) (s .args .input .now)) (length (s .args .input .now)) (s .args .out .now) (omega arith) in (r .0, (r .1, r .2))
-
-print-requires : tie.Need-print-requires
-print-requires c κs = search needs
-
-same-length : tie.Need-same-length
-same-length c = search needs
 
 returns-3 : tie.Need-returns-3
 returns-3 c = let s = c .before .before .before .before .before .before .before .before .before .before .before in let r = run-written (printed (s .args .command .now) (s .args .first .now) (s .args .second .now) (s .args .input .now)) (length (s .args .input .now)) (s .args .out .now) (omega arith) _ _ (c .before .before .print .ensures) in (r .0, (r .1, r .2))
@@ -31,8 +22,8 @@ run-spec =
     tie.close
     (tie.spec
     returns
-    sub-if2
+    (λ sub-if2. search needs)
     returns-2
-    print-requires
-    same-length
+    (λ print-requires κs. search needs)
+    (λ same-length. search needs)
     returns-3)

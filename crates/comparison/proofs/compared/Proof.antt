@@ -11,18 +11,9 @@ use Rattle.comparison.proofs.Bounds.{within-bound, over-bound}
 use Rattle.comparison.proofs.compared.Statement.{statement}
 use Rattle.comparison.proofs.compared.Tie as tie
 
-within-requires : tie.Need-within-requires
-within-requires c κs = search needs
-
 returns : tie.Need-returns
 unfolding answerOf
 returns c = within-bound _ _ _ (sym (c .before .within .ensures) ∙ c .if1 .taken)
-
-difference-requires : tie.Need-difference-requires
-difference-requires c κs = search needs
-
-lowest-requires : tie.Need-lowest-requires
-lowest-requires c κs = search needs
 
 returns-2 : tie.Need-returns-2
 unfolding answerOf
@@ -33,4 +24,4 @@ returns-2 c =
     ∙ over-bound _ _ _ (sym (c .before .before .before .within .ensures) ∙ c .before .before .if1 .left)
 
 pub compared-spec : {M : Type 1} → statement M
-compared-spec = tie.close (tie.spec within-requires returns difference-requires lowest-requires returns-2)
+compared-spec = tie.close (tie.spec (λ within-requires κs. search needs) returns (λ difference-requires κs. search needs) (λ lowest-requires κs. search needs) returns-2)

@@ -4,33 +4,6 @@ use borrow.Author.Needs.{needs}
 use Rattle.deliveries.proofs.answer.Statement.{statement}
 use Rattle.deliveries.proofs.answer.Tie as tie
 
-handler-at-requires : tie.Need-handler-at-requires
-handler-at-requires c κs = search needs
-
-handler-at-requires-2 : tie.Need-handler-at-requires-2
-handler-at-requires-2 c κs = search needs
-
-word-at-requires : tie.Need-word-at-requires
-word-at-requires c κs = search needs
-
-argument-of-requires : tie.Need-argument-of-requires
-argument-of-requires c κs = search needs
-
-of-requires : tie.Need-of-requires
-of-requires c κs = search needs
-
-add-word-at : tie.Need-add-word-at
-add-word-at c = search needs
-
-word-at-requires-2 : tie.Need-word-at-requires-2
-word-at-requires-2 c κs = search needs
-
-name-for-requires : tie.Need-name-for-requires
-name-for-requires c κs = search needs
-
-judge-requires : tie.Need-judge-requires
-judge-requires c κs = search needs
-
 returns : tie.Need-returns
 returns c =
     let a = c .before .before .before .before .before .before .before .before .before .before .args in
@@ -41,13 +14,13 @@ pub answer-spec : {M : Type 1} → statement M
 answer-spec =
     tie.close
     (tie.spec
-    handler-at-requires
-    handler-at-requires-2
-    word-at-requires
-    argument-of-requires
-    of-requires
-    add-word-at
-    word-at-requires-2
-    name-for-requires
-    judge-requires
+    (λ handler-at-requires κs. search needs)
+    (λ handler-at-requires-2 κs. search needs)
+    (λ word-at-requires κs. search needs)
+    (λ argument-of-requires κs. search needs)
+    (λ of-requires κs. search needs)
+    (λ add-word-at. search needs)
+    (λ word-at-requires-2 κs. search needs)
+    (λ name-for-requires κs. search needs)
+    (λ judge-requires κs. search needs)
     returns)

@@ -5,12 +5,6 @@ use borrow.Author.Needs.{needs}
 use Rattle.deliveries.proofs.counted.Statement.{statement}
 use Rattle.deliveries.proofs.counted.Tie as tie
 
-kind-of-requires : tie.Need-kind-of-requires
-kind-of-requires c κs = search needs
-
-add-result : tie.Need-add-result
-add-result c = search needs
-
 returns : tie.Need-returns
 returns c = sym (counted-block _ _ (sym (c .before .kind-of .ensures) ∙ c .if1 .taken))
 
@@ -18,4 +12,4 @@ returns-2 : tie.Need-returns-2
 returns-2 c = sym (counted-none _ _ (λ z. c .if1 .left (c .before .kind-of .ensures ∙ z)))
 
 pub counted-spec : {M : Type 1} → statement M
-counted-spec = tie.close (tie.spec kind-of-requires add-result returns returns-2)
+counted-spec = tie.close (tie.spec (λ kind-of-requires κs. search needs) (λ add-result. search needs) returns returns-2)

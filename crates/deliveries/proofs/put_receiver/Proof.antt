@@ -8,24 +8,6 @@ use borrow.Author.Needs.{needs}
 use Rattle.deliveries.proofs.put_receiver.Statement.{statement}
 use Rattle.deliveries.proofs.put_receiver.Tie as tie
 
-mul-kind-of : tie.Need-mul-kind-of
-mul-kind-of c = search needs
-
-shared-slice-read-kind-of : tie.Need-shared-slice-read-kind-of
-shared-slice-read-kind-of c = search needs
-
-kind-of-requires : tie.Need-kind-of-requires
-kind-of-requires c κs = search needs
-
-answer-requires : tie.Need-answer-requires
-answer-requires c κs = search needs
-
-add-line-requires : tie.Need-add-line-requires
-add-line-requires c κs = search needs
-
-same-length : tie.Need-same-length
-same-length c = search needs
-
 returns : tie.Need-returns
 returns c =
     let a = c .before .before .before .before .before .before .before .before .before .before .args in let r = c .before .before .add-line .ensures in
@@ -40,11 +22,11 @@ pub put-receiver-spec : {M : Type 1} → statement M
 put-receiver-spec =
     tie.close
     (tie.spec
-    mul-kind-of
-    shared-slice-read-kind-of
-    kind-of-requires
-    answer-requires
-    add-line-requires
-    same-length
+    (λ mul-kind-of. search needs)
+    (λ shared-slice-read-kind-of. search needs)
+    (λ kind-of-requires κs. search needs)
+    (λ answer-requires κs. search needs)
+    (λ add-line-requires κs. search needs)
+    (λ same-length. search needs)
     returns
     returns-2)

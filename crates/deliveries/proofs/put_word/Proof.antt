@@ -7,21 +7,6 @@ use borrow.Author.Needs.{needs}
 use Rattle.deliveries.proofs.put_word.Statement.{statement}
 use Rattle.deliveries.proofs.put_word.Tie as tie
 
-mul-kind-of : tie.Need-mul-kind-of
-mul-kind-of c = search needs
-
-shared-slice-read-kind-of : tie.Need-shared-slice-read-kind-of
-shared-slice-read-kind-of c = search needs
-
-kind-of-requires : tie.Need-kind-of-requires
-kind-of-requires c κs = search needs
-
-put-receivers-requires : tie.Need-put-receivers-requires
-put-receivers-requires c κs = search needs
-
-same-length : tie.Need-same-length
-same-length c = search needs
-
 returns : tie.Need-returns
 returns c =
     let s = c .before .before .before .before .before .before .before .before .before in let a = s .args in let r = c .before .before .put-receivers .ensures in
@@ -36,10 +21,10 @@ pub put-word-spec : {M : Type 1} → statement M
 put-word-spec =
     tie.close
     (tie.spec
-    mul-kind-of
-    shared-slice-read-kind-of
-    kind-of-requires
-    put-receivers-requires
-    same-length
+    (λ mul-kind-of. search needs)
+    (λ shared-slice-read-kind-of. search needs)
+    (λ kind-of-requires κs. search needs)
+    (λ put-receivers-requires κs. search needs)
+    (λ same-length. search needs)
     returns
     returns-2)

@@ -25,35 +25,11 @@ loop-holds : tie.Need-loop-holds Inv-loop μ-loop
 unfolding text
 loop-holds c = (omega arith, omega arith, omega arith, omega arith, ([], added-nothing _ _, refl))
 
-last-requires : tie.Need-last-requires Inv-loop μ-loop
-last-requires c κs = search needs
-
 put-word-requires : tie.Need-put-word-requires Inv-loop μ-loop
 put-word-requires c κs = let s = c .before .before .before .before .before .before in let i = c .before .before .before .loop in (omega arith, omega (arith, i .inv .2), s .pre, omega (arith, i .inv .1, s .pre))
 
-mul-block-of : tie.Need-mul-block-of Inv-loop μ-loop
-mul-block-of c = search needs
-
-shared-slice-read-block-of : tie.Need-shared-slice-read-block-of Inv-loop μ-loop
-shared-slice-read-block-of c = search needs
-
-block-of-requires : tie.Need-block-of-requires Inv-loop μ-loop
-block-of-requires c κs = search needs
-
-mul-counted : tie.Need-mul-counted Inv-loop μ-loop
-mul-counted c = search needs
-
-shared-slice-read-counted : tie.Need-shared-slice-read-counted Inv-loop μ-loop
-shared-slice-read-counted c = search needs
-
 counted-requires : tie.Need-counted-requires Inv-loop μ-loop
 counted-requires c κs = let s = c .before .before .before .before .before .before .before .before .before .before .before .before in omega (arith, c .before .before .before .before .before .before .before .before .before .loop .inv .3, s .pre)
-
-add-p : tie.Need-add-p Inv-loop μ-loop
-add-p c = search needs
-
-loop-less : tie.Need-loop-less Inv-loop μ-loop
-loop-less c = search needs
 
 loop-again : tie.Need-loop-again Inv-loop μ-loop
 loop-again c =
@@ -90,16 +66,16 @@ put-words-spec =
     Inv-loop
     μ-loop
     loop-holds
-    last-requires
+    (λ last-requires κs. search needs)
     put-word-requires
-    mul-block-of
-    shared-slice-read-block-of
-    block-of-requires
-    mul-counted
-    shared-slice-read-counted
+    (λ mul-block-of. search needs)
+    (λ shared-slice-read-block-of. search needs)
+    (λ block-of-requires κs. search needs)
+    (λ mul-counted. search needs)
+    (λ shared-slice-read-counted. search needs)
     counted-requires
-    add-p
-    loop-less
+    (λ add-p. search needs)
+    (λ loop-less. search needs)
     loop-again
     same-length
     returns)

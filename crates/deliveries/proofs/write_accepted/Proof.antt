@@ -14,17 +14,8 @@ use borrow.Author.Needs.{needs}
 use Rattle.deliveries.proofs.write_accepted.Statement.{statement}
 use Rattle.deliveries.proofs.write_accepted.Tie as tie
 
-slice-relend-prefix-put-words : tie.Need-slice-relend-prefix-put-words
-slice-relend-prefix-put-words c = search needs
-
-slice-aggregate-put-words : tie.Need-slice-aggregate-put-words
-slice-aggregate-put-words c = search needs
-
 put-words-requires : tie.Need-put-words-requires
 put-words-requires c κs = let s = c .before .before .before in size-le (s .args .words .now) (s .pre)
-
-same-length : tie.Need-same-length
-same-length c = search needs
 
 returns : tie.Need-returns
 unfolding answered number place written
@@ -37,9 +28,6 @@ returns c =
 put-words-requires-2 : tie.Need-put-words-requires-2
 put-words-requires-2 c κs = let s = c .before .before .before .before .before .before .before .before in size-le (s .args .words .now) (s .pre)
 
-same-length-2 : tie.Need-same-length-2
-same-length-2 c = search needs
-
 returns-2 : tie.Need-returns-2
 unfolding answered written
 returns-2 c =
@@ -51,11 +39,11 @@ pub write-accepted-spec : {M : Type 1} → statement M
 write-accepted-spec =
     tie.close
     (tie.spec
-    slice-relend-prefix-put-words
-    slice-aggregate-put-words
+    (λ slice-relend-prefix-put-words. search needs)
+    (λ slice-aggregate-put-words. search needs)
     put-words-requires
-    same-length
+    (λ same-length. search needs)
     returns
     put-words-requires-2
-    same-length-2
+    (λ same-length-2. search needs)
     returns-2)

@@ -11,23 +11,11 @@ use Rattle.delivery.proofs.judge.Tie as tie
 returns : tie.Need-returns
 returns c = let a = c .before .before .before .before .args in sym (other-name _ _ _ (a .receiver) (ne-eqb _ _ (c .if1 .taken)))
 
-within-requires : tie.Need-within-requires
-within-requires c κs = search needs
-
-difference-requires : tie.Need-difference-requires
-difference-requires c κs = search needs
-
 returns-2 : tie.Need-returns-2
 returns-2 c =
     let a = c .before .before .before .before .before .before .before .args in
     ap deliveries.ReceiverLacks (c .difference .ensures)
     ∙ sym (receiver-lacks (a .name) (a .required .bits) (a .sender .bits) (a .receiver) (eq-eqb _ _ (c .before .before .before .if1 .left)) (sym (c .before .before .within .ensures) ∙ not-true _ (c .before .if2 .taken)))
-
-within-requires-2 : tie.Need-within-requires-2
-within-requires-2 c κs = search needs
-
-difference-requires-2 : tie.Need-difference-requires-2
-difference-requires-2 c κs = search needs
 
 returns-3 : tie.Need-returns-3
 returns-3 c =
@@ -45,10 +33,10 @@ judge-spec =
     tie.close
     (tie.spec
     returns
-    within-requires
-    difference-requires
+    (λ within-requires κs. search needs)
+    (λ difference-requires κs. search needs)
     returns-2
-    within-requires-2
-    difference-requires-2
+    (λ within-requires-2 κs. search needs)
+    (λ difference-requires-2 κs. search needs)
     returns-3
     returns-4)

@@ -15,11 +15,5 @@ below k {a} {b} ha hb =
 mul-result : tie.Need-mul-result
 mul-result c = record { fits = below 32 (search needs) (search needs) }
 
-cast-result : tie.Need-cast-result
-cast-result c = search needs
-
-returns : tie.Need-returns
-returns c = search needs
-
 pub wrapping-mul-spec : {M : Type 1} → statement M
-wrapping-mul-spec = tie.close (tie.spec mul-result cast-result returns)
+wrapping-mul-spec = tie.close (tie.spec mul-result (λ cast-result. search needs) (λ returns. search needs))

@@ -6,16 +6,10 @@ use Rattle.graph.proofs.Answers.{short, a-below, ordered, start-inside,
 use Rattle.graph.proofs.arrange.Statement.{statement}
 use Rattle.graph.proofs.arrange.Tie as tie
 
-places-requires : tie.Need-places-requires
-places-requires c κs = search needs
-
 returns : tie.Need-returns
 returns c =
     let a = c .before .before .before .before .args in
     short (a .rows .now) (a .live) (c .before .places .result) _ _ (a .positions .now) (c .before .places .ensures) refl refl (c .if1 .taken)
-
-below-requires : tie.Need-below-requires
-below-requires c κs = search needs
 
 loop-length-requires : tie.Need-loop-length-requires
 loop-length-requires c κs =
@@ -25,12 +19,6 @@ loop-length-requires c κs =
       search needs,
       a-below (a .rows .now) (a .live) (p .result) (c .below .result) _ (a .positions .now) (p .ensures) (c .below .ensures) refl,
     )
-
-write-order-requires : tie.Need-write-order-requires
-write-order-requires c κs = search needs
-
-same-length : tie.Need-same-length
-same-length c = search needs
 
 returns-2 : tie.Need-returns-2
 returns-2 c =
@@ -67,9 +55,6 @@ write-loop-requires c κs =
       search needs,
     )
 
-same-length-2 : tie.Need-same-length-2
-same-length-2 c = search needs
-
 returns-3 : tie.Need-returns-3
 returns-3 c =
     let q = c .before .before .before .before .before .before in
@@ -84,14 +69,14 @@ pub arrange-spec : {M : Type 1} → statement M
 arrange-spec =
     tie.close
     (tie.spec
-    places-requires
+    (λ places-requires κs. search needs)
     returns
-    below-requires
+    (λ below-requires κs. search needs)
     loop-length-requires
-    write-order-requires
-    same-length
+    (λ write-order-requires κs. search needs)
+    (λ same-length. search needs)
     returns-2
     loop-start-requires
     write-loop-requires
-    same-length-2
+    (λ same-length-2. search needs)
     returns-3)

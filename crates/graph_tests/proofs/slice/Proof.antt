@@ -11,41 +11,17 @@ Inv-loop positions i₀ i = i ≤ length positions
 abbrev μ-loop : tie.MeasureT-loop
 μ-loop positions i₀ i = length positions - i
 
-loop-holds : tie.Need-loop-holds Inv-loop μ-loop
-loop-holds c = search needs
-
-mul-position : tie.Need-mul-position Inv-loop μ-loop
-mul-position c = search needs
-
-shared-slice-read-position : tie.Need-shared-slice-read-position Inv-loop μ-loop
-shared-slice-read-position c = search needs
-
-position-requires : tie.Need-position-requires Inv-loop μ-loop
-position-requires c κs = search needs
-
-add-i : tie.Need-add-i Inv-loop μ-loop
-add-i c = search needs
-
-loop-less : tie.Need-loop-less Inv-loop μ-loop
-loop-less c = search needs
-
-loop-again : tie.Need-loop-again Inv-loop μ-loop
-loop-again c = search needs
-
-returns : tie.Need-returns Inv-loop μ-loop
-returns c = search needs
-
 pub slice-spec : {M : Type 1} → statement M
 slice-spec =
     tie.close
     (tie.spec
     Inv-loop
     μ-loop
-    loop-holds
-    mul-position
-    shared-slice-read-position
-    position-requires
-    add-i
-    loop-less
-    loop-again
-    returns)
+    (λ loop-holds. search needs)
+    (λ mul-position. search needs)
+    (λ shared-slice-read-position. search needs)
+    (λ position-requires κs. search needs)
+    (λ add-i. search needs)
+    (λ loop-less. search needs)
+    (λ loop-again. search needs)
+    (λ returns. search needs))

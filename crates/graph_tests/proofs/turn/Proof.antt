@@ -12,61 +12,22 @@ Inv-loop rows₀ by n t₀ rows t = (n ≡ length rows₀) × (length rows ≡ l
 abbrev μ-loop : tie.MeasureT-loop
 μ-loop rows₀ by n t₀ rows t = n - t
 
-loop-holds : tie.Need-loop-holds Inv-loop μ-loop
-loop-holds c = search needs
-
-add-rows : tie.Need-add-rows Inv-loop μ-loop
-add-rows c = search needs
-
-rem-rows : tie.Need-rem-rows Inv-loop μ-loop
-rem-rows c = search needs
-
-cast-rows : tie.Need-cast-rows Inv-loop μ-loop
-cast-rows c = search needs
-
-cast-rows-2 : tie.Need-cast-rows-2 Inv-loop μ-loop
-cast-rows-2 c = search needs
-
-shl-rows : tie.Need-shl-rows Inv-loop μ-loop
-shl-rows c = search needs
-
-mul-rows : tie.Need-mul-rows Inv-loop μ-loop
-mul-rows c = search needs
-
-slice-write-rows : tie.Need-slice-write-rows Inv-loop μ-loop
-slice-write-rows c = search needs
-
-add-t : tie.Need-add-t Inv-loop μ-loop
-add-t c = search needs
-
-loop-less : tie.Need-loop-less Inv-loop μ-loop
-loop-less c = search needs
-
-loop-again : tie.Need-loop-again Inv-loop μ-loop
-loop-again c = search needs
-
-same-length : tie.Need-same-length Inv-loop μ-loop
-same-length c = search needs
-
-returns : tie.Need-returns Inv-loop μ-loop
-returns c = search needs
-
 pub turn-spec : {M : Type 1} → statement M
 turn-spec =
     tie.close
     (tie.spec
     Inv-loop
     μ-loop
-    loop-holds
-    add-rows
-    rem-rows
-    cast-rows
-    cast-rows-2
-    shl-rows
-    mul-rows
-    slice-write-rows
-    add-t
-    loop-less
-    loop-again
-    same-length
-    returns)
+    (λ loop-holds. search needs)
+    (λ add-rows. search needs)
+    (λ rem-rows. search needs)
+    (λ cast-rows. search needs)
+    (λ cast-rows-2. search needs)
+    (λ shl-rows. search needs)
+    (λ mul-rows. search needs)
+    (λ slice-write-rows. search needs)
+    (λ add-t. search needs)
+    (λ loop-less. search needs)
+    (λ loop-again. search needs)
+    (λ same-length. search needs)
+    (λ returns. search needs))

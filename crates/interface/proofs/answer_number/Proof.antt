@@ -13,26 +13,8 @@ use Rattle.interface.proofs.answer_number.Tie as tie
 abbrev number : Verdict → ℕ
 number v = answerNumber (answerOf v)
 
-enum-known-v : tie.Need-enum-known-v
-enum-known-v c = search needs
-
 fault-answer-requires : tie.Need-fault-answer-requires
 fault-answer-requires c κs = subst PlaceFits (c .before .v .given .1) (c .before .before .before .pre)
-
-enum-known-v-2 : tie.Need-enum-known-v-2
-enum-known-v-2 c = search needs
-
-cast-result : tie.Need-cast-result
-cast-result c = search needs
-
-enum-known-v-3 : tie.Need-enum-known-v-3
-enum-known-v-3 c = search needs
-
-cast-result-2 : tie.Need-cast-result-2
-cast-result-2 c = search needs
-
-add-result : tie.Need-add-result
-add-result c = search needs
 
 returns : tie.Need-returns
 unfolding answerNumber answerOf
@@ -50,13 +32,13 @@ pub answer-number-spec : {M : Type 1} → statement M
 answer-number-spec =
     tie.close
     (tie.spec
-    enum-known-v
+    (λ enum-known-v. search needs)
     fault-answer-requires
-    enum-known-v-2
-    cast-result
-    enum-known-v-3
-    cast-result-2
-    add-result
+    (λ enum-known-v-2. search needs)
+    (λ cast-result. search needs)
+    (λ enum-known-v-3. search needs)
+    (λ cast-result-2. search needs)
+    (λ add-result. search needs)
     returns
     returns-2
     returns-3)

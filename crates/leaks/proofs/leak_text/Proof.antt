@@ -8,21 +8,6 @@ use borrow.Author.Needs.{needs}
 use Rattle.leaks.proofs.leak_text.Statement.{statement}
 use Rattle.leaks.proofs.leak_text.Tie as tie
 
-value-of-requires : tie.Need-value-of-requires
-value-of-requires c κs = search needs
-
-value-or-requires : tie.Need-value-or-requires
-value-or-requires c κs = search needs
-
-value-or-requires-2 : tie.Need-value-or-requires-2
-value-or-requires-2 c κs = search needs
-
-values-text-requires : tie.Need-values-text-requires
-values-text-requires c κs = search needs
-
-same-length : tie.Need-same-length
-same-length c = search needs
-
 returns : tie.Need-returns
 returns c =
     let a = c .before .before .before .before .before .before .before .before .before .before .before .before .args in
@@ -36,9 +21,9 @@ pub leak-text-spec : {M : Type 1} → statement M
 leak-text-spec =
     tie.close
     (tie.spec
-    value-of-requires
-    value-or-requires
-    value-or-requires-2
-    values-text-requires
-    same-length
+    (λ value-of-requires κs. search needs)
+    (λ value-or-requires κs. search needs)
+    (λ value-or-requires-2 κs. search needs)
+    (λ values-text-requires κs. search needs)
+    (λ same-length. search needs)
     returns)

@@ -13,15 +13,6 @@ use borrow.Author.Needs.{needs}
 use Rattle.leaks.proofs.listing_leak.Statement.{statement}
 use Rattle.leaks.proofs.listing_leak.Tie as tie
 
-slice-aggregate-read : tie.Need-slice-aggregate-read
-slice-aggregate-read c = search needs
-
-read-requires : tie.Need-read-requires
-read-requires c κs = search needs
-
-enum-known-n : tie.Need-enum-known-n
-enum-known-n c = search needs
-
 array-share-prefix-words : tie.Need-array-share-prefix-words
 unfolding answered
 array-share-prefix-words c =
@@ -45,21 +36,6 @@ system-leak-requires c κs =
     let few = read-few (s .args .input .now) (n .0 .0) (sym (r .ensures .0) ∙ ap answered (n .1)) in
     (omega (arith, few, length-take (n .0 .0) (r .last .1 .0)), omega arith)
 
-enum-known-r : tie.Need-enum-known-r
-enum-known-r c = search needs
-
-refusal-number-requires : tie.Need-refusal-number-requires
-refusal-number-requires c κs = search needs
-
-refusal-place-requires : tie.Need-refusal-place-requires
-refusal-place-requires c κs = search needs
-
-refusal-line-requires : tie.Need-refusal-line-requires
-refusal-line-requires c κs = search needs
-
-same-length : tie.Need-same-length
-same-length c = search needs
-
 returns : tie.Need-returns
 unfolding answered
 returns c =
@@ -70,9 +46,6 @@ returns c =
     (ap (systemLeak (a .rho) (a .bound) (a .ceiling)) (read-words (a .input .now) (r .last .1 .0) (replicate 1024 0) _ e (r .ensures .1))
     ∙ leak-listed (a .rho) (a .bound) (a .ceiling) (a .input .now) _ e)
     (c .before .before .system-leak .ensures)
-
-same-length-2 : tie.Need-same-length-2
-same-length-2 c = search needs
 
 returns-2 : tie.Need-returns-2
 unfolding answered
@@ -86,17 +59,17 @@ pub listing-leak-spec : {M : Type 1} → statement M
 listing-leak-spec =
     tie.close
     (tie.spec
-    slice-aggregate-read
-    read-requires
-    enum-known-n
+    (λ slice-aggregate-read. search needs)
+    (λ read-requires κs. search needs)
+    (λ enum-known-n. search needs)
     array-share-prefix-words
     slice-aggregate-system-leak
     system-leak-requires
-    enum-known-r
-    refusal-number-requires
-    refusal-place-requires
-    refusal-line-requires
-    same-length
+    (λ enum-known-r. search needs)
+    (λ refusal-number-requires κs. search needs)
+    (λ refusal-place-requires κs. search needs)
+    (λ refusal-line-requires κs. search needs)
+    (λ same-length. search needs)
     returns
-    same-length-2
+    (λ same-length-2. search needs)
     returns-2)

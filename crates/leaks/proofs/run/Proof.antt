@@ -13,20 +13,11 @@ returns c =
     let r = run-short (leakText (a .rho .now) (a .bound .now) (a .ceiling .now) (a .input .now)) (length (a .input .now)) (a .out .now) (omega arith) in
     (r .0, (r .1, r .2))
 
-sub-if2 : tie.Need-sub-if2
-sub-if2 c = search needs
-
 returns-2 : tie.Need-returns-2
 returns-2 c =
     let a = c .before .before .before .before .before .before .before .args in
     let r = run-short (leakText (a .rho .now) (a .bound .now) (a .ceiling .now) (a .input .now)) (length (a .input .now)) (a .out .now) (omega arith) in
     (r .0, (r .1, r .2))
-
-leak-text-requires : tie.Need-leak-text-requires
-leak-text-requires c κs = search needs
-
-same-length : tie.Need-same-length
-same-length c = search needs
 
 returns-3 : tie.Need-returns-3
 returns-3 c =
@@ -35,4 +26,4 @@ returns-3 c =
     (r .0, (r .1, r .2))
 
 pub run-spec : {M : Type 1} → statement M
-run-spec = tie.close (tie.spec returns sub-if2 returns-2 leak-text-requires same-length returns-3)
+run-spec = tie.close (tie.spec returns (λ sub-if2. search needs) returns-2 (λ leak-text-requires κs. search needs) (λ same-length. search needs) returns-3)

@@ -12,25 +12,7 @@ Inv-loop words links p₀ p = p ≤ length words
 abbrev μ-loop : tie.MeasureT-loop
 μ-loop words links p₀ p = length words - p
 
-loop-holds : tie.Need-loop-holds Inv-loop μ-loop
-loop-holds c = search needs
-
-line-requires : tie.Need-line-requires Inv-loop μ-loop
-line-requires c κs = search needs
-
-add-p : tie.Need-add-p Inv-loop μ-loop
-add-p c = search needs
-
-loop-less : tie.Need-loop-less Inv-loop μ-loop
-loop-less c = search needs
-
-loop-again : tie.Need-loop-again Inv-loop μ-loop
-loop-again c = search needs
-
-returns : tie.Need-returns Inv-loop μ-loop
-returns c = search needs
-
 pub lines-spec : {M : Type 1} → statement M
 lines-spec =
     tie.close
-    (tie.spec Inv-loop μ-loop loop-holds line-requires add-p loop-less loop-again returns)
+    (tie.spec Inv-loop μ-loop (λ loop-holds. search needs) (λ line-requires κs. search needs) (λ add-p. search needs) (λ loop-less. search needs) (λ loop-again. search needs) (λ returns. search needs))

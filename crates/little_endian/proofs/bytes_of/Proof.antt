@@ -17,30 +17,9 @@ Inv-loop words bytes₀ n i₀ bytes i =
 abbrev μ-loop : tie.MeasureT-loop
 μ-loop words bytes₀ n i₀ bytes i = n - i
 
-least-requires : tie.Need-least-requires Inv-loop μ-loop
-least-requires c κs = search needs
-
 loop-holds : tie.Need-loop-holds Inv-loop μ-loop
 unfolding bytesOf
 loop-holds c = (search needs, refl, refl)
-
-mul-at : tie.Need-mul-at Inv-loop μ-loop
-mul-at c = search needs
-
-mul-w : tie.Need-mul-w Inv-loop μ-loop
-mul-w c = search needs
-
-shared-slice-read-w : tie.Need-shared-slice-read-w Inv-loop μ-loop
-shared-slice-read-w c = search needs
-
-put-requires : tie.Need-put-requires Inv-loop μ-loop
-put-requires c κs = search needs
-
-add-i : tie.Need-add-i Inv-loop μ-loop
-add-i c = search needs
-
-loop-less : tie.Need-loop-less Inv-loop μ-loop
-loop-less c = search needs
 
 loop-again : tie.Need-loop-again Inv-loop μ-loop
 loop-again c =
@@ -55,9 +34,6 @@ loop-again c =
           ∙ bytes-more ws (a .bytes .now) (l .i) (omega arith),
     )
 
-same-length : tie.Need-same-length Inv-loop μ-loop
-same-length c = search needs
-
 returns : tie.Need-returns Inv-loop μ-loop
 returns c =
     let l = c .before .loop in
@@ -70,14 +46,14 @@ bytes-of-spec =
     (tie.spec
     Inv-loop
     μ-loop
-    least-requires
+    (λ least-requires κs. search needs)
     loop-holds
-    mul-at
-    mul-w
-    shared-slice-read-w
-    put-requires
-    add-i
-    loop-less
+    (λ mul-at. search needs)
+    (λ mul-w. search needs)
+    (λ shared-slice-read-w. search needs)
+    (λ put-requires κs. search needs)
+    (λ add-i. search needs)
+    (λ loop-less. search needs)
     loop-again
-    same-length
+    (λ same-length. search needs)
     returns)

@@ -8,41 +8,14 @@ use Rattle.little_endian.specs.LittleEndian.{lowBytes}
 use Rattle.little_endian.proofs.put.Statement.{statement}
 use Rattle.little_endian.proofs.put.Tie as tie
 
-cast-bytes : tie.Need-cast-bytes
-cast-bytes c = search needs
-
-slice-write-bytes : tie.Need-slice-write-bytes
-slice-write-bytes c = search needs
-
-cast-bytes-2 : tie.Need-cast-bytes-2
-cast-bytes-2 c = search needs
-
-add-bytes : tie.Need-add-bytes
-add-bytes c = search needs
-
 slice-write-bytes-2 : tie.Need-slice-write-bytes-2
 slice-write-bytes-2 c = simp length-set (omega arith)
-
-cast-bytes-3 : tie.Need-cast-bytes-3
-cast-bytes-3 c = search needs
-
-add-bytes-2 : tie.Need-add-bytes-2
-add-bytes-2 c = search needs
 
 slice-write-bytes-3 : tie.Need-slice-write-bytes-3
 slice-write-bytes-3 c = simp length-set (omega arith)
 
-cast-bytes-4 : tie.Need-cast-bytes-4
-cast-bytes-4 c = search needs
-
-add-bytes-3 : tie.Need-add-bytes-3
-add-bytes-3 c = search needs
-
 slice-write-bytes-4 : tie.Need-slice-write-bytes-4
 slice-write-bytes-4 c = simp length-set (omega arith)
-
-same-length : tie.Need-same-length
-same-length c = search needs
 
 returns : tie.Need-returns
 returns c = rw (add-one, add-two, add-three) (sets-eq (lowBytes 4 (c .args .w)) (c .args .bytes .now) (c .args .at) (omega arith))
@@ -51,16 +24,16 @@ pub put-spec : {M : Type 1} → statement M
 put-spec =
     tie.close
     (tie.spec
-    cast-bytes
-    slice-write-bytes
-    cast-bytes-2
-    add-bytes
+    (λ cast-bytes. search needs)
+    (λ slice-write-bytes. search needs)
+    (λ cast-bytes-2. search needs)
+    (λ add-bytes. search needs)
     slice-write-bytes-2
-    cast-bytes-3
-    add-bytes-2
+    (λ cast-bytes-3. search needs)
+    (λ add-bytes-2. search needs)
     slice-write-bytes-3
-    cast-bytes-4
-    add-bytes-3
+    (λ cast-bytes-4. search needs)
+    (λ add-bytes-3. search needs)
     slice-write-bytes-4
-    same-length
+    (λ same-length. search needs)
     returns)

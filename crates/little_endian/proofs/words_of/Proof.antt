@@ -17,50 +17,8 @@ Inv-loop bytes words₀ n i₀ words i =
 abbrev μ-loop : tie.MeasureT-loop
 μ-loop bytes words₀ n i₀ words i = n - i
 
-least-requires : tie.Need-least-requires Inv-loop μ-loop
-least-requires c κs = search needs
-
 loop-holds : tie.Need-loop-holds Inv-loop μ-loop
 loop-holds c = (search needs, refl, refl)
-
-mul-at : tie.Need-mul-at Inv-loop μ-loop
-mul-at c = search needs
-
-shared-slice-read-word : tie.Need-shared-slice-read-word Inv-loop μ-loop
-shared-slice-read-word c = search needs
-
-add-word : tie.Need-add-word Inv-loop μ-loop
-add-word c = search needs
-
-shared-slice-read-word-2 : tie.Need-shared-slice-read-word-2 Inv-loop μ-loop
-shared-slice-read-word-2 c = search needs
-
-add-word-2 : tie.Need-add-word-2 Inv-loop μ-loop
-add-word-2 c = search needs
-
-shared-slice-read-word-3 : tie.Need-shared-slice-read-word-3 Inv-loop μ-loop
-shared-slice-read-word-3 c = search needs
-
-add-word-3 : tie.Need-add-word-3 Inv-loop μ-loop
-add-word-3 c = search needs
-
-shared-slice-read-word-4 : tie.Need-shared-slice-read-word-4 Inv-loop μ-loop
-shared-slice-read-word-4 c = search needs
-
-word-requires : tie.Need-word-requires Inv-loop μ-loop
-word-requires c κs = search needs
-
-mul-words : tie.Need-mul-words Inv-loop μ-loop
-mul-words c = search needs
-
-slice-write-words : tie.Need-slice-write-words Inv-loop μ-loop
-slice-write-words c = search needs
-
-add-i : tie.Need-add-i Inv-loop μ-loop
-add-i c = search needs
-
-loop-less : tie.Need-loop-less Inv-loop μ-loop
-loop-less c = search needs
 
 loop-again : tie.Need-loop-again Inv-loop μ-loop
 loop-again c =
@@ -77,9 +35,6 @@ loop-again c =
           ∙ copy-more (wordsOf bs) (a .words .now) (l .i) (omega (arith, length-wordsOf bs)) (omega arith),
     )
 
-same-length : tie.Need-same-length Inv-loop μ-loop
-same-length c = search needs
-
 returns : tie.Need-returns Inv-loop μ-loop
 returns c =
     let l = c .before .loop in
@@ -92,21 +47,21 @@ words-of-spec =
     (tie.spec
     Inv-loop
     μ-loop
-    least-requires
+    (λ least-requires κs. search needs)
     loop-holds
-    mul-at
-    shared-slice-read-word
-    add-word
-    shared-slice-read-word-2
-    add-word-2
-    shared-slice-read-word-3
-    add-word-3
-    shared-slice-read-word-4
-    word-requires
-    mul-words
-    slice-write-words
-    add-i
-    loop-less
+    (λ mul-at. search needs)
+    (λ shared-slice-read-word. search needs)
+    (λ add-word. search needs)
+    (λ shared-slice-read-word-2. search needs)
+    (λ add-word-2. search needs)
+    (λ shared-slice-read-word-3. search needs)
+    (λ add-word-3. search needs)
+    (λ shared-slice-read-word-4. search needs)
+    (λ word-requires κs. search needs)
+    (λ mul-words. search needs)
+    (λ slice-write-words. search needs)
+    (λ add-i. search needs)
+    (λ loop-less. search needs)
     loop-again
-    same-length
+    (λ same-length. search needs)
     returns)

@@ -25,30 +25,12 @@ loop-holds c =
     let s = c .before .before in
     (refl, search needs, subst (λ (n : ℕ). Filled (code (s .args .words .now)) (s .args .row) n (s .args .masks .now)) (sym (add-zero (s .args .first))) (s .pre .1 .1))
 
-add-set-word : tie.Need-add-set-word Inv-loop μ-loop
-add-set-word c = search needs
-
-mul-word-makes : tie.Need-mul-word-makes Inv-loop μ-loop
-mul-word-makes c = search needs
-
-shared-slice-read-word-makes : tie.Need-shared-slice-read-word-makes Inv-loop μ-loop
-shared-slice-read-word-makes c = search needs
-
-word-makes-requires : tie.Need-word-makes-requires Inv-loop μ-loop
-word-makes-requires c κs = search needs
-
 set-word-requires : tie.Need-set-word-requires Inv-loop μ-loop
 set-word-requires c κs =
     let l = c .before .before .before .before .loop in
     let h = c .before .before .before .before .before .before .before .pre .1 .0 in
     let t = c .before .before .before .loop-test .taken in
     (omega (arith, h, t), omega (arith, h, l .inv .0), omega (arith, h, l .inv .0))
-
-add-p : tie.Need-add-p Inv-loop μ-loop
-add-p c = search needs
-
-loop-less : tie.Need-loop-less Inv-loop μ-loop
-loop-less c = search needs
 
 loop-again : tie.Need-loop-again Inv-loop μ-loop
 loop-again c =
@@ -61,9 +43,6 @@ loop-again c =
           (one-more (s .args .words .now) (l .masks) (s .args .row) (s .args .first) (l .p) (s .pre .0 .0) (s .pre .0 .1) (omega (arith, s .pre .1 .0, t)) (omega (arith, s .pre .1 .0, l .inv .0)) _
           (c .before .before .before .word-makes .ensures) (l .inv .2)),
     )
-
-same-length : tie.Need-same-length Inv-loop μ-loop
-same-length c = search needs
 
 returns : tie.Need-returns Inv-loop μ-loop
 returns c =
@@ -79,13 +58,13 @@ fill-made-spec =
     Inv-loop
     μ-loop
     loop-holds
-    add-set-word
-    mul-word-makes
-    shared-slice-read-word-makes
-    word-makes-requires
+    (λ add-set-word. search needs)
+    (λ mul-word-makes. search needs)
+    (λ shared-slice-read-word-makes. search needs)
+    (λ word-makes-requires κs. search needs)
     set-word-requires
-    add-p
-    loop-less
+    (λ add-p. search needs)
+    (λ loop-less. search needs)
     loop-again
-    same-length
+    (λ same-length. search needs)
     returns)

@@ -40,9 +40,6 @@ fill-made-requires c κs =
       ),
     )
 
-same-length : tie.Need-same-length
-same-length c = search needs
-
 returns : tie.Need-returns
 unfolding code
 returns c =
@@ -53,4 +50,4 @@ returns c =
 
 pub fill-masks-spec : {M : Type 1} → statement M
 fill-masks-spec =
-    tie.close (tie.spec fill-plain-requires mul-fill-made fill-made-requires same-length returns)
+    tie.close (tie.spec fill-plain-requires mul-fill-made fill-made-requires (λ same-length. search needs) returns)

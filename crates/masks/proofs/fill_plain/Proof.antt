@@ -15,24 +15,6 @@ in-turn : (row lead : ℕ) (ws one two : List ℕ) → one ≡ mark ws (32 * row
 unfolding plainMasks
 in-turn row lead ws one two a b = b ∙ ap (λ (x : List ℕ). pour x (3 * row) (replicate lead 4294967295)) a
 
-mul-set-digit : tie.Need-mul-set-digit
-mul-set-digit c = search needs
-
-add-set-digit : tie.Need-add-set-digit
-add-set-digit c = search needs
-
-set-digit-requires : tie.Need-set-digit-requires
-set-digit-requires c κs = search needs
-
-mul-set-words : tie.Need-mul-set-words
-mul-set-words c = search needs
-
-set-words-requires : tie.Need-set-words-requires
-set-words-requires c κs = search needs
-
-same-length : tie.Need-same-length
-same-length c = search needs
-
 returns : tie.Need-returns
 returns c = in-turn _ _ _ _ _ (c .before .before .before .before .before .before .set-digit .ensures) (c .before .before .set-words .ensures)
 
@@ -40,10 +22,10 @@ pub fill-plain-spec : {M : Type 1} → statement M
 fill-plain-spec =
     tie.close
     (tie.spec
-    mul-set-digit
-    add-set-digit
-    set-digit-requires
-    mul-set-words
-    set-words-requires
-    same-length
+    (λ mul-set-digit. search needs)
+    (λ add-set-digit. search needs)
+    (λ set-digit-requires κs. search needs)
+    (λ mul-set-words. search needs)
+    (λ set-words-requires κs. search needs)
+    (λ same-length. search needs)
     returns)

@@ -23,18 +23,6 @@ message-function : (m : ℕ) → m ≡ 1 → not (eqb m 1) ≡ sortHas sorts.Mes
 unfolding sortHas
 message-function m e = rw (eq-eqb m 1 e)
 
-enum-told : tie.Need-enum-told
-enum-told c = search needs
-
-enum-told-2 : tie.Need-enum-told-2
-enum-told-2 c = search needs
-
-enum-told-3 : tie.Need-enum-told-3
-enum-told-3 c = search needs
-
-enum-told-4 : tie.Need-enum-told-4
-enum-told-4 c = search needs
-
 returns : tie.Need-returns
 unfolding sortHas
 returns c = arm _ _ sorts.Function (c .enum-told .given .1)
@@ -57,10 +45,10 @@ pub made-has-spec : {M : Type 1} → statement M
 made-has-spec =
     tie.close
     (tie.spec
-    enum-told
-    enum-told-2
-    enum-told-3
-    enum-told-4
+    (λ enum-told. search needs)
+    (λ enum-told-2. search needs)
+    (λ enum-told-3. search needs)
+    (λ enum-told-4. search needs)
     returns
     returns-2
     returns-3

@@ -15,27 +15,6 @@ one-word : (ws : List ℕ) (n x : ℕ) → x ≡ 2 ^ (n % 32) → set ws (n / 32
 unfolding mark
 one-word ws n x e = ap (λ (y : ℕ). set ws (n / 32) (bitOr (getD ws (n / 32) 0) y)) e ∙ sym (pour-one ws (n / 32) (2 ^ (n % 32)))
 
-mul-masks : tie.Need-mul-masks
-mul-masks c = search needs
-
-slice-read-masks : tie.Need-slice-read-masks
-slice-read-masks c = search needs
-
-cast-digit : tie.Need-cast-digit
-cast-digit c = search needs
-
-digit-requires : tie.Need-digit-requires
-digit-requires c κs = search needs
-
-mul-masks-2 : tie.Need-mul-masks-2
-mul-masks-2 c = search needs
-
-slice-write-masks : tie.Need-slice-write-masks
-slice-write-masks c = search needs
-
-same-length : tie.Need-same-length
-same-length c = search needs
-
 returns : tie.Need-returns
 returns c = one-word _ _ _ (c .digit .ensures)
 
@@ -43,11 +22,11 @@ pub set-digit-spec : {M : Type 1} → statement M
 set-digit-spec =
     tie.close
     (tie.spec
-    mul-masks
-    slice-read-masks
-    cast-digit
-    digit-requires
-    mul-masks-2
-    slice-write-masks
-    same-length
+    (λ mul-masks. search needs)
+    (λ slice-read-masks. search needs)
+    (λ cast-digit. search needs)
+    (λ digit-requires κs. search needs)
+    (λ mul-masks-2. search needs)
+    (λ slice-write-masks. search needs)
+    (λ same-length. search needs)
     returns)

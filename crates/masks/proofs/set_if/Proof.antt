@@ -12,12 +12,6 @@ use Rattle.masks.proofs.set_if.Tie as tie
 arm : (ws : List ℕ) (n : ℕ) (b t : Bool) → b ≡ t → markIf t ws n ≡ markIf b ws n
 arm ws n b t e = ap (λ (x : Bool). markIf x ws n) (sym e)
 
-set-digit-requires : tie.Need-set-digit-requires
-set-digit-requires c κs = search needs
-
-same-length : tie.Need-same-length
-same-length c = search needs
-
 returns : tie.Need-returns
 unfolding markIf
 returns c = c .before .before .set-digit .ensures ∙ arm _ _ _ true (c .before .before .before .before .if1 .taken)
@@ -27,4 +21,4 @@ unfolding markIf
 returns-2 c = arm _ _ _ false (c .if1 .left)
 
 pub set-if-spec : {M : Type 1} → statement M
-set-if-spec = tie.close (tie.spec set-digit-requires same-length returns returns-2)
+set-if-spec = tie.close (tie.spec (λ set-digit-requires κs. search needs) (λ same-length. search needs) returns returns-2)

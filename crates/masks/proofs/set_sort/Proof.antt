@@ -7,19 +7,10 @@ use borrow.Author.Needs.{needs}
 use Rattle.masks.proofs.set_sort.Statement.{statement}
 use Rattle.masks.proofs.set_sort.Tie as tie
 
-made-has-requires : tie.Need-made-has-requires
-made-has-requires c κs = search needs
-
-set-if-requires : tie.Need-set-if-requires
-set-if-requires c κs = search needs
-
-same-length : tie.Need-same-length
-same-length c = search needs
-
 returns : tie.Need-returns
 returns c =
     let a = c .before .before .before .before .before .before .args in
     c .before .before .set-if .ensures ∙ ap (λ (b : Bool). markIf b (a .masks .now) (a .n)) (c .before .before .before .made-has .ensures)
 
 pub set-sort-spec : {M : Type 1} → statement M
-set-sort-spec = tie.close (tie.spec made-has-requires set-if-requires same-length returns)
+set-sort-spec = tie.close (tie.spec (λ made-has-requires κs. search needs) (λ set-if-requires κs. search needs) (λ same-length. search needs) returns)

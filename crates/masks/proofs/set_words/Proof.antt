@@ -31,20 +31,11 @@ more old mid new at k e f =
 loop-holds : tie.Need-loop-holds Inv-loop μ-loop
 loop-holds c = (omega arith, sym (pour-nil _ _))
 
-add-set : tie.Need-add-set Inv-loop μ-loop
-add-set c = search needs
-
 set-requires : tie.Need-set-requires Inv-loop μ-loop
 set-requires c κs =
     let l = c .before .before .loop in
     let s = c .before .before .before .before in
     omega (arith, s .pre, kept (s .args .masks .now) (l .masks) (s .args .at) (l .k) (l .inv .1), c .before .loop-test .taken)
-
-add-k : tie.Need-add-k Inv-loop μ-loop
-add-k c = search needs
-
-loop-less : tie.Need-loop-less Inv-loop μ-loop
-loop-less c = search needs
 
 loop-again : tie.Need-loop-again Inv-loop μ-loop
 loop-again c =
@@ -69,10 +60,10 @@ set-words-spec =
     Inv-loop
     μ-loop
     loop-holds
-    add-set
+    (λ add-set. search needs)
     set-requires
-    add-k
-    loop-less
+    (λ add-k. search needs)
+    (λ loop-less. search needs)
     loop-again
     same-length
     returns)

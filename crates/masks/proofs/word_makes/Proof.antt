@@ -28,26 +28,11 @@ entry w k e h =
     eqb→eq _ (getD makesByKind (k - firstKind) 2) (at makesRight (replicate 21 0) tt (k - firstKind) h)
     ∙ ap (λ (i : ℕ). getD makesByKind (i - firstKind) 2) e
 
-kind-of-requires : tie.Need-kind-of-requires
-kind-of-requires c κs = search needs
-
 returns : tie.Need-returns
 returns c = sym (other-word (c .before .before .args .w) (omega (arith, c .before .kind-of .ensures, c .if1 .taken)))
 
 returns-2 : tie.Need-returns-2
 returns-2 c = past (c .before .before .before .args .w) (omega (arith, c .before .before .kind-of .ensures, c .if2 .taken))
-
-mul-result : tie.Need-mul-result
-mul-result c = search needs
-
-cast-result : tie.Need-cast-result
-cast-result c = search needs
-
-shr-result : tie.Need-shr-result
-shr-result c = search needs
-
-cast-result-2 : tie.Need-cast-result-2
-cast-result-2 c = search needs
 
 returns-3 : tie.Need-returns-3
 returns-3 c = entry (c .before .before .before .args .w) (c .before .before .kind-of .result) (c .before .before .kind-of .ensures) (omega (arith, c .if2 .left))
@@ -56,11 +41,11 @@ pub word-makes-spec : {M : Type 1} → statement M
 word-makes-spec =
     tie.close
     (tie.spec
-    kind-of-requires
+    (λ kind-of-requires κs. search needs)
     returns
     returns-2
-    mul-result
-    cast-result
-    shr-result
-    cast-result-2
+    (λ mul-result. search needs)
+    (λ cast-result. search needs)
+    (λ shr-result. search needs)
+    (λ cast-result-2. search needs)
     returns-3)

@@ -8,12 +8,6 @@ use Rattle.order_text.specs.Text.{line}
 use Rattle.order_text.proofs.put_first.Statement.{statement}
 use Rattle.order_text.proofs.put_first.Tie as tie
 
-put-line-requires : tie.Need-put-line-requires
-put-line-requires c κs = search needs
-
-same-length : tie.Need-same-length
-same-length c = search needs
-
 returns : tie.Need-returns
 returns c =
     let g = c .before .before in
@@ -30,20 +24,14 @@ put-line-requires-2 c κs =
     let h = g .if1 .left in
     (s .pre .0, omega (arith, s .pre .1, length-take-le (s .args .count) (s .args .positions .now) (omega arith)))
 
-same-length-2 : tie.Need-same-length-2
-same-length-2 c = search needs
-
-returns-2 : tie.Need-returns-2
-returns-2 c = search needs
-
 pub put-first-spec : {M : Type 1} → statement M
 put-first-spec =
     tie.close
     (tie.spec
-    put-line-requires
-    same-length
+    (λ put-line-requires κs. search needs)
+    (λ same-length. search needs)
     returns
     slice-aggregate-put-line
     put-line-requires-2
-    same-length-2
-    returns-2)
+    (λ same-length-2. search needs)
+    (λ returns-2. search needs))

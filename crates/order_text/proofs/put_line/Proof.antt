@@ -5,21 +5,6 @@ use Rattle.order_text.specs.Text.{line}
 use Rattle.order_text.proofs.put_line.Statement.{statement}
 use Rattle.order_text.proofs.put_line.Tie as tie
 
-put-requires : tie.Need-put-requires
-put-requires c κs = search needs
-
-put-positions-requires : tie.Need-put-positions-requires
-put-positions-requires c κs = search needs
-
-slice-aggregate-put : tie.Need-slice-aggregate-put
-slice-aggregate-put c = search needs
-
-put-requires-2 : tie.Need-put-requires-2
-put-requires-2 c κs = search needs
-
-same-length : tie.Need-same-length
-same-length c = search needs
-
 returns : tie.Need-returns
 unfolding line
 returns c =
@@ -31,9 +16,9 @@ pub put-line-spec : {M : Type 1} → statement M
 put-line-spec =
     tie.close
     (tie.spec
-    put-requires
-    put-positions-requires
-    slice-aggregate-put
-    put-requires-2
-    same-length
+    (λ put-requires κs. search needs)
+    (λ put-positions-requires κs. search needs)
+    (λ slice-aggregate-put. search needs)
+    (λ put-requires-2 κs. search needs)
+    (λ same-length. search needs)
     returns)

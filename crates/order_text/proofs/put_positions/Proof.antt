@@ -17,15 +17,6 @@ abbrev μ-loop : tie.MeasureT-loop
 loop-holds : tie.Need-loop-holds Inv-loop μ-loop
 loop-holds c = spaced-start (omega (arith, c .before .before .pre))
 
-slice-aggregate-number-field : tie.Need-slice-aggregate-number-field Inv-loop μ-loop
-slice-aggregate-number-field c = search needs
-
-mul-number-field : tie.Need-mul-number-field Inv-loop μ-loop
-mul-number-field c = search needs
-
-shared-slice-read-number-field : tie.Need-shared-slice-read-number-field Inv-loop μ-loop
-shared-slice-read-number-field c = search needs
-
 cast-number-field : tie.Need-cast-number-field Inv-loop μ-loop
 cast-number-field c = omega (arith, c .shared-slice-known2 .given (c .before .before .before .before .loop .i))
 
@@ -33,12 +24,6 @@ number-field-requires : tie.Need-number-field-requires Inv-loop μ-loop
 number-field-requires c κs =
     let i = c .before .before .before .before .loop in
     omega (arith, i .inv .near, c .before .before .before .loop-test .taken, wrote-length (i .inv .wrote), c .before .before .before .before .before .before .before .pre)
-
-add-i : tie.Need-add-i Inv-loop μ-loop
-add-i c = search needs
-
-loop-less : tie.Need-loop-less Inv-loop μ-loop
-loop-less c = search needs
 
 loop-again : tie.Need-loop-again Inv-loop μ-loop
 loop-again c =
@@ -59,13 +44,13 @@ put-positions-spec =
     Inv-loop
     μ-loop
     loop-holds
-    slice-aggregate-number-field
-    mul-number-field
-    shared-slice-read-number-field
+    (λ slice-aggregate-number-field. search needs)
+    (λ mul-number-field. search needs)
+    (λ shared-slice-read-number-field. search needs)
     cast-number-field
     number-field-requires
-    add-i
-    loop-less
+    (λ add-i. search needs)
+    (λ loop-less. search needs)
     loop-again
     same-length
     returns)

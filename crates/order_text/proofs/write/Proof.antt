@@ -7,9 +7,6 @@ use Rattle.order_text.proofs.Laws.{unwritten, written}
 use Rattle.order_text.proofs.write.Statement.{statement}
 use Rattle.order_text.proofs.write.Tie as tie
 
-lacks-room-requires : tie.Need-lacks-room-requires
-lacks-room-requires c κs = search needs
-
 returns : tie.Need-returns
 returns c =
     let a = c .before .before .before .before .args in
@@ -18,9 +15,6 @@ returns c =
 put-reply-requires : tie.Need-put-reply-requires
 put-reply-requires c κs = ltb-false _ _ (sym (c .before .before .lacks-room .ensures) ∙ c .before .if1 .left)
 
-same-length : tie.Need-same-length
-same-length c = search needs
-
 returns-2 : tie.Need-returns-2
 returns-2 c =
     let g = c .before .before .before .before in
@@ -28,4 +22,4 @@ returns-2 c =
     written _ _ (a .out .now) (sym (g .before .lacks-room .ensures) ∙ g .if1 .left) _ _ (c .before .before .put-reply .ensures)
 
 pub write-spec : {M : Type 1} → statement M
-write-spec = tie.close (tie.spec lacks-room-requires returns put-reply-requires same-length returns-2)
+write-spec = tie.close (tie.spec (λ lacks-room-requires κs. search needs) returns put-reply-requires (λ same-length. search needs) returns-2)

@@ -9,24 +9,9 @@ use Rattle.overlay.proofs.Refusals.{base-refused, overlay-refused, both
 use Rattle.overlay.proofs.check.Statement.{statement}
 use Rattle.overlay.proofs.check.Tie as tie
 
-read-narrow-requires : tie.Need-read-narrow-requires
-read-narrow-requires c κs = search needs
-
-enum-known-r : tie.Need-enum-known-r
-enum-known-r c = search needs
-
 returns : tie.Need-returns
 unfolding outcome checkedAs faultNumber faultPlace
 returns c = sym (base-refused _ _ _ _ (sym (c .before .before .before .read-narrow .ensures) ∙ ap outcome (c .before .r .given .1)))
-
-enum-told : tie.Need-enum-told
-enum-told c = search needs
-
-read-narrow-requires-2 : tie.Need-read-narrow-requires-2
-read-narrow-requires-2 c κs = search needs
-
-enum-known-r-2 : tie.Need-enum-known-r-2
-enum-known-r-2 c = search needs
 
 returns-2 : tie.Need-returns-2
 unfolding outcome checkedAs faultNumber faultPlace
@@ -35,9 +20,6 @@ returns-2 c =
     (overlay-refused _ _
     (sym (c .before .before .before .before .before .before .read-narrow .ensures) ∙ ap outcome (c .before .before .before .before .enum-told .given .1)) _ _
     (sym (c .before .before .before .read-narrow2 .ensures) ∙ ap outcome (c .before .r2 .given .1)))
-
-enum-told-2 : tie.Need-enum-told-2
-enum-told-2 c = search needs
 
 returns-3 : tie.Need-returns-3
 unfolding outcome checkedAs
@@ -51,12 +33,12 @@ pub check-spec : {M : Type 1} → statement M
 check-spec =
     tie.close
     (tie.spec
-    read-narrow-requires
-    enum-known-r
+    (λ read-narrow-requires κs. search needs)
+    (λ enum-known-r. search needs)
     returns
-    enum-told
-    read-narrow-requires-2
-    enum-known-r-2
+    (λ enum-told. search needs)
+    (λ read-narrow-requires-2 κs. search needs)
+    (λ enum-known-r-2. search needs)
     returns-2
-    enum-told-2
+    (λ enum-told-2. search needs)
     returns-3)

@@ -5,24 +5,6 @@ use borrow.Author.Needs.{needs}
 use Rattle.queries.proofs.has.Statement.{statement}
 use Rattle.queries.proofs.has.Tie as tie
 
-mul-at : tie.Need-mul-at
-mul-at c = search needs
-
-add-at : tie.Need-add-at
-add-at c = search needs
-
-mul-result : tie.Need-mul-result
-mul-result c = search needs
-
-shared-slice-read-result : tie.Need-shared-slice-read-result
-shared-slice-read-result c = search needs
-
-cast-result : tie.Need-cast-result
-cast-result c = search needs
-
-shr-result : tie.Need-shr-result
-shr-result c = search needs
-
 returns : tie.Need-returns
 unfolding member
 returns c =
@@ -31,4 +13,4 @@ returns c =
 pub has-spec : {M : Type 1} → statement M
 has-spec =
     tie.close
-    (tie.spec mul-at add-at mul-result shared-slice-read-result cast-result shr-result returns)
+    (tie.spec (λ mul-at. search needs) (λ add-at. search needs) (λ mul-result. search needs) (λ shared-slice-read-result. search needs) (λ cast-result. search needs) (λ shr-result. search needs) returns)

@@ -10,45 +10,6 @@ use borrow.Author.Needs.{needs}
 use Rattle.queries.proofs.has_some.Statement.{statement}
 use Rattle.queries.proofs.has_some.Tie as tie
 
-mul-at : tie.Need-mul-at
-mul-at c = search needs
-
-mul-to : tie.Need-mul-to
-mul-to c = search needs
-
-add-any : tie.Need-add-any
-add-any c = search needs
-
-mul-any : tie.Need-mul-any
-mul-any c = search needs
-
-sub-any : tie.Need-sub-any
-sub-any c = search needs
-
-part-any-start : tie.Need-part-any-start
-part-any-start c = search needs
-
-part-any-end : tie.Need-part-any-end
-part-any-end c = search needs
-
-add-any-2 : tie.Need-add-any-2
-add-any-2 c = search needs
-
-mul-any-2 : tie.Need-mul-any-2
-mul-any-2 c = search needs
-
-sub-any-2 : tie.Need-sub-any-2
-sub-any-2 c = search needs
-
-part-any-start-2 : tie.Need-part-any-start-2
-part-any-start-2 c = search needs
-
-part-any-end-2 : tie.Need-part-any-end-2
-part-any-end-2 c = search needs
-
-any-requires : tie.Need-any-requires
-any-requires c κs = search needs
-
 returns : tie.Need-returns
 returns c =
     λ k q o w x h.
@@ -63,17 +24,17 @@ pub has-some-spec : {M : Type 1} → statement M
 has-some-spec =
     tie.close
     (tie.spec
-    mul-at
-    mul-to
-    add-any
-    mul-any
-    sub-any
-    part-any-start
-    part-any-end
-    add-any-2
-    mul-any-2
-    sub-any-2
-    part-any-start-2
-    part-any-end-2
-    any-requires
+    (λ mul-at. search needs)
+    (λ mul-to. search needs)
+    (λ add-any. search needs)
+    (λ mul-any. search needs)
+    (λ sub-any. search needs)
+    (λ part-any-start. search needs)
+    (λ part-any-end. search needs)
+    (λ add-any-2. search needs)
+    (λ mul-any-2. search needs)
+    (λ sub-any-2. search needs)
+    (λ part-any-start-2. search needs)
+    (λ part-any-end-2. search needs)
+    (λ any-requires κs. search needs)
     returns)

@@ -7,19 +7,10 @@ use borrow.Author.Needs.{needs}
 use Rattle.queries.proofs.has_thing.Statement.{statement}
 use Rattle.queries.proofs.has_thing.Tie as tie
 
-mul-common-from : tie.Need-mul-common-from
-mul-common-from c = search needs
-
-mul-common-from-2 : tie.Need-mul-common-from-2
-mul-common-from-2 c = search needs
-
-common-from-requires : tie.Need-common-from-requires
-common-from-requires c κs = search needs
-
 returns : tie.Need-returns
 unfolding member
 returns c = ap (λ (x : ℕ). eqb (x % 2) 1) (c .common-from .ensures)
 
 pub has-thing-spec : {M : Type 1} → statement M
 has-thing-spec =
-    tie.close (tie.spec mul-common-from mul-common-from-2 common-from-requires returns)
+    tie.close (tie.spec (λ mul-common-from. search needs) (λ mul-common-from-2. search needs) (λ common-from-requires κs. search needs) returns)

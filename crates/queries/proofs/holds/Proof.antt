@@ -11,72 +11,30 @@ use borrow.Author.Needs.{needs}
 use Rattle.queries.proofs.holds.Statement.{statement}
 use Rattle.queries.proofs.holds.Tie as tie
 
-enum-told : tie.Need-enum-told
-enum-told c = search needs
-
-enum-told-2 : tie.Need-enum-told-2
-enum-told-2 c = search needs
-
-enum-told-3 : tie.Need-enum-told-3
-enum-told-3 c = search needs
-
-mul-has : tie.Need-mul-has
-mul-has c = search needs
-
 has-requires : tie.Need-has-requires
 has-requires c κs =
     let s = c .before .before .before .before .before in let l = s .args .l in let e = s .args .est .now in let g = s .args .g in (value-in l e (s .pre .0) (g .a) (s .pre .1 .first), low-in l e (s .pre .0) (g .v) (s .pre .1 .element))
-
-enum-told-4 : tie.Need-enum-told-4
-enum-told-4 c = search needs
-
-mul-has-some : tie.Need-mul-has-some
-mul-has-some c = search needs
 
 has-some-requires : tie.Need-has-some-requires
 unfolding byMask
 has-some-requires c κs =
     let s = c .before .before .before .before .before in let l = s .args .l in let e = s .args .est .now in let g = s .args .g in (value-in l e (s .pre .0) (g .a) (s .pre .1 .first), mask-in _ (l .row) (g .v) (s .pre .2) (s .pre .1 .mask (ap byMask (c .before .enum-told4 .given .1))))
 
-enum-told-5 : tie.Need-enum-told-5
-enum-told-5 c = search needs
-
-mul-has-text : tie.Need-mul-has-text
-mul-has-text c = search needs
-
 has-text-requires : tie.Need-has-text-requires
 has-text-requires c κs =
     let s = c .before .before .before .before .before in let l = s .args .l in let e = s .args .est .now in let g = s .args .g in (value-in l e (s .pre .0) (g .d) (s .pre .1 .second), some-words l e (s .pre .0))
-
-enum-told-6 : tie.Need-enum-told-6
-enum-told-6 c = search needs
-
-mul-has-text-2 : tie.Need-mul-has-text-2
-mul-has-text-2 c = search needs
 
 has-text-requires-2 : tie.Need-has-text-requires-2
 has-text-requires-2 c κs =
     let s = c .before .before .before .before .before in let l = s .args .l in let e = s .args .est .now in let g = s .args .g in (value-in l e (s .pre .0) (g .d) (s .pre .1 .second), some-words l e (s .pre .0))
 
-mul-has-2 : tie.Need-mul-has-2
-mul-has-2 c = search needs
-
 has-requires-2 : tie.Need-has-requires-2
 has-requires-2 c κs =
     let s = c .before .before .before .before .before .before .before .before in let l = s .args .l in let e = s .args .est .now in let g = s .args .g in (value-in l e (s .pre .0) (g .a) (s .pre .1 .first), low-in l e (s .pre .0) (g .v) (s .pre .1 .element))
 
-enum-told-7 : tie.Need-enum-told-7
-enum-told-7 c = search needs
-
-mul-has-text-3 : tie.Need-mul-has-text-3
-mul-has-text-3 c = search needs
-
 has-text-requires-3 : tie.Need-has-text-requires-3
 has-text-requires-3 c κs =
     let s = c .before .before .before .before .before in let l = s .args .l in let e = s .args .est .now in let g = s .args .g in (value-in l e (s .pre .0) (g .d) (s .pre .1 .second), some-words l e (s .pre .0))
-
-mul-has-some-2 : tie.Need-mul-has-some-2
-mul-has-some-2 c = search needs
 
 has-some-requires-2 : tie.Need-has-some-requires-2
 unfolding byMask
@@ -150,26 +108,26 @@ pub holds-spec : {M : Type 1} → statement M
 holds-spec =
     tie.close
     (tie.spec
-    enum-told
-    enum-told-2
-    enum-told-3
-    mul-has
+    (λ enum-told. search needs)
+    (λ enum-told-2. search needs)
+    (λ enum-told-3. search needs)
+    (λ mul-has. search needs)
     has-requires
-    enum-told-4
-    mul-has-some
+    (λ enum-told-4. search needs)
+    (λ mul-has-some. search needs)
     has-some-requires
-    enum-told-5
-    mul-has-text
+    (λ enum-told-5. search needs)
+    (λ mul-has-text. search needs)
     has-text-requires
-    enum-told-6
-    mul-has-text-2
+    (λ enum-told-6. search needs)
+    (λ mul-has-text-2. search needs)
     has-text-requires-2
-    mul-has-2
+    (λ mul-has-2. search needs)
     has-requires-2
-    enum-told-7
-    mul-has-text-3
+    (λ enum-told-7. search needs)
+    (λ mul-has-text-3. search needs)
     has-text-requires-3
-    mul-has-some-2
+    (λ mul-has-some-2. search needs)
     has-some-requires-2
     returns
     returns-2

@@ -8,19 +8,10 @@ use borrow.Author.Needs.{needs}
 use Rattle.queries.proofs.is_live.Statement.{statement}
 use Rattle.queries.proofs.is_live.Tie as tie
 
-flags-requires : tie.Need-flags-requires
-flags-requires c κs = search needs
-
-mul-result : tie.Need-mul-result
-mul-result c = search needs
-
-shared-slice-read-result : tie.Need-shared-slice-read-result
-shared-slice-read-result c = search needs
-
 returns : tie.Need-returns
 unfolding member
 returns c =
     λ k o. let s = c .before .before .before in ap (λ (x : ℕ). member (getD (s .args .est .now) x 0) 24) (c .before .flags .ensures) ∙ live-is k (s .args .l) o (s .args .est .now) (s .args .p) (s .pre .1)
 
 pub is-live-spec : {M : Type 1} → statement M
-is-live-spec = tie.close (tie.spec flags-requires mul-result shared-slice-read-result returns)
+is-live-spec = tie.close (tie.spec (λ flags-requires κs. search needs) (λ mul-result. search needs) (λ shared-slice-read-result. search needs) returns)

@@ -19,17 +19,8 @@ Inv-loop est masks r m from at to size lead f₀ f =
 abbrev μ-loop : tie.MeasureT-loop
 μ-loop est masks r m from at to size lead f₀ f = size - f
 
-mul-at : tie.Need-mul-at Inv-loop μ-loop
-mul-at c = search needs
-
-mul-to : tie.Need-mul-to Inv-loop μ-loop
-mul-to c = search needs
-
 loop-holds : tie.Need-loop-holds Inv-loop μ-loop
 loop-holds c = (omega arith, omega arith, λ g l m. absurd (omega arith))
-
-common-from-requires : tie.Need-common-from-requires Inv-loop μ-loop
-common-from-requires c κs = search needs
 
 cast-result : tie.Need-cast-result Inv-loop μ-loop
 cast-result c = omega (arith, trailing-le 32 (c .before .common-from .result))
@@ -47,15 +38,6 @@ returns c =
     subst (λ (x : ℕ). Next (a .est .now) (a .masks .now) (a .l .lead) (a .r * a .l .row) (a .m * a .l .row) (a .l .size) (a .from) (f + trailingZeros 32 x)) (sym e)
     (next-found (a .est .now) (a .masks .now) (a .l .lead) (a .r * a .l .row) (a .m * a .l .row) (a .from) f (i .0) (i .2)
     (omega (arith, c .before .before .before .before .before .before .before .shared-slice-known .given (a .r * a .l .row + (a .l .lead + f / 32)))) (λ z. c .if1 .taken (e ∙ z)) (a .l .size))
-
-add-f : tie.Need-add-f Inv-loop μ-loop
-add-f c = search needs
-
-mul-f : tie.Need-mul-f Inv-loop μ-loop
-mul-f c = search needs
-
-loop-less : tie.Need-loop-less Inv-loop μ-loop
-loop-less c = search needs
 
 loop-again : tie.Need-loop-again Inv-loop μ-loop
 loop-again c =
@@ -78,15 +60,15 @@ next-thing-spec =
     (tie.spec
     Inv-loop
     μ-loop
-    mul-at
-    mul-to
+    (λ mul-at. search needs)
+    (λ mul-to. search needs)
     loop-holds
-    common-from-requires
+    (λ common-from-requires κs. search needs)
     cast-result
     add-result
     returns
-    add-f
-    mul-f
-    loop-less
+    (λ add-f. search needs)
+    (λ mul-f. search needs)
+    (λ loop-less. search needs)
     loop-again
     returns-2)

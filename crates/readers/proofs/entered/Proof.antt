@@ -7,21 +7,6 @@ use borrow.Author.Needs.{needs}
 use Rattle.readers.proofs.entered.Statement.{statement}
 use Rattle.readers.proofs.entered.Tie as tie
 
-item-at-requires : tie.Need-item-at-requires
-item-at-requires c κs = search needs
-
-enum-told : tie.Need-enum-told
-enum-told c = search needs
-
-enum-known-h : tie.Need-enum-known-h
-enum-known-h c = search needs
-
-within-requires : tie.Need-within-requires
-within-requires c κs = search needs
-
-enum-told-2 : tie.Need-enum-told-2
-enum-told-2 c = search needs
-
 returns : tie.Need-returns
 unfolding itemGuarded
 returns c = guarded-of _ _ _ _ (c .before .before .item-at .ensures) (c .enum-told .given .1)
@@ -39,11 +24,11 @@ pub entered-spec : {M : Type 1} → statement M
 entered-spec =
     tie.close
     (tie.spec
-    item-at-requires
-    enum-told
-    enum-known-h
-    within-requires
-    enum-told-2
+    (λ item-at-requires κs. search needs)
+    (λ enum-told. search needs)
+    (λ enum-known-h. search needs)
+    (λ within-requires κs. search needs)
+    (λ enum-told-2. search needs)
     returns
     returns-2
     returns-3)

@@ -56,9 +56,6 @@ add-link-at c =
     let g : i .b < length (a .words .now) = c .before .before .loop-test .taken in
     omega (arith, g, size-le (a .words .now) (h .readable))
 
-link-at-requires : tie.Need-link-at-requires Inv-loop μ-loop
-link-at-requires c κs = search needs
-
 loop-less : tie.Need-loop-less Inv-loop μ-loop
 loop-less c =
     let a = c .before .before .before .before .before .before .before .before .args in
@@ -99,7 +96,7 @@ leak-spec =
     loop-holds
     leak-at-requires
     add-link-at
-    link-at-requires
+    (λ link-at-requires κs. search needs)
     loop-less
     loop-again
     returns)

@@ -21,9 +21,6 @@ inside c =
     let h = c .before .before .before .before .before .before .pre in
     omega (arith, c .flags .ensures, h .0 .long, words-are (a .words .now) (h .0 .readable) (a .l) (h .0 .laid), h .1, h .0 .laid .size)
 
-entered-requires : tie.Need-entered-requires
-entered-requires c κs = search needs
-
 returns : tie.Need-returns
 returns c =
     let a = c .before .before .before .before .before .args in
@@ -56,4 +53,4 @@ returns-2 c =
 pub leak-at-spec : {M : Type 1} → statement M
 leak-at-spec =
     tie.close
-    (tie.spec entered-requires returns flags-requires mul-t10 shared-slice-read-t12 returns-2)
+    (tie.spec (λ entered-requires κs. search needs) returns flags-requires mul-t10 shared-slice-read-t12 returns-2)

@@ -5,15 +5,6 @@ use Rattle.reading_order.specs.Reply.{replyOf, arranged}
 use Rattle.reading_order.proofs.answered.Statement.{statement}
 use Rattle.reading_order.proofs.answered.Tie as tie
 
-enum-told : tie.Need-enum-told
-enum-told c = search needs
-
-enum-known-a : tie.Need-enum-known-a
-enum-known-a c = search needs
-
-enum-known-a-2 : tie.Need-enum-known-a-2
-enum-known-a-2 c = search needs
-
 returns : tie.Need-returns
 unfolding replyOf arranged
 returns c = sym (ap arranged (c .enum-told .given .1))
@@ -28,4 +19,4 @@ returns-3 c = sym (ap arranged (c .before .a2 .given .1))
 
 pub answered-spec : {M : Type 1} → statement M
 answered-spec =
-    tie.close (tie.spec enum-told enum-known-a enum-known-a-2 returns returns-2 returns-3)
+    tie.close (tie.spec (λ enum-told. search needs) (λ enum-known-a. search needs) (λ enum-known-a-2. search needs) returns returns-2 returns-3)

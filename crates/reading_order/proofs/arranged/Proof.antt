@@ -12,9 +12,6 @@ use Rattle.reading_order.proofs.Elements.{sized, firsts-of, rows-are, l
 use Rattle.reading_order.proofs.arranged.Statement.{statement}
 use Rattle.reading_order.proofs.arranged.Tie as tie
 
-of-requires : tie.Need-of-requires
-of-requires c κs = search needs
-
 -- the layout of the table
 laid : (c : tie.After-of) → LaidOut (code (c .before .before .before .before .before .args .words .now)) (c .of .result)
 laid c = c .of .ensures
@@ -24,9 +21,6 @@ live-among-requires c κs =
     let s = c .before .before .before .before .before in
     let ws = s .args .words .now in
     (sized ws (s .pre .0) _ (laid c) _ (s .pre .1), firsts-of ws (s .pre .0) _ (laid c) _ (s .pre .2))
-
-slice-aggregate-fill-rows : tie.Need-slice-aggregate-fill-rows
-slice-aggregate-fill-rows c = search needs
 
 fill-rows-requires : tie.Need-fill-rows-requires
 fill-rows-requires c κs =
@@ -49,12 +43,6 @@ array-share-prefix-rows c = fits (c .before)
 slice-aggregate-arrange : tie.Need-slice-aggregate-arrange
 slice-aggregate-arrange c = sym (length-take-le _ _ (fits (c .before .before)))
 
-arrange-requires : tie.Need-arrange-requires
-arrange-requires c κs = search needs
-
-same-length : tie.Need-same-length
-same-length c = search needs
-
 returns : tie.Need-returns
 returns c =
     let f = c .before .before .before .before .before .before in
@@ -71,12 +59,12 @@ pub arranged-spec : {M : Type 1} → statement M
 arranged-spec =
     tie.close
     (tie.spec
-    of-requires
+    (λ of-requires κs. search needs)
     live-among-requires
-    slice-aggregate-fill-rows
+    (λ slice-aggregate-fill-rows. search needs)
     fill-rows-requires
     array-share-prefix-rows
     slice-aggregate-arrange
-    arrange-requires
-    same-length
+    (λ arrange-requires κs. search needs)
+    (λ same-length. search needs)
     returns)

@@ -10,9 +10,6 @@ use Rattle.reading_order.specs.Parts.{ArrangedBy}
 use Rattle.reading_order.proofs.arranged_in.Statement.{statement}
 use Rattle.reading_order.proofs.arranged_in.Tie as tie
 
-words-needed-requires : tie.Need-words-needed-requires
-words-needed-requires c κs = search needs
-
 -- the slice has the words of an estimate
 fits : (c : tie.After-words-needed) → c .words-needed .result ≤ length (c .before .before .before .before .before .args .est .now)
 fits c = omega (arith, c .words-needed .ensures, c .before .before .before .before .before .pre .1)
@@ -26,9 +23,6 @@ arranged-requires c κs =
     let s = w .before .before .before .before .before in
     (s .pre .0, length-take-le _ _ (fits w) ∙ w .words-needed .ensures, s .pre .2)
 
-same-length : tie.Need-same-length
-same-length c = search needs
-
 returns : tie.Need-returns
 returns c =
     let w = c .before .before .before .before .before in
@@ -39,8 +33,8 @@ pub arranged-in-spec : {M : Type 1} → statement M
 arranged-in-spec =
     tie.close
     (tie.spec
-    words-needed-requires
+    (λ words-needed-requires κs. search needs)
     slice-aggregate-arranged
     arranged-requires
-    same-length
+    (λ same-length. search needs)
     returns)

@@ -12,9 +12,6 @@ use Rattle.reading_order.proofs.Replies.{short-in}
 use Rattle.reading_order.proofs.checked.Statement.{statement}
 use Rattle.reading_order.proofs.checked.Tie as tie
 
-slice-aggregate-list-firsts : tie.Need-slice-aggregate-list-firsts
-slice-aggregate-list-firsts c = search needs
-
 list-firsts-requires : tie.Need-list-firsts-requires
 list-firsts-requires c κs =
     let s = c .before .before .before .before .before in
@@ -51,29 +48,17 @@ solved-requires c κs =
       ),
     )
 
-same-length : tie.Need-same-length
-same-length c = search needs
-
-same-length-2 : tie.Need-same-length-2
-same-length-2 c = search needs
-
-same-length-3 : tie.Need-same-length-3
-same-length-3 c = search needs
-
-returns-2 : tie.Need-returns-2
-returns-2 c = search needs
-
 pub checked-spec : {M : Type 1} → statement M
 checked-spec =
     tie.close
     (tie.spec
-    slice-aggregate-list-firsts
+    (λ slice-aggregate-list-firsts. search needs)
     list-firsts-requires
     returns
     array-share-prefix-blocks
     slice-aggregate-solved
     solved-requires
-    same-length
-    same-length-2
-    same-length-3
-    returns-2)
+    (λ same-length. search needs)
+    (λ same-length-2. search needs)
+    (λ same-length-3. search needs)
+    (λ returns-2. search needs))

@@ -8,15 +8,6 @@ use Rattle.reading_order.proofs.Replies.{refused-in}
 use Rattle.reading_order.proofs.order.Statement.{statement}
 use Rattle.reading_order.proofs.order.Tie as tie
 
-check-requires : tie.Need-check-requires
-check-requires c κs = search needs
-
-enum-known-f : tie.Need-enum-known-f
-enum-known-f c = search needs
-
-enum-told : tie.Need-enum-told
-enum-told c = search needs
-
 checked-requires : tie.Need-checked-requires
 checked-requires c κs =
     let g = c .before .before .before .before .before in
@@ -31,15 +22,6 @@ returns c =
     let r = refused-in (a .words .now) (a .rho) (a .ceiling) (a .est .now) (a .work .now) (a .positions .now) _ e in
     (r .replies, (r .estimates, (r .works, (r .writes, r .means))))
 
-same-length : tie.Need-same-length
-same-length c = search needs
-
-same-length-2 : tie.Need-same-length-2
-same-length-2 c = search needs
-
-same-length-3 : tie.Need-same-length-3
-same-length-3 c = search needs
-
 returns-2 : tie.Need-returns-2
 returns-2 c =
     let r = c .before .before .before .before .before .before .checked .ensures in
@@ -49,12 +31,12 @@ pub order-spec : {M : Type 1} → statement M
 order-spec =
     tie.close
     (tie.spec
-    check-requires
-    enum-known-f
-    enum-told
+    (λ check-requires κs. search needs)
+    (λ enum-known-f. search needs)
+    (λ enum-told. search needs)
     checked-requires
     returns
-    same-length
-    same-length-2
-    same-length-3
+    (λ same-length. search needs)
+    (λ same-length-2. search needs)
+    (λ same-length-3. search needs)
     returns-2)

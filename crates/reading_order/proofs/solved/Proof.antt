@@ -16,12 +16,6 @@ solve-in-requires c κs = c .before .before .before .before .before .before .bef
 room : (c : tie.After-solve-in) → length (code (c .before .before .before .before .before .before .before .before .args .words .now) .blocks) ≤ length (c .before .before .before .before .before .before .before .before .args .positions .now)
 room c = let h = c .before .before .before .before .before .before .before .before .pre .1 in omega (arith, ap length (h .0), h .1)
 
-same-length : tie.Need-same-length
-same-length c = search needs
-
-same-length-2 : tie.Need-same-length-2
-same-length-2 c = search needs
-
 returns : tie.Need-returns
 returns c =
     let d = c .before .before .before .before .before .before in
@@ -34,18 +28,6 @@ arranged-in-requires c κs =
     let d = c .before .before .before .before .before .before .before .before in
     let h = d .before .before .before .before .before .before .before .before .pre in
     (h .0 .fit .readable, omega (arith, h .0 .fit .long, d .solve-in .kept .1 .1 .1 .0), h .1 .0)
-
-answered-requires : tie.Need-answered-requires
-answered-requires c κs = search needs
-
-same-length-3 : tie.Need-same-length-3
-same-length-3 c = search needs
-
-same-length-4 : tie.Need-same-length-4
-same-length-4 c = search needs
-
-same-length-5 : tie.Need-same-length-5
-same-length-5 c = search needs
 
 returns-2 : tie.Need-returns-2
 returns-2 c =
@@ -61,12 +43,12 @@ solved-spec =
     tie.close
     (tie.spec
     solve-in-requires
-    same-length
-    same-length-2
+    (λ same-length. search needs)
+    (λ same-length-2. search needs)
     returns
     arranged-in-requires
-    answered-requires
-    same-length-3
-    same-length-4
-    same-length-5
+    (λ answered-requires κs. search needs)
+    (λ same-length-3. search needs)
+    (λ same-length-4. search needs)
+    (λ same-length-5. search needs)
     returns-2)

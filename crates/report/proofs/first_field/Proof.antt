@@ -10,21 +10,6 @@ use Rattle.text.proofs.Writing.{reworded}
 use Rattle.report.proofs.first_field.Statement.{statement}
 use Rattle.report.proofs.first_field.Tie as tie
 
-slice-aggregate-number-field : tie.Need-slice-aggregate-number-field
-slice-aggregate-number-field c = search needs
-
-number-field-requires : tie.Need-number-field-requires
-number-field-requires c κs = search needs
-
-slice-aggregate-put : tie.Need-slice-aggregate-put
-slice-aggregate-put c = search needs
-
-put-requires : tie.Need-put-requires
-put-requires c κs = search needs
-
-same-length : tie.Need-same-length
-same-length c = search needs
-
 returns : tie.Need-returns
 unfolding firstOutside
 returns c =
@@ -33,9 +18,6 @@ returns c =
           (c .before .before .number-field .ensures .0),
       omega arith,
     )
-
-same-length-2 : tie.Need-same-length-2
-same-length-2 c = search needs
 
 returns-2 : tie.Need-returns-2
 unfolding firstOutside
@@ -50,11 +32,11 @@ pub first-field-spec : {M : Type 1} → statement M
 first-field-spec =
     tie.close
     (tie.spec
-    slice-aggregate-number-field
-    number-field-requires
-    slice-aggregate-put
-    put-requires
-    same-length
+    (λ slice-aggregate-number-field. search needs)
+    (λ number-field-requires κs. search needs)
+    (λ slice-aggregate-put. search needs)
+    (λ put-requires κs. search needs)
+    (λ same-length. search needs)
     returns
-    same-length-2
+    (λ same-length-2. search needs)
     returns-2)

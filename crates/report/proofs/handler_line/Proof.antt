@@ -7,51 +7,6 @@ use Rattle.text.proofs.Writing.{then, wrote-length}
 use Rattle.report.proofs.handler_line.Statement.{statement}
 use Rattle.report.proofs.handler_line.Tie as tie
 
-slice-aggregate-number-field : tie.Need-slice-aggregate-number-field
-slice-aggregate-number-field c = search needs
-
-number-field-requires : tie.Need-number-field-requires
-number-field-requires c κs = search needs
-
-slice-aggregate-number-field-2 : tie.Need-slice-aggregate-number-field-2
-slice-aggregate-number-field-2 c = search needs
-
-number-field-requires-2 : tie.Need-number-field-requires-2
-number-field-requires-2 c κs = search needs
-
-slice-aggregate-word-field : tie.Need-slice-aggregate-word-field
-slice-aggregate-word-field c = search needs
-
-slice-aggregate-word-field-2 : tie.Need-slice-aggregate-word-field-2
-slice-aggregate-word-field-2 c = search needs
-
-slice-aggregate-word-field-3 : tie.Need-slice-aggregate-word-field-3
-slice-aggregate-word-field-3 c = search needs
-
-word-field-requires : tie.Need-word-field-requires
-word-field-requires c κs = search needs
-
-slice-aggregate-word-field-4 : tie.Need-slice-aggregate-word-field-4
-slice-aggregate-word-field-4 c = search needs
-
-slice-aggregate-word-field-5 : tie.Need-slice-aggregate-word-field-5
-slice-aggregate-word-field-5 c = search needs
-
-slice-aggregate-word-field-6 : tie.Need-slice-aggregate-word-field-6
-slice-aggregate-word-field-6 c = search needs
-
-word-field-requires-2 : tie.Need-word-field-requires-2
-word-field-requires-2 c κs = search needs
-
-slice-aggregate-set-field : tie.Need-slice-aggregate-set-field
-slice-aggregate-set-field c = search needs
-
-set-field-requires : tie.Need-set-field-requires
-set-field-requires c κs = search needs
-
-slice-aggregate-put : tie.Need-slice-aggregate-put
-slice-aggregate-put c = search needs
-
 put-requires : tie.Need-put-requires
 put-requires c κs =
     let at-set-field = c .before .before .before .before in
@@ -98,21 +53,21 @@ pub handler-line-spec : {M : Type 1} → statement M
 handler-line-spec =
     tie.close
     (tie.spec
-    slice-aggregate-number-field
-    number-field-requires
-    slice-aggregate-number-field-2
-    number-field-requires-2
-    slice-aggregate-word-field
-    slice-aggregate-word-field-2
-    slice-aggregate-word-field-3
-    word-field-requires
-    slice-aggregate-word-field-4
-    slice-aggregate-word-field-5
-    slice-aggregate-word-field-6
-    word-field-requires-2
-    slice-aggregate-set-field
-    set-field-requires
-    slice-aggregate-put
+    (λ slice-aggregate-number-field. search needs)
+    (λ number-field-requires κs. search needs)
+    (λ slice-aggregate-number-field-2. search needs)
+    (λ number-field-requires-2 κs. search needs)
+    (λ slice-aggregate-word-field. search needs)
+    (λ slice-aggregate-word-field-2. search needs)
+    (λ slice-aggregate-word-field-3. search needs)
+    (λ word-field-requires κs. search needs)
+    (λ slice-aggregate-word-field-4. search needs)
+    (λ slice-aggregate-word-field-5. search needs)
+    (λ slice-aggregate-word-field-6. search needs)
+    (λ word-field-requires-2 κs. search needs)
+    (λ slice-aggregate-set-field. search needs)
+    (λ set-field-requires κs. search needs)
+    (λ slice-aggregate-put. search needs)
     put-requires
     same-length
     returns)

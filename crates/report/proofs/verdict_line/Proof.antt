@@ -6,48 +6,6 @@ use Rattle.text.proofs.Writing.{then}
 use Rattle.report.proofs.verdict_line.Statement.{statement}
 use Rattle.report.proofs.verdict_line.Tie as tie
 
-slice-aggregate-set-field : tie.Need-slice-aggregate-set-field
-slice-aggregate-set-field c = search needs
-
-set-field-requires : tie.Need-set-field-requires
-set-field-requires c κs = search needs
-
-slice-aggregate-set-field-2 : tie.Need-slice-aggregate-set-field-2
-slice-aggregate-set-field-2 c = search needs
-
-set-field-requires-2 : tie.Need-set-field-requires-2
-set-field-requires-2 c κs = search needs
-
-slice-aggregate-word-field : tie.Need-slice-aggregate-word-field
-slice-aggregate-word-field c = search needs
-
-slice-aggregate-word-field-2 : tie.Need-slice-aggregate-word-field-2
-slice-aggregate-word-field-2 c = search needs
-
-slice-aggregate-word-field-3 : tie.Need-slice-aggregate-word-field-3
-slice-aggregate-word-field-3 c = search needs
-
-word-field-requires : tie.Need-word-field-requires
-word-field-requires c κs = search needs
-
-first-field-requires : tie.Need-first-field-requires
-first-field-requires c κs = search needs
-
-slice-aggregate-number-field : tie.Need-slice-aggregate-number-field
-slice-aggregate-number-field c = search needs
-
-number-field-requires : tie.Need-number-field-requires
-number-field-requires c κs = search needs
-
-slice-aggregate-put : tie.Need-slice-aggregate-put
-slice-aggregate-put c = search needs
-
-put-requires : tie.Need-put-requires
-put-requires c κs = search needs
-
-same-length : tie.Need-same-length
-same-length c = search needs
-
 returns : tie.Need-returns
 unfolding verdictLine
 returns c =
@@ -69,18 +27,18 @@ pub verdict-line-spec : {M : Type 1} → statement M
 verdict-line-spec =
     tie.close
     (tie.spec
-    slice-aggregate-set-field
-    set-field-requires
-    slice-aggregate-set-field-2
-    set-field-requires-2
-    slice-aggregate-word-field
-    slice-aggregate-word-field-2
-    slice-aggregate-word-field-3
-    word-field-requires
-    first-field-requires
-    slice-aggregate-number-field
-    number-field-requires
-    slice-aggregate-put
-    put-requires
-    same-length
+    (λ slice-aggregate-set-field. search needs)
+    (λ set-field-requires κs. search needs)
+    (λ slice-aggregate-set-field-2. search needs)
+    (λ set-field-requires-2 κs. search needs)
+    (λ slice-aggregate-word-field. search needs)
+    (λ slice-aggregate-word-field-2. search needs)
+    (λ slice-aggregate-word-field-3. search needs)
+    (λ word-field-requires κs. search needs)
+    (λ first-field-requires κs. search needs)
+    (λ slice-aggregate-number-field. search needs)
+    (λ number-field-requires κs. search needs)
+    (λ slice-aggregate-put. search needs)
+    (λ put-requires κs. search needs)
+    (λ same-length. search needs)
     returns)

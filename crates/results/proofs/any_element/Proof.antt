@@ -6,14 +6,11 @@ use borrow.Author.Needs.{needs}
 use Rattle.results.proofs.any_element.Statement.{statement}
 use Rattle.results.proofs.any_element.Tie as tie
 
-any-digit-requires : tie.Need-any-digit-requires
-any-digit-requires c κs = search needs
-
 returns : tie.Need-returns
 returns c = sym (nonzero-first _ _ (c .if1 .taken))
 
 returns-2 : tie.Need-returns-2
-returns-2 c = c .any-digit .ensures ∙ sym (nonzero-rest _ _ (c .before .if1 .left))
+returns-2 c = c .some .ensures ∙ sym (nonzero-rest _ _ (c .before .if1 .left))
 
 pub any-element-spec : {M : Type 1} → statement M
-any-element-spec = tie.close (tie.spec any-digit-requires returns returns-2)
+any-element-spec = tie.close (tie.spec (λ c κs. search needs) returns returns-2)

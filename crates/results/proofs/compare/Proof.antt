@@ -25,25 +25,13 @@ module _ (xs ys : List ℕ) where
   unfolding equalMask
   both e f = rw (e, f, equalMask)
 
-any-element-requires : tie.Need-any-element-requires
-any-element-requires c κs = search needs
-
 returns : tie.Need-returns
 returns c = no-left _ _ (sym (c .before .any-element .ensures) ∙ not-true _ (c .if1 .taken))
-
-any-element-requires-2 : tie.Need-any-element-requires-2
-any-element-requires-2 c κs = search needs
 
 returns-2 : tie.Need-returns-2
 returns-2 c =
     no-right _ _ (sym (c .before .before .before .any-element .ensures) ∙ not-false _ (c .before .before .if1 .left))
     (sym (c .before .any-element2 .ensures) ∙ not-true _ (c .if2 .taken))
-
-same-bits-requires : tie.Need-same-bits-requires
-same-bits-requires c κs = search needs
-
-differ-bits-requires : tie.Need-differ-bits-requires
-differ-bits-requires c κs = search needs
 
 returns-3 : tie.Need-returns-3
 returns-3 c =
@@ -55,10 +43,10 @@ pub compare-spec : {M : Type 1} → statement M
 compare-spec =
     tie.close
     (tie.spec
-    any-element-requires
+    (λ any-element-requires κs. search needs)
     returns
-    any-element-requires-2
+    (λ any-element-requires-2 κs. search needs)
     returns-2
-    same-bits-requires
-    differ-bits-requires
+    (λ same-bits-requires κs. search needs)
+    (λ differ-bits-requires κs. search needs)
     returns-3)

@@ -13,18 +13,6 @@ use Rattle.results.proofs.constant_bit.Tie as tie
 arm : (k v : Constant) → k ≡ v → 2 ^ constantElement v ≡ 2 ^ constantElement k
 arm k v e = ap (λ (x : Constant). 2 ^ constantElement x) (sym e)
 
-enum-told : tie.Need-enum-told
-enum-told c = search needs
-
-enum-told-2 : tie.Need-enum-told-2
-enum-told-2 c = search needs
-
-enum-told-3 : tie.Need-enum-told-3
-enum-told-3 c = search needs
-
-enum-told-4 : tie.Need-enum-told-4
-enum-told-4 c = search needs
-
 returns : tie.Need-returns
 unfolding constantElement constantNumber
 returns c = arm _ constants.Undefined (c .enum-told .given .1)
@@ -44,4 +32,4 @@ returns-4 c = arm _ constants.False (c .enum-told4 .given .1)
 pub constant-bit-spec : {M : Type 1} → statement M
 constant-bit-spec =
     tie.close
-    (tie.spec enum-told enum-told-2 enum-told-3 enum-told-4 returns returns-2 returns-3 returns-4)
+    (tie.spec (λ enum-told. search needs) (λ enum-told-2. search needs) (λ enum-told-3. search needs) (λ enum-told-4. search needs) returns returns-2 returns-3 returns-4)

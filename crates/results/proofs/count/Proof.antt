@@ -21,12 +21,6 @@ abbrev μ-loop : tie.MeasureT-loop
 loop-holds : tie.Need-loop-holds Inv-loop μ-loop
 loop-holds c = omega arith
 
-mul-n : tie.Need-mul-n Inv-loop μ-loop
-mul-n c = search needs
-
-shared-slice-read-n : tie.Need-shared-slice-read-n Inv-loop μ-loop
-shared-slice-read-n c = search needs
-
 counted : (c : tie.After-shared-slice-known Inv-loop μ-loop)
     → c .before .before .loop .n + ones (getD (c .before .before .before .args .words .now) (c .before .before .loop .i) 0) + facts (drop (c .before .before .loop .i + 1) (c .before .before .before .args .words .now))
     ≡ facts (c .before .before .before .args .words .now)
@@ -36,12 +30,6 @@ counted c =
 
 add-n : tie.Need-add-n Inv-loop μ-loop
 add-n c = omega (arith, counted c, facts-most (c .before .before .before .args .words .now))
-
-add-i : tie.Need-add-i Inv-loop μ-loop
-add-i c = search needs
-
-loop-less : tie.Need-loop-less Inv-loop μ-loop
-loop-less c = search needs
 
 loop-again : tie.Need-loop-again Inv-loop μ-loop
 loop-again c = counted c
@@ -56,10 +44,10 @@ count-spec =
     Inv-loop
     μ-loop
     loop-holds
-    mul-n
-    shared-slice-read-n
+    (λ mul-n. search needs)
+    (λ shared-slice-read-n. search needs)
     add-n
-    add-i
-    loop-less
+    (λ add-i. search needs)
+    (λ loop-less. search needs)
     loop-again
     returns)

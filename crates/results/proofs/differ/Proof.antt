@@ -61,15 +61,9 @@ returns c = many _ _ _ _ (c .if1 .taken)
 returns-2 : tie.Need-returns-2
 returns-2 c = first _ _ _ _ (c .before .if1 .left) (c .if2 .taken)
 
-alike-requires : tie.Need-alike-requires
-alike-requires c κs = search needs
-
 returns-3 : tie.Need-returns-3
 returns-3 c =
     second _ _ _ _ (c .before .before .before .if1 .left) (c .before .before .if2 .left) (sym (c .before .alike .ensures) ∙ not-true _ (c .if3 .taken))
-
-count-requires : tie.Need-count-requires
-count-requires c κs = search needs
 
 add-result : tie.Need-add-result
 add-result c =
@@ -85,4 +79,4 @@ returns-4 c =
 pub differ-spec : {M : Type 1} → statement M
 differ-spec =
     tie.close
-    (tie.spec returns returns-2 alike-requires returns-3 count-requires add-result returns-4)
+    (tie.spec returns returns-2 (λ alike-requires κs. search needs) returns-3 (λ count-requires κs. search needs) add-result returns-4)

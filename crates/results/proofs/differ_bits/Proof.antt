@@ -18,9 +18,6 @@ module _ (xs ys : List ℕ) where
   unfolding apartMask
   no-bits e = rw (e, apartMask)
 
-differ-requires : tie.Need-differ-requires
-differ-requires c κs = search needs
-
 returns : tie.Need-returns
 returns c = yes-bits _ _ (sym (c .before .differ .ensures) ∙ c .if1 .taken)
 
@@ -28,4 +25,4 @@ returns-2 : tie.Need-returns-2
 returns-2 c = no-bits _ _ (sym (c .before .differ .ensures) ∙ c .if1 .left)
 
 pub differ-bits-spec : {M : Type 1} → statement M
-differ-bits-spec = tie.close (tie.spec differ-requires returns returns-2)
+differ-bits-spec = tie.close (tie.spec (λ differ-requires κs. search needs) returns returns-2)

@@ -11,11 +11,8 @@ use Rattle.results.proofs.digit.Tie as tie
 small : (i : ℕ) → i < 32 → 1 * 2 ^ i < 2 ^ 32
 small i h = rw one-mul (pow-lt h)
 
-shl-result : tie.Need-shl-result
-shl-result c = search needs
-
 returns : tie.Need-returns
 returns c = mod-eq-of-lt (small _ (c .pre)) ∙ one-mul _
 
 pub digit-spec : {M : Type 1} → statement M
-digit-spec = tie.close (tie.spec shl-result returns)
+digit-spec = tie.close (tie.spec (λ shl-result. search needs) returns)

@@ -5,12 +5,9 @@ use borrow.Author.Needs.{needs}
 use Rattle.results.proofs.has_digit.Statement.{statement}
 use Rattle.results.proofs.has_digit.Tie as tie
 
-shr-result : tie.Need-shr-result
-shr-result c = search needs
-
 returns : tie.Need-returns
 unfolding member
 returns c = search needs
 
 pub has-digit-spec : {M : Type 1} → statement M
-has-digit-spec = tie.close (tie.spec shr-result returns)
+has-digit-spec = tie.close (tie.spec (λ shr-result. search needs) returns)

@@ -16,24 +16,6 @@ module _ (xs ys : List ℕ) where
   arm : (o v : Operation) → o ≡ v → operationMask v xs ys ≡ operationMask o xs ys
   arm o v e = ap (λ (x : Operation). operationMask x xs ys) (sym e)
 
-enum-told : tie.Need-enum-told
-enum-told c = search needs
-
-signs-requires : tie.Need-signs-requires
-signs-requires c κs = search needs
-
-enum-told-2 : tie.Need-enum-told-2
-enum-told-2 c = search needs
-
-signs-requires-2 : tie.Need-signs-requires-2
-signs-requires-2 c κs = search needs
-
-enum-told-3 : tie.Need-enum-told-3
-enum-told-3 c = search needs
-
-compare-requires : tie.Need-compare-requires
-compare-requires c κs = search needs
-
 returns : tie.Need-returns
 unfolding operationMask signTable
 returns c = c .signs .ensures ∙ arm _ _ _ operations.Add (c .before .enum-told .given .1)
@@ -50,12 +32,12 @@ pub operate-spec : {M : Type 1} → statement M
 operate-spec =
     tie.close
     (tie.spec
-    enum-told
-    signs-requires
-    enum-told-2
-    signs-requires-2
-    enum-told-3
-    compare-requires
+    (λ enum-told. search needs)
+    (λ signs-requires κs. search needs)
+    (λ enum-told-2. search needs)
+    (λ signs-requires-2 κs. search needs)
+    (λ enum-told-3. search needs)
+    (λ compare-requires κs. search needs)
     returns
     returns-2
     returns-3)

@@ -9,57 +9,6 @@ use borrow.Author.Needs.{needs}
 use Rattle.results.proofs.operate_at.Statement.{statement}
 use Rattle.results.proofs.operate_at.Tie as tie
 
-add-a : tie.Need-add-a
-add-a c = search needs
-
-add-b : tie.Need-add-b
-add-b c = search needs
-
-add-d : tie.Need-add-d
-add-d c = search needs
-
-add-e : tie.Need-add-e
-add-e c = search needs
-
-mul-operate : tie.Need-mul-operate
-mul-operate c = search needs
-
-shared-slice-read-operate : tie.Need-shared-slice-read-operate
-shared-slice-read-operate c = search needs
-
-mul-operate-2 : tie.Need-mul-operate-2
-mul-operate-2 c = search needs
-
-shared-slice-read-operate-2 : tie.Need-shared-slice-read-operate-2
-shared-slice-read-operate-2 c = search needs
-
-mul-operate-3 : tie.Need-mul-operate-3
-mul-operate-3 c = search needs
-
-sub-operate : tie.Need-sub-operate
-sub-operate c = search needs
-
-part-operate-start : tie.Need-part-operate-start
-part-operate-start c = search needs
-
-part-operate-end : tie.Need-part-operate-end
-part-operate-end c = search needs
-
-mul-operate-4 : tie.Need-mul-operate-4
-mul-operate-4 c = search needs
-
-sub-operate-2 : tie.Need-sub-operate-2
-sub-operate-2 c = search needs
-
-part-operate-start-2 : tie.Need-part-operate-start-2
-part-operate-start-2 c = search needs
-
-part-operate-end-2 : tie.Need-part-operate-end-2
-part-operate-end-2 c = search needs
-
-operate-requires : tie.Need-operate-requires
-operate-requires c κs = search needs
-
 returns : tie.Need-returns
 returns c =
     let s = c .before .before .before .before .before .before in
@@ -72,21 +21,21 @@ pub operate-at-spec : {M : Type 1} → statement M
 operate-at-spec =
     tie.close
     (tie.spec
-    add-a
-    add-b
-    add-d
-    add-e
-    mul-operate
-    shared-slice-read-operate
-    mul-operate-2
-    shared-slice-read-operate-2
-    mul-operate-3
-    sub-operate
-    part-operate-start
-    part-operate-end
-    mul-operate-4
-    sub-operate-2
-    part-operate-start-2
-    part-operate-end-2
-    operate-requires
+    (λ add-a. search needs)
+    (λ add-b. search needs)
+    (λ add-d. search needs)
+    (λ add-e. search needs)
+    (λ mul-operate. search needs)
+    (λ shared-slice-read-operate. search needs)
+    (λ mul-operate-2. search needs)
+    (λ shared-slice-read-operate-2. search needs)
+    (λ mul-operate-3. search needs)
+    (λ sub-operate. search needs)
+    (λ part-operate-start. search needs)
+    (λ part-operate-end. search needs)
+    (λ mul-operate-4. search needs)
+    (λ sub-operate-2. search needs)
+    (λ part-operate-start-2. search needs)
+    (λ part-operate-end-2. search needs)
+    (λ operate-requires κs. search needs)
     returns)

@@ -35,9 +35,6 @@ module _ (x y : ℕ) (a d : List ℕ) where
 returns : tie.Need-returns
 returns c = first _ _ _ _ (c .if1 .taken)
 
-any-requires : tie.Need-any-requires
-any-requires c κs = search needs
-
 returns-2 : tie.Need-returns-2
 returns-2 c =
     yes-bits _ _ (rest _ _ _ _ (c .before .before .if1 .left) ∙ sym (c .before .any .ensures ∙ meets-nonzero _ _) ∙ c .if2 .taken)
@@ -47,4 +44,4 @@ returns-3 c =
     no-bits _ _ (rest _ _ _ _ (c .before .before .if1 .left) ∙ sym (c .before .any .ensures ∙ meets-nonzero _ _) ∙ c .if2 .left)
 
 pub same-bits-spec : {M : Type 1} → statement M
-same-bits-spec = tie.close (tie.spec returns any-requires returns-2 returns-3)
+same-bits-spec = tie.close (tie.spec returns (λ any-requires κs. search needs) returns-2 returns-3)

@@ -26,34 +26,13 @@ module _ (t : List ℕ) (a d k : ℕ) where
   unfolding signEntry
   both e f = rw (e, f, signEntry)
 
-add-has-digit : tie.Need-add-has-digit
-add-has-digit c = search needs
-
-cast-has-digit : tie.Need-cast-has-digit
-cast-has-digit c = search needs
-
-has-digit-requires : tie.Need-has-digit-requires
-has-digit-requires c κs = search needs
-
 returns : tie.Need-returns
 returns c = no-first _ _ _ _ (sym (c .before .has-digit .ensures) ∙ not-true _ (c .if1 .taken))
-
-add-has-digit-2 : tie.Need-add-has-digit-2
-add-has-digit-2 c = search needs
-
-cast-has-digit-2 : tie.Need-cast-has-digit-2
-cast-has-digit-2 c = search needs
-
-has-digit-requires-2 : tie.Need-has-digit-requires-2
-has-digit-requires-2 c κs = search needs
 
 returns-2 : tie.Need-returns-2
 returns-2 c =
     no-second _ _ _ _ (sym (c .before .before .before .has-digit .ensures) ∙ not-false _ (c .before .before .if1 .left))
     (sym (c .before .has-digit2 .ensures) ∙ not-true _ (c .if2 .taken))
-
-sign-result-requires : tie.Need-sign-result-requires
-sign-result-requires c κs = search needs
 
 returns-3 : tie.Need-returns-3
 returns-3 c =
@@ -65,13 +44,13 @@ pub sign-entry-spec : {M : Type 1} → statement M
 sign-entry-spec =
     tie.close
     (tie.spec
-    add-has-digit
-    cast-has-digit
-    has-digit-requires
+    (λ add-has-digit. search needs)
+    (λ cast-has-digit. search needs)
+    (λ has-digit-requires κs. search needs)
     returns
-    add-has-digit-2
-    cast-has-digit-2
-    has-digit-requires-2
+    (λ add-has-digit-2. search needs)
+    (λ cast-has-digit-2. search needs)
+    (λ has-digit-requires-2 κs. search needs)
     returns-2
-    sign-result-requires
+    (λ sign-result-requires κs. search needs)
     returns-3)

@@ -61,30 +61,12 @@ module _ (x y : ℕ) where
     opposite : (x ≡ 1 → ⊥) → (y ≡ 1 → ⊥) → 112 ≡ formula true x y
     opposite m k = rw (ne-eqb x y n, ne-eqb x 1 m, ne-eqb y 1 k, formula)
 
-cast-result : tie.Need-cast-result
-cast-result c = search needs
-
-shl-result : tie.Need-shl-result
-shl-result c = search needs
-
 returns : tie.Need-returns
 returns c = stays _ _ (c .if2 .taken) ∙ entry _ true _ (c .before .before .pre) (c .before .if1 .taken)
-
-cast-result-2 : tie.Need-cast-result-2
-cast-result-2 c = search needs
-
-shl-result-2 : tie.Need-shl-result-2
-shl-result-2 c = search needs
 
 returns-2 : tie.Need-returns-2
 returns-2 c =
     first-zero _ _ (c .before .if2 .left) (c .if3 .taken) ∙ entry _ true _ (c .before .before .before .pre) (c .before .before .if1 .taken)
-
-cast-result-3 : tie.Need-cast-result-3
-cast-result-3 c = search needs
-
-shl-result-3 : tie.Need-shl-result-3
-shl-result-3 c = search needs
 
 returns-3 : tie.Need-returns-3
 returns-3 c =
@@ -112,14 +94,14 @@ pub sign-result-spec : {M : Type 1} → statement M
 sign-result-spec =
     tie.close
     (tie.spec
-    cast-result
-    shl-result
+    (λ cast-result. search needs)
+    (λ shl-result. search needs)
     returns
-    cast-result-2
-    shl-result-2
+    (λ cast-result-2. search needs)
+    (λ shl-result-2. search needs)
     returns-2
-    cast-result-3
-    shl-result-3
+    (λ cast-result-3. search needs)
+    (λ shl-result-3. search needs)
     returns-3
     returns-4
     returns-5

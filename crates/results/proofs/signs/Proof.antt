@@ -29,15 +29,6 @@ abbrev μ-loop : tie.MeasureT-loop
 loop-holds : tie.Need-loop-holds Inv-loop μ-loop
 loop-holds c = (search needs, none _ _ _)
 
-sign-entry-requires : tie.Need-sign-entry-requires Inv-loop μ-loop
-sign-entry-requires c κs = search needs
-
-add-i : tie.Need-add-i Inv-loop μ-loop
-add-i c = search needs
-
-loop-less : tie.Need-loop-less Inv-loop μ-loop
-loop-less c = search needs
-
 loop-again : tie.Need-loop-again Inv-loop μ-loop
 loop-again c =
     let l = c .before .before .loop in
@@ -52,4 +43,4 @@ returns c =
 pub signs-spec : {M : Type 1} → statement M
 signs-spec =
     tie.close
-    (tie.spec Inv-loop μ-loop loop-holds sign-entry-requires add-i loop-less loop-again returns)
+    (tie.spec Inv-loop μ-loop loop-holds (λ sign-entry-requires κs. search needs) (λ add-i. search needs) (λ loop-less. search needs) loop-again returns)

@@ -7,29 +7,11 @@ use borrow.Author.Needs.{needs}
 use Rattle.senders.proofs.put_all.Statement.{statement}
 use Rattle.senders.proofs.put_all.Tie as tie
 
-put-senders-requires : tie.Need-put-senders-requires
-put-senders-requires c κs = search needs
-
-put-opponent-requires : tie.Need-put-opponent-requires
-put-opponent-requires c κs = search needs
-
-slice-aggregate-put-room : tie.Need-slice-aggregate-put-room
-slice-aggregate-put-room c = search needs
-
-put-room-requires : tie.Need-put-room-requires
-put-room-requires c κs = search needs
-
-same-length : tie.Need-same-length
-same-length c = search needs
-
 returns : tie.Need-returns
 unfolding senders
 returns c =
     let f = c .before .before .before .before .before .before .before .before .before .before .before .before .put-senders .ensures in let g = c .before .before .before .before .before .before .before .before .put-opponent .ensures in let r = c .before .before .put-room .ensures in
     (added-nobody (added-then (f .0) (g .0)) (c .before .before .before .before .before .if1 .taken) r, omega (arith, r .ends))
-
-same-length-2 : tie.Need-same-length-2
-same-length-2 c = search needs
 
 returns-2 : tie.Need-returns-2
 unfolding senders
@@ -41,11 +23,11 @@ pub put-all-spec : {M : Type 1} → statement M
 put-all-spec =
     tie.close
     (tie.spec
-    put-senders-requires
-    put-opponent-requires
-    slice-aggregate-put-room
-    put-room-requires
-    same-length
+    (λ put-senders-requires κs. search needs)
+    (λ put-opponent-requires κs. search needs)
+    (λ slice-aggregate-put-room. search needs)
+    (λ put-room-requires κs. search needs)
+    (λ same-length. search needs)
     returns
-    same-length-2
+    (λ same-length-2. search needs)
     returns-2)

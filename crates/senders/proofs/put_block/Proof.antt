@@ -7,21 +7,6 @@ use borrow.Author.Needs.{needs}
 use Rattle.senders.proofs.put_block.Statement.{statement}
 use Rattle.senders.proofs.put_block.Tie as tie
 
-mul-kind-of : tie.Need-mul-kind-of
-mul-kind-of c = search needs
-
-shared-slice-read-kind-of : tie.Need-shared-slice-read-kind-of
-shared-slice-read-kind-of c = search needs
-
-kind-of-requires : tie.Need-kind-of-requires
-kind-of-requires c κs = search needs
-
-put-line-requires : tie.Need-put-line-requires
-put-line-requires c κs = search needs
-
-same-length : tie.Need-same-length
-same-length c = search needs
-
 returns : tie.Need-returns
 returns c =
     let a = c .before .before .before .before .before .before .before .before .before .before .args in let r = c .before .before .put-line .ensures in
@@ -36,10 +21,10 @@ pub put-block-spec : {M : Type 1} → statement M
 put-block-spec =
     tie.close
     (tie.spec
-    mul-kind-of
-    shared-slice-read-kind-of
-    kind-of-requires
-    put-line-requires
-    same-length
+    (λ mul-kind-of. search needs)
+    (λ shared-slice-read-kind-of. search needs)
+    (λ kind-of-requires κs. search needs)
+    (λ put-line-requires κs. search needs)
+    (λ same-length. search needs)
     returns
     returns-2)

@@ -10,48 +10,6 @@ use borrow.Author.Needs.{needs}
 use Rattle.senders.proofs.put_line.Statement.{statement}
 use Rattle.senders.proofs.put_line.Tie as tie
 
-mul-argument-of : tie.Need-mul-argument-of
-mul-argument-of c = search needs
-
-shared-slice-read-argument-of : tie.Need-shared-slice-read-argument-of
-shared-slice-read-argument-of c = search needs
-
-argument-of-requires : tie.Need-argument-of-requires
-argument-of-requires c κs = search needs
-
-slice-aggregate-add-number : tie.Need-slice-aggregate-add-number
-slice-aggregate-add-number c = search needs
-
-add-number-requires : tie.Need-add-number-requires
-add-number-requires c κs = search needs
-
-slice-aggregate-add-number-2 : tie.Need-slice-aggregate-add-number-2
-slice-aggregate-add-number-2 c = search needs
-
-cast-add-number : tie.Need-cast-add-number
-cast-add-number c = search needs
-
-add-number-requires-2 : tie.Need-add-number-requires-2
-add-number-requires-2 c κs = search needs
-
-slice-aggregate-put-room : tie.Need-slice-aggregate-put-room
-slice-aggregate-put-room c = search needs
-
-put-room-requires : tie.Need-put-room-requires
-put-room-requires c κs = search needs
-
-put-all-requires : tie.Need-put-all-requires
-put-all-requires c κs = search needs
-
-slice-aggregate-put-room-2 : tie.Need-slice-aggregate-put-room-2
-slice-aggregate-put-room-2 c = search needs
-
-put-room-requires-2 : tie.Need-put-room-requires-2
-put-room-requires-2 c κs = search needs
-
-same-length : tie.Need-same-length
-same-length c = search needs
-
 returns : tie.Need-returns
 unfolding line
 returns c =
@@ -63,18 +21,18 @@ pub put-line-spec : {M : Type 1} → statement M
 put-line-spec =
     tie.close
     (tie.spec
-    mul-argument-of
-    shared-slice-read-argument-of
-    argument-of-requires
-    slice-aggregate-add-number
-    add-number-requires
-    slice-aggregate-add-number-2
-    cast-add-number
-    add-number-requires-2
-    slice-aggregate-put-room
-    put-room-requires
-    put-all-requires
-    slice-aggregate-put-room-2
-    put-room-requires-2
-    same-length
+    (λ mul-argument-of. search needs)
+    (λ shared-slice-read-argument-of. search needs)
+    (λ argument-of-requires κs. search needs)
+    (λ slice-aggregate-add-number. search needs)
+    (λ add-number-requires κs. search needs)
+    (λ slice-aggregate-add-number-2. search needs)
+    (λ cast-add-number. search needs)
+    (λ add-number-requires-2 κs. search needs)
+    (λ slice-aggregate-put-room. search needs)
+    (λ put-room-requires κs. search needs)
+    (λ put-all-requires κs. search needs)
+    (λ slice-aggregate-put-room-2. search needs)
+    (λ put-room-requires-2 κs. search needs)
+    (λ same-length. search needs)
     returns)

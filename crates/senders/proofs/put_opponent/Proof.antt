@@ -7,18 +7,6 @@ use borrow.Author.Needs.{needs}
 use Rattle.senders.proofs.put_opponent.Statement.{statement}
 use Rattle.senders.proofs.put_opponent.Tie as tie
 
-holds-requires : tie.Need-holds-requires
-holds-requires c κs = search needs
-
-slice-aggregate-put-room : tie.Need-slice-aggregate-put-room
-slice-aggregate-put-room c = search needs
-
-put-room-requires : tie.Need-put-room-requires
-put-room-requires c κs = search needs
-
-same-length : tie.Need-same-length
-same-length c = search needs
-
 returns : tie.Need-returns
 returns c =
     let a = c .before .before .before .before .before .before .before .before .before .before .args in let r = c .before .before .put-room .ensures in
@@ -33,9 +21,9 @@ pub put-opponent-spec : {M : Type 1} → statement M
 put-opponent-spec =
     tie.close
     (tie.spec
-    holds-requires
-    slice-aggregate-put-room
-    put-room-requires
-    same-length
+    (λ holds-requires κs. search needs)
+    (λ slice-aggregate-put-room. search needs)
+    (λ put-room-requires κs. search needs)
+    (λ same-length. search needs)
     returns
     returns-2)

@@ -8,22 +8,10 @@ use borrow.Author.Needs.{needs}
 use Rattle.senders.proofs.put_sender.Statement.{statement}
 use Rattle.senders.proofs.put_sender.Tie as tie
 
-mul-kind-of : tie.Need-mul-kind-of
-mul-kind-of c = search needs
-
-shared-slice-read-kind-of : tie.Need-shared-slice-read-kind-of
-shared-slice-read-kind-of c = search needs
-
-kind-of-requires : tie.Need-kind-of-requires
-kind-of-requires c κs = search needs
-
 returns : tie.Need-returns
 returns c =
     let a = c .before .before .before .before .before .before .args in
     (added-as (sym (sender-none (a .words .now) (a .est .now) (a .b) (a .s) (a .position) (λ z. c .if1 .taken (c .before .kind-of .ensures ∙ z)))) (added-nothing _ _), omega arith)
-
-of-requires : tie.Need-of-requires
-of-requires c κs = search needs
 
 -- the plain elements are few
 mul-first : tie.Need-mul-first
@@ -42,15 +30,6 @@ holds-requires c κs =
     let s = c .before .before .before .before .before .before .before .before in
     (s .pre .0, s .pre .1, omega (arith, c .before .of .ensures .lead))
 
-slice-aggregate-add-number : tie.Need-slice-aggregate-add-number
-slice-aggregate-add-number c = search needs
-
-add-number-requires : tie.Need-add-number-requires
-add-number-requires c κs = search needs
-
-same-length : tie.Need-same-length
-same-length c = search needs
-
 returns-2 : tie.Need-returns-2
 returns-2 c =
     let a = c .before .before .before .before .before .before .before .before .before .before .before .before .before .before .before .args in
@@ -68,16 +47,16 @@ pub put-sender-spec : {M : Type 1} → statement M
 put-sender-spec =
     tie.close
     (tie.spec
-    mul-kind-of
-    shared-slice-read-kind-of
-    kind-of-requires
+    (λ mul-kind-of. search needs)
+    (λ shared-slice-read-kind-of. search needs)
+    (λ kind-of-requires κs. search needs)
     returns
-    of-requires
+    (λ of-requires κs. search needs)
     mul-first
     add-holds
     holds-requires
-    slice-aggregate-add-number
-    add-number-requires
-    same-length
+    (λ slice-aggregate-add-number. search needs)
+    (λ add-number-requires κs. search needs)
+    (λ same-length. search needs)
     returns-2
     returns-3)

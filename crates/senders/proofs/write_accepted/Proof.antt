@@ -12,17 +12,8 @@ use borrow.Author.Needs.{needs}
 use Rattle.senders.proofs.write_accepted.Statement.{statement}
 use Rattle.senders.proofs.write_accepted.Tie as tie
 
-slice-relend-prefix-put-blocks : tie.Need-slice-relend-prefix-put-blocks
-slice-relend-prefix-put-blocks c = search needs
-
-slice-aggregate-put-blocks : tie.Need-slice-aggregate-put-blocks
-slice-aggregate-put-blocks c = search needs
-
 put-blocks-requires : tie.Need-put-blocks-requires
 put-blocks-requires c κs = let s = c .before .before .before .before in size-le (s .args .words .now) (s .pre)
-
-same-length : tie.Need-same-length
-same-length c = search needs
 
 returns : tie.Need-returns
 unfolding answered number place written
@@ -35,9 +26,6 @@ returns c =
 put-blocks-requires-2 : tie.Need-put-blocks-requires-2
 put-blocks-requires-2 c κs = let s = c .before .before .before .before .before .before .before .before .before in size-le (s .args .words .now) (s .pre)
 
-same-length-2 : tie.Need-same-length-2
-same-length-2 c = search needs
-
 returns-2 : tie.Need-returns-2
 unfolding answered written
 returns-2 c =
@@ -49,11 +37,11 @@ pub write-accepted-spec : {M : Type 1} → statement M
 write-accepted-spec =
     tie.close
     (tie.spec
-    slice-relend-prefix-put-blocks
-    slice-aggregate-put-blocks
+    (λ slice-relend-prefix-put-blocks. search needs)
+    (λ slice-aggregate-put-blocks. search needs)
     put-blocks-requires
-    same-length
+    (λ same-length. search needs)
     returns
     put-blocks-requires-2
-    same-length-2
+    (λ same-length-2. search needs)
     returns-2)

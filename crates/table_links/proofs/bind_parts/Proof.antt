@@ -20,31 +20,10 @@ Inv-loop links₀ w p binder count at₀ i₀ links at i =
 abbrev μ-loop : tie.MeasureT-loop
 μ-loop links₀ w p binder count at₀ i₀ links at i = count - i
 
-arity-of-requires : tie.Need-arity-of-requires Inv-loop μ-loop
-arity-of-requires c κs = search needs
-
-add-at : tie.Need-add-at Inv-loop μ-loop
-add-at c = search needs
-
 loop-holds : tie.Need-loop-holds Inv-loop μ-loop
 loop-holds c =
     let a = c .before .before .args in
     (refl, ap (λ (q : ℕ). bindParts (a .links .now) (a .p) (a .binder) (parts (a .w)) q) (add-one (a .p)))
-
-link-at-requires : tie.Need-link-at-requires Inv-loop μ-loop
-link-at-requires c κs = search needs
-
-part-binder-requires : tie.Need-part-binder-requires Inv-loop μ-loop
-part-binder-requires c κs = search needs
-
-set-binder-requires : tie.Need-set-binder-requires Inv-loop μ-loop
-set-binder-requires c κs = search needs
-
-add-i : tie.Need-add-i Inv-loop μ-loop
-add-i c = search needs
-
-loop-less : tie.Need-loop-less Inv-loop μ-loop
-loop-less c = search needs
 
 loop-again : tie.Need-loop-again Inv-loop μ-loop
 loop-again c =
@@ -58,9 +37,6 @@ loop-again c =
           ∙ sym (parts-more (l .links) (a .p) (a .binder) (a .w) (l .i) (l .at) inside)
           ∙ l .inv .1,
     )
-
-same-length : tie.Need-same-length Inv-loop μ-loop
-same-length c = search needs
 
 returns : tie.Need-returns Inv-loop μ-loop
 returns c =
@@ -76,14 +52,14 @@ bind-parts-spec =
     (tie.spec
     Inv-loop
     μ-loop
-    arity-of-requires
-    add-at
+    (λ arity-of-requires κs. search needs)
+    (λ add-at. search needs)
     loop-holds
-    link-at-requires
-    part-binder-requires
-    set-binder-requires
-    add-i
-    loop-less
+    (λ link-at-requires κs. search needs)
+    (λ part-binder-requires κs. search needs)
+    (λ set-binder-requires κs. search needs)
+    (λ add-i. search needs)
+    (λ loop-less. search needs)
     loop-again
-    same-length
+    (λ same-length. search needs)
     returns)

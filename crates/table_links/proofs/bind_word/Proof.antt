@@ -25,38 +25,8 @@ module _ (w p : ℕ) (l : List ℕ) where
   unfolding bindWord
   term-word m n = rw (ne-eqb (kind w) 2 m, ne-eqb (kind w) 20 n, bindWord)
 
-kind-of-requires : tie.Need-kind-of-requires
-kind-of-requires c κs = search needs
-
-add-set-binder : tie.Need-add-set-binder
-add-set-binder c = search needs
-
-set-binder-requires : tie.Need-set-binder-requires
-set-binder-requires c κs = search needs
-
-same-length : tie.Need-same-length
-same-length c = search needs
-
 returns : tie.Need-returns
 returns c = c .before .before .set-binder .ensures ∙ sym (block-word _ _ _ (omega arith))
-
-link-at-requires : tie.Need-link-at-requires
-link-at-requires c κs = search needs
-
-argument-of-requires : tie.Need-argument-of-requires
-argument-of-requires c κs = search needs
-
-cast-count-out : tie.Need-cast-count-out
-cast-count-out c = search needs
-
-count-out-requires : tie.Need-count-out-requires
-count-out-requires c κs = search needs
-
-set-binder-requires-2 : tie.Need-set-binder-requires-2
-set-binder-requires-2 c κs = search needs
-
-same-length-2 : tie.Need-same-length-2
-same-length-2 c = search needs
 
 returns-2 : tie.Need-returns-2
 returns-2 c =
@@ -67,12 +37,6 @@ returns-2 c =
     (c .before .before .before .before .count-out .ensures
     ∙ ap₂ (λ (n b : ℕ). outward l n b) (c .before .before .before .before .before .argument-of .ensures) (ap (λ (k : Link). k .binder) (c .before .before .before .before .before .before .before .before .link-at .ensures)))
     ∙ sym (variable-word (a .w) (a .p) l (omega arith))
-
-bind-parts-requires : tie.Need-bind-parts-requires
-bind-parts-requires c κs = search needs
-
-same-length-3 : tie.Need-same-length-3
-same-length-3 c = search needs
 
 returns-3 : tie.Need-returns-3
 returns-3 c =
@@ -86,18 +50,18 @@ pub bind-word-spec : {M : Type 1} → statement M
 bind-word-spec =
     tie.close
     (tie.spec
-    kind-of-requires
-    add-set-binder
-    set-binder-requires
-    same-length
+    (λ kind-of-requires κs. search needs)
+    (λ add-set-binder. search needs)
+    (λ set-binder-requires κs. search needs)
+    (λ same-length. search needs)
     returns
-    link-at-requires
-    argument-of-requires
-    cast-count-out
-    count-out-requires
-    set-binder-requires-2
-    same-length-2
+    (λ link-at-requires κs. search needs)
+    (λ argument-of-requires κs. search needs)
+    (λ cast-count-out. search needs)
+    (λ count-out-requires κs. search needs)
+    (λ set-binder-requires-2 κs. search needs)
+    (λ same-length-2. search needs)
     returns-2
-    bind-parts-requires
-    same-length-3
+    (λ bind-parts-requires κs. search needs)
+    (λ same-length-3. search needs)
     returns-3)

@@ -18,9 +18,6 @@ same-block : (w p h : ℕ) → (kind w ≡ 2 → ⊥) → h ≡ blockAt w p h
 unfolding blockAt
 same-block w p h n = rw (ne-eqb (kind w) 2 n, blockAt)
 
-kind-of-requires : tie.Need-kind-of-requires
-kind-of-requires c κs = search needs
-
 returns : tie.Need-returns
 returns c = new-block _ _ _ (omega arith)
 
@@ -28,4 +25,4 @@ returns-2 : tie.Need-returns-2
 returns-2 c = same-block _ _ _ (λ e. omega arith)
 
 pub block-of-spec : {M : Type 1} → statement M
-block-of-spec = tie.close (tie.spec kind-of-requires returns returns-2)
+block-of-spec = tie.close (tie.spec (λ kind-of-requires κs. search needs) returns returns-2)

@@ -11,26 +11,11 @@ use Rattle.table_links.proofs.item_at.Tie as tie
 returns : tie.Need-returns
 returns c = sym (item-past (c .before .before .args .words .now) _ (c .if1 .taken))
 
-mul-w : tie.Need-mul-w
-mul-w c = search needs
-
-shared-slice-read-w : tie.Need-shared-slice-read-w
-shared-slice-read-w c = search needs
-
-kind-of-requires : tie.Need-kind-of-requires
-kind-of-requires c κs = search needs
-
-handler-at-requires : tie.Need-handler-at-requires
-handler-at-requires c κs = search needs
-
 returns-2 : tie.Need-returns-2
 returns-2 c = ap items.Block (c .handler-at .ensures) ∙ sym (item-block (c .before .before .before .before .before .before .args .words .now) _ (omega arith))
 
 returns-3 : tie.Need-returns-3
 returns-3 c = sym (item-gap (c .before .before .before .before .before .before .args .words .now) _ (λ e. omega arith) (omega arith))
-
-term-of-requires : tie.Need-term-of-requires
-term-of-requires c κs = search needs
 
 returns-4 : tie.Need-returns-4
 returns-4 c = ap items.Term (c .term-of .ensures) ∙ sym (item-term (c .before .before .before .before .before .before .before .args .words .now) _ (omega arith))
@@ -40,11 +25,11 @@ item-at-spec =
     tie.close
     (tie.spec
     returns
-    mul-w
-    shared-slice-read-w
-    kind-of-requires
-    handler-at-requires
+    (λ mul-w. search needs)
+    (λ shared-slice-read-w. search needs)
+    (λ kind-of-requires κs. search needs)
+    (λ handler-at-requires κs. search needs)
     returns-2
     returns-3
-    term-of-requires
+    (λ term-of-requires κs. search needs)
     returns-4)

@@ -33,15 +33,6 @@ returns c = short _ _ (c .if1 .taken)
 returns-2 : tie.Need-returns-2
 returns-2 c = long (c .before .before .before .before .args .words .now) _ (c .if2 .taken)
 
-link-ends-requires : tie.Need-link-ends-requires
-link-ends-requires c κs = search needs
-
-link-binders-requires : tie.Need-link-binders-requires
-link-binders-requires c κs = search needs
-
-same-length : tie.Need-same-length
-same-length c = search needs
-
 returns-3 : tie.Need-returns-3
 returns-3 c =
     let ws = c .before .before .before .before .before .before .before .before .before .before .before .before .args .words .now in
@@ -51,4 +42,4 @@ returns-3 c =
     ∙ both ws l (omega arith) (omega arith)
 
 pub link-spec : {M : Type 1} → statement M
-link-spec = tie.close (tie.spec returns returns-2 link-ends-requires link-binders-requires same-length returns-3)
+link-spec = tie.close (tie.spec returns returns-2 (λ link-ends-requires κs. search needs) (λ link-binders-requires κs. search needs) (λ same-length. search needs) returns-3)

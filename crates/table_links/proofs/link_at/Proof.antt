@@ -5,18 +5,6 @@ use borrow.Author.Needs.{needs}
 use Rattle.table_links.proofs.link_at.Statement.{statement}
 use Rattle.table_links.proofs.link_at.Tie as tie
 
-mul-unpack : tie.Need-mul-unpack
-mul-unpack c = search needs
-
-shared-slice-read-unpack : tie.Need-shared-slice-read-unpack
-shared-slice-read-unpack c = search needs
-
-unpack-requires : tie.Need-unpack-requires
-unpack-requires c κs = search needs
-
-unpack-requires-2 : tie.Need-unpack-requires-2
-unpack-requires-2 c κs = search needs
-
 returns : tie.Need-returns
 unfolding linkAt
 returns c = c .unpack .ensures
@@ -29,9 +17,9 @@ pub link-at-spec : {M : Type 1} → statement M
 link-at-spec =
     tie.close
     (tie.spec
-    mul-unpack
-    shared-slice-read-unpack
-    unpack-requires
-    unpack-requires-2
+    (λ mul-unpack. search needs)
+    (λ shared-slice-read-unpack. search needs)
+    (λ unpack-requires κs. search needs)
+    (λ unpack-requires-2 κs. search needs)
     returns
     returns-2)

@@ -24,27 +24,6 @@ loop-holds c =
     let a = c .before .before .args in
     (refl, search needs, ap (λ (n : ℕ). binders (a .words .now) n 0 0 (a .links .now)) (sub-zero (length (a .words .now))))
 
-mul-w : tie.Need-mul-w Inv-loop μ-loop
-mul-w c = search needs
-
-shared-slice-read-w : tie.Need-shared-slice-read-w Inv-loop μ-loop
-shared-slice-read-w c = search needs
-
-block-of-requires : tie.Need-block-of-requires Inv-loop μ-loop
-block-of-requires c κs = search needs
-
-bind-word-requires : tie.Need-bind-word-requires Inv-loop μ-loop
-bind-word-requires c κs = search needs
-
-set-home-requires : tie.Need-set-home-requires Inv-loop μ-loop
-set-home-requires c κs = search needs
-
-add-p : tie.Need-add-p Inv-loop μ-loop
-add-p c = search needs
-
-loop-less : tie.Need-loop-less Inv-loop μ-loop
-loop-less c = search needs
-
 loop-again : tie.Need-loop-again Inv-loop μ-loop
 loop-again c =
     let l = c .before .before .before .before .before .before .before .before .before .before .before .loop in
@@ -60,9 +39,6 @@ loop-again c =
           ∙ l .inv .2,
     )
 
-same-length : tie.Need-same-length Inv-loop μ-loop
-same-length c = search needs
-
 returns : tie.Need-returns Inv-loop μ-loop
 returns c =
     let l = c .before .loop in
@@ -76,13 +52,13 @@ link-binders-spec =
     Inv-loop
     μ-loop
     loop-holds
-    mul-w
-    shared-slice-read-w
-    block-of-requires
-    bind-word-requires
-    set-home-requires
-    add-p
-    loop-less
+    (λ mul-w. search needs)
+    (λ shared-slice-read-w. search needs)
+    (λ block-of-requires κs. search needs)
+    (λ bind-word-requires κs. search needs)
+    (λ set-home-requires κs. search needs)
+    (λ add-p. search needs)
+    (λ loop-less. search needs)
     loop-again
-    same-length
+    (λ same-length. search needs)
     returns)

@@ -19,33 +19,6 @@ abbrev μ-loop : tie.MeasureT-loop
 loop-holds : tie.Need-loop-holds Inv-loop μ-loop
 loop-holds c = (refl, search needs, refl)
 
-sub-p : tie.Need-sub-p Inv-loop μ-loop
-sub-p c = search needs
-
-mul-arity-of : tie.Need-mul-arity-of Inv-loop μ-loop
-mul-arity-of c = search needs
-
-shared-slice-read-arity-of : tie.Need-shared-slice-read-arity-of Inv-loop μ-loop
-shared-slice-read-arity-of c = search needs
-
-arity-of-requires : tie.Need-arity-of-requires Inv-loop μ-loop
-arity-of-requires c κs = search needs
-
-hop-requires : tie.Need-hop-requires Inv-loop μ-loop
-hop-requires c κs = search needs
-
-pack-requires : tie.Need-pack-requires Inv-loop μ-loop
-pack-requires c κs = search needs
-
-mul-links : tie.Need-mul-links Inv-loop μ-loop
-mul-links c = search needs
-
-slice-write-links : tie.Need-slice-write-links Inv-loop μ-loop
-slice-write-links c = search needs
-
-loop-less : tie.Need-loop-less Inv-loop μ-loop
-loop-less c = search needs
-
 loop-again : tie.Need-loop-again Inv-loop μ-loop
 loop-again c =
     let l = c .before .before .before .before .before .before .loop in
@@ -60,9 +33,6 @@ loop-again c =
           ∙ l .inv .2,
     )
 
-same-length : tie.Need-same-length Inv-loop μ-loop
-same-length c = search needs
-
 returns : tie.Need-returns Inv-loop μ-loop
 returns c = sym (ends-done (c .before .before .before .before .args .words .now) _ _ (c .loop-test .left)) ∙ c .before .loop .inv .2
 
@@ -73,15 +43,15 @@ link-ends-spec =
     Inv-loop
     μ-loop
     loop-holds
-    sub-p
-    mul-arity-of
-    shared-slice-read-arity-of
-    arity-of-requires
-    hop-requires
-    pack-requires
-    mul-links
-    slice-write-links
-    loop-less
+    (λ sub-p. search needs)
+    (λ mul-arity-of. search needs)
+    (λ shared-slice-read-arity-of. search needs)
+    (λ arity-of-requires κs. search needs)
+    (λ hop-requires κs. search needs)
+    (λ pack-requires κs. search needs)
+    (λ mul-links. search needs)
+    (λ slice-write-links. search needs)
+    (λ loop-less. search needs)
     loop-again
-    same-length
+    (λ same-length. search needs)
     returns)

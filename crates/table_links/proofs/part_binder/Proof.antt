@@ -19,9 +19,6 @@ unmarked : (b : Bool) (p q : ℕ) → (mark b ≡ 1 → ⊥) → q ≡ innermost
 unmarked true p q n = absurd (n refl)
 unmarked false p q n = refl
 
-binds-requires : tie.Need-binds-requires
-binds-requires c κs = search needs
-
 returns : tie.Need-returns
 returns c = marked (getD (parts _) _ false) _ _ (sym (c .before .binds .ensures) ∙ c .if1 .taken)
 
@@ -32,6 +29,6 @@ pub part-binder-spec : {M : Type 1} → statement M
 part-binder-spec =
     tie.close
     (tie.spec
-    binds-requires
+    (λ binds-requires κs. search needs)
     returns
     returns-2)

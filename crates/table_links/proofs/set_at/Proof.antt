@@ -6,15 +6,6 @@ use borrow.Author.Needs.{needs}
 use Rattle.table_links.proofs.set_at.Statement.{statement}
 use Rattle.table_links.proofs.set_at.Tie as tie
 
-mul-argument-of : tie.Need-mul-argument-of
-mul-argument-of c = search needs
-
-shared-slice-read-argument-of : tie.Need-shared-slice-read-argument-of
-shared-slice-read-argument-of c = search needs
-
-argument-of-requires : tie.Need-argument-of-requires
-argument-of-requires c κs = search needs
-
 returns : tie.Need-returns
 returns c = ap (λ (n : ℕ). record { bits = n }) (c .argument-of .ensures)
 
@@ -24,4 +15,4 @@ returns-2 c = ap setOf (sym (List·getD-eq-default (c .before .before .args .wor
 pub set-at-spec : {M : Type 1} → statement M
 set-at-spec =
     tie.close
-    (tie.spec mul-argument-of shared-slice-read-argument-of argument-of-requires returns returns-2)
+    (tie.spec (λ mul-argument-of. search needs) (λ shared-slice-read-argument-of. search needs) (λ argument-of-requires κs. search needs) returns returns-2)

@@ -23,21 +23,6 @@ abbrev μ-loop : tie.MeasureT-loop
 loop-holds : tie.Need-loop-holds Inv-loop μ-loop
 loop-holds c = (search needs, refl, rw add-zero (wrote-nothing _ _ (omega arith)))
 
-shared-slice-read-out : tie.Need-shared-slice-read-out Inv-loop μ-loop
-shared-slice-read-out c = search needs
-
-add-out : tie.Need-add-out Inv-loop μ-loop
-add-out c = search needs
-
-slice-write-out : tie.Need-slice-write-out Inv-loop μ-loop
-slice-write-out c = search needs
-
-add-i : tie.Need-add-i Inv-loop μ-loop
-add-i c = search needs
-
-loop-less : tie.Need-loop-less Inv-loop μ-loop
-loop-less c = search needs
-
 loop-again : tie.Need-loop-again Inv-loop μ-loop
 loop-again c =
     let l = c .before .before .loop in
@@ -47,12 +32,6 @@ loop-again c =
       rw (← add-assoc, add-one (l .i), take-suc (a .s .now) (l .i) 0 (c .before .loop-test .taken))
           (then (l .inv .2) (wrote-byte (l .out) (a .at + l .i) (getD (a .s .now) (l .i) 0) (omega arith))),
     )
-
-add-result : tie.Need-add-result Inv-loop μ-loop
-add-result c = search needs
-
-same-length : tie.Need-same-length Inv-loop μ-loop
-same-length c = search needs
 
 returns : tie.Need-returns Inv-loop μ-loop
 returns c = rw (take-all (c .before .loop .i) (now (c .before .before .args .s)) (c .loop-test .left)) at (c .before .loop .inv .2)
@@ -64,12 +43,12 @@ put-spec =
     Inv-loop
     μ-loop
     loop-holds
-    shared-slice-read-out
-    add-out
-    slice-write-out
-    add-i
-    loop-less
+    (λ shared-slice-read-out. search needs)
+    (λ add-out. search needs)
+    (λ slice-write-out. search needs)
+    (λ add-i. search needs)
+    (λ loop-less. search needs)
     loop-again
-    add-result
-    same-length
+    (λ add-result. search needs)
+    (λ same-length. search needs)
     returns)

@@ -6,15 +6,6 @@ use Rattle.text.proofs.Writing.{then}
 use Rattle.text.proofs.set_field.Statement.{statement}
 use Rattle.text.proofs.set_field.Tie as tie
 
-put-requires : tie.Need-put-requires
-put-requires c κs = search needs
-
-numeral-requires : tie.Need-numeral-requires
-numeral-requires c κs = search needs
-
-same-length : tie.Need-same-length
-same-length c = search needs
-
 returns : tie.Need-returns
 unfolding set
 returns c =
@@ -22,4 +13,4 @@ returns c =
     (then (first .put .ensures) (c .before .before .numeral .ensures .0), omega arith)
 
 pub set-field-spec : {M : Type 1} → statement M
-set-field-spec = tie.close (tie.spec put-requires numeral-requires same-length returns)
+set-field-spec = tie.close (tie.spec (λ put-requires κs. search needs) (λ numeral-requires κs. search needs) (λ same-length. search needs) returns)

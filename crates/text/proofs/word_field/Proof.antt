@@ -10,18 +10,6 @@ use Rattle.text.proofs.Writing.{reworded, then}
 use Rattle.text.proofs.word_field.Statement.{statement}
 use Rattle.text.proofs.word_field.Tie as tie
 
-put-requires : tie.Need-put-requires
-put-requires c κs = search needs
-
-put-requires-2 : tie.Need-put-requires-2
-put-requires-2 c κs = search needs
-
-put-requires-3 : tie.Need-put-requires-3
-put-requires-3 c κs = search needs
-
-same-length : tie.Need-same-length
-same-length c = search needs
-
 returns : tie.Need-returns
 returns c =
     let test = c .before .before .before .before in
@@ -30,9 +18,6 @@ returns c =
           (then (test .before .before .before .put .ensures) (c .before .before .put2 .ensures)),
       omega arith,
     )
-
-same-length-2 : tie.Need-same-length-2
-same-length-2 c = search needs
 
 returns-2 : tie.Need-returns-2
 returns-2 c =
@@ -47,10 +32,10 @@ pub word-field-spec : {M : Type 1} → statement M
 word-field-spec =
     tie.close
     (tie.spec
-    put-requires
-    put-requires-2
-    put-requires-3
-    same-length
+    (λ put-requires κs. search needs)
+    (λ put-requires-2 κs. search needs)
+    (λ put-requires-3 κs. search needs)
+    (λ same-length. search needs)
     returns
-    same-length-2
+    (λ same-length-2. search needs)
     returns-2)

@@ -12,15 +12,6 @@ use borrow.Author.Needs.{needs}
 use Rattle.audit.proofs.judge.audit.Statement.{statement}
 use Rattle.audit.proofs.judge.audit.Tie as tie
 
-read-requires : tie.Need-read-requires
-read-requires c κs = search needs
-
-enum-known-r : tie.Need-enum-known-r
-enum-known-r c = search needs
-
-enum-told : tie.Need-enum-told
-enum-told c = search needs
-
 judged-requires : tie.Need-judged-requires
 unfolding outcome
 judged-requires c κs = sym (c .before .before .read .ensures) ∙ ap outcome (c .enum-told .given .1)
@@ -41,4 +32,4 @@ returns-2 c =
 
 pub audit-spec : {M : Type 1} → statement M
 audit-spec =
-    tie.close (tie.spec read-requires enum-known-r enum-told judged-requires returns returns-2)
+    tie.close (tie.spec (λ read-requires κs. search needs) (λ enum-known-r. search needs) (λ enum-told. search needs) judged-requires returns returns-2)

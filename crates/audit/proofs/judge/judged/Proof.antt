@@ -13,12 +13,9 @@ unfolding said
 returns c =
     let a = c .before .before .before .args in high-rho (code (a .words .now)) (a .rho) (a .est .now) (c .if1 .taken)
 
-sized-requires : tie.Need-sized-requires
-sized-requires c κs = search needs
-
 returns-2 : tie.Need-returns-2
 returns-2 c =
     let a = c .before .before .before .before .args in c .sized .ensures ∙ low-rho (code (a .words .now)) (a .rho) (a .est .now) (c .before .if1 .left)
 
 pub judged-spec : {M : Type 1} → statement M
-judged-spec = tie.close (tie.spec returns sized-requires returns-2)
+judged-spec = tie.close (tie.spec returns (λ sized-requires κs. search needs) returns-2)

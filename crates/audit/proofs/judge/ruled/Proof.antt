@@ -8,17 +8,11 @@ use borrow.Author.Needs.{needs}
 use Rattle.audit.proofs.judge.ruled.Statement.{statement}
 use Rattle.audit.proofs.judge.ruled.Tie as tie
 
-broken-requires : tie.Need-broken-requires
-broken-requires c κs = search needs
-
 returns : tie.Need-returns
 unfolding said
 returns c =
     let s = c .before .before .before .before .before .before .before in
     rule-broken (code (s .args .words .now)) (s .args .rho .bits) (s .args .est .now) _ (c .before .before .broken .ensures) (omega (arith, c .if1 .taken, s .pre .0 .laid .size))
-
-leak-requires : tie.Need-leak-requires
-leak-requires c κs = search needs
 
 returns-2 : tie.Need-returns-2
 unfolding said
@@ -28,4 +22,4 @@ returns-2 c =
     (c .leak .ensures)
 
 pub ruled-spec : {M : Type 1} → statement M
-ruled-spec = tie.close (tie.spec broken-requires returns leak-requires returns-2)
+ruled-spec = tie.close (tie.spec (λ broken-requires κs. search needs) returns (λ leak-requires κs. search needs) returns-2)

@@ -9,9 +9,6 @@ use borrow.Author.Needs.{needs}
 use Rattle.audit.proofs.judge.sized.Statement.{statement}
 use Rattle.audit.proofs.judge.sized.Tie as tie
 
-of-requires : tie.Need-of-requires
-of-requires c κs = search needs
-
 words-requires : tie.Need-words-requires
 words-requires c κs =
     let s = c .before .before .before in
@@ -46,4 +43,4 @@ returns-2 c =
     ∙ same-length (code ws) (s .args .rho .bits) (s .args .est .now) (c .before .if1 .left ∙ c .before .before .words .ensures ∙ sym (words-are ws (s .pre) (f .result) o))
 
 pub sized-spec : {M : Type 1} → statement M
-sized-spec = tie.close (tie.spec of-requires words-requires returns swept-requires returns-2)
+sized-spec = tie.close (tie.spec (λ of-requires κs. search needs) words-requires returns swept-requires returns-2)

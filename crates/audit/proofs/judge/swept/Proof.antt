@@ -10,9 +10,6 @@ use borrow.Author.Needs.{needs}
 use Rattle.audit.proofs.judge.swept.Statement.{statement}
 use Rattle.audit.proofs.judge.swept.Tie as tie
 
-first-stray-requires : tie.Need-first-stray-requires
-first-stray-requires c κs = search needs
-
 returns : tie.Need-returns
 unfolding said
 returns c =
@@ -34,4 +31,4 @@ returns-2 c =
     c .with-links .ensures ∙ none-stray (code (s .args .words .now)) (s .args .rho .bits) (s .args .est .now) _ (c .before .before .first-stray .ensures) (c .before .if1 .left)
 
 pub swept-spec : {M : Type 1} → statement M
-swept-spec = tie.close (tie.spec first-stray-requires returns with-links-requires returns-2)
+swept-spec = tie.close (tie.spec (λ first-stray-requires κs. search needs) returns with-links-requires returns-2)

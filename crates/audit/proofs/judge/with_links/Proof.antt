@@ -7,15 +7,6 @@ use borrow.Author.Needs.{needs}
 use Rattle.audit.proofs.judge.with_links.Statement.{statement}
 use Rattle.audit.proofs.judge.with_links.Tie as tie
 
-slice-aggregate-link : tie.Need-slice-aggregate-link
-slice-aggregate-link c = search needs
-
-link-requires : tie.Need-link-requires
-link-requires c κs = search needs
-
-slice-aggregate-with-masks : tie.Need-slice-aggregate-with-masks
-slice-aggregate-with-masks c = search needs
-
 with-masks-requires : tie.Need-with-masks-requires
 with-masks-requires c κs =
     let s = c .before .before .before .before .before .before in (
@@ -28,15 +19,12 @@ with-masks-requires c κs =
       s .pre .1,
     )
 
-returns : tie.Need-returns
-returns c = search needs
-
 pub with-links-spec : {M : Type 1} → statement M
 with-links-spec =
     tie.close
     (tie.spec
-    slice-aggregate-link
-    link-requires
-    slice-aggregate-with-masks
+    (λ slice-aggregate-link. search needs)
+    (λ link-requires κs. search needs)
+    (λ slice-aggregate-with-masks. search needs)
     with-masks-requires
-    returns)
+    (λ returns. search needs))

@@ -7,17 +7,11 @@ use borrow.Author.Needs.{needs}
 use Rattle.audit.proofs.judge.with_masks.Statement.{statement}
 use Rattle.audit.proofs.judge.with_masks.Tie as tie
 
-slice-aggregate-fill-masks : tie.Need-slice-aggregate-fill-masks
-slice-aggregate-fill-masks c = search needs
-
 fill-masks-requires : tie.Need-fill-masks-requires
 fill-masks-requires c κs =
     let s = c .before .before .before .before in
     let b = row-bound (s .args .words .now) (s .pre .0 .readable) in
     ((s .pre .0 .readable, s .pre .0 .laid), (zeros-at 144, (omega (arith, s .pre .0 .laid .row, b), omega arith)))
-
-slice-aggregate-ruled : tie.Need-slice-aggregate-ruled
-slice-aggregate-ruled c = search needs
 
 ruled-requires : tie.Need-ruled-requires
 ruled-requires c κs =
@@ -30,15 +24,12 @@ ruled-requires c κs =
       s .pre .1,
     )
 
-returns : tie.Need-returns
-returns c = search needs
-
 pub with-masks-spec : {M : Type 1} → statement M
 with-masks-spec =
     tie.close
     (tie.spec
-    slice-aggregate-fill-masks
+    (λ slice-aggregate-fill-masks. search needs)
     fill-masks-requires
-    slice-aggregate-ruled
+    (λ slice-aggregate-ruled. search needs)
     ruled-requires
-    returns)
+    (λ returns. search needs))

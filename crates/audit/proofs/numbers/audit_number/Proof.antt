@@ -6,27 +6,6 @@ use borrow.Author.Needs.{needs}
 use Rattle.audit.proofs.numbers.audit_number.Statement.{statement}
 use Rattle.audit.proofs.numbers.audit_number.Tie as tie
 
-enum-known-a : tie.Need-enum-known-a
-enum-known-a c = search needs
-
-refusal-number-requires : tie.Need-refusal-number-requires
-refusal-number-requires c κs = search needs
-
-enum-told : tie.Need-enum-told
-enum-told c = search needs
-
-enum-told-2 : tie.Need-enum-told-2
-enum-told-2 c = search needs
-
-enum-told-3 : tie.Need-enum-told-3
-enum-told-3 c = search needs
-
-enum-told-4 : tie.Need-enum-told-4
-enum-told-4 c = search needs
-
-enum-told-5 : tie.Need-enum-told-5
-enum-told-5 c = search needs
-
 returns : tie.Need-returns
 unfolding said numberOf
 returns c = c .refusal-number .ensures ∙ sym (ap (λ (x : Audit). numberOf (said x)) (c .before .before .a .given .1))
@@ -55,13 +34,13 @@ pub audit-number-spec : {M : Type 1} → statement M
 audit-number-spec =
     tie.close
     (tie.spec
-    enum-known-a
-    refusal-number-requires
-    enum-told
-    enum-told-2
-    enum-told-3
-    enum-told-4
-    enum-told-5
+    (λ enum-known-a. search needs)
+    (λ refusal-number-requires κs. search needs)
+    (λ enum-told. search needs)
+    (λ enum-told-2. search needs)
+    (λ enum-told-3. search needs)
+    (λ enum-told-4. search needs)
+    (λ enum-told-5. search needs)
     returns
     returns-2
     returns-3

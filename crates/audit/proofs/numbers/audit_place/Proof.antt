@@ -6,27 +6,6 @@ use borrow.Author.Needs.{needs}
 use Rattle.audit.proofs.numbers.audit_place.Statement.{statement}
 use Rattle.audit.proofs.numbers.audit_place.Tie as tie
 
-enum-known-a : tie.Need-enum-known-a
-enum-known-a c = search needs
-
-refusal-place-requires : tie.Need-refusal-place-requires
-refusal-place-requires c κs = search needs
-
-enum-told : tie.Need-enum-told
-enum-told c = search needs
-
-enum-told-2 : tie.Need-enum-told-2
-enum-told-2 c = search needs
-
-enum-known-a-2 : tie.Need-enum-known-a-2
-enum-known-a-2 c = search needs
-
-enum-known-a-3 : tie.Need-enum-known-a-3
-enum-known-a-3 c = search needs
-
-enum-told-3 : tie.Need-enum-told-3
-enum-told-3 c = search needs
-
 returns : tie.Need-returns
 unfolding said placeOf
 returns c = c .refusal-place .ensures ∙ sym (ap (λ (x : Audit). placeOf (said x)) (c .before .before .a .given .1))
@@ -55,13 +34,13 @@ pub audit-place-spec : {M : Type 1} → statement M
 audit-place-spec =
     tie.close
     (tie.spec
-    enum-known-a
-    refusal-place-requires
-    enum-told
-    enum-told-2
-    enum-known-a-2
-    enum-known-a-3
-    enum-told-3
+    (λ enum-known-a. search needs)
+    (λ refusal-place-requires κs. search needs)
+    (λ enum-told. search needs)
+    (λ enum-told-2. search needs)
+    (λ enum-known-a-2. search needs)
+    (λ enum-known-a-3. search needs)
+    (λ enum-told-3. search needs)
     returns
     returns-2
     returns-3

@@ -24,26 +24,17 @@ unfolding faultNumber faultPlace
 returns c =
     let a = c .before .before .args in rho-wrong (a .words .now) (a .rho) (a .bound) (a .est) (a .work) (c .before .before .pre) (c .if1 .taken)
 
-stray-bound-requires : tie.Need-stray-bound-requires
-stray-bound-requires c κs = search needs
-
 returns-2 : tie.Need-returns-2
 unfolding faultNumber faultPlace
 returns-2 c =
     let a = c .before .before .before .before .args in
     bound-wrong (a .words .now) (a .rho) (a .bound) (a .est) (a .work) (c .before .before .before .before .pre) (c .before .before .if1 .left) (sym (c .before .stray-bound .ensures) ∙ c .if2 .taken)
 
-words-needed-requires : tie.Need-words-needed-requires
-words-needed-requires c κs = search needs
-
 returns-3 : tie.Need-returns-3
 unfolding faultNumber faultPlace
 returns-3 c =
     let a = c .before .before .before .before .before .before .args in
     estimate-short (a .words .now) (a .rho) (a .bound) (a .est) (a .work) (c .before .before .before .before .before .before .pre) (c .before .before .before .before .if1 .left) (fine (c .before .before)) (omega (arith, c .before .words-needed .ensures, c .if3 .taken))
-
-mul-if4 : tie.Need-mul-if4
-mul-if4 c = search needs
 
 returns-4 : tie.Need-returns-4
 unfolding faultNumber faultPlace
@@ -61,10 +52,10 @@ check-call-spec =
     tie.close
     (tie.spec
     returns
-    stray-bound-requires
+    (λ stray-bound-requires κs. search needs)
     returns-2
-    words-needed-requires
+    (λ words-needed-requires κs. search needs)
     returns-3
-    mul-if4
+    (λ mul-if4. search needs)
     returns-4
     returns-5)

@@ -6,9 +6,6 @@ use borrow.Author.Needs.{needs}
 use Rattle.calls.proofs.checks.words_needed.Statement.{statement}
 use Rattle.calls.proofs.checks.words_needed.Tie as tie
 
-of-requires : tie.Need-of-requires
-of-requires c κs = search needs
-
 words-requires : tie.Need-words-requires
 words-requires c κs =
     let s = c .before .before in
@@ -21,4 +18,4 @@ returns c =
     c .words .ensures ∙ sym (words-are (s .args .words .now) (s .pre) (l .result) (l .ensures))
 
 pub words-needed-spec : {M : Type 1} → statement M
-words-needed-spec = tie.close (tie.spec of-requires words-requires returns)
+words-needed-spec = tie.close (tie.spec (λ of-requires κs. search needs) words-requires returns)

@@ -8,42 +8,6 @@ use borrow.Author.Needs.{needs}
 use Rattle.capi.proofs.check.check_number.Statement.{statement}
 use Rattle.capi.proofs.check.check_number.Tie as tie
 
-enum-told : tie.Need-enum-told
-enum-told c = search needs
-
-refusal-requires : tie.Need-refusal-requires
-refusal-requires c κs = search needs
-
-enum-told-2 : tie.Need-enum-told-2
-enum-told-2 c = search needs
-
-refusal-requires-2 : tie.Need-refusal-requires-2
-refusal-requires-2 c κs = search needs
-
-enum-told-3 : tie.Need-enum-told-3
-enum-told-3 c = search needs
-
-refusal-requires-3 : tie.Need-refusal-requires-3
-refusal-requires-3 c κs = search needs
-
-enum-told-4 : tie.Need-enum-told-4
-enum-told-4 c = search needs
-
-refusal-requires-4 : tie.Need-refusal-requires-4
-refusal-requires-4 c κs = search needs
-
-enum-told-5 : tie.Need-enum-told-5
-enum-told-5 c = search needs
-
-refusal-requires-5 : tie.Need-refusal-requires-5
-refusal-requires-5 c κs = search needs
-
-enum-known-a : tie.Need-enum-known-a
-enum-known-a c = search needs
-
-cast-result : tie.Need-cast-result
-cast-result c = search needs
-
 returns : tie.Need-returns
 unfolding said
 returns c = c .refusal .ensures ∙ refusal-number (ap said (c .before .enum-told .given .1))
@@ -72,18 +36,18 @@ pub check-number-spec : {M : Type 1} → statement M
 check-number-spec =
     tie.close
     (tie.spec
-    enum-told
-    refusal-requires
-    enum-told-2
-    refusal-requires-2
-    enum-told-3
-    refusal-requires-3
-    enum-told-4
-    refusal-requires-4
-    enum-told-5
-    refusal-requires-5
-    enum-known-a
-    cast-result
+    (λ enum-told. search needs)
+    (λ refusal-requires κs. search needs)
+    (λ enum-told-2. search needs)
+    (λ refusal-requires-2 κs. search needs)
+    (λ enum-told-3. search needs)
+    (λ refusal-requires-3 κs. search needs)
+    (λ enum-told-4. search needs)
+    (λ refusal-requires-4 κs. search needs)
+    (λ enum-told-5. search needs)
+    (λ refusal-requires-5 κs. search needs)
+    (λ enum-known-a. search needs)
+    (λ cast-result. search needs)
     returns
     returns-2
     returns-3

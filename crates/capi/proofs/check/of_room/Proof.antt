@@ -10,18 +10,9 @@ use borrow.Author.Needs.{needs}
 use Rattle.capi.proofs.check.of_room.Statement.{statement}
 use Rattle.capi.proofs.check.of_room.Tie as tie
 
-take-words-requires : tie.Need-take-words-requires
-take-words-requires c κs = search needs
-
-slice-reshare-prefix-audit : tie.Need-slice-reshare-prefix-audit
-slice-reshare-prefix-audit c = search needs
-
 slice-aggregate-audit : tie.Need-slice-aggregate-audit
 slice-aggregate-audit c =
     let t = c .before .before .before .take-words .ensures in t .count ∙ ap length (sym (t .words))
-
-audit-requires : tie.Need-audit-requires
-audit-requires c κs = search needs
 
 check-number-requires : tie.Need-check-number-requires
 check-number-requires c κs =
@@ -29,9 +20,6 @@ check-number-requires c κs =
     let a = s .args in
     let t = c .before .before .before .before .take-words .ensures in
     place-fits (a .words .now) (a .rho) _ _ (c .audit .ensures .0) (s .pre .0) (omega (arith, t .count, t .most, ap length (t .words)))
-
-same-length : tie.Need-same-length
-same-length c = search needs
 
 returns : tie.Need-returns
 returns c =
@@ -46,10 +34,10 @@ pub of-room-spec : {M : Type 1} → statement M
 of-room-spec =
     tie.close
     (tie.spec
-    take-words-requires
-    slice-reshare-prefix-audit
+    (λ take-words-requires κs. search needs)
+    (λ slice-reshare-prefix-audit. search needs)
     slice-aggregate-audit
-    audit-requires
+    (λ audit-requires κs. search needs)
     check-number-requires
-    same-length
+    (λ same-length. search needs)
     returns)

@@ -11,12 +11,6 @@ use borrow.Author.Needs.{needs}
 use Rattle.capi.proofs.check.of_system.Statement.{statement}
 use Rattle.capi.proofs.check.of_system.Tie as tie
 
-words-of-requires : tie.Need-words-of-requires
-words-of-requires c κs = search needs
-
-slice-reshare-prefix-of-words : tie.Need-slice-reshare-prefix-of-words
-slice-reshare-prefix-of-words c = search needs
-
 slice-aggregate-of-words : tie.Need-slice-aggregate-of-words
 slice-aggregate-of-words c =
     let w = c .before .before .before .words-of .ensures in sym (read-length _ _ _ _ (w .0) (w .1))
@@ -24,9 +18,6 @@ slice-aggregate-of-words c =
 of-words-requires : tie.Need-of-words-requires
 of-words-requires c κs =
     let w = c .before .before .before .words-of .ensures in omega (arith, read-length _ _ _ _ (w .0) (w .1), w .0)
-
-same-length : tie.Need-same-length
-same-length c = search needs
 
 returns : tie.Need-returns
 returns c =
@@ -41,9 +32,9 @@ pub of-system-spec : {M : Type 1} → statement M
 of-system-spec =
     tie.close
     (tie.spec
-    words-of-requires
-    slice-reshare-prefix-of-words
+    (λ words-of-requires κs. search needs)
+    (λ slice-reshare-prefix-of-words. search needs)
     slice-aggregate-of-words
     of-words-requires
-    same-length
+    (λ same-length. search needs)
     returns)

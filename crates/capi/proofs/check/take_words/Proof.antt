@@ -17,12 +17,6 @@ returns-2 : tie.Need-returns-2
 returns-2 c =
     let a = c .before .before .before .before .args in odd-bytes (a .bytes .now) (c .before .if1 .left) (c .if2 .taken) (a .room .now)
 
-words-of-requires : tie.Need-words-of-requires
-words-of-requires c κs = search needs
-
-same-length : tie.Need-same-length
-same-length c = search needs
-
 returns-3 : tie.Need-returns-3
 returns-3 c =
     let a = c .before .before .before .before .before .before .before .before .args in
@@ -33,4 +27,4 @@ returns-3 c =
     (words-read (a .bytes .now) (a .room .now) _ _ (w .0) (w .1) (omega arith))
 
 pub take-words-spec : {M : Type 1} → statement M
-take-words-spec = tie.close (tie.spec returns returns-2 words-of-requires same-length returns-3)
+take-words-spec = tie.close (tie.spec returns returns-2 (λ words-of-requires κs. search needs) (λ same-length. search needs) returns-3)

@@ -8,18 +8,6 @@ use borrow.Author.Needs.{needs}
 use Rattle.capi.proofs.check.wiphosega_check.Statement.{statement}
 use Rattle.capi.proofs.check.wiphosega_check.Tie as tie
 
-system-fault-requires : tie.Need-system-fault-requires
-system-fault-requires c κs = search needs
-
-cast-result : tie.Need-cast-result
-cast-result c = search needs
-
-mul-result : tie.Need-mul-result
-mul-result c = search needs
-
-add-result : tie.Need-add-result
-add-result c = search needs
-
 returns : tie.Need-returns
 returns c =
     let a = c .before .before .before .before .args in
@@ -28,9 +16,6 @@ returns c =
       subst (ExactNumber (a .system .now) (a .rho) (a .estimate .now)) (sym e)
           (exact-number (a .system .now) (a .rho) (a .estimate .now) (λ k. omega (arith, c .before .before .shared-slice-known2 .given k))),
     )
-
-slice-aggregate-of-system : tie.Need-slice-aggregate-of-system
-slice-aggregate-of-system c = search needs
 
 of-system-requires : tie.Need-of-system-requires
 of-system-requires c κs =
@@ -50,11 +35,11 @@ pub wiphosega-check-spec : {M : Type 1} → statement M
 wiphosega-check-spec =
     tie.close
     (tie.spec
-    system-fault-requires
-    cast-result
-    mul-result
-    add-result
+    (λ system-fault-requires κs. search needs)
+    (λ cast-result. search needs)
+    (λ mul-result. search needs)
+    (λ add-result. search needs)
     returns
-    slice-aggregate-of-system
+    (λ slice-aggregate-of-system. search needs)
     of-system-requires
     returns-2)

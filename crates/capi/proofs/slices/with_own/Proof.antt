@@ -8,40 +8,17 @@ use borrow.Author.Needs.{needs}
 use Rattle.capi.proofs.slices.with_own.Statement.{statement}
 use Rattle.capi.proofs.slices.with_own.Tie as tie
 
-words-of-requires : tie.Need-words-of-requires
-words-of-requires c κs = search needs
-
-slice-relend-prefix-verdict : tie.Need-slice-relend-prefix-verdict
-slice-relend-prefix-verdict c = search needs
-
 slice-aggregate-verdict : tie.Need-slice-aggregate-verdict
 slice-aggregate-verdict c =
     let w = c .before .before .before .before .words-of .ensures in
     sym (read-length _ _ _ _ (w .0) (w .1))
 
-verdict-requires : tie.Need-verdict-requires
-verdict-requires c κs = search needs
-
-slice-reshare-prefix-bytes-of : tie.Need-slice-reshare-prefix-bytes-of
-slice-reshare-prefix-bytes-of c = search needs
-
 slice-aggregate-bytes-of : tie.Need-slice-aggregate-bytes-of
 slice-aggregate-bytes-of c =
-    let w = c .before .before .before .before .before .before .before .before .before .before .words-of .ensures in
+    let s = c .before .before .before .before .before .before .before .before .before .before in
+    let w = s .words-of .ensures in
     let long = c .before .before .before .before .before .verdict .kept .1 .1 .1 .1 .0 ∙ read-length _ _ _ _ (w .0) (w .1) in
-    sym (ap length (take-at (c .before .before .before .before .before .verdict .last .1 .1 .1 .1 .0) (drop (c .before .before .before .before .before .before .before .before .before .before .words-of .result) (c .before .before .before .before .before .before .before .before .before .before .words-of .last .1 .0)) _ long) ∙ long)
-
-bytes-of-requires : tie.Need-bytes-of-requires
-bytes-of-requires c κs = search needs
-
-same-length : tie.Need-same-length
-same-length c = search needs
-
-same-length-2 : tie.Need-same-length-2
-same-length-2 c = search needs
-
-same-length-3 : tie.Need-same-length-3
-same-length-3 c = search needs
+    sym (ap length (take-at (c .before .before .before .before .before .verdict .last .1 .1 .1 .1 .0) (drop (s .words-of .result) (s .words-of .last .1 .0)) _ long) ∙ long)
 
 returns : tie.Need-returns
 returns c =
@@ -64,14 +41,14 @@ pub with-own-spec : {M : Type 1} → statement M
 with-own-spec =
     tie.close
     (tie.spec
-    words-of-requires
-    slice-relend-prefix-verdict
+    (λ words-of-requires κs. search needs)
+    (λ slice-relend-prefix-verdict. search needs)
     slice-aggregate-verdict
-    verdict-requires
-    slice-reshare-prefix-bytes-of
+    (λ verdict-requires κs. search needs)
+    (λ slice-reshare-prefix-bytes-of. search needs)
     slice-aggregate-bytes-of
-    bytes-of-requires
-    same-length
-    same-length-2
-    same-length-3
+    (λ bytes-of-requires κs. search needs)
+    (λ same-length. search needs)
+    (λ same-length-2. search needs)
+    (λ same-length-3. search needs)
     returns)

@@ -9,40 +9,17 @@ use borrow.Author.Needs.{needs}
 use Rattle.capi.proofs.slices.with_room.Statement.{statement}
 use Rattle.capi.proofs.slices.with_room.Tie as tie
 
-words-of-requires : tie.Need-words-of-requires
-words-of-requires c κs = search needs
-
-slice-relend-prefix-with-work : tie.Need-slice-relend-prefix-with-work
-slice-relend-prefix-with-work c = search needs
-
 slice-aggregate-with-work : tie.Need-slice-aggregate-with-work
 slice-aggregate-with-work c =
     let w = c .before .before .before .words-of .ensures in
     sym (read-length _ _ _ _ (w .0) (w .1))
 
-with-work-requires : tie.Need-with-work-requires
-with-work-requires c κs = search needs
-
-slice-reshare-prefix-bytes-of : tie.Need-slice-reshare-prefix-bytes-of
-slice-reshare-prefix-bytes-of c = search needs
-
 slice-aggregate-bytes-of : tie.Need-slice-aggregate-bytes-of
 slice-aggregate-bytes-of c =
-    let w = c .before .before .before .before .before .before .before .before .before .before .words-of .ensures in
+    let s = c .before .before .before .before .before .before .before .before .before .before in
+    let w = s .words-of .ensures in
     let long = c .before .before .before .before .before .with-work .kept .1 .1 .1 .0 ∙ read-length _ _ _ _ (w .0) (w .1) in
-    sym (ap length (take-at (c .before .before .before .before .before .with-work .last .1 .1 .1 .0) (drop (c .before .before .before .before .before .before .before .before .before .before .words-of .result) (c .before .before .before .before .before .before .before .before .before .before .words-of .last .1 .0)) _ long) ∙ long)
-
-bytes-of-requires : tie.Need-bytes-of-requires
-bytes-of-requires c κs = search needs
-
-same-length : tie.Need-same-length
-same-length c = search needs
-
-same-length-2 : tie.Need-same-length-2
-same-length-2 c = search needs
-
-same-length-3 : tie.Need-same-length-3
-same-length-3 c = search needs
+    sym (ap length (take-at (c .before .before .before .before .before .with-work .last .1 .1 .1 .0) (drop (s .words-of .result) (s .words-of .last .1 .0)) _ long) ∙ long)
 
 returns : tie.Need-returns
 returns c =
@@ -65,14 +42,14 @@ pub with-room-spec : {M : Type 1} → statement M
 with-room-spec =
     tie.close
     (tie.spec
-    words-of-requires
-    slice-relend-prefix-with-work
+    (λ words-of-requires κs. search needs)
+    (λ slice-relend-prefix-with-work. search needs)
     slice-aggregate-with-work
-    with-work-requires
-    slice-reshare-prefix-bytes-of
+    (λ with-work-requires κs. search needs)
+    (λ slice-reshare-prefix-bytes-of. search needs)
     slice-aggregate-bytes-of
-    bytes-of-requires
-    same-length
-    same-length-2
-    same-length-3
+    (λ bytes-of-requires κs. search needs)
+    (λ same-length. search needs)
+    (λ same-length-2. search needs)
+    (λ same-length-3. search needs)
     returns)

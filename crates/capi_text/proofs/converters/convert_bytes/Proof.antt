@@ -23,18 +23,6 @@ returns c =
     let e = odd-bytes (s .args .wide) (s .args .system .now) (length out) (c .if1 .taken) in
     (sym (ap answerNumber e), sym (ap (λ (a : Answered). left a (bytesOf (converted (s .args .wide) (wordsOf (s .args .system .now)))) out) e))
 
-slice-aggregate-convert-in : tie.Need-slice-aggregate-convert-in
-slice-aggregate-convert-in c = search needs
-
-convert-in-requires : tie.Need-convert-in-requires
-convert-in-requires c κs = search needs
-
-enum-known-count : tie.Need-enum-known-count
-enum-known-count c = search needs
-
-slice-aggregate-put-words : tie.Need-slice-aggregate-put-words
-slice-aggregate-put-words c = search needs
-
 put-words-requires : tie.Need-put-words-requires
 unfolding convertedAs
 put-words-requires c κs =
@@ -44,9 +32,6 @@ put-words-requires c κs =
     let few = written-few (s .args .wide) (wordsOf (s .args .system .now)) (replicate 1024 0) _ e in
     (omega (arith, j .kept .1 .1 .0), few)
 
-enum-known-f : tie.Need-enum-known-f
-enum-known-f c = search needs
-
 fault-answer-requires : tie.Need-fault-answer-requires
 unfolding convertedAs
 fault-answer-requires c κs =
@@ -54,9 +39,6 @@ fault-answer-requires c κs =
     let j = c .before .before .before .before .convert-in in
     let e = sym (j .ensures .0) ∙ ap convertedAs (c .before .f .given .1) in
     omega (arith, converted-small (s .args .wide) (wordsOf (s .args .system .now)) (replicate 1024 0) _ _ e .1)
-
-same-length : tie.Need-same-length
-same-length c = search needs
 
 returns-2 : tie.Need-returns-2
 unfolding convertedAs
@@ -89,13 +71,13 @@ convert-bytes-spec =
     tie.close
     (tie.spec
     returns
-    slice-aggregate-convert-in
-    convert-in-requires
-    enum-known-count
-    slice-aggregate-put-words
+    (λ slice-aggregate-convert-in. search needs)
+    (λ convert-in-requires κs. search needs)
+    (λ enum-known-count. search needs)
+    (λ slice-aggregate-put-words. search needs)
     put-words-requires
-    enum-known-f
+    (λ enum-known-f. search needs)
     fault-answer-requires
-    same-length
+    (λ same-length. search needs)
     returns-2
     returns-3)

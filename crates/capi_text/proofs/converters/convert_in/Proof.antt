@@ -10,26 +10,11 @@ use borrow.Author.Needs.{needs}
 use Rattle.capi_text.proofs.converters.convert_in.Statement.{statement}
 use Rattle.capi_text.proofs.converters.convert_in.Tie as tie
 
-slice-aggregate-words-of : tie.Need-slice-aggregate-words-of
-slice-aggregate-words-of c = search needs
-
-words-of-requires : tie.Need-words-of-requires
-words-of-requires c κs = search needs
-
-array-share-prefix-words : tie.Need-array-share-prefix-words
-array-share-prefix-words c = search needs
-
 slice-aggregate-convert : tie.Need-slice-aggregate-convert
 slice-aggregate-convert c =
     let s = c .before .before .before .before .before .before in
     let w = c .before .before .words-of in
     sym (words-size 1025 (s .args .system .now) (replicate 1025 0) (w .last .1 .0) (w .result) refl (w .ensures .0) (w .ensures .1))
-
-convert-requires : tie.Need-convert-requires
-convert-requires c κs = search needs
-
-same-length : tie.Need-same-length
-same-length c = search needs
 
 returns : tie.Need-returns
 returns c =
@@ -46,10 +31,10 @@ pub convert-in-spec : {M : Type 1} → statement M
 convert-in-spec =
     tie.close
     (tie.spec
-    slice-aggregate-words-of
-    words-of-requires
-    array-share-prefix-words
+    (λ slice-aggregate-words-of. search needs)
+    (λ words-of-requires κs. search needs)
+    (λ array-share-prefix-words. search needs)
     slice-aggregate-convert
-    convert-requires
-    same-length
+    (λ convert-requires κs. search needs)
+    (λ same-length. search needs)
     returns)

@@ -9,21 +9,9 @@ use borrow.Author.Needs.{needs}
 use Rattle.capi_text.proofs.manifests.wiphosega_manifest.Statement.{statement}
 use Rattle.capi_text.proofs.manifests.wiphosega_manifest.Tie as tie
 
-read-requires : tie.Need-read-requires
-read-requires c κs = search needs
-
-enum-known-version : tie.Need-enum-known-version
-enum-known-version c = search needs
-
 manifest-answer-requires : tie.Need-manifest-answer-requires
 manifest-answer-requires c κs =
     subst (λ (r : Reading). othersIn r ≤ 32770) (c .before .version .given .1) (c .before .before .before .read .ensures .1)
-
-enum-known-r : tie.Need-enum-known-r
-enum-known-r c = search needs
-
-manifest-refusal-requires : tie.Need-manifest-refusal-requires
-manifest-refusal-requires c κs = search needs
 
 returns : tie.Need-returns
 unfolding outcomeNumber
@@ -39,4 +27,4 @@ returns-2 c =
 pub wiphosega-manifest-spec : {M : Type 1} → statement M
 wiphosega-manifest-spec =
     tie.close
-    (tie.spec read-requires enum-known-version manifest-answer-requires enum-known-r manifest-refusal-requires returns returns-2)
+    (tie.spec (λ read-requires κs. search needs) (λ enum-known-version. search needs) manifest-answer-requires (λ enum-known-r. search needs) (λ manifest-refusal-requires κs. search needs) returns returns-2)

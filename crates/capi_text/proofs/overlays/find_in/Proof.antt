@@ -10,38 +10,17 @@ use borrow.Author.Needs.{needs}
 use Rattle.capi_text.proofs.overlays.find_in.Statement.{statement}
 use Rattle.capi_text.proofs.overlays.find_in.Tie as tie
 
-slice-aggregate-words-of : tie.Need-slice-aggregate-words-of
-slice-aggregate-words-of c = search needs
-
-words-of-requires : tie.Need-words-of-requires
-words-of-requires c κs = search needs
-
-slice-aggregate-words-of-2 : tie.Need-slice-aggregate-words-of-2
-slice-aggregate-words-of-2 c = search needs
-
-words-of-requires-2 : tie.Need-words-of-requires-2
-words-of-requires-2 c κs = search needs
-
-array-share-prefix-under : tie.Need-array-share-prefix-under
-array-share-prefix-under c = search needs
-
 slice-aggregate-find : tie.Need-slice-aggregate-find
 slice-aggregate-find c =
     let s = c .before .before .before .before .before .before .before .before .before in
     let w = c .before .before .before .before .before .words-of in
     sym (words-size 1025 (s .args .base .now) (replicate 1025 0) (w .last .1 .0) (w .result) refl (w .ensures .0) (w .ensures .1))
 
-array-share-prefix-over : tie.Need-array-share-prefix-over
-array-share-prefix-over c = search needs
-
 slice-aggregate-find-2 : tie.Need-slice-aggregate-find-2
 slice-aggregate-find-2 c =
     let s = c .before .before .before .before .before .before .before .before .before .before in
     let w = c .before .before .before .words-of2 in
     sym (words-size 1025 (s .args .overlay .now) (replicate 1025 0) (w .last .1 .0) (w .result) refl (w .ensures .0) (w .ensures .1))
-
-find-requires : tie.Need-find-requires
-find-requires c κs = search needs
 
 returns : tie.Need-returns
 returns c =
@@ -56,13 +35,13 @@ pub find-in-spec : {M : Type 1} → statement M
 find-in-spec =
     tie.close
     (tie.spec
-    slice-aggregate-words-of
-    words-of-requires
-    slice-aggregate-words-of-2
-    words-of-requires-2
-    array-share-prefix-under
+    (λ slice-aggregate-words-of. search needs)
+    (λ words-of-requires κs. search needs)
+    (λ slice-aggregate-words-of-2. search needs)
+    (λ words-of-requires-2 κs. search needs)
+    (λ array-share-prefix-under. search needs)
     slice-aggregate-find
-    array-share-prefix-over
+    (λ array-share-prefix-over. search needs)
     slice-aggregate-find-2
-    find-requires
+    (λ find-requires κs. search needs)
     returns)

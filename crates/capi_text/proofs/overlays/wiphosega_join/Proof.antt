@@ -15,9 +15,6 @@ use borrow.Author.Needs.{needs}
 use Rattle.capi_text.proofs.overlays.wiphosega_join.Statement.{statement}
 use Rattle.capi_text.proofs.overlays.wiphosega_join.Tie as tie
 
-odd-number-requires : tie.Need-odd-number-requires
-odd-number-requires c κs = search needs
-
 mul-result : tie.Need-mul-result
 mul-result c = let s = c .before .before .before .before .before in omega (arith, odd-small (s .args .base .now) (s .args .overlay .now), c .before .odd-number .ensures)
 
@@ -34,18 +31,6 @@ returns c =
       sym (ap (λ (a : Answered). left a (bytesOf (joined (wordsOf (s .args .base .now)) (wordsOf (s .args .overlay .now)))) out) (join-odd (s .args .base .now) (s .args .overlay .now) (λ z. c .if1 .taken (o ∙ z)) (length out))),
     )
 
-slice-aggregate-join-in : tie.Need-slice-aggregate-join-in
-slice-aggregate-join-in c = search needs
-
-join-in-requires : tie.Need-join-in-requires
-join-in-requires c κs = search needs
-
-enum-known-count : tie.Need-enum-known-count
-enum-known-count c = search needs
-
-slice-aggregate-put-words : tie.Need-slice-aggregate-put-words
-slice-aggregate-put-words c = search needs
-
 put-words-requires : tie.Need-put-words-requires
 unfolding joinedAs
 put-words-requires c κs =
@@ -55,9 +40,6 @@ put-words-requires c κs =
     let few = joined-few (wordsOf (s .args .base .now)) (wordsOf (s .args .overlay .now)) (replicate 1024 0) _ e in
     (omega (arith, j .kept .1 .1 .0), few)
 
-enum-known-f : tie.Need-enum-known-f
-enum-known-f c = search needs
-
 fault-answer-requires : tie.Need-fault-answer-requires
 unfolding joinedAs
 fault-answer-requires c κs =
@@ -66,9 +48,6 @@ fault-answer-requires c κs =
     let e = sym (j .ensures .0) ∙ ap joinedAs (c .before .f .given .1) in
     let q = join-refused-small (wordsOf (s .args .base .now)) (wordsOf (s .args .overlay .now)) (replicate 1024 0) _ _ e in
     omega (arith, q .1)
-
-same-length : tie.Need-same-length
-same-length c = search needs
 
 returns-2 : tie.Need-returns-2
 unfolding joinedAs
@@ -100,17 +79,17 @@ pub wiphosega-join-spec : {M : Type 1} → statement M
 wiphosega-join-spec =
     tie.close
     (tie.spec
-    odd-number-requires
+    (λ odd-number-requires κs. search needs)
     mul-result
     add-result
     returns
-    slice-aggregate-join-in
-    join-in-requires
-    enum-known-count
-    slice-aggregate-put-words
+    (λ slice-aggregate-join-in. search needs)
+    (λ join-in-requires κs. search needs)
+    (λ enum-known-count. search needs)
+    (λ slice-aggregate-put-words. search needs)
     put-words-requires
-    enum-known-f
+    (λ enum-known-f. search needs)
     fault-answer-requires
-    same-length
+    (λ same-length. search needs)
     returns-2
     returns-3)

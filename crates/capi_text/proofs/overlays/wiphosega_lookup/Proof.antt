@@ -8,9 +8,6 @@ use borrow.Author.Needs.{needs}
 use Rattle.capi_text.proofs.overlays.wiphosega_lookup.Statement.{statement}
 use Rattle.capi_text.proofs.overlays.wiphosega_lookup.Tie as tie
 
-odd-number-requires : tie.Need-odd-number-requires
-odd-number-requires c κs = search needs
-
 mul-result : tie.Need-mul-result
 mul-result c = let s = c .before .before .before .before in omega (arith, odd-small (s .args .base .now) (s .args .overlay .now), c .before .odd-number .ensures)
 
@@ -22,19 +19,10 @@ returns c =
     let s = c .before .before .before .before in
     lookup-odd-number (s .args .base .now) (s .args .overlay .now) _ (c .before .odd-number .ensures) (c .if1 .taken) (s .args .name) (s .args .perms)
 
-find-in-requires : tie.Need-find-in-requires
-find-in-requires c κs = search needs
-
-enum-known-start : tie.Need-enum-known-start
-enum-known-start c = search needs
-
 part-answer-requires : tie.Need-part-answer-requires
 unfolding foundAs
 part-answer-requires c κs =
     subst Inside (sym (c .before .before .before .find-in .ensures) ∙ ap foundAs (c .before .start .given .1)) (place-small _ _ _ _)
-
-enum-known-start-2 : tie.Need-enum-known-start-2
-enum-known-start-2 c = search needs
 
 part-answer-requires-2 : tie.Need-part-answer-requires-2
 unfolding foundAs
@@ -46,9 +34,6 @@ unfolding foundAs
 add-result-2 c =
     let q = subst Inside (sym (c .before .before .before .before .find-in .ensures) ∙ ap foundAs (c .before .before .start2 .given .1)) (place-small _ _ _ _) in
     omega (arith, c .part-answer2 .ensures, q .0, q .1)
-
-enum-known-f : tie.Need-enum-known-f
-enum-known-f c = search needs
 
 fault-answer-requires : tie.Need-fault-answer-requires
 unfolding foundAs
@@ -87,17 +72,17 @@ pub wiphosega-lookup-spec : {M : Type 1} → statement M
 wiphosega-lookup-spec =
     tie.close
     (tie.spec
-    odd-number-requires
+    (λ odd-number-requires κs. search needs)
     mul-result
     add-result
     returns
-    find-in-requires
-    enum-known-start
+    (λ find-in-requires κs. search needs)
+    (λ enum-known-start. search needs)
     part-answer-requires
-    enum-known-start-2
+    (λ enum-known-start-2. search needs)
     part-answer-requires-2
     add-result-2
-    enum-known-f
+    (λ enum-known-f. search needs)
     fault-answer-requires
     returns-2
     returns-3

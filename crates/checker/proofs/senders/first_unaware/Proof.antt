@@ -43,9 +43,6 @@ add-link-at c =
     let s = c .before .before .before .before .before .before .before .before in let a = s .args in let ws = a .words .now in let k = toSender (code ws) (a .s) (a .home) in let e = sets (code ws) (a .est .now) in let i = c .before .before .before .loop in let g : i .b < length ws = omega (arith, c .before .before .loop-test .taken, s .pre .3, whole-size ws (a .l) (s .pre .0 .laid)) in
     omega (arith, body-inside ws (s .pre .0 .readable) (i .b) g (named-there ws (s .pre .0 .readable) (i .b) (i .inv .0) g))
 
-link-at-requires : tie.Need-link-at-requires Inv-loop μ-loop
-link-at-requires c κs = search needs
-
 loop-less : tie.Need-loop-less Inv-loop μ-loop
 loop-less c =
     let s = c .before .before .before .before .before .before .before .before .before in let a = s .args in let ws = a .words .now in let k = toSender (code ws) (a .s) (a .home) in let e = sets (code ws) (a .est .now) in let i = c .before .before .before .before .loop in let g : i .b < length ws = omega (arith, c .before .before .before .loop-test .taken, s .pre .3, whole-size ws (a .l) (s .pre .0 .laid)) in let t = named-there ws (s .pre .0 .readable) (i .b) (i .inv .0) g in
@@ -72,7 +69,7 @@ first-unaware-spec =
     knows-requires
     returns
     add-link-at
-    link-at-requires
+    (λ link-at-requires κs. search needs)
     loop-less
     loop-again
     returns-2)

@@ -23,12 +23,6 @@ returns c =
     let s = c .before .before .before .before .before in let a = s .args in let k = code (a .words .now) in
     unstarted (a .words .now) (a .masks .now) (a .est .now) (a .l) (a .s) (s .pre .0) (a .b) (s .pre .1) (s .pre .2) (c .before .starts .ensures k (s .pre .0 .laid) (s .pre .0 .target) (name-element (a .words .now) (a .masks .now) (a .est .now) (a .l) (a .s) (s .pre .0) (a .b) (s .pre .1) (s .pre .2))) (c .if1 .taken)
 
-mul-in-value : tie.Need-mul-in-value
-mul-in-value c = search needs
-
-add-in-value : tie.Need-add-in-value
-add-in-value c = search needs
-
 in-value-requires : tie.Need-in-value-requires
 in-value-requires c κs =
     let s = c .before .before .before .before .before .before in let a = s .args in
@@ -43,4 +37,4 @@ returns-2 c =
 pub knows-spec : {M : Type 1} → statement M
 knows-spec =
     tie.close
-    (tie.spec starts-requires returns mul-in-value add-in-value in-value-requires returns-2)
+    (tie.spec starts-requires returns (λ mul-in-value. search needs) (λ add-in-value. search needs) in-value-requires returns-2)

@@ -15,9 +15,6 @@ use Rattle.checker.proofs.Receivers.{first-all, first-same}
 use Rattle.checker.proofs.senders.unaware_of.Statement.{statement}
 use Rattle.checker.proofs.senders.unaware_of.Tie as tie
 
-mul-has-some : tie.Need-mul-has-some
-mul-has-some c = search needs
-
 has-some-requires : tie.Need-has-some-requires
 has-some-requires c κs = let s = c .before .before .before .before .before in let a = s .args in (value-in (a .l) (a .est .now) (s .pre .0 .sized) (a .s .d) (s .pre .0 .message), mask-in _ (a .l .row) 3 (s .pre .0 .masked .long) (omega arith))
 
@@ -27,9 +24,6 @@ returns c =
     let s = c .before .before .before .before .before .before .before in let a = s .args in let k = code (a .words .now) in
     let none = sym (C-found k (a .est .now) (a .s .d) (sortAt 3 k)) ∙ sym (c .before .has-some .ensures k (sortAt 3 k) (s .pre .0 .laid) (s .pre .0 .well) (s .pre .0 .masked .mask 3 (omega arith)) (omega (arith, s .pre .0 .message))) ∙ negated-true (c .if1 .taken) in
     first-all k (sets k (a .est .now)) (λ b. some (C (a .s .d)) (sendable k) (toSender k (a .s) (a .home) b)) (a .below) (λ b. some-not k (a .est .now) {k = toSender k (a .s) (a .home) b} (C (a .s .d)) (sendable k) none .yes tt)
-
-first-unaware-requires : tie.Need-first-unaware-requires
-first-unaware-requires c κs = search needs
 
 returns-2 : tie.Need-returns-2
 unfolding sortAt
@@ -42,4 +36,4 @@ returns-2 c =
     (c .first-unaware .ensures)
 
 pub unaware-of-spec : {M : Type 1} → statement M
-unaware-of-spec = tie.close (tie.spec mul-has-some has-some-requires returns first-unaware-requires returns-2)
+unaware-of-spec = tie.close (tie.spec (λ mul-has-some. search needs) has-some-requires returns (λ first-unaware-requires κs. search needs) returns-2)

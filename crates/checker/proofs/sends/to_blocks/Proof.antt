@@ -40,10 +40,9 @@ returns c =
     (answered-no _ (c .if1 .taken) (c .before .to-block .ensures))
 
 add-link-at : tie.Need-add-link-at Inv-loop μ-loop
-add-link-at c = let s = c .before .before .before .before .before .before .before .before in let ws = s .args .words .now in omega (arith, body-inside ws (s .pre .0 .readable) (c .before .before .before .loop .b) (c .before .before .loop-test .taken) (named-there ws (s .pre .0 .readable) (c .before .before .before .loop .b) (c .before .before .before .loop .inv .0) (c .before .before .loop-test .taken)))
-
-link-at-requires : tie.Need-link-at-requires Inv-loop μ-loop
-link-at-requires c κs = search needs
+add-link-at c =
+    let t = c .before .before .before in
+    let s = c .before .before .before .before .before .before .before .before in let ws = s .args .words .now in omega (arith, body-inside ws (s .pre .0 .readable) (t .loop .b) (c .before .before .loop-test .taken) (named-there ws (s .pre .0 .readable) (t .loop .b) (t .loop .inv .0) (c .before .before .loop-test .taken)))
 
 loop-less : tie.Need-loop-less Inv-loop μ-loop
 loop-less c =
@@ -75,7 +74,7 @@ to-blocks-spec =
     to-block-requires
     returns
     add-link-at
-    link-at-requires
+    (λ link-at-requires κs. search needs)
     loop-less
     loop-again
     returns-2)

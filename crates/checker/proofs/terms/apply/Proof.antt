@@ -9,18 +9,9 @@ use Rattle.checker.proofs.Asking.{call-things}
 use Rattle.checker.proofs.terms.apply.Statement.{statement}
 use Rattle.checker.proofs.terms.apply.Tie as tie
 
-parts-requires : tie.Need-parts-requires
-parts-requires c κs = search needs
-
-mul-things : tie.Need-mul-things
-mul-things c = search needs
-
-things-requires : tie.Need-things-requires
-things-requires c κs = search needs
-
 returns : tie.Need-returns
 unfolding flow twoRule thingAt
 returns c = λ k j o w n. let a = c .before .before .before .before .args in and-parts _ (c .before .parts .ensures k o w) (call-things k _ isFunction (a .p + 1) (a .p) (a .d) (c .things .ensures k j o w n))
 
 pub apply-spec : {M : Type 1} → statement M
-apply-spec = tie.close (tie.spec parts-requires mul-things things-requires returns)
+apply-spec = tie.close (tie.spec (λ parts-requires κs. search needs) (λ mul-things. search needs) (λ things-requires κs. search needs) returns)

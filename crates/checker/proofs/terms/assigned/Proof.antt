@@ -14,29 +14,8 @@ use Rattle.checker.proofs.Asking.{hand-C, assign-is}
 use Rattle.checker.proofs.terms.assigned.Statement.{statement}
 use Rattle.checker.proofs.terms.assigned.Tie as tie
 
-add-has-some : tie.Need-add-has-some
-add-has-some c = search needs
-
-mul-has-some : tie.Need-mul-has-some
-mul-has-some c = search needs
-
 has-some-requires : tie.Need-has-some-requires
 has-some-requires c κs = let s = c .before .before in let a = s .args in (row-in (a .l) (a .est .now) (s .pre .0 .sized) (2 * (a .p + 1)) (omega (arith, s .pre .0 .first)), mask-in _ (a .l .row) 2 (s .pre .2 .masked .long) (omega arith))
-
-mul-passed : tie.Need-mul-passed
-mul-passed c = search needs
-
-mul-passed-2 : tie.Need-mul-passed-2
-mul-passed-2 c = search needs
-
-passed-requires : tie.Need-passed-requires
-passed-requires c κs = search needs
-
-mul-things : tie.Need-mul-things
-mul-things c = search needs
-
-things-requires : tie.Need-things-requires
-things-requires c κs = search needs
 
 returns : tie.Need-returns
 unfolding twoRule sortAt thingAt
@@ -52,12 +31,12 @@ pub assigned-spec : {M : Type 1} → statement M
 assigned-spec =
     tie.close
     (tie.spec
-    add-has-some
-    mul-has-some
+    (λ add-has-some. search needs)
+    (λ mul-has-some. search needs)
     has-some-requires
-    mul-passed
-    mul-passed-2
-    passed-requires
-    mul-things
-    things-requires
+    (λ mul-passed. search needs)
+    (λ mul-passed-2. search needs)
+    (λ passed-requires κs. search needs)
+    (λ mul-things. search needs)
+    (λ things-requires κs. search needs)
     returns)

@@ -15,9 +15,6 @@ use Rattle.checker.proofs.Laws.{some-so, some-not, negated-true, negate
 use Rattle.checker.proofs.terms.deletes.Statement.{statement}
 use Rattle.checker.proofs.terms.deletes.Tie as tie
 
-mul-has-text : tie.Need-mul-has-text
-mul-has-text c = search needs
-
 has-text-requires : tie.Need-has-text-requires
 has-text-requires c κs = let s = c .before .before in let a = s .args in (value-in (a .l) (a .est .now) (s .pre .0 .sized) (a .d) (s .pre .1), some-words (a .l) (a .est .now) (s .pre .0 .sized))
 
@@ -27,18 +24,6 @@ returns c =
     λ k j o w n. let s = c .before .before .before .before in let a = s .args in
     some-not k (a .est .now) (C (a .d)) isString
     (sym (C-found k (a .est .now) (a .d) isString) ∙ sym (c .before .has-text .ensures k o w (omega (arith, s .pre .1))) ∙ negated-true (c .if1 .taken))
-
-add-passed-by : tie.Need-add-passed-by
-add-passed-by c = search needs
-
-mul-passed-by : tie.Need-mul-passed-by
-mul-passed-by c = search needs
-
-mul-passed-by-2 : tie.Need-mul-passed-by-2
-mul-passed-by-2 c = search needs
-
-passed-by-requires : tie.Need-passed-by-requires
-passed-by-requires c κs = search needs
 
 returns-2 : tie.Need-returns-2
 unfolding twoRule sortAt
@@ -52,11 +37,11 @@ pub deletes-spec : {M : Type 1} → statement M
 deletes-spec =
     tie.close
     (tie.spec
-    mul-has-text
+    (λ mul-has-text. search needs)
     has-text-requires
     returns
-    add-passed-by
-    mul-passed-by
-    mul-passed-by-2
-    passed-by-requires
+    (λ add-passed-by. search needs)
+    (λ mul-passed-by. search needs)
+    (λ mul-passed-by-2. search needs)
+    (λ passed-by-requires κs. search needs)
     returns-2)

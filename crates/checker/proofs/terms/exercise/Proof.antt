@@ -4,17 +4,8 @@ use Rattle.checker.proofs.Asking.{unexercised, exercised}
 use Rattle.checker.proofs.terms.exercise.Statement.{statement}
 use Rattle.checker.proofs.terms.exercise.Tie as tie
 
-within-requires : tie.Need-within-requires
-within-requires c κs = search needs
-
 returns : tie.Need-returns
 returns c = λ k o w q. let a = c .before .before .before .args in unexercised k _ (a .p) (a .set .bits) (a .own .bits) q (c .before .within .ensures) (c .if1 .taken)
-
-permitted-requires : tie.Need-permitted-requires
-permitted-requires c κs = search needs
-
-in-value-requires : tie.Need-in-value-requires
-in-value-requires c κs = search needs
 
 returns-2 : tie.Need-returns-2
 returns-2 c =
@@ -23,4 +14,4 @@ returns-2 c =
 
 pub exercise-spec : {M : Type 1} → statement M
 exercise-spec =
-    tie.close (tie.spec within-requires returns permitted-requires in-value-requires returns-2)
+    tie.close (tie.spec (λ within-requires κs. search needs) returns (λ permitted-requires κs. search needs) (λ in-value-requires κs. search needs) returns-2)

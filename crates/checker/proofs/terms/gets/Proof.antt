@@ -12,9 +12,6 @@ use Rattle.checker.proofs.Asking.{fill-C, get-is}
 use Rattle.checker.proofs.terms.gets.Statement.{statement}
 use Rattle.checker.proofs.terms.gets.Tie as tie
 
-mul-has-text : tie.Need-mul-has-text
-mul-has-text c = search needs
-
 has-text-requires : tie.Need-has-text-requires
 has-text-requires c κs = let s = c .before .before in let a = s .args in (value-in (a .l) (a .est .now) (s .pre .0 .sized) (a .d) (s .pre .1), some-words (a .l) (a .est .now) (s .pre .0 .sized))
 
@@ -24,18 +21,6 @@ returns c =
     λ k j o w n. let s = c .before .before .before .before in let a = s .args in
     some-not k (a .est .now) (C (a .d)) isString
     (sym (C-found k (a .est .now) (a .d) isString) ∙ sym (c .before .has-text .ensures k o w (omega (arith, s .pre .1))) ∙ negated-true (c .if1 .taken))
-
-add-fills : tie.Need-add-fills
-add-fills c = search needs
-
-mul-fills : tie.Need-mul-fills
-mul-fills c = search needs
-
-fills-requires : tie.Need-fills-requires
-fills-requires c κs = search needs
-
-got-requires : tie.Need-got-requires
-got-requires c κs = search needs
 
 returns-2 : tie.Need-returns-2
 unfolding twoRule
@@ -49,11 +34,11 @@ pub gets-spec : {M : Type 1} → statement M
 gets-spec =
     tie.close
     (tie.spec
-    mul-has-text
+    (λ mul-has-text. search needs)
     has-text-requires
     returns
-    add-fills
-    mul-fills
-    fills-requires
-    got-requires
+    (λ add-fills. search needs)
+    (λ mul-fills. search needs)
+    (λ fills-requires κs. search needs)
+    (λ got-requires κs. search needs)
     returns-2)

@@ -12,12 +12,6 @@ use Rattle.checker.proofs.Asking.{take-C}
 use Rattle.checker.proofs.terms.got.Statement.{statement}
 use Rattle.checker.proofs.terms.got.Tie as tie
 
-add-has-some : tie.Need-add-has-some
-add-has-some c = search needs
-
-mul-has-some : tie.Need-mul-has-some
-mul-has-some c = search needs
-
 has-some-requires : tie.Need-has-some-requires
 has-some-requires c κs = let s = c .before .before in let a = s .args in (row-in (a .l) (a .est .now) (s .pre .0 .sized) (2 * (a .p + 1)) (omega (arith, s .pre .0 .first)), mask-in _ (a .l .row) 1 (s .pre .1 .masked .long) (omega arith))
 
@@ -27,15 +21,6 @@ returns c =
     λ k j o w n. let s = c .before .before .before .before in let a = s .args in
     some-not k (a .est .now) (C (a .p + 1)) (anyRecord k)
     (sym (C-found k (a .est .now) (a .p + 1) (sortAt 1 k)) ∙ sym (c .before .has-some .ensures k (sortAt 1 k) o w (n .mask 1 (omega arith)) (omega (arith, s .pre .0 .first))) ∙ negated-true (c .if1 .taken))
-
-in-value-requires : tie.Need-in-value-requires
-in-value-requires c κs = search needs
-
-mul-things : tie.Need-mul-things
-mul-things c = search needs
-
-things-requires : tie.Need-things-requires
-things-requires c κs = search needs
 
 returns-2 : tie.Need-returns-2
 unfolding sortAt thingAt
@@ -49,11 +34,11 @@ pub got-spec : {M : Type 1} → statement M
 got-spec =
     tie.close
     (tie.spec
-    add-has-some
-    mul-has-some
+    (λ add-has-some. search needs)
+    (λ mul-has-some. search needs)
     has-some-requires
     returns
-    in-value-requires
-    mul-things
-    things-requires
+    (λ in-value-requires κs. search needs)
+    (λ mul-things. search needs)
+    (λ things-requires κs. search needs)
     returns-2)

@@ -12,9 +12,6 @@ use Rattle.checker.proofs.Laws.{some-so, some-not, negated-true, negate
 use Rattle.checker.proofs.terms.messages.Statement.{statement}
 use Rattle.checker.proofs.terms.messages.Tie as tie
 
-mul-has-some : tie.Need-mul-has-some
-mul-has-some c = search needs
-
 has-some-requires : tie.Need-has-some-requires
 has-some-requires c κs = let s = c .before .before .before .before .before in let a = s .args in (value-in (a .l) (a .est .now) (s .pre .0 .sized) (a .s .d) (s .pre .0 .message), mask-in _ (a .l .row) 3 (s .pre .0 .masked .long) (omega arith))
 
@@ -24,9 +21,6 @@ returns c =
     let s = c .before .before .before .before .before .before .before in let a = s .args in let k = code (a .words .now) in
     some-not k (a .est .now) (C (a .s .d)) (sendable k)
     (sym (C-found k (a .est .now) (a .s .d) (sortAt 3 k)) ∙ sym (c .before .has-some .ensures k (sortAt 3 k) (s .pre .0 .laid) (s .pre .0 .well) (s .pre .0 .masked .mask 3 (omega arith)) (omega (arith, s .pre .0 .message))) ∙ negated-true (c .if1 .taken))
-
-to-blocks-requires : tie.Need-to-blocks-requires
-to-blocks-requires c κs = search needs
 
 returns-2 : tie.Need-returns-2
 unfolding sortAt
@@ -38,4 +32,4 @@ returns-2 c =
 
 pub messages-spec : {M : Type 1} → statement M
 messages-spec =
-    tie.close (tie.spec mul-has-some has-some-requires returns to-blocks-requires returns-2)
+    tie.close (tie.spec (λ mul-has-some. search needs) has-some-requires returns (λ to-blocks-requires κs. search needs) returns-2)

@@ -15,26 +15,11 @@ use Rattle.checker.proofs.Asking.{side-in}
 use Rattle.checker.proofs.terms.operated.Statement.{statement}
 use Rattle.checker.proofs.terms.operated.Tie as tie
 
-mul-to : tie.Need-mul-to
-mul-to c = search needs
-
 mul-to-2 : tie.Need-mul-to-2
 mul-to-2 c = let s = c .before .before in let a = s .args in omega (arith, side-in (a .l) (a .est .now) (a .p) (s .pre .0) (a .p) (omega (arith, s .pre .0 .first)))
 
-operation-of-requires : tie.Need-operation-of-requires
-operation-of-requires c κs = search needs
-
-add-operate-at : tie.Need-add-operate-at
-add-operate-at c = search needs
-
-mul-operate-at : tie.Need-mul-operate-at
-mul-operate-at c = search needs
-
 mul-operate-at-2 : tie.Need-mul-operate-at-2
 mul-operate-at-2 c = let s = c .before .before .before .before in let a = s .args in omega (arith, side-in (a .l) (a .est .now) (a .p) (s .pre .0) (a .p + 1) (s .pre .0 .first))
-
-mul-operate-at-3 : tie.Need-mul-operate-at-3
-mul-operate-at-3 c = search needs
 
 mul-operate-at-4 : tie.Need-mul-operate-at-4
 mul-operate-at-4 c = let s = c .before .before .before .before .before in let a = s .args in omega (arith, side-in (a .l) (a .est .now) (a .p) (s .pre .0) (a .d) (s .pre .1))
@@ -43,20 +28,11 @@ operate-at-requires : tie.Need-operate-at-requires
 operate-at-requires c κs = let s = c .before .before .before .before .before in let a = s .args in let z = s .pre .0 .sized in
     (side-in (a .l) (a .est .now) (a .p) (s .pre .0) (a .p + 1) (s .pre .0 .first), side-in (a .l) (a .est .now) (a .p) (s .pre .0) (a .d) (s .pre .1), z .lead, omega (arith, z .wide, z .most))
 
-of-requires : tie.Need-of-requires
-of-requires c κs = search needs
-
 mul-of : tie.Need-mul-of
 mul-of c = let s = c .before .before .before .before .before .before .before in let a = s .args in omega (arith, side-in (a .l) (a .est .now) (a .p) (s .pre .0) (a .p) (omega (arith, s .pre .0 .first)))
 
 shared-slice-read-of : tie.Need-shared-slice-read-of
 shared-slice-read-of c = let s = c .before .before .before .before .before .before .before .before in let a = s .args in omega (arith, side-in (a .l) (a .est .now) (a .p) (s .pre .0) (a .p) (omega (arith, s .pre .0 .first)))
-
-of-requires-2 : tie.Need-of-requires-2
-of-requires-2 c κs = search needs
-
-within-requires : tie.Need-within-requires
-within-requires c κs = search needs
 
 returns : tie.Need-returns
 returns c =
@@ -72,18 +48,18 @@ pub operated-spec : {M : Type 1} → statement M
 operated-spec =
     tie.close
     (tie.spec
-    mul-to
+    (λ mul-to. search needs)
     mul-to-2
-    operation-of-requires
-    add-operate-at
-    mul-operate-at
+    (λ operation-of-requires κs. search needs)
+    (λ add-operate-at. search needs)
+    (λ mul-operate-at. search needs)
     mul-operate-at-2
-    mul-operate-at-3
+    (λ mul-operate-at-3. search needs)
     mul-operate-at-4
     operate-at-requires
-    of-requires
+    (λ of-requires κs. search needs)
     mul-of
     shared-slice-read-of
-    of-requires-2
-    within-requires
+    (λ of-requires-2 κs. search needs)
+    (λ within-requires κs. search needs)
     returns)

@@ -5,15 +5,9 @@ use Rattle.checker.proofs.Laws.{and-parts}
 use Rattle.checker.proofs.terms.operation.Statement.{statement}
 use Rattle.checker.proofs.terms.operation.Tie as tie
 
-parts-requires : tie.Need-parts-requires
-parts-requires c κs = search needs
-
-operated-requires : tie.Need-operated-requires
-operated-requires c κs = search needs
-
 returns : tie.Need-returns
 unfolding flow
 returns c = λ k o w. and-parts _ (c .before .parts .ensures k o w) (c .operated .ensures k o w)
 
 pub operation-spec : {M : Type 1} → statement M
-operation-spec = tie.close (tie.spec parts-requires operated-requires returns)
+operation-spec = tie.close (tie.spec (λ parts-requires κs. search needs) (λ operated-requires κs. search needs) returns)

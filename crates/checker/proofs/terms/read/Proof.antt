@@ -9,21 +9,9 @@ use Rattle.checker.proofs.Asking.{take-C}
 use Rattle.checker.proofs.terms.read.Statement.{statement}
 use Rattle.checker.proofs.terms.read.Tie as tie
 
-add-part : tie.Need-add-part
-add-part c = search needs
-
-part-requires : tie.Need-part-requires
-part-requires c κs = search needs
-
-mul-things : tie.Need-mul-things
-mul-things c = search needs
-
-things-requires : tie.Need-things-requires
-things-requires c κs = search needs
-
 returns : tie.Need-returns
 unfolding flow oneRule thingAt
 returns c = λ k j o w n. let a = c .before .before .before .before .args in both _ (c .before .part .ensures k o w) (take-C k _ isCell (a .p + 1) (a .p) (c .things .ensures k j o w n))
 
 pub read-spec : {M : Type 1} → statement M
-read-spec = tie.close (tie.spec add-part part-requires mul-things things-requires returns)
+read-spec = tie.close (tie.spec (λ add-part. search needs) (λ part-requires κs. search needs) (λ mul-things. search needs) (λ things-requires κs. search needs) returns)

@@ -11,9 +11,6 @@ use Rattle.checker.proofs.Asking.{fill-B, set-is}
 use Rattle.checker.proofs.terms.stores.Statement.{statement}
 use Rattle.checker.proofs.terms.stores.Tie as tie
 
-mul-has-text : tie.Need-mul-has-text
-mul-has-text c = search needs
-
 has-text-requires : tie.Need-has-text-requires
 has-text-requires c κs = let s = c .before .before in let a = s .args in (value-in (a .l) (a .est .now) (s .pre .0 .sized) (a .d) (s .pre .1), some-words (a .l) (a .est .now) (s .pre .0 .sized))
 
@@ -22,21 +19,6 @@ returns c =
     λ k j o w n. let s = c .before .before .before .before in let a = s .args in
     some-not k (a .est .now) (C (a .d)) isString
     (sym (C-found k (a .est .now) (a .d) isString) ∙ sym (c .before .has-text .ensures k o w (omega (arith, s .pre .1))) ∙ negated-true (c .if1 .taken))
-
-add-fills : tie.Need-add-fills
-add-fills c = search needs
-
-mul-fills : tie.Need-mul-fills
-mul-fills c = search needs
-
-add-fills-2 : tie.Need-add-fills-2
-add-fills-2 c = search needs
-
-fills-requires : tie.Need-fills-requires
-fills-requires c κs = search needs
-
-stored-requires : tie.Need-stored-requires
-stored-requires c κs = search needs
 
 returns-2 : tie.Need-returns-2
 returns-2 c =
@@ -49,12 +31,12 @@ pub stores-spec : {M : Type 1} → statement M
 stores-spec =
     tie.close
     (tie.spec
-    mul-has-text
+    (λ mul-has-text. search needs)
     has-text-requires
     returns
-    add-fills
-    mul-fills
-    add-fills-2
-    fills-requires
-    stored-requires
+    (λ add-fills. search needs)
+    (λ mul-fills. search needs)
+    (λ add-fills-2. search needs)
+    (λ fills-requires κs. search needs)
+    (λ stored-requires κs. search needs)
     returns-2)

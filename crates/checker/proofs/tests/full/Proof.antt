@@ -36,12 +36,6 @@ returns c =
     λ k o w. let s = c .before .before .before .before .before in
     gap-is (s .args .l) (s .args .est .now) (s .pre .0) k o w (s .args .r) (s .pre .1) (c .before .before .before .loop .k) (c .before .before .loop-test .taken) (c .if1 .taken)
 
-add-k : tie.Need-add-k Inv-loop μ-loop
-add-k c = search needs
-
-loop-less : tie.Need-loop-less Inv-loop μ-loop
-loop-less c = search needs
-
 loop-again : tie.Need-loop-again Inv-loop μ-loop
 loop-again c = (search needs, below-more _ _ (c .before .before .before .loop .inv .1) (c .if1 .left))
 
@@ -62,7 +56,7 @@ full-spec =
     mul-if1
     shared-slice-read-if1
     returns
-    add-k
-    loop-less
+    (λ add-k. search needs)
+    (λ loop-less. search needs)
     loop-again
     returns-2)

@@ -6,9 +6,6 @@ use Rattle.queries.proofs.Laws.{value-in, C-sets}
 use Rattle.checker.proofs.tests.in_value.Statement.{statement}
 use Rattle.checker.proofs.tests.in_value.Tie as tie
 
-mul-has : tie.Need-mul-has
-mul-has c = search needs
-
 has-requires : tie.Need-has-requires
 has-requires c κs =
     let s = c .before in
@@ -20,4 +17,4 @@ returns c =
     c .has .ensures k o (omega (arith, s .pre .1)) (omega (arith, s .pre .2, o .size, o .lead)) ∙ C-sets k (s .args .est .now) (s .args .p) (s .args .v)
 
 pub in-value-spec : {M : Type 1} → statement M
-in-value-spec = tie.close (tie.spec mul-has has-requires returns)
+in-value-spec = tie.close (tie.spec (λ mul-has. search needs) has-requires returns)

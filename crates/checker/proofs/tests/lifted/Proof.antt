@@ -10,33 +10,6 @@ use Rattle.permset.specs.Sets.{width, within}
 use Rattle.checker.proofs.tests.lifted.Statement.{statement}
 use Rattle.checker.proofs.tests.lifted.Tie as tie
 
-flags-requires : tie.Need-flags-requires
-flags-requires c κs = search needs
-
-flags-requires-2 : tie.Need-flags-requires-2
-flags-requires-2 c κs = search needs
-
-mul-of : tie.Need-mul-of
-mul-of c = search needs
-
-shared-slice-read-of : tie.Need-shared-slice-read-of
-shared-slice-read-of c = search needs
-
-of-requires : tie.Need-of-requires
-of-requires c κs = search needs
-
-mul-of-2 : tie.Need-mul-of-2
-mul-of-2 c = search needs
-
-shared-slice-read-of-2 : tie.Need-shared-slice-read-of-2
-shared-slice-read-of-2 c = search needs
-
-of-requires-2 : tie.Need-of-requires-2
-of-requires-2 c κs = search needs
-
-within-requires : tie.Need-within-requires
-within-requires c κs = search needs
-
 returns : tie.Need-returns
 returns c =
     λ k o w. let s = c .before .before .before .before .before .before .before .before in
@@ -50,13 +23,13 @@ pub lifted-spec : {M : Type 1} → statement M
 lifted-spec =
     tie.close
     (tie.spec
-    flags-requires
-    flags-requires-2
-    mul-of
-    shared-slice-read-of
-    of-requires
-    mul-of-2
-    shared-slice-read-of-2
-    of-requires-2
-    within-requires
+    (λ flags-requires κs. search needs)
+    (λ flags-requires-2 κs. search needs)
+    (λ mul-of. search needs)
+    (λ shared-slice-read-of. search needs)
+    (λ of-requires κs. search needs)
+    (λ mul-of-2. search needs)
+    (λ shared-slice-read-of-2. search needs)
+    (λ of-requires-2 κs. search needs)
+    (λ within-requires κs. search needs)
     returns)

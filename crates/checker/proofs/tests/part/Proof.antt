@@ -5,14 +5,8 @@ use Rattle.checker.proofs.Laws.{decided, both, put-decides}
 use Rattle.checker.proofs.tests.part.Statement.{statement}
 use Rattle.checker.proofs.tests.part.Tie as tie
 
-is-live-requires : tie.Need-is-live-requires
-is-live-requires c κs = search needs
-
-lifted-requires : tie.Need-lifted-requires
-lifted-requires c κs = search needs
-
 returns : tie.Need-returns
 returns c = λ k o w. both _ (decided _ (c .before .is-live .ensures k o) (put-decides _ (L _) 0)) (c .lifted .ensures k o w)
 
 pub part-spec : {M : Type 1} → statement M
-part-spec = tie.close (tie.spec is-live-requires lifted-requires returns)
+part-spec = tie.close (tie.spec (λ is-live-requires κs. search needs) (λ lifted-requires κs. search needs) returns)

@@ -25,12 +25,6 @@ add-lacks-masked c = let s = c .before .before in omega (arith, mask-in _ (s .ar
 mul-lacks-masked : tie.Need-mul-lacks-masked
 mul-lacks-masked c = let s = c .before .before in omega (arith, mask-in _ (s .args .l .row) (s .args .m) (s .pre .3) (s .pre .4))
 
-sub-lacks-masked : tie.Need-sub-lacks-masked
-sub-lacks-masked c = search needs
-
-part-lacks-masked-start : tie.Need-part-lacks-masked-start
-part-lacks-masked-start c = search needs
-
 part-lacks-masked-end : tie.Need-part-lacks-masked-end
 part-lacks-masked-end c = let s = c .before .before in omega (arith, mask-in _ (s .args .l .row) (s .args .m) (s .pre .3) (s .pre .4))
 
@@ -60,8 +54,8 @@ passed-by-spec =
     mul-at
     add-lacks-masked
     mul-lacks-masked
-    sub-lacks-masked
-    part-lacks-masked-start
+    (λ sub-lacks-masked. search needs)
+    (λ part-lacks-masked-start. search needs)
     part-lacks-masked-end
     mul-lacks-masked-2
     mul-lacks-masked-3

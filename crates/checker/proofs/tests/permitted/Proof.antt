@@ -10,21 +10,6 @@ use Rattle.permset.specs.Sets.{within}
 use Rattle.checker.proofs.tests.permitted.Statement.{statement}
 use Rattle.checker.proofs.tests.permitted.Tie as tie
 
-flags-requires : tie.Need-flags-requires
-flags-requires c κs = search needs
-
-mul-of : tie.Need-mul-of
-mul-of c = search needs
-
-shared-slice-read-of : tie.Need-shared-slice-read-of
-shared-slice-read-of c = search needs
-
-of-requires : tie.Need-of-requires
-of-requires c κs = search needs
-
-within-requires : tie.Need-within-requires
-within-requires c κs = search needs
-
 returns : tie.Need-returns
 returns c =
     λ k o w. let s = c .before .before .before .before .before in
@@ -37,4 +22,4 @@ returns c =
 pub permitted-spec : {M : Type 1} → statement M
 permitted-spec =
     tie.close
-    (tie.spec flags-requires mul-of shared-slice-read-of of-requires within-requires returns)
+    (tie.spec (λ flags-requires κs. search needs) (λ mul-of. search needs) (λ shared-slice-read-of. search needs) (λ of-requires κs. search needs) (λ within-requires κs. search needs) returns)

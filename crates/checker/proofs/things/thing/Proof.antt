@@ -9,35 +9,8 @@ use Rattle.checker.proofs.Found.{taken-is, handed-is}
 use Rattle.checker.proofs.things.thing.Statement.{statement}
 use Rattle.checker.proofs.things.thing.Tie as tie
 
-enum-told : tie.Need-enum-told
-enum-told c = search needs
-
 called-requires : tie.Need-called-requires
 called-requires c κs = let s = c .before .before .before in (s .pre .0, s .pre .1, s .pre .2, s .pre .4 (c .enum-told .given .1))
-
-enum-told-2 : tie.Need-enum-told-2
-enum-told-2 c = search needs
-
-mul-passed : tie.Need-mul-passed
-mul-passed c = search needs
-
-add-passed : tie.Need-add-passed
-add-passed c = search needs
-
-passed-requires : tie.Need-passed-requires
-passed-requires c κs = search needs
-
-enum-told-3 : tie.Need-enum-told-3
-enum-told-3 c = search needs
-
-mul-passed-2 : tie.Need-mul-passed-2
-mul-passed-2 c = search needs
-
-add-passed-2 : tie.Need-add-passed-2
-add-passed-2 c = search needs
-
-passed-requires-2 : tie.Need-passed-requires-2
-passed-requires-2 c κs = search needs
 
 returns : tie.Need-returns
 returns c =
@@ -58,16 +31,16 @@ pub thing-spec : {M : Type 1} → statement M
 thing-spec =
     tie.close
     (tie.spec
-    enum-told
+    (λ enum-told. search needs)
     called-requires
-    enum-told-2
-    mul-passed
-    add-passed
-    passed-requires
-    enum-told-3
-    mul-passed-2
-    add-passed-2
-    passed-requires-2
+    (λ enum-told-2. search needs)
+    (λ mul-passed. search needs)
+    (λ add-passed. search needs)
+    (λ passed-requires κs. search needs)
+    (λ enum-told-3. search needs)
+    (λ mul-passed-2. search needs)
+    (λ add-passed-2. search needs)
+    (λ passed-requires-2 κs. search needs)
     returns
     returns-2
     returns-3)

@@ -21,12 +21,6 @@ Inv-loop est masks l action m p y size f₀ f =
 abbrev μ-loop : tie.MeasureT-loop
 μ-loop est masks l action m p y size f₀ f = size - f
 
-add-next-thing : tie.Need-add-next-thing Inv-loop μ-loop
-add-next-thing c = search needs
-
-mul-next-thing : tie.Need-mul-next-thing Inv-loop μ-loop
-mul-next-thing c = search needs
-
 next-thing-requires : tie.Need-next-thing-requires Inv-loop μ-loop
 next-thing-requires c κs =
     let s = c .before .before in
@@ -50,12 +44,6 @@ returns c =
     let a = s .args in
     one-fails (a .l) (a .est .now) (a .masks .now) (a .p + 1) (a .m) (asked (a .action) (a .p) (a .y)) (s .pre .0 .sized) (s .pre .0 .first) (suits-three (a .action) (a .m) (s .pre .3)) k o w n (c .before .before .before .loop .f) (c .before .before .loop-test .taken) (c .before .before .before .loop .inv .1 (c .before .before .loop-test .taken))
     (answered-no _ (c .if1 .taken) (c .before .thing .ensures k o w))
-
-add-next-thing-2 : tie.Need-add-next-thing-2 Inv-loop μ-loop
-add-next-thing-2 c = search needs
-
-mul-next-thing-2 : tie.Need-mul-next-thing-2 Inv-loop μ-loop
-mul-next-thing-2 c = search needs
 
 add-next-thing-3 : tie.Need-add-next-thing-3 Inv-loop μ-loop
 add-next-thing-3 c = let s = c .before .before .before .before .before .before .before in omega (arith, s .pre .0 .sized .size)
@@ -89,14 +77,14 @@ things-spec =
     (tie.spec
     Inv-loop
     μ-loop
-    add-next-thing
-    mul-next-thing
+    (λ add-next-thing. search needs)
+    (λ mul-next-thing. search needs)
     next-thing-requires
     loop-holds
     thing-requires
     returns
-    add-next-thing-2
-    mul-next-thing-2
+    (λ add-next-thing-2. search needs)
+    (λ mul-next-thing-2. search needs)
     add-next-thing-3
     next-thing-requires-2
     loop-less

@@ -21,36 +21,6 @@ Inv-loop leak next₀ i₀ next i = (i ≤ 24) × (length next₀ ≡ 24) × (le
 abbrev μ-loop : tie.MeasureT-loop
 μ-loop leak next₀ i₀ next i = 24 - i
 
-loop-holds : tie.Need-loop-holds Inv-loop μ-loop
-loop-holds c = search needs
-
-cast-at : tie.Need-cast-at Inv-loop μ-loop
-cast-at c = search needs
-
-has-requires : tie.Need-has-requires Inv-loop μ-loop
-has-requires c κs = search needs
-
-mul-raised : tie.Need-mul-raised Inv-loop μ-loop
-mul-raised c = search needs
-
-array-read-raised : tie.Need-array-read-raised Inv-loop μ-loop
-array-read-raised c = search needs
-
-raised-requires : tie.Need-raised-requires Inv-loop μ-loop
-raised-requires c κs = search needs
-
-mul-next : tie.Need-mul-next Inv-loop μ-loop
-mul-next c = search needs
-
-array-write-next : tie.Need-array-write-next Inv-loop μ-loop
-array-write-next c = search needs
-
-add-i : tie.Need-add-i Inv-loop μ-loop
-add-i c = search needs
-
-loop-less : tie.Need-loop-less Inv-loop μ-loop
-loop-less c = search needs
-
 loop-again : tie.Need-loop-again Inv-loop μ-loop
 loop-again c =
     let l = c .before .before .before .loop in
@@ -74,15 +44,15 @@ counted-spec =
     (tie.spec
     Inv-loop
     μ-loop
-    loop-holds
-    cast-at
-    has-requires
-    mul-raised
-    array-read-raised
-    raised-requires
-    mul-next
-    array-write-next
-    add-i
-    loop-less
+    (λ loop-holds. search needs)
+    (λ cast-at. search needs)
+    (λ has-requires κs. search needs)
+    (λ mul-raised. search needs)
+    (λ array-read-raised. search needs)
+    (λ raised-requires κs. search needs)
+    (λ mul-next. search needs)
+    (λ array-write-next. search needs)
+    (λ add-i. search needs)
+    (λ loop-less. search needs)
     loop-again
     returns)

@@ -7,9 +7,6 @@ use borrow.Author.Needs.{needs}
 use Rattle.class_report.proofs.counts.raised.Statement.{statement}
 use Rattle.class_report.proofs.counts.raised.Tie as tie
 
-add-result : tie.Need-add-result
-add-result c = search needs
-
 returns : tie.Need-returns
 returns c =
     let n = c .before .before .args .n in
@@ -27,4 +24,4 @@ returns-3 c =
     sym (ap (λ (b : Bool). raised b n) (c .if1 .left))
 
 pub raised-spec : {M : Type 1} → statement M
-raised-spec = tie.close (tie.spec add-result returns returns-2 returns-3)
+raised-spec = tie.close (tie.spec (λ add-result. search needs) returns returns-2 returns-3)

@@ -6,21 +6,6 @@ use borrow.Author.Needs.{needs}
 use Rattle.class_report.proofs.counts.tallied.Statement.{statement}
 use Rattle.class_report.proofs.counts.tallied.Tie as tie
 
-enum-known-outcome : tie.Need-enum-known-outcome
-enum-known-outcome c = search needs
-
-counted-requires : tie.Need-counted-requires
-counted-requires c κs = search needs
-
-raised-requires : tie.Need-raised-requires
-raised-requires c κs = search needs
-
-enum-told : tie.Need-enum-told
-enum-told c = search needs
-
-raised-requires-2 : tie.Need-raised-requires-2
-raised-requires-2 c κs = search needs
-
 returns : tie.Need-returns
 returns c =
     let t = c .before .before .before .before .before .before .args .tally in
@@ -35,10 +20,10 @@ pub tallied-spec : {M : Type 1} → statement M
 tallied-spec =
     tie.close
     (tie.spec
-    enum-known-outcome
-    counted-requires
-    raised-requires
-    enum-told
-    raised-requires-2
+    (λ enum-known-outcome. search needs)
+    (λ counted-requires κs. search needs)
+    (λ raised-requires κs. search needs)
+    (λ enum-told. search needs)
+    (λ raised-requires-2 κs. search needs)
     returns
     returns-2)

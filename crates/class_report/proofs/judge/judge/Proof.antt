@@ -12,15 +12,6 @@ use borrow.Author.Needs.{needs}
 use Rattle.class_report.proofs.judge.judge.Statement.{statement}
 use Rattle.class_report.proofs.judge.judge.Tie as tie
 
-slice-aggregate-words-of : tie.Need-slice-aggregate-words-of
-slice-aggregate-words-of c = search needs
-
-words-of-requires : tie.Need-words-of-requires
-words-of-requires c κs = search needs
-
-array-share-prefix-words : tie.Need-array-share-prefix-words
-array-share-prefix-words c = search needs
-
 slice-aggregate-judge-words : tie.Need-slice-aggregate-judge-words
 slice-aggregate-judge-words c =
     let s = c .before .before .before .before .before in let w = c .before .before .words-of in
@@ -47,9 +38,9 @@ pub judge-spec : {M : Type 1} → statement M
 judge-spec =
     tie.close
     (tie.spec
-    slice-aggregate-words-of
-    words-of-requires
-    array-share-prefix-words
+    (λ slice-aggregate-words-of. search needs)
+    (λ words-of-requires κs. search needs)
+    (λ array-share-prefix-words. search needs)
     slice-aggregate-judge-words
     judge-words-requires
     returns)

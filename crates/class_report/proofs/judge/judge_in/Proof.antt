@@ -6,18 +6,6 @@ use borrow.Author.Needs.{needs}
 use Rattle.class_report.proofs.judge.judge_in.Statement.{statement}
 use Rattle.class_report.proofs.judge.judge_in.Tie as tie
 
-verdict-requires : tie.Need-verdict-requires
-verdict-requires c κs = search needs
-
-outcome-of-requires : tie.Need-outcome-of-requires
-outcome-of-requires c κs = search needs
-
-same-length : tie.Need-same-length
-same-length c = search needs
-
-same-length-2 : tie.Need-same-length-2
-same-length-2 c = search needs
-
 returns : tie.Need-returns
 returns c =
     let s = c .before .before .before .before .before .before .before .before .before .before .before in
@@ -26,4 +14,4 @@ returns c =
 
 pub judge-in-spec : {M : Type 1} → statement M
 judge-in-spec =
-    tie.close (tie.spec verdict-requires outcome-of-requires same-length same-length-2 returns)
+    tie.close (tie.spec (λ verdict-requires κs. search needs) (λ outcome-of-requires κs. search needs) (λ same-length. search needs) (λ same-length-2. search needs) returns)

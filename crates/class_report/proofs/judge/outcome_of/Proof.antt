@@ -8,21 +8,6 @@ use borrow.Author.Needs.{needs}
 use Rattle.class_report.proofs.judge.outcome_of.Statement.{statement}
 use Rattle.class_report.proofs.judge.outcome_of.Tie as tie
 
-enum-known-v : tie.Need-enum-known-v
-enum-known-v c = search needs
-
-fault-number-requires : tie.Need-fault-number-requires
-fault-number-requires c κs = search needs
-
-fault-place-requires : tie.Need-fault-place-requires
-fault-place-requires c κs = search needs
-
-enum-known-v-2 : tie.Need-enum-known-v-2
-enum-known-v-2 c = search needs
-
-enum-known-v-3 : tie.Need-enum-known-v-3
-enum-known-v-3 c = search needs
-
 returns : tie.Need-returns
 unfolding outcomeOf answerOf
 returns c =
@@ -41,11 +26,11 @@ pub outcome-of-spec : {M : Type 1} → statement M
 outcome-of-spec =
     tie.close
     (tie.spec
-    enum-known-v
-    fault-number-requires
-    fault-place-requires
-    enum-known-v-2
-    enum-known-v-3
+    (λ enum-known-v. search needs)
+    (λ fault-number-requires κs. search needs)
+    (λ fault-place-requires κs. search needs)
+    (λ enum-known-v-2. search needs)
+    (λ enum-known-v-3. search needs)
     returns
     returns-2
     returns-3)

@@ -19,31 +19,16 @@ abbrev μ-loop : tie.MeasureT-loop
 loop-holds : tie.Need-loop-holds Inv-loop μ-loop
 loop-holds c = (search needs, refl, listed-none _ _ _ _ (omega arith))
 
-mul-permission-line : tie.Need-mul-permission-line Inv-loop μ-loop
-mul-permission-line c = search needs
-
-shared-slice-read-permission-line : tie.Need-shared-slice-read-permission-line Inv-loop μ-loop
-shared-slice-read-permission-line c = search needs
-
 permission-line-requires : tie.Need-permission-line-requires Inv-loop μ-loop
 permission-line-requires c κs =
     let l = c .before .before .before .loop in
     omega (arith, l .inv .2 .most, l .inv .1, c .before .before .loop-test .taken, c .before .before .before .before .before .before .pre)
-
-add-i : tie.Need-add-i Inv-loop μ-loop
-add-i c = search needs
-
-loop-less : tie.Need-loop-less Inv-loop μ-loop
-loop-less c = search needs
 
 loop-again : tie.Need-loop-again Inv-loop μ-loop
 loop-again c =
     let l = c .before .before .before .before .before .before .loop in
     let p = c .before .before .permission-line in
     (search needs, wrote-length (p .ensures .0) ∙ l .inv .1, listed-next _ _ _ _ (c .before .before .before .before .before .loop-test .taken) (l .inv .2) (p .ensures .0) (p .ensures .1))
-
-same-length : tie.Need-same-length Inv-loop μ-loop
-same-length c = search needs
 
 returns : tie.Need-returns Inv-loop μ-loop
 returns c = listed-all _ _ _ _ (c .loop-test .left) (c .before .loop .inv .2)
@@ -55,11 +40,11 @@ permission-lines-spec =
     Inv-loop
     μ-loop
     loop-holds
-    mul-permission-line
-    shared-slice-read-permission-line
+    (λ mul-permission-line. search needs)
+    (λ shared-slice-read-permission-line. search needs)
     permission-line-requires
-    add-i
-    loop-less
+    (λ add-i. search needs)
+    (λ loop-less. search needs)
     loop-again
-    same-length
+    (λ same-length. search needs)
     returns)

@@ -5,19 +5,10 @@ use borrow.Author.Needs.{needs}
 use Rattle.class_report.proofs.lines.put_totals.Statement.{statement}
 use Rattle.class_report.proofs.lines.put_totals.Tie as tie
 
-count-line-requires : tie.Need-count-line-requires
-count-line-requires c κs = search needs
-
-permission-lines-requires : tie.Need-permission-lines-requires
-permission-lines-requires c κs = search needs
-
-same-length : tie.Need-same-length
-same-length c = search needs
-
 returns : tie.Need-returns
 unfolding totals
 returns c = then (c .before .before .before .before .before .before .count-line .ensures .0) (c .before .before .permission-lines .ensures)
 
 pub put-totals-spec : {M : Type 1} → statement M
 put-totals-spec =
-    tie.close (tie.spec count-line-requires permission-lines-requires same-length returns)
+    tie.close (tie.spec (λ count-line-requires κs. search needs) (λ permission-lines-requires κs. search needs) (λ same-length. search needs) returns)

@@ -5,18 +5,6 @@ use borrow.Author.Needs.{needs}
 use Rattle.class_report.proofs.steps.broken_task.Statement.{statement}
 use Rattle.class_report.proofs.steps.broken_task.Tie as tie
 
-enum-told : tie.Need-enum-told
-enum-told c = search needs
-
-enum-told-2 : tie.Need-enum-told-2
-enum-told-2 c = search needs
-
-enum-told-3 : tie.Need-enum-told-3
-enum-told-3 c = search needs
-
-at-end-requires : tie.Need-at-end-requires
-at-end-requires c κs = search needs
-
 returns : tie.Need-returns
 unfolding brokenTask
 returns c = sym (ap (brokenTask (c .before .before .args .ended)) (c .enum-told .given .1))
@@ -32,4 +20,4 @@ returns-3 c = c .at-end .ensures ∙ sym (ap (brokenTask (c .before .before .bef
 pub broken-task-spec : {M : Type 1} → statement M
 broken-task-spec =
     tie.close
-    (tie.spec enum-told enum-told-2 enum-told-3 at-end-requires returns returns-2 returns-3)
+    (tie.spec (λ enum-told. search needs) (λ enum-told-2. search needs) (λ enum-told-3. search needs) (λ at-end-requires κs. search needs) returns returns-2 returns-3)

@@ -5,15 +5,6 @@ use borrow.Author.Needs.{needs}
 use Rattle.class_report.proofs.steps.fault_number.Statement.{statement}
 use Rattle.class_report.proofs.steps.fault_number.Tie as tie
 
-enum-told : tie.Need-enum-told
-enum-told c = search needs
-
-enum-told-2 : tie.Need-enum-told-2
-enum-told-2 c = search needs
-
-enum-told-3 : tie.Need-enum-told-3
-enum-told-3 c = search needs
-
 returns : tie.Need-returns
 unfolding number
 returns c = sym (ap number (c .enum-told .given .1))
@@ -28,4 +19,4 @@ returns-3 c = sym (ap number (c .enum-told3 .given .1))
 
 pub fault-number-spec : {M : Type 1} → statement M
 fault-number-spec =
-    tie.close (tie.spec enum-told enum-told-2 enum-told-3 returns returns-2 returns-3)
+    tie.close (tie.spec (λ enum-told. search needs) (λ enum-told-2. search needs) (λ enum-told-3. search needs) returns returns-2 returns-3)

@@ -5,9 +5,6 @@ use borrow.Author.Needs.{needs}
 use Rattle.class_report.proofs.steps.full_task.Statement.{statement}
 use Rattle.class_report.proofs.steps.full_task.Tie as tie
 
-at-end-requires : tie.Need-at-end-requires
-at-end-requires c κs = search needs
-
 returns : tie.Need-returns
 returns c = let a = c .before .before .before .args in c .at-end .ensures ∙ sym (full-nothing (a .ended) (a .piece .now) (c .before .if1 .taken))
 
@@ -15,4 +12,4 @@ returns-2 : tie.Need-returns-2
 returns-2 c = let a = c .before .before .args in sym (full-more (a .ended) (a .piece .now) (c .if1 .left))
 
 pub full-task-spec : {M : Type 1} → statement M
-full-task-spec = tie.close (tie.spec at-end-requires returns returns-2)
+full-task-spec = tie.close (tie.spec (λ at-end-requires κs. search needs) returns returns-2)

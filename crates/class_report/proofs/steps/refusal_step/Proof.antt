@@ -5,15 +5,6 @@ use borrow.Author.Needs.{needs}
 use Rattle.class_report.proofs.steps.refusal_step.Statement.{statement}
 use Rattle.class_report.proofs.steps.refusal_step.Tie as tie
 
-fault-number-requires : tie.Need-fault-number-requires
-fault-number-requires c κs = search needs
-
-position-requires : tie.Need-position-requires
-position-requires c κs = search needs
-
-refusal-line-requires : tie.Need-refusal-line-requires
-refusal-line-requires c κs = search needs
-
 returns : tie.Need-returns
 returns c =
     let a = c .before .before .before .before .before .args in
@@ -21,4 +12,4 @@ returns c =
 
 pub refusal-step-spec : {M : Type 1} → statement M
 refusal-step-spec =
-    tie.close (tie.spec fault-number-requires position-requires refusal-line-requires returns)
+    tie.close (tie.spec (λ fault-number-requires κs. search needs) (λ position-requires κs. search needs) (λ refusal-line-requires κs. search needs) returns)

@@ -16,30 +16,6 @@ asked c =
     let a = c .before .before .before .args in
     c .task-for .ensures ∙ ap (λ (p : ℕ). taskFor p (a .ended) (a .piece .now)) (c .before .position .ensures)
 
-position-requires : tie.Need-position-requires
-position-requires c κs = search needs
-
-task-for-requires : tie.Need-task-for-requires
-task-for-requires c κs = search needs
-
-enum-told : tie.Need-enum-told
-enum-told c = search needs
-
-enum-told-2 : tie.Need-enum-told-2
-enum-told-2 c = search needs
-
-totals-step-requires : tie.Need-totals-step-requires
-totals-step-requires c κs = search needs
-
-enum-known-fault : tie.Need-enum-known-fault
-enum-known-fault c = search needs
-
-refusal-step-requires : tie.Need-refusal-step-requires
-refusal-step-requires c κs = search needs
-
-enum-known-words : tie.Need-enum-known-words
-enum-known-words c = search needs
-
 system-step-requires : tie.Need-system-step-requires
 system-step-requires c κs =
     let b = c .before .before .before .before in
@@ -75,14 +51,14 @@ pub step-spec : {M : Type 1} → statement M
 step-spec =
     tie.close
     (tie.spec
-    position-requires
-    task-for-requires
-    enum-told
-    enum-told-2
-    totals-step-requires
-    enum-known-fault
-    refusal-step-requires
-    enum-known-words
+    (λ position-requires κs. search needs)
+    (λ task-for-requires κs. search needs)
+    (λ enum-told. search needs)
+    (λ enum-told-2. search needs)
+    (λ totals-step-requires κs. search needs)
+    (λ enum-known-fault. search needs)
+    (λ refusal-step-requires κs. search needs)
+    (λ enum-known-words. search needs)
     system-step-requires
     returns
     returns-2

@@ -5,39 +5,6 @@ use borrow.Author.Needs.{needs}
 use Rattle.class_report.proofs.steps.system_step.Statement.{statement}
 use Rattle.class_report.proofs.steps.system_step.Tie as tie
 
-mul-used : tie.Need-mul-used
-mul-used c = search needs
-
-add-used : tie.Need-add-used
-add-used c = search needs
-
-sub-bytes : tie.Need-sub-bytes
-sub-bytes c = search needs
-
-part-bytes-start : tie.Need-part-bytes-start
-part-bytes-start c = search needs
-
-part-bytes-end : tie.Need-part-bytes-end
-part-bytes-end c = search needs
-
-word-at-requires : tie.Need-word-at-requires
-word-at-requires c κs = search needs
-
-judge-requires : tie.Need-judge-requires
-judge-requires c κs = search needs
-
-position-requires : tie.Need-position-requires
-position-requires c κs = search needs
-
-fingerprint-requires : tie.Need-fingerprint-requires
-fingerprint-requires c κs = search needs
-
-system-line-requires : tie.Need-system-line-requires
-system-line-requires c κs = search needs
-
-tallied-requires : tie.Need-tallied-requires
-tallied-requires c κs = search needs
-
 returns : tie.Need-returns
 returns c =
     let a = c .before .before .before .before .before .before .before .before .before .args in
@@ -47,15 +14,15 @@ pub system-step-spec : {M : Type 1} → statement M
 system-step-spec =
     tie.close
     (tie.spec
-    mul-used
-    add-used
-    sub-bytes
-    part-bytes-start
-    part-bytes-end
-    word-at-requires
-    judge-requires
-    position-requires
-    fingerprint-requires
-    system-line-requires
-    tallied-requires
+    (λ mul-used. search needs)
+    (λ add-used. search needs)
+    (λ sub-bytes. search needs)
+    (λ part-bytes-start. search needs)
+    (λ part-bytes-end. search needs)
+    (λ word-at-requires κs. search needs)
+    (λ judge-requires κs. search needs)
+    (λ position-requires κs. search needs)
+    (λ fingerprint-requires κs. search needs)
+    (λ system-line-requires κs. search needs)
+    (λ tallied-requires κs. search needs)
     returns)

@@ -6,15 +6,6 @@ use borrow.Author.Needs.{needs}
 use Rattle.class_report.proofs.steps.task_for.Statement.{statement}
 use Rattle.class_report.proofs.steps.task_for.Tie as tie
 
-front-of-requires : tie.Need-front-of-requires
-front-of-requires c κs = search needs
-
-front-task-requires : tie.Need-front-task-requires
-front-task-requires c κs = search needs
-
-full-task-requires : tie.Need-full-task-requires
-full-task-requires c κs = search needs
-
 returns : tie.Need-returns
 returns c =
     let a = c .before .before .before .before .args in
@@ -27,4 +18,4 @@ returns-2 c =
 
 pub task-for-spec : {M : Type 1} → statement M
 task-for-spec =
-    tie.close (tie.spec front-of-requires front-task-requires full-task-requires returns returns-2)
+    tie.close (tie.spec (λ front-of-requires κs. search needs) (λ front-task-requires κs. search needs) (λ full-task-requires κs. search needs) returns returns-2)

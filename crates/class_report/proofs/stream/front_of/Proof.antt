@@ -12,12 +12,6 @@ returns c = sym (front-nothing (c .before .before .args .stream .now) (c .if1 .t
 returns-2 : tie.Need-returns-2
 returns-2 c = sym (front-short (c .before .before .before .args .stream .now) (c .before .if1 .left) (c .if2 .taken))
 
-word-at-requires : tie.Need-word-at-requires
-word-at-requires c κs = search needs
-
-front-sized-requires : tie.Need-front-sized-requires
-front-sized-requires c κs = search needs
-
 returns-3 : tie.Need-returns-3
 returns-3 c =
     let s = c .before .before .before .before .before .args .stream .now in
@@ -25,4 +19,4 @@ returns-3 c =
 
 pub front-of-spec : {M : Type 1} → statement M
 front-of-spec =
-    tie.close (tie.spec returns returns-2 word-at-requires front-sized-requires returns-3)
+    tie.close (tie.spec returns returns-2 (λ word-at-requires κs. search needs) (λ front-sized-requires κs. search needs) returns-3)

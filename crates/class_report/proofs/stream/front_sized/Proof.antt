@@ -8,12 +8,6 @@ use Rattle.class_report.proofs.stream.front_sized.Tie as tie
 returns : tie.Need-returns
 returns c = let a = c .before .args in sym (sized-long (a .stream .now) (a .size) (c .if1 .taken))
 
-mul-if2 : tie.Need-mul-if2
-mul-if2 c = search needs
-
-add-if2 : tie.Need-add-if2
-add-if2 c = search needs
-
 returns-2 : tie.Need-returns-2
 returns-2 c = let a = c .before .before .args in sym (sized-short (a .stream .now) (a .size) (c .before .if1 .left) (c .if2 .taken))
 
@@ -21,4 +15,4 @@ returns-3 : tie.Need-returns-3
 returns-3 c = let a = c .before .before .args in sym (sized-whole (a .stream .now) (a .size) (c .before .if1 .left) (c .if2 .left))
 
 pub front-sized-spec : {M : Type 1} → statement M
-front-sized-spec = tie.close (tie.spec returns mul-if2 add-if2 returns-2 returns-3)
+front-sized-spec = tie.close (tie.spec returns (λ mul-if2. search needs) (λ add-if2. search needs) returns-2 returns-3)

@@ -16,29 +16,8 @@ Inv-loop buffer₀ from end n i₀ buffer i =
 abbrev μ-loop : tie.MeasureT-loop
 μ-loop buffer₀ from end n i₀ buffer i = n - i
 
-least-requires : tie.Need-least-requires Inv-loop μ-loop
-least-requires c κs = search needs
-
-less-requires : tie.Need-less-requires Inv-loop μ-loop
-less-requires c κs = search needs
-
 loop-holds : tie.Need-loop-holds Inv-loop μ-loop
 loop-holds c = (search needs, search needs, refl, refl)
-
-add-buffer : tie.Need-add-buffer Inv-loop μ-loop
-add-buffer c = search needs
-
-slice-read-buffer : tie.Need-slice-read-buffer Inv-loop μ-loop
-slice-read-buffer c = search needs
-
-slice-write-buffer : tie.Need-slice-write-buffer Inv-loop μ-loop
-slice-write-buffer c = search needs
-
-add-i : tie.Need-add-i Inv-loop μ-loop
-add-i c = search needs
-
-loop-less : tie.Need-loop-less Inv-loop μ-loop
-loop-less c = search needs
 
 loop-again : tie.Need-loop-again Inv-loop μ-loop
 loop-again c =
@@ -46,15 +25,14 @@ loop-again c =
     let a = c .before .before .before .before .before .before .args in
     (search needs, l .inv .1, search needs, moved (a .buffer .now) (l .buffer) (a .from) (l .i) (l .inv .3) (omega arith))
 
-same-length : tie.Need-same-length Inv-loop μ-loop
-same-length c = search needs
-
 returns : tie.Need-returns Inv-loop μ-loop
 returns c =
+    let s = c .before .before .before .before .before in
+    let a = s .args in
     let l = c .before .loop in
     let n = c .before .before .less .result in
     let i : l .i ≡ n = omega arith in
-    (l .inv .1, l .inv .3 ∙ ap (λ (k : ℕ). take k (drop (c .before .before .before .before .before .args .from) (c .before .before .before .before .before .args .buffer .now)) ++ drop k (c .before .before .before .before .before .args .buffer .now)) i)
+    (l .inv .1, l .inv .3 ∙ ap (λ (k : ℕ). take k (drop (a .from) (a .buffer .now)) ++ drop k (a .buffer .now)) i)
 
 pub keep-spec : {M : Type 1} → statement M
 keep-spec =
@@ -62,14 +40,14 @@ keep-spec =
     (tie.spec
     Inv-loop
     μ-loop
-    least-requires
-    less-requires
+    (λ least-requires κs. search needs)
+    (λ less-requires κs. search needs)
     loop-holds
-    add-buffer
-    slice-read-buffer
-    slice-write-buffer
-    add-i
-    loop-less
+    (λ add-buffer. search needs)
+    (λ slice-read-buffer. search needs)
+    (λ slice-write-buffer. search needs)
+    (λ add-i. search needs)
+    (λ loop-less. search needs)
     loop-again
-    same-length
+    (λ same-length. search needs)
     returns)

@@ -7,45 +7,6 @@ use Rattle.clauses.specs.Clauses.{ofApply, free}
 use Rattle.clauses.proofs.Arms.{arm, past}
 use Rattle.table.proofs.Outside.{outside}
 
-of-requires : tie.Need-of-requires
-of-requires c κs = search needs
-
-free-requires : tie.Need-free-requires
-free-requires c κs = search needs
-
-of-requires-2 : tie.Need-of-requires-2
-of-requires-2 c κs = search needs
-
-free-requires-2 : tie.Need-free-requires-2
-free-requires-2 c κs = search needs
-
-mul-of : tie.Need-mul-of
-mul-of c = search needs
-
-of-requires-3 : tie.Need-of-requires-3
-of-requires-3 c κs = search needs
-
-free-requires-3 : tie.Need-free-requires-3
-free-requires-3 c κs = search needs
-
-mul-of-2 : tie.Need-mul-of-2
-mul-of-2 c = search needs
-
-of-requires-4 : tie.Need-of-requires-4
-of-requires-4 c κs = search needs
-
-free-requires-4 : tie.Need-free-requires-4
-free-requires-4 c κs = search needs
-
-of-requires-5 : tie.Need-of-requires-5
-of-requires-5 c κs = search needs
-
-free-requires-5 : tie.Need-free-requires-5
-free-requires-5 c κs = search needs
-
-never-requires : tie.Need-never-requires
-never-requires c κs = search needs
-
 returns : tie.Need-returns
 unfolding ofApply
 returns c =
@@ -80,19 +41,19 @@ pub apply-spec : {M : Type 1} → statement M
 apply-spec =
     tie.close
     (tie.spec
-    of-requires
-    free-requires
-    of-requires-2
-    free-requires-2
-    mul-of
-    of-requires-3
-    free-requires-3
-    mul-of-2
-    of-requires-4
-    free-requires-4
-    of-requires-5
-    free-requires-5
-    never-requires
+    (λ of-requires κs. search needs)
+    (λ free-requires κs. search needs)
+    (λ of-requires-2 κs. search needs)
+    (λ free-requires-2 κs. search needs)
+    (λ mul-of. search needs)
+    (λ of-requires-3 κs. search needs)
+    (λ free-requires-3 κs. search needs)
+    (λ mul-of-2. search needs)
+    (λ of-requires-4 κs. search needs)
+    (λ free-requires-4 κs. search needs)
+    (λ of-requires-5 κs. search needs)
+    (λ free-requires-5 κs. search needs)
+    (λ never-requires κs. search needs)
     returns
     returns-2
     returns-3

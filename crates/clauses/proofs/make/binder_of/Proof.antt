@@ -7,11 +7,8 @@ use Rattle.clauses.proofs.Links.{binder-small}
 use Rattle.clauses.proofs.make.binder_of.Statement.{statement}
 use Rattle.clauses.proofs.make.binder_of.Tie as tie
 
-link-at-requires : tie.Need-link-at-requires
-link-at-requires c κs = search needs
-
 returns : tie.Need-returns
 returns c = (ap (λ (l : Link). l .binder) (c .link-at .ensures), binder-small _ _ _ (c .link-at .ensures))
 
 pub binder-of-spec : {M : Type 1} → statement M
-binder-of-spec = tie.close (tie.spec link-at-requires returns)
+binder-of-spec = tie.close (tie.spec (λ link-at-requires κs. search needs) returns)

@@ -7,18 +7,6 @@ use Rattle.clauses.specs.Clauses.{ofBlock, free}
 use Rattle.clauses.proofs.Arms.{arm, past}
 use Rattle.table.proofs.Outside.{outside}
 
-add-of : tie.Need-add-of
-add-of c = search needs
-
-of-requires : tie.Need-of-requires
-of-requires c κs = search needs
-
-free-requires : tie.Need-free-requires
-free-requires c κs = search needs
-
-never-requires : tie.Need-never-requires
-never-requires c κs = search needs
-
 returns : tie.Need-returns
 unfolding ofBlock
 returns c =
@@ -30,4 +18,4 @@ returns-2 c =
     past (ofBlock _) _ _ (c .never .ensures) (outside 1 _ (c .before .match .rest))
 
 pub block-spec : {M : Type 1} → statement M
-block-spec = tie.close (tie.spec add-of of-requires free-requires never-requires returns returns-2)
+block-spec = tie.close (tie.spec (λ add-of. search needs) (λ of-requires κs. search needs) (λ free-requires κs. search needs) (λ never-requires κs. search needs) returns returns-2)

@@ -7,57 +7,6 @@ use Rattle.clauses.specs.Clauses.{ofIf, free, has}
 use Rattle.clauses.proofs.Arms.{arm, past}
 use Rattle.table.proofs.Outside.{outside}
 
-of-requires : tie.Need-of-requires
-of-requires c κs = search needs
-
-free-requires : tie.Need-free-requires
-free-requires c κs = search needs
-
-add-has : tie.Need-add-has
-add-has c = search needs
-
-live-requires : tie.Need-live-requires
-live-requires c κs = search needs
-
-has-requires : tie.Need-has-requires
-has-requires c κs = search needs
-
-add-has-2 : tie.Need-add-has-2
-add-has-2 c = search needs
-
-live-requires-2 : tie.Need-live-requires-2
-live-requires-2 c κs = search needs
-
-has-requires-2 : tie.Need-has-requires-2
-has-requires-2 c κs = search needs
-
-mul-flow : tie.Need-mul-flow
-mul-flow c = search needs
-
-mul-flow-2 : tie.Need-mul-flow-2
-mul-flow-2 c = search needs
-
-flow-requires : tie.Need-flow-requires
-flow-requires c κs = search needs
-
-free-requires-2 : tie.Need-free-requires-2
-free-requires-2 c κs = search needs
-
-mul-flow-3 : tie.Need-mul-flow-3
-mul-flow-3 c = search needs
-
-mul-flow-4 : tie.Need-mul-flow-4
-mul-flow-4 c = search needs
-
-flow-requires-2 : tie.Need-flow-requires-2
-flow-requires-2 c κs = search needs
-
-free-requires-3 : tie.Need-free-requires-3
-free-requires-3 c κs = search needs
-
-never-requires : tie.Need-never-requires
-never-requires c κs = search needs
-
 returns : tie.Need-returns
 unfolding ofIf
 returns c =
@@ -92,23 +41,23 @@ pub branch-spec : {M : Type 1} → statement M
 branch-spec =
     tie.close
     (tie.spec
-    of-requires
-    free-requires
-    add-has
-    live-requires
-    has-requires
-    add-has-2
-    live-requires-2
-    has-requires-2
-    mul-flow
-    mul-flow-2
-    flow-requires
-    free-requires-2
-    mul-flow-3
-    mul-flow-4
-    flow-requires-2
-    free-requires-3
-    never-requires
+    (λ of-requires κs. search needs)
+    (λ free-requires κs. search needs)
+    (λ add-has. search needs)
+    (λ live-requires κs. search needs)
+    (λ has-requires κs. search needs)
+    (λ add-has-2. search needs)
+    (λ live-requires-2 κs. search needs)
+    (λ has-requires-2 κs. search needs)
+    (λ mul-flow. search needs)
+    (λ mul-flow-2. search needs)
+    (λ flow-requires κs. search needs)
+    (λ free-requires-2 κs. search needs)
+    (λ mul-flow-3. search needs)
+    (λ mul-flow-4. search needs)
+    (λ flow-requires-2 κs. search needs)
+    (λ free-requires-3 κs. search needs)
+    (λ never-requires κs. search needs)
     returns
     returns-2
     returns-3

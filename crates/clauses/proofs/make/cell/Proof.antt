@@ -7,42 +7,6 @@ use Rattle.clauses.specs.Clauses.{ofCell, free}
 use Rattle.clauses.proofs.Arms.{arm, past}
 use Rattle.table.proofs.Outside.{outside}
 
-of-requires : tie.Need-of-requires
-of-requires c κs = search needs
-
-free-requires : tie.Need-free-requires
-free-requires c κs = search needs
-
-mul-put : tie.Need-mul-put
-mul-put c = search needs
-
-put-requires : tie.Need-put-requires
-put-requires c κs = search needs
-
-free-requires-2 : tie.Need-free-requires-2
-free-requires-2 c κs = search needs
-
-add-flow : tie.Need-add-flow
-add-flow c = search needs
-
-mul-flow : tie.Need-mul-flow
-mul-flow c = search needs
-
-mul-flow-2 : tie.Need-mul-flow-2
-mul-flow-2 c = search needs
-
-add-flow-2 : tie.Need-add-flow-2
-add-flow-2 c = search needs
-
-flow-requires : tie.Need-flow-requires
-flow-requires c κs = search needs
-
-free-requires-3 : tie.Need-free-requires-3
-free-requires-3 c κs = search needs
-
-never-requires : tie.Need-never-requires
-never-requires c κs = search needs
-
 returns : tie.Need-returns
 unfolding ofCell
 returns c =
@@ -67,18 +31,18 @@ pub cell-spec : {M : Type 1} → statement M
 cell-spec =
     tie.close
     (tie.spec
-    of-requires
-    free-requires
-    mul-put
-    put-requires
-    free-requires-2
-    add-flow
-    mul-flow
-    mul-flow-2
-    add-flow-2
-    flow-requires
-    free-requires-3
-    never-requires
+    (λ of-requires κs. search needs)
+    (λ free-requires κs. search needs)
+    (λ mul-put. search needs)
+    (λ put-requires κs. search needs)
+    (λ free-requires-2 κs. search needs)
+    (λ add-flow. search needs)
+    (λ mul-flow. search needs)
+    (λ mul-flow-2. search needs)
+    (λ add-flow-2. search needs)
+    (λ flow-requires κs. search needs)
+    (λ free-requires-3 κs. search needs)
+    (λ never-requires κs. search needs)
     returns
     returns-2
     returns-3

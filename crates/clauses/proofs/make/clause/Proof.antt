@@ -12,216 +12,6 @@ use borrow.Author.Needs.{needs}
 use Rattle.clauses.proofs.make.clause.Statement.{statement}
 use Rattle.clauses.proofs.make.clause.Tie as tie
 
-mul-w : tie.Need-mul-w
-mul-w c = search needs
-
-shared-slice-read-w : tie.Need-shared-slice-read-w
-shared-slice-read-w c = search needs
-
-argument-of-requires : tie.Need-argument-of-requires
-argument-of-requires c κs = search needs
-
-kind-of-requires : tie.Need-kind-of-requires
-kind-of-requires c κs = search needs
-
-block-requires : tie.Need-block-requires
-block-requires c κs = search needs
-
-constant-element-requires : tie.Need-constant-element-requires
-constant-element-requires c κs = search needs
-
-value-requires : tie.Need-value-requires
-value-requires c κs = search needs
-
-sign-element-requires : tie.Need-sign-element-requires
-sign-element-requires c κs = search needs
-
-value-requires-2 : tie.Need-value-requires-2
-value-requires-2 c κs = search needs
-
-cast-value : tie.Need-cast-value
-cast-value c = search needs
-
-add-value : tie.Need-add-value
-add-value c = search needs
-
-value-requires-3 : tie.Need-value-requires-3
-value-requires-3 c κs = search needs
-
-cast-value-2 : tie.Need-cast-value-2
-cast-value-2 c = search needs
-
-add-value-2 : tie.Need-add-value-2
-add-value-2 c = search needs
-
-value-requires-4 : tie.Need-value-requires-4
-value-requires-4 c κs = search needs
-
-binder-of-requires : tie.Need-binder-of-requires
-binder-of-requires c κs = search needs
-
-variable-requires : tie.Need-variable-requires
-variable-requires c κs = search needs
-
-add-value-3 : tie.Need-add-value-3
-add-value-3 c = search needs
-
-value-requires-5 : tie.Need-value-requires-5
-value-requires-5 c κs = search needs
-
-add-end : tie.Need-add-end
-add-end c = search needs
-
-end-requires : tie.Need-end-requires
-end-requires c κs = search needs
-
-apply-requires : tie.Need-apply-requires
-apply-requires c κs = search needs
-
-add-end-2 : tie.Need-add-end-2
-add-end-2 c = search needs
-
-end-requires-2 : tie.Need-end-requires-2
-end-requires-2 c κs = search needs
-
-bind-requires : tie.Need-bind-requires
-bind-requires c κs = search needs
-
-add-end-3 : tie.Need-add-end-3
-add-end-3 c = search needs
-
-end-requires-3 : tie.Need-end-requires-3
-end-requires-3 c κs = search needs
-
-sequence-requires : tie.Need-sequence-requires
-sequence-requires c κs = search needs
-
-add-end-4 : tie.Need-add-end-4
-add-end-4 c = search needs
-
-end-requires-4 : tie.Need-end-requires-4
-end-requires-4 c κs = search needs
-
-add-end-5 : tie.Need-add-end-5
-add-end-5 c = search needs
-
-end-requires-5 : tie.Need-end-requires-5
-end-requires-5 c κs = search needs
-
-end-requires-6 : tie.Need-end-requires-6
-end-requires-6 c κs = search needs
-
-branch-requires : tie.Need-branch-requires
-branch-requires c κs = search needs
-
-add-end-6 : tie.Need-add-end-6
-add-end-6 c = search needs
-
-end-requires-7 : tie.Need-end-requires-7
-end-requires-7 c κs = search needs
-
-repeat-requires : tie.Need-repeat-requires
-repeat-requires c κs = search needs
-
-add-end-7 : tie.Need-add-end-7
-add-end-7 c = search needs
-
-end-requires-8 : tie.Need-end-requires-8
-end-requires-8 c κs = search needs
-
-operation-number-requires : tie.Need-operation-number-requires
-operation-number-requires c κs = search needs
-
-operate-requires : tie.Need-operate-requires
-operate-requires c κs = search needs
-
-add-value-4 : tie.Need-add-value-4
-add-value-4 c = search needs
-
-value-requires-6 : tie.Need-value-requires-6
-value-requires-6 c κs = search needs
-
-add-end-8 : tie.Need-add-end-8
-add-end-8 c = search needs
-
-end-requires-9 : tie.Need-end-requires-9
-end-requires-9 c κs = search needs
-
-get-requires : tie.Need-get-requires
-get-requires c κs = search needs
-
-add-end-9 : tie.Need-add-end-9
-add-end-9 c = search needs
-
-end-requires-10 : tie.Need-end-requires-10
-end-requires-10 c κs = search needs
-
-add-end-10 : tie.Need-add-end-10
-add-end-10 c = search needs
-
-end-requires-11 : tie.Need-end-requires-11
-end-requires-11 c κs = search needs
-
-end-requires-12 : tie.Need-end-requires-12
-end-requires-12 c κs = search needs
-
-add-set : tie.Need-add-set
-add-set c = search needs
-
-set-requires : tie.Need-set-requires
-set-requires c κs = search needs
-
-add-end-11 : tie.Need-add-end-11
-add-end-11 c = search needs
-
-end-requires-13 : tie.Need-end-requires-13
-end-requires-13 c κs = search needs
-
-delete-requires : tie.Need-delete-requires
-delete-requires c κs = search needs
-
-add-cell : tie.Need-add-cell
-add-cell c = search needs
-
-cell-requires : tie.Need-cell-requires
-cell-requires c κs = search needs
-
-read-requires : tie.Need-read-requires
-read-requires c κs = search needs
-
-add-end-12 : tie.Need-add-end-12
-add-end-12 c = search needs
-
-end-requires-14 : tie.Need-end-requires-14
-end-requires-14 c κs = search needs
-
-assign-requires : tie.Need-assign-requires
-assign-requires c κs = search needs
-
-add-end-13 : tie.Need-add-end-13
-add-end-13 c = search needs
-
-end-requires-15 : tie.Need-end-requires-15
-end-requires-15 c κs = search needs
-
-cast-send : tie.Need-cast-send
-cast-send c = search needs
-
-send-requires : tie.Need-send-requires
-send-requires c κs = search needs
-
-permissions-of-requires : tie.Need-permissions-of-requires
-permissions-of-requires c κs = search needs
-
-exercise-requires : tie.Need-exercise-requires
-exercise-requires c κs = search needs
-
-add-other : tie.Need-add-other
-add-other c = search needs
-
-other-requires : tie.Need-other-requires
-other-requires c κs = search needs
-
 returns : tie.Need-returns
 unfolding ofItem byKind termsByKind ofTerm
 returns c =
@@ -363,76 +153,76 @@ pub clause-spec : {M : Type 1} → statement M
 clause-spec =
     tie.close
     (tie.spec
-    mul-w
-    shared-slice-read-w
-    argument-of-requires
-    kind-of-requires
-    block-requires
-    constant-element-requires
-    value-requires
-    sign-element-requires
-    value-requires-2
-    cast-value
-    add-value
-    value-requires-3
-    cast-value-2
-    add-value-2
-    value-requires-4
-    binder-of-requires
-    variable-requires
-    add-value-3
-    value-requires-5
-    add-end
-    end-requires
-    apply-requires
-    add-end-2
-    end-requires-2
-    bind-requires
-    add-end-3
-    end-requires-3
-    sequence-requires
-    add-end-4
-    end-requires-4
-    add-end-5
-    end-requires-5
-    end-requires-6
-    branch-requires
-    add-end-6
-    end-requires-7
-    repeat-requires
-    add-end-7
-    end-requires-8
-    operation-number-requires
-    operate-requires
-    add-value-4
-    value-requires-6
-    add-end-8
-    end-requires-9
-    get-requires
-    add-end-9
-    end-requires-10
-    add-end-10
-    end-requires-11
-    end-requires-12
-    add-set
-    set-requires
-    add-end-11
-    end-requires-13
-    delete-requires
-    add-cell
-    cell-requires
-    read-requires
-    add-end-12
-    end-requires-14
-    assign-requires
-    add-end-13
-    end-requires-15
-    cast-send
-    send-requires
-    permissions-of-requires
-    exercise-requires
-    add-other
-    other-requires
+    (λ mul-w. search needs)
+    (λ shared-slice-read-w. search needs)
+    (λ argument-of-requires κs. search needs)
+    (λ kind-of-requires κs. search needs)
+    (λ block-requires κs. search needs)
+    (λ constant-element-requires κs. search needs)
+    (λ value-requires κs. search needs)
+    (λ sign-element-requires κs. search needs)
+    (λ value-requires-2 κs. search needs)
+    (λ cast-value. search needs)
+    (λ add-value. search needs)
+    (λ value-requires-3 κs. search needs)
+    (λ cast-value-2. search needs)
+    (λ add-value-2. search needs)
+    (λ value-requires-4 κs. search needs)
+    (λ binder-of-requires κs. search needs)
+    (λ variable-requires κs. search needs)
+    (λ add-value-3. search needs)
+    (λ value-requires-5 κs. search needs)
+    (λ add-end. search needs)
+    (λ end-requires κs. search needs)
+    (λ apply-requires κs. search needs)
+    (λ add-end-2. search needs)
+    (λ end-requires-2 κs. search needs)
+    (λ bind-requires κs. search needs)
+    (λ add-end-3. search needs)
+    (λ end-requires-3 κs. search needs)
+    (λ sequence-requires κs. search needs)
+    (λ add-end-4. search needs)
+    (λ end-requires-4 κs. search needs)
+    (λ add-end-5. search needs)
+    (λ end-requires-5 κs. search needs)
+    (λ end-requires-6 κs. search needs)
+    (λ branch-requires κs. search needs)
+    (λ add-end-6. search needs)
+    (λ end-requires-7 κs. search needs)
+    (λ repeat-requires κs. search needs)
+    (λ add-end-7. search needs)
+    (λ end-requires-8 κs. search needs)
+    (λ operation-number-requires κs. search needs)
+    (λ operate-requires κs. search needs)
+    (λ add-value-4. search needs)
+    (λ value-requires-6 κs. search needs)
+    (λ add-end-8. search needs)
+    (λ end-requires-9 κs. search needs)
+    (λ get-requires κs. search needs)
+    (λ add-end-9. search needs)
+    (λ end-requires-10 κs. search needs)
+    (λ add-end-10. search needs)
+    (λ end-requires-11 κs. search needs)
+    (λ end-requires-12 κs. search needs)
+    (λ add-set. search needs)
+    (λ set-requires κs. search needs)
+    (λ add-end-11. search needs)
+    (λ end-requires-13 κs. search needs)
+    (λ delete-requires κs. search needs)
+    (λ add-cell. search needs)
+    (λ cell-requires κs. search needs)
+    (λ read-requires κs. search needs)
+    (λ add-end-12. search needs)
+    (λ end-requires-14 κs. search needs)
+    (λ assign-requires κs. search needs)
+    (λ add-end-13. search needs)
+    (λ end-requires-15 κs. search needs)
+    (λ cast-send. search needs)
+    (λ send-requires κs. search needs)
+    (λ permissions-of-requires κs. search needs)
+    (λ exercise-requires κs. search needs)
+    (λ add-other. search needs)
+    (λ other-requires κs. search needs)
     returns
     returns-2
     returns-3

@@ -7,30 +7,6 @@ use Rattle.clauses.specs.Clauses.{ofDelete, free, text}
 use Rattle.clauses.proofs.Arms.{arm, past}
 use Rattle.table.proofs.Outside.{outside}
 
-of-requires : tie.Need-of-requires
-of-requires c κs = search needs
-
-free-requires : tie.Need-free-requires
-free-requires c κs = search needs
-
-add-of : tie.Need-add-of
-add-of c = search needs
-
-mul-of : tie.Need-mul-of
-mul-of c = search needs
-
-mul-of-2 : tie.Need-mul-of-2
-mul-of-2 c = search needs
-
-of-requires-2 : tie.Need-of-requires-2
-of-requires-2 c κs = search needs
-
-text-requires : tie.Need-text-requires
-text-requires c κs = search needs
-
-never-requires : tie.Need-never-requires
-never-requires c κs = search needs
-
 returns : tie.Need-returns
 unfolding ofDelete
 returns c =
@@ -50,14 +26,14 @@ pub delete-spec : {M : Type 1} → statement M
 delete-spec =
     tie.close
     (tie.spec
-    of-requires
-    free-requires
-    add-of
-    mul-of
-    mul-of-2
-    of-requires-2
-    text-requires
-    never-requires
+    (λ of-requires κs. search needs)
+    (λ free-requires κs. search needs)
+    (λ add-of. search needs)
+    (λ mul-of. search needs)
+    (λ mul-of-2. search needs)
+    (λ of-requires-2 κs. search needs)
+    (λ text-requires κs. search needs)
+    (λ never-requires κs. search needs)
     returns
     returns-2
     returns-3)

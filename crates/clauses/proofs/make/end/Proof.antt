@@ -7,11 +7,8 @@ use Rattle.clauses.proofs.Links.{end-small}
 use Rattle.clauses.proofs.make.end.Statement.{statement}
 use Rattle.clauses.proofs.make.end.Tie as tie
 
-link-at-requires : tie.Need-link-at-requires
-link-at-requires c κs = search needs
-
 returns : tie.Need-returns
 returns c = (ap (λ (l : Link). l .end) (c .link-at .ensures), end-small _ _ _ (c .link-at .ensures))
 
 pub end-spec : {M : Type 1} → statement M
-end-spec = tie.close (tie.spec link-at-requires returns)
+end-spec = tie.close (tie.spec (λ link-at-requires κs. search needs) returns)

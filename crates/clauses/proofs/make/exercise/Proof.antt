@@ -17,18 +17,6 @@ outside : (p set own k : ℕ) → within set own ≡ false → never ≡ getD (o
 unfolding ofExercise
 outside p set own k h = rw (h, ofExercise)
 
-within-requires : tie.Need-within-requires
-within-requires c κs = search needs
-
-cast-permitted : tie.Need-cast-permitted
-cast-permitted c = search needs
-
-permitted-requires : tie.Need-permitted-requires
-permitted-requires c κs = search needs
-
-never-requires : tie.Need-never-requires
-never-requires c κs = search needs
-
 returns : tie.Need-returns
 returns c = c .permitted .ensures ∙ inside _ _ _ _ (sym (c .before .before .before .within .ensures) ∙ c .before .before .if1 .taken)
 
@@ -38,4 +26,4 @@ returns-2 c = c .never .ensures ∙ outside _ _ _ _ (sym (c .before .before .wit
 pub exercise-spec : {M : Type 1} → statement M
 exercise-spec =
     tie.close
-    (tie.spec within-requires cast-permitted permitted-requires never-requires returns returns-2)
+    (tie.spec (λ within-requires κs. search needs) (λ cast-permitted. search needs) (λ permitted-requires κs. search needs) (λ never-requires κs. search needs) returns returns-2)

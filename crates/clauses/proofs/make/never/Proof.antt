@@ -6,14 +6,8 @@ use Rattle.clauses.specs.Clauses.{when}
 use Rattle.clauses.proofs.make.never.Statement.{statement}
 use Rattle.clauses.proofs.make.never.Tie as tie
 
-live-requires : tie.Need-live-requires
-live-requires c κs = search needs
-
-when-requires : tie.Need-when-requires
-when-requires c κs = search needs
-
 returns : tie.Need-returns
 returns c = c .when .ensures ∙ ap (when tests.Never 0 0 0) (c .before .live .ensures)
 
 pub never-spec : {M : Type 1} → statement M
-never-spec = tie.close (tie.spec live-requires when-requires returns)
+never-spec = tie.close (tie.spec (λ live-requires κs. search needs) (λ when-requires κs. search needs) returns)

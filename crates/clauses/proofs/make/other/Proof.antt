@@ -17,12 +17,6 @@ high : (p own kind k : ℕ) → 16 ≤ kind → getD (ofValue p own) k never ≡
 unfolding ofOther
 high p own kind k h = rw (le-ltb kind 16 h, ofOther)
 
-never-requires : tie.Need-never-requires
-never-requires c κs = search needs
-
-value-requires : tie.Need-value-requires
-value-requires c κs = search needs
-
 returns : tie.Need-returns
 returns c = c .never .ensures ∙ low _ _ _ _ (c .before .if1 .taken)
 
@@ -30,4 +24,4 @@ returns-2 : tie.Need-returns-2
 returns-2 c = c .value .ensures ∙ high _ _ _ _ (c .before .if1 .left)
 
 pub other-spec : {M : Type 1} → statement M
-other-spec = tie.close (tie.spec never-requires value-requires returns returns-2)
+other-spec = tie.close (tie.spec (λ never-requires κs. search needs) (λ value-requires κs. search needs) returns returns-2)

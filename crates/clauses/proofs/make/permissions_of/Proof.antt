@@ -6,21 +6,6 @@ use Rattle.clauses.proofs.make.permissions_of.Statement.{statement}
 use Rattle.clauses.proofs.make.permissions_of.Tie as tie
 use Rattle.table.specs.Item.{itemPerms}
 
-link-at-requires : tie.Need-link-at-requires
-link-at-requires c κs = search needs
-
-item-at-requires : tie.Need-item-at-requires
-item-at-requires c κs = search needs
-
-enum-told : tie.Need-enum-told
-enum-told c = search needs
-
-enum-known-h : tie.Need-enum-known-h
-enum-known-h c = search needs
-
-enum-told-2 : tie.Need-enum-told-2
-enum-told-2 c = search needs
-
 returns : tie.Need-returns
 unfolding itemPerms
 returns c = perms-of _ _ _ _ _ _ (c .before .before .before .link-at .ensures) (c .before .before .item-at .ensures) (c .enum-told .given .1)
@@ -37,11 +22,11 @@ pub permissions-of-spec : {M : Type 1} → statement M
 permissions-of-spec =
     tie.close
     (tie.spec
-    link-at-requires
-    item-at-requires
-    enum-told
-    enum-known-h
-    enum-told-2
+    (λ link-at-requires κs. search needs)
+    (λ item-at-requires κs. search needs)
+    (λ enum-told. search needs)
+    (λ enum-known-h. search needs)
+    (λ enum-told-2. search needs)
     returns
     returns-2
     returns-3)

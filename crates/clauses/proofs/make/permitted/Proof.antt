@@ -7,24 +7,6 @@ use Rattle.clauses.specs.Clauses.{ofPermitted, free}
 use Rattle.clauses.proofs.Arms.{arm, past}
 use Rattle.table.proofs.Outside.{outside}
 
-mul-put : tie.Need-mul-put
-mul-put c = search needs
-
-put-requires : tie.Need-put-requires
-put-requires c κs = search needs
-
-free-requires : tie.Need-free-requires
-free-requires c κs = search needs
-
-of-requires : tie.Need-of-requires
-of-requires c κs = search needs
-
-free-requires-2 : tie.Need-free-requires-2
-free-requires-2 c κs = search needs
-
-never-requires : tie.Need-never-requires
-never-requires c κs = search needs
-
 returns : tie.Need-returns
 unfolding ofPermitted
 returns c =
@@ -44,12 +26,12 @@ pub permitted-spec : {M : Type 1} → statement M
 permitted-spec =
     tie.close
     (tie.spec
-    mul-put
-    put-requires
-    free-requires
-    of-requires
-    free-requires-2
-    never-requires
+    (λ mul-put. search needs)
+    (λ put-requires κs. search needs)
+    (λ free-requires κs. search needs)
+    (λ of-requires κs. search needs)
+    (λ free-requires-2 κs. search needs)
+    (λ never-requires κs. search needs)
     returns
     returns-2
     returns-3)

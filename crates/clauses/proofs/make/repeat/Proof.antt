@@ -7,36 +7,6 @@ use Rattle.clauses.specs.Clauses.{ofWhile, free, has}
 use Rattle.clauses.proofs.Arms.{arm, past}
 use Rattle.table.proofs.Outside.{outside}
 
-of-requires : tie.Need-of-requires
-of-requires c κs = search needs
-
-free-requires : tie.Need-free-requires
-free-requires c κs = search needs
-
-add-has : tie.Need-add-has
-add-has c = search needs
-
-live-requires : tie.Need-live-requires
-live-requires c κs = search needs
-
-has-requires : tie.Need-has-requires
-has-requires c κs = search needs
-
-add-has-2 : tie.Need-add-has-2
-add-has-2 c = search needs
-
-mul-put : tie.Need-mul-put
-mul-put c = search needs
-
-put-requires : tie.Need-put-requires
-put-requires c κs = search needs
-
-has-requires-2 : tie.Need-has-requires-2
-has-requires-2 c κs = search needs
-
-never-requires : tie.Need-never-requires
-never-requires c κs = search needs
-
 returns : tie.Need-returns
 unfolding ofWhile
 returns c =
@@ -61,16 +31,16 @@ pub repeat-spec : {M : Type 1} → statement M
 repeat-spec =
     tie.close
     (tie.spec
-    of-requires
-    free-requires
-    add-has
-    live-requires
-    has-requires
-    add-has-2
-    mul-put
-    put-requires
-    has-requires-2
-    never-requires
+    (λ of-requires κs. search needs)
+    (λ free-requires κs. search needs)
+    (λ add-has. search needs)
+    (λ live-requires κs. search needs)
+    (λ has-requires κs. search needs)
+    (λ add-has-2. search needs)
+    (λ mul-put. search needs)
+    (λ put-requires κs. search needs)
+    (λ has-requires-2 κs. search needs)
+    (λ never-requires κs. search needs)
     returns
     returns-2
     returns-3

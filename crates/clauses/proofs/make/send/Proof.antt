@@ -7,30 +7,6 @@ use Rattle.clauses.specs.Clauses.{ofSend, free, some}
 use Rattle.clauses.proofs.Arms.{arm, past}
 use Rattle.table.proofs.Outside.{outside}
 
-of-requires : tie.Need-of-requires
-of-requires c κs = search needs
-
-free-requires : tie.Need-free-requires
-free-requires c κs = search needs
-
-mul-put : tie.Need-mul-put
-mul-put c = search needs
-
-put-requires : tie.Need-put-requires
-put-requires c κs = search needs
-
-free-requires-2 : tie.Need-free-requires-2
-free-requires-2 c κs = search needs
-
-of-requires-2 : tie.Need-of-requires-2
-of-requires-2 c κs = search needs
-
-some-requires : tie.Need-some-requires
-some-requires c κs = search needs
-
-never-requires : tie.Need-never-requires
-never-requires c κs = search needs
-
 returns : tie.Need-returns
 unfolding ofSend
 returns c =
@@ -55,14 +31,14 @@ pub send-spec : {M : Type 1} → statement M
 send-spec =
     tie.close
     (tie.spec
-    of-requires
-    free-requires
-    mul-put
-    put-requires
-    free-requires-2
-    of-requires-2
-    some-requires
-    never-requires
+    (λ of-requires κs. search needs)
+    (λ free-requires κs. search needs)
+    (λ mul-put. search needs)
+    (λ put-requires κs. search needs)
+    (λ free-requires-2 κs. search needs)
+    (λ of-requires-2 κs. search needs)
+    (λ some-requires κs. search needs)
+    (λ never-requires κs. search needs)
     returns
     returns-2
     returns-3

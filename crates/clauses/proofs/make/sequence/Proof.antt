@@ -7,27 +7,6 @@ use Rattle.clauses.specs.Clauses.{ofSequence, free}
 use Rattle.clauses.proofs.Arms.{arm, past}
 use Rattle.table.proofs.Outside.{outside}
 
-of-requires : tie.Need-of-requires
-of-requires c κs = search needs
-
-free-requires : tie.Need-free-requires
-free-requires c κs = search needs
-
-mul-flow : tie.Need-mul-flow
-mul-flow c = search needs
-
-mul-flow-2 : tie.Need-mul-flow-2
-mul-flow-2 c = search needs
-
-flow-requires : tie.Need-flow-requires
-flow-requires c κs = search needs
-
-free-requires-2 : tie.Need-free-requires-2
-free-requires-2 c κs = search needs
-
-never-requires : tie.Need-never-requires
-never-requires c κs = search needs
-
 returns : tie.Need-returns
 unfolding ofSequence
 returns c =
@@ -47,13 +26,13 @@ pub sequence-spec : {M : Type 1} → statement M
 sequence-spec =
     tie.close
     (tie.spec
-    of-requires
-    free-requires
-    mul-flow
-    mul-flow-2
-    flow-requires
-    free-requires-2
-    never-requires
+    (λ of-requires κs. search needs)
+    (λ free-requires κs. search needs)
+    (λ mul-flow. search needs)
+    (λ mul-flow-2. search needs)
+    (λ flow-requires κs. search needs)
+    (λ free-requires-2 κs. search needs)
+    (λ never-requires κs. search needs)
     returns
     returns-2
     returns-3)

@@ -7,18 +7,6 @@ use Rattle.clauses.specs.Clauses.{ofValue, free}
 use Rattle.clauses.proofs.Arms.{arm, past}
 use Rattle.table.proofs.Outside.{outside}
 
-mul-put : tie.Need-mul-put
-mul-put c = search needs
-
-put-requires : tie.Need-put-requires
-put-requires c κs = search needs
-
-free-requires : tie.Need-free-requires
-free-requires c κs = search needs
-
-never-requires : tie.Need-never-requires
-never-requires c κs = search needs
-
 returns : tie.Need-returns
 unfolding ofValue
 returns c =
@@ -31,4 +19,4 @@ returns-2 c =
 
 pub value-spec : {M : Type 1} → statement M
 value-spec =
-    tie.close (tie.spec mul-put put-requires free-requires never-requires returns returns-2)
+    tie.close (tie.spec (λ mul-put. search needs) (λ put-requires κs. search needs) (λ free-requires κs. search needs) (λ never-requires κs. search needs) returns returns-2)

@@ -7,24 +7,6 @@ use Rattle.clauses.specs.Clauses.{ofVariable, free}
 use Rattle.clauses.proofs.Arms.{arm, past}
 use Rattle.table.proofs.Outside.{outside}
 
-mul-flow : tie.Need-mul-flow
-mul-flow c = search needs
-
-add-flow : tie.Need-add-flow
-add-flow c = search needs
-
-mul-flow-2 : tie.Need-mul-flow-2
-mul-flow-2 c = search needs
-
-flow-requires : tie.Need-flow-requires
-flow-requires c κs = search needs
-
-free-requires : tie.Need-free-requires
-free-requires c κs = search needs
-
-never-requires : tie.Need-never-requires
-never-requires c κs = search needs
-
 returns : tie.Need-returns
 unfolding ofVariable
 returns c =
@@ -39,11 +21,11 @@ pub variable-spec : {M : Type 1} → statement M
 variable-spec =
     tie.close
     (tie.spec
-    mul-flow
-    add-flow
-    mul-flow-2
-    flow-requires
-    free-requires
-    never-requires
+    (λ mul-flow. search needs)
+    (λ add-flow. search needs)
+    (λ mul-flow-2. search needs)
+    (λ flow-requires κs. search needs)
+    (λ free-requires κs. search needs)
+    (λ never-requires κs. search needs)
     returns
     returns-2)

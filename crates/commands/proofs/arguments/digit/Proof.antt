@@ -9,17 +9,11 @@ use Rattle.commands.proofs.arguments.digit.Tie as tie
 returns : tie.Need-returns
 returns c = (sym (digit-low (c .before .args .b) (search needs)), omega arith)
 
-sub-result : tie.Need-sub-result
-sub-result c = search needs
-
 returns-2 : tie.Need-returns-2
 returns-2 c = (sym (digit-decimal (c .before .before .args .b) (omega arith) (omega arith)), omega arith)
 
 returns-3 : tie.Need-returns-3
 returns-3 c = (sym (digit-between (c .before .before .before .args .b) (omega arith) (omega arith) (omega arith)), omega arith)
-
-sub-result-2 : tie.Need-sub-result-2
-sub-result-2 c = search needs
 
 returns-4 : tie.Need-returns-4
 returns-4 c = (sym (digit-letter (c .before .before .before .before .args .b) (omega arith) (omega arith) (omega arith) (omega arith)), omega arith)
@@ -32,9 +26,9 @@ digit-spec =
     tie.close
     (tie.spec
     returns
-    sub-result
+    (λ sub-result. search needs)
     returns-2
     returns-3
-    sub-result-2
+    (λ sub-result-2. search needs)
     returns-4
     returns-5)

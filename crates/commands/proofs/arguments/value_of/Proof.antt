@@ -24,12 +24,6 @@ returns-2 c = sym (value-long (c .before .before .before .args .base) (c .before
 loop-holds : tie.Need-loop-holds Inv-loop μ-loop
 loop-holds c = (search needs, value-short (c .before .before .before .args .base) (c .before .before .before .args .digits .now) (c .before .if1 .left) (omega arith))
 
-shared-slice-read-digit : tie.Need-shared-slice-read-digit Inv-loop μ-loop
-shared-slice-read-digit c = search needs
-
-digit-requires : tie.Need-digit-requires Inv-loop μ-loop
-digit-requires c κs = search needs
-
 returns-3 : tie.Need-returns-3 Inv-loop μ-loop
 returns-3 c =
     let l = c .before .before .before .before .loop in
@@ -38,12 +32,6 @@ returns-3 c =
 
 with-digit-requires : tie.Need-with-digit-requires Inv-loop μ-loop
 with-digit-requires c κs = (c .before .before .before .before .before .before .before .before .pre, c .before .digit .ensures .1)
-
-add-i : tie.Need-add-i Inv-loop μ-loop
-add-i c = search needs
-
-loop-less : tie.Need-loop-less Inv-loop μ-loop
-loop-less c = search needs
 
 loop-again : tie.Need-loop-again Inv-loop μ-loop
 loop-again c =
@@ -69,11 +57,11 @@ value-of-spec =
     returns
     returns-2
     loop-holds
-    shared-slice-read-digit
-    digit-requires
+    (λ shared-slice-read-digit. search needs)
+    (λ digit-requires κs. search needs)
     returns-3
     with-digit-requires
-    add-i
-    loop-less
+    (λ add-i. search needs)
+    (λ loop-less. search needs)
     loop-again
     returns-4)

@@ -11,17 +11,11 @@ mul-result c = omega (arith, mul-le-mul-left (c .args .n) (c .pre .0))
 add-result : tie.Need-add-result
 add-result c = omega (arith, mul-le-mul-left (c .args .n) (c .pre .0))
 
-cast-result : tie.Need-cast-result
-cast-result c = search needs
-
-returns : tie.Need-returns
-returns c = search needs
-
 pub with-digit-spec : {M : Type 1} → statement M
 with-digit-spec =
     tie.close
     (tie.spec
     mul-result
     add-result
-    cast-result
-    returns)
+    (λ cast-result. search needs)
+    (λ returns. search needs))

@@ -11,27 +11,6 @@ use borrow.Author.Needs.{needs}
 use Rattle.commands.proofs.checking.check_text.Statement.{statement}
 use Rattle.commands.proofs.checking.check_text.Tie as tie
 
-slice-aggregate-read : tie.Need-slice-aggregate-read
-slice-aggregate-read c = search needs
-
-read-requires : tie.Need-read-requires
-read-requires c κs = search needs
-
-enum-known-n : tie.Need-enum-known-n
-enum-known-n c = search needs
-
-accepted-text-requires : tie.Need-accepted-text-requires
-accepted-text-requires c κs = search needs
-
-enum-known-r : tie.Need-enum-known-r
-enum-known-r c = search needs
-
-refusal-number-requires : tie.Need-refusal-number-requires
-refusal-number-requires c κs = search needs
-
-refusal-place-requires : tie.Need-refusal-place-requires
-refusal-place-requires c κs = search needs
-
 refused-text-requires : tie.Need-refused-text-requires
 unfolding answered
 refused-text-requires c κs =
@@ -40,18 +19,12 @@ refused-text-requires c κs =
     let h = subst (Within most) e (read-within (s .args .input .now) 1024) in
     (omega (arith, h, c .before .refusal-place .ensures), omega arith)
 
-same-length : tie.Need-same-length
-same-length c = search needs
-
 returns : tie.Need-returns
 unfolding answered checkText
 returns c =
     let s = c .before .before .before .before .before .before .before .before .before .before .before .before in
     let e = sym (c .before .before .before .before .before .before .before .before .read .ensures .0) ∙ ap answered (c .before .before .before .before .before .n .given .1) in
     reworded (ap (λ (a : Answered). checkedText a (s .args .input .now)) (sym e)) (c .before .before .accepted-text .ensures)
-
-same-length-2 : tie.Need-same-length-2
-same-length-2 c = search needs
 
 returns-2 : tie.Need-returns-2
 unfolding answered checkText
@@ -66,15 +39,15 @@ pub check-text-spec : {M : Type 1} → statement M
 check-text-spec =
     tie.close
     (tie.spec
-    slice-aggregate-read
-    read-requires
-    enum-known-n
-    accepted-text-requires
-    enum-known-r
-    refusal-number-requires
-    refusal-place-requires
+    (λ slice-aggregate-read. search needs)
+    (λ read-requires κs. search needs)
+    (λ enum-known-n. search needs)
+    (λ accepted-text-requires κs. search needs)
+    (λ enum-known-r. search needs)
+    (λ refusal-number-requires κs. search needs)
+    (λ refusal-place-requires κs. search needs)
     refused-text-requires
-    same-length
+    (λ same-length. search needs)
     returns
-    same-length-2
+    (λ same-length-2. search needs)
     returns-2)

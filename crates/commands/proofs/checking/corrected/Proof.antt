@@ -8,23 +8,8 @@ use borrow.Author.Needs.{needs}
 use Rattle.commands.proofs.checking.corrected.Statement.{statement}
 use Rattle.commands.proofs.checking.corrected.Tie as tie
 
-slice-aggregate-line-words : tie.Need-slice-aggregate-line-words
-slice-aggregate-line-words c = search needs
-
-line-words-requires : tie.Need-line-words-requires
-line-words-requires c κs = search needs
-
-array-share-prefix-words : tie.Need-array-share-prefix-words
-array-share-prefix-words c = search needs
-
 slice-aggregate-right-line : tie.Need-slice-aggregate-right-line
 slice-aggregate-right-line c = line (c .before .before .before .line-words .ensures) .counts
-
-right-line-requires : tie.Need-right-line-requires
-right-line-requires c κs = search needs
-
-same-length : tie.Need-same-length
-same-length c = search needs
 
 returns : tie.Need-returns
 returns c =
@@ -37,10 +22,10 @@ pub corrected-spec : {M : Type 1} → statement M
 corrected-spec =
     tie.close
     (tie.spec
-    slice-aggregate-line-words
-    line-words-requires
-    array-share-prefix-words
+    (λ slice-aggregate-line-words. search needs)
+    (λ line-words-requires κs. search needs)
+    (λ array-share-prefix-words. search needs)
     slice-aggregate-right-line
-    right-line-requires
-    same-length
+    (λ right-line-requires κs. search needs)
+    (λ same-length. search needs)
     returns)

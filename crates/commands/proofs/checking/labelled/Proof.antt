@@ -11,21 +11,6 @@ returns c =
     let s = c .before .before .before .before in
     (reworded (labelled-none (s .args .label .now) (s .args .n) (s .args .text .now) (c .if1 .taken)) (wrote-nothing _ _ (omega arith)), omega arith)
 
-number-field-requires : tie.Need-number-field-requires
-number-field-requires c κs = search needs
-
-slice-aggregate-put : tie.Need-slice-aggregate-put
-slice-aggregate-put c = search needs
-
-put-requires : tie.Need-put-requires
-put-requires c κs = search needs
-
-put-first-requires : tie.Need-put-first-requires
-put-first-requires c κs = search needs
-
-same-length : tie.Need-same-length
-same-length c = search needs
-
 returns-2 : tie.Need-returns-2
 returns-2 c =
     let s = c .before .before .before .before .before .before .before .before .before .before .before .before .before .before .before .before .before in
@@ -39,9 +24,9 @@ labelled-spec =
     tie.close
     (tie.spec
     returns
-    number-field-requires
-    slice-aggregate-put
-    put-requires
-    put-first-requires
-    same-length
+    (λ number-field-requires κs. search needs)
+    (λ slice-aggregate-put. search needs)
+    (λ put-requires κs. search needs)
+    (λ put-first-requires κs. search needs)
+    (λ same-length. search needs)
     returns-2)

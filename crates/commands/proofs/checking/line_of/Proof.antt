@@ -5,9 +5,6 @@ use borrow.Author.Needs.{needs}
 use Rattle.commands.proofs.checking.line_of.Statement.{statement}
 use Rattle.commands.proofs.checking.line_of.Tie as tie
 
-add-result : tie.Need-add-result
-add-result c = search needs
-
 returns : tie.Need-returns
 returns c = (line-of-word _ _ (omega arith), omega arith)
 
@@ -15,4 +12,4 @@ returns-2 : tie.Need-returns-2
 returns-2 c = (line-of-line _ _ (omega arith), omega arith)
 
 pub line-of-spec : {M : Type 1} → statement M
-line-of-spec = tie.close (tie.spec add-result returns returns-2)
+line-of-spec = tie.close (tie.spec (λ add-result. search needs) returns returns-2)

@@ -23,42 +23,12 @@ abbrev μ-loop : tie.MeasureT-loop
 loop-holds : tie.Need-loop-holds Inv-loop μ-loop
 loop-holds c = (search needs, refl, refl, wrote-nothing _ 0 (omega arith))
 
-same-length : tie.Need-same-length Inv-loop μ-loop
-same-length c = search needs
-
 returns : tie.Need-returns Inv-loop μ-loop
 returns c =
     let s = c .before .before .before .before .before in
     let l = c .before .before .loop in
     let few = words-end (s .args .text .now) (l .n) (l .at) (c .if1 .taken) (l .inv .2) in
     reworded (take-all (l .n) (wordsOf (s .args .text .now)) few ∙ sym (take-all (length (s .args .words .now)) (wordsOf (s .args .text .now)) (omega (arith, few, l .inv .3 .fits)))) (l .inv .3)
-
-line-end-requires : tie.Need-line-end-requires Inv-loop μ-loop
-line-end-requires c κs = search needs
-
-sub-word-of-line : tie.Need-sub-word-of-line Inv-loop μ-loop
-sub-word-of-line c = search needs
-
-part-word-of-line-start : tie.Need-part-word-of-line-start Inv-loop μ-loop
-part-word-of-line-start c = search needs
-
-part-word-of-line-end : tie.Need-part-word-of-line-end Inv-loop μ-loop
-part-word-of-line-end c = search needs
-
-word-of-line-requires : tie.Need-word-of-line-requires Inv-loop μ-loop
-word-of-line-requires c κs = search needs
-
-mul-words : tie.Need-mul-words Inv-loop μ-loop
-mul-words c = search needs
-
-slice-write-words : tie.Need-slice-write-words Inv-loop μ-loop
-slice-write-words c = search needs
-
-add-n : tie.Need-add-n Inv-loop μ-loop
-add-n c = search needs
-
-loop-less : tie.Need-loop-less Inv-loop μ-loop
-loop-less c = search needs
 
 loop-again : tie.Need-loop-again Inv-loop μ-loop
 loop-again c =
@@ -72,9 +42,6 @@ loop-again c =
       words-behind (s .args .text .now) (l .n) (l .at) (e .result) (omega arith) (e .ensures .0) (l .inv .2),
       word-written (s .args .text .now) (l .n) (l .at) (e .result) (omega arith) (e .ensures .0) (l .inv .2) (w .result) (w .ensures) (omega arith) (l .inv .3),
     )
-
-same-length-2 : tie.Need-same-length-2 Inv-loop μ-loop
-same-length-2 c = search needs
 
 returns-2 : tie.Need-returns-2 Inv-loop μ-loop
 returns-2 c =
@@ -90,17 +57,17 @@ line-words-spec =
     Inv-loop
     μ-loop
     loop-holds
-    same-length
+    (λ same-length. search needs)
     returns
-    line-end-requires
-    sub-word-of-line
-    part-word-of-line-start
-    part-word-of-line-end
-    word-of-line-requires
-    mul-words
-    slice-write-words
-    add-n
-    loop-less
+    (λ line-end-requires κs. search needs)
+    (λ sub-word-of-line. search needs)
+    (λ part-word-of-line-start. search needs)
+    (λ part-word-of-line-end. search needs)
+    (λ word-of-line-requires κs. search needs)
+    (λ mul-words. search needs)
+    (λ slice-write-words. search needs)
+    (λ add-n. search needs)
+    (λ loop-less. search needs)
     loop-again
-    same-length-2
+    (λ same-length-2. search needs)
     returns-2)

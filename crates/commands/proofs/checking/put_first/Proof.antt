@@ -9,9 +9,6 @@ use borrow.Author.Needs.{needs}
 use Rattle.commands.proofs.checking.put_first.Statement.{statement}
 use Rattle.commands.proofs.checking.put_first.Tie as tie
 
-line-end-requires : tie.Need-line-end-requires
-line-end-requires c κs = search needs
-
 slice-aggregate-put : tie.Need-slice-aggregate-put
 slice-aggregate-put c = sym (length-take-le _ _ (c .before .before .line-end .ensures .1))
 
@@ -24,12 +21,6 @@ put-requires c κs =
 sub-if1 : tie.Need-sub-if1
 sub-if1 c = end-after _ 0 _ (c .before .before .before .before .before .before .before .before .pre .0) (c .before .before .before .before .before .line-end .ensures .0)
 
-shared-slice-read-if1 : tie.Need-shared-slice-read-if1
-shared-slice-read-if1 c = search needs
-
-same-length : tie.Need-same-length
-same-length c = search needs
-
 returns : tie.Need-returns
 returns c =
     let s = c .before .before .before .before .before .before .before .before .before .before in
@@ -38,18 +29,12 @@ returns c =
     let text = s .args .text .now in
     (reworded (first-closed text (e .result) (end-after text 0 (e .result) (s .pre .0) (e .ensures .0)) (omega (arith, e .ensures .0)) (c .if1 .taken)) w, omega (arith, w .ends, length-take-le (e .result) text (e .ensures .1)))
 
-slice-aggregate-put-2 : tie.Need-slice-aggregate-put-2
-slice-aggregate-put-2 c = search needs
-
 put-requires-2 : tie.Need-put-requires-2
 put-requires-2 c κs =
     let text = c .before .before .before .before .before .before .before .before .before .before .before .before .args .text .now in
     let e = c .before .before .before .before .before .before .before .before .before .line-end in
     let w = c .before .before .before .before .before .before .put .ensures in
     omega (arith, w .ends, wrote-length w, length-take-le (e .result) text (e .ensures .1))
-
-same-length-2 : tie.Need-same-length-2
-same-length-2 c = search needs
 
 returns-2 : tie.Need-returns-2
 returns-2 c =
@@ -64,14 +49,14 @@ pub put-first-spec : {M : Type 1} → statement M
 put-first-spec =
     tie.close
     (tie.spec
-    line-end-requires
+    (λ line-end-requires κs. search needs)
     slice-aggregate-put
     put-requires
     sub-if1
-    shared-slice-read-if1
-    same-length
+    (λ shared-slice-read-if1. search needs)
+    (λ same-length. search needs)
     returns
-    slice-aggregate-put-2
+    (λ slice-aggregate-put-2. search needs)
     put-requires-2
-    same-length-2
+    (λ same-length-2. search needs)
     returns-2)

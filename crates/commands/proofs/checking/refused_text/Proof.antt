@@ -7,21 +7,6 @@ use borrow.Author.Needs.{needs}
 use Rattle.commands.proofs.checking.refused_text.Statement.{statement}
 use Rattle.commands.proofs.checking.refused_text.Tie as tie
 
-refusal-line-requires : tie.Need-refusal-line-requires
-refusal-line-requires c κs = search needs
-
-line-of-requires : tie.Need-line-of-requires
-line-of-requires c κs = search needs
-
-wrong-line-requires : tie.Need-wrong-line-requires
-wrong-line-requires c κs = search needs
-
-sentence-requires : tie.Need-sentence-requires
-sentence-requires c κs = search needs
-
-same-length : tie.Need-same-length
-same-length c = search needs
-
 returns : tie.Need-returns
 unfolding checkedText
 returns c =
@@ -35,9 +20,9 @@ pub refused-text-spec : {M : Type 1} → statement M
 refused-text-spec =
     tie.close
     (tie.spec
-    refusal-line-requires
-    line-of-requires
-    wrong-line-requires
-    sentence-requires
-    same-length
+    (λ refusal-line-requires κs. search needs)
+    (λ line-of-requires κs. search needs)
+    (λ wrong-line-requires κs. search needs)
+    (λ sentence-requires κs. search needs)
+    (λ same-length. search needs)
     returns)

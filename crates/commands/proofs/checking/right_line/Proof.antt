@@ -16,18 +16,6 @@ use borrow.Author.Needs.{needs}
 use Rattle.commands.proofs.checking.right_line.Statement.{statement}
 use Rattle.commands.proofs.checking.right_line.Tie as tie
 
-slice-aggregate-write : tie.Need-slice-aggregate-write
-slice-aggregate-write c = search needs
-
-write-requires : tie.Need-write-requires
-write-requires c κs = search needs
-
-enum-known-n : tie.Need-enum-known-n
-enum-known-n c = search needs
-
-slice-aggregate-shown-line : tie.Need-slice-aggregate-shown-line
-slice-aggregate-shown-line c = search needs
-
 array-share-prefix-listed : tie.Need-array-share-prefix-listed
 unfolding answered
 array-share-prefix-listed c =
@@ -50,12 +38,6 @@ shown-line-requires c κs =
     let n = c .before .before .before .before .n .given in
     let h = write-fits (s .args .words .now) (length (replicate {A = ℕ} 65536 0)) (n .0 .0) (sym (w .ensures .0) ∙ ap answered (n .1)) in
     (omega arith, s .pre .0, omega (arith, h, length-replicate {A = ℕ} 65536 0, length-take-le (n .0 .0) (w .last .1 .0) (omega (arith, h, w .kept .1 .0))))
-
-enum-told : tie.Need-enum-told
-enum-told c = search needs
-
-same-length : tie.Need-same-length
-same-length c = search needs
 
 returns : tie.Need-returns
 unfolding answered
@@ -85,14 +67,14 @@ pub right-line-spec : {M : Type 1} → statement M
 right-line-spec =
     tie.close
     (tie.spec
-    slice-aggregate-write
-    write-requires
-    enum-known-n
-    slice-aggregate-shown-line
+    (λ slice-aggregate-write. search needs)
+    (λ write-requires κs. search needs)
+    (λ enum-known-n. search needs)
+    (λ slice-aggregate-shown-line. search needs)
     array-share-prefix-listed
     slice-aggregate-shown-line-2
     shown-line-requires
-    enum-told
-    same-length
+    (λ enum-told. search needs)
+    (λ same-length. search needs)
     returns
     returns-2)

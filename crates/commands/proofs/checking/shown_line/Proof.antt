@@ -8,27 +8,6 @@ use borrow.Author.Needs.{needs}
 use Rattle.commands.proofs.checking.shown_line.Statement.{statement}
 use Rattle.commands.proofs.checking.shown_line.Tie as tie
 
-behind-requires : tie.Need-behind-requires
-behind-requires c κs = search needs
-
-add-labelled : tie.Need-add-labelled
-add-labelled c = search needs
-
-sub-labelled : tie.Need-sub-labelled
-sub-labelled c = search needs
-
-part-labelled-start : tie.Need-part-labelled-start
-part-labelled-start c = search needs
-
-part-labelled-end : tie.Need-part-labelled-end
-part-labelled-end c = search needs
-
-labelled-requires : tie.Need-labelled-requires
-labelled-requires c κs = search needs
-
-same-length : tie.Need-same-length
-same-length c = search needs
-
 returns : tie.Need-returns
 returns c =
     let s = c .before .before .before .before .before .before .before .before .before in
@@ -41,11 +20,11 @@ pub shown-line-spec : {M : Type 1} → statement M
 shown-line-spec =
     tie.close
     (tie.spec
-    behind-requires
-    add-labelled
-    sub-labelled
-    part-labelled-start
-    part-labelled-end
-    labelled-requires
-    same-length
+    (λ behind-requires κs. search needs)
+    (λ add-labelled. search needs)
+    (λ sub-labelled. search needs)
+    (λ part-labelled-start. search needs)
+    (λ part-labelled-end. search needs)
+    (λ labelled-requires κs. search needs)
+    (λ same-length. search needs)
     returns)

@@ -11,24 +11,6 @@ returns c =
     let s = c .before .before .before in
     (reworded (wrong-none (s .args .n) (s .args .text .now) (c .if1 .taken)) (wrote-nothing _ _ (omega arith)), omega arith)
 
-slice-aggregate-shown-line : tie.Need-slice-aggregate-shown-line
-slice-aggregate-shown-line c = search needs
-
-sub-shown-line : tie.Need-sub-shown-line
-sub-shown-line c = search needs
-
-shown-line-requires : tie.Need-shown-line-requires
-shown-line-requires c κs = search needs
-
-sub-corrected : tie.Need-sub-corrected
-sub-corrected c = search needs
-
-corrected-requires : tie.Need-corrected-requires
-corrected-requires c κs = search needs
-
-same-length : tie.Need-same-length
-same-length c = search needs
-
 returns-2 : tie.Need-returns-2
 returns-2 c =
     let s = c .before .before .before .before .before .before .before .before .before .before .before .before in
@@ -41,10 +23,10 @@ wrong-line-spec =
     tie.close
     (tie.spec
     returns
-    slice-aggregate-shown-line
-    sub-shown-line
-    shown-line-requires
-    sub-corrected
-    corrected-requires
-    same-length
+    (λ slice-aggregate-shown-line. search needs)
+    (λ sub-shown-line. search needs)
+    (λ shown-line-requires κs. search needs)
+    (λ sub-corrected. search needs)
+    (λ corrected-requires κs. search needs)
+    (λ same-length. search needs)
     returns-2)

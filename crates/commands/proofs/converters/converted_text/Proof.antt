@@ -12,15 +12,6 @@ use borrow.Author.Needs.{needs}
 use Rattle.commands.proofs.converters.converted_text.Statement.{statement}
 use Rattle.commands.proofs.converters.converted_text.Tie as tie
 
-slice-aggregate-convert : tie.Need-slice-aggregate-convert
-slice-aggregate-convert c = search needs
-
-convert-requires : tie.Need-convert-requires
-convert-requires c κs = search needs
-
-enum-known-n : tie.Need-enum-known-n
-enum-known-n c = search needs
-
 array-share-prefix-converted : tie.Need-array-share-prefix-converted
 unfolding convertedAs
 array-share-prefix-converted c =
@@ -35,27 +26,6 @@ slice-aggregate-bytes-of c =
     let j = c .before .before .before .before .before .convert in
     sym (length-take-le _ _ (omega (arith, written-few (s .args .wide) (s .args .words .now) (replicate 1024 0) _ (sym (j .ensures .0) ∙ ap convertedAs (c .before .before .n .given .1)), j .kept .1 .1 .0)))
 
-bytes-of-requires : tie.Need-bytes-of-requires
-bytes-of-requires c κs = search needs
-
-mul-result : tie.Need-mul-result
-mul-result c = search needs
-
-enum-known-f : tie.Need-enum-known-f
-enum-known-f c = search needs
-
-fault-number-requires : tie.Need-fault-number-requires
-fault-number-requires c κs = search needs
-
-fault-place-requires : tie.Need-fault-place-requires
-fault-place-requires c κs = search needs
-
-refusal-line-requires : tie.Need-refusal-line-requires
-refusal-line-requires c κs = search needs
-
-same-length : tie.Need-same-length
-same-length c = search needs
-
 returns : tie.Need-returns
 unfolding convertedAs
 returns c =
@@ -63,9 +33,6 @@ returns c =
     let j = c .before .before .before .before .before .before .before .before .before .convert in
     let w = c .before .before .bytes-of in
     converted-done (s .args .wide) (s .args .words .now) _ (sym (j .ensures .0) ∙ ap convertedAs (c .before .before .before .before .before .before .n .given .1)) (j .last .1 .1 .0) (s .args .out .now) _ _ (j .ensures .1) (s .pre) (w .ensures .0) (w .ensures .1)
-
-same-length-2 : tie.Need-same-length-2
-same-length-2 c = search needs
 
 returns-2 : tie.Need-returns-2
 unfolding convertedAs
@@ -79,18 +46,18 @@ pub converted-text-spec : {M : Type 1} → statement M
 converted-text-spec =
     tie.close
     (tie.spec
-    slice-aggregate-convert
-    convert-requires
-    enum-known-n
+    (λ slice-aggregate-convert. search needs)
+    (λ convert-requires κs. search needs)
+    (λ enum-known-n. search needs)
     array-share-prefix-converted
     slice-aggregate-bytes-of
-    bytes-of-requires
-    mul-result
-    enum-known-f
-    fault-number-requires
-    fault-place-requires
-    refusal-line-requires
-    same-length
+    (λ bytes-of-requires κs. search needs)
+    (λ mul-result. search needs)
+    (λ enum-known-f. search needs)
+    (λ fault-number-requires κs. search needs)
+    (λ fault-place-requires κs. search needs)
+    (λ refusal-line-requires κs. search needs)
+    (λ same-length. search needs)
     returns
-    same-length-2
+    (λ same-length-2. search needs)
     returns-2)

@@ -6,31 +6,13 @@ use borrow.Author.Needs.{needs}
 use Rattle.commands.proofs.explain.sentence.Statement.{statement}
 use Rattle.commands.proofs.explain.sentence.Tie as tie
 
-slice-aggregate-put : tie.Need-slice-aggregate-put
-slice-aggregate-put c = search needs
-
-put-requires : tie.Need-put-requires
-put-requires c κs = search needs
-
-sub-meaning : tie.Need-sub-meaning
-sub-meaning c = search needs
-
 meaning-requires : tie.Need-meaning-requires
 meaning-requires c κs = omega (arith, c .before .before .before .put .ensures .ends, wrote-length (c .before .before .before .put .ensures))
-
-same-length : tie.Need-same-length
-same-length c = search needs
 
 returns : tie.Need-returns
 returns c =
     let s = c .before .before .before .before .before .before .before .before .before .before .before in
     reworded (sentence-second (s .args .n) (c .before .before .before .before .before .before .before .before .before .if1 .taken)) (then (c .before .before .before .before .before .before .put .ensures) (c .before .before .meaning .ensures))
-
-meaning-requires-2 : tie.Need-meaning-requires-2
-meaning-requires-2 c κs = search needs
-
-same-length-2 : tie.Need-same-length-2
-same-length-2 c = search needs
 
 returns-2 : tie.Need-returns-2
 returns-2 c =
@@ -41,12 +23,12 @@ pub sentence-spec : {M : Type 1} → statement M
 sentence-spec =
     tie.close
     (tie.spec
-    slice-aggregate-put
-    put-requires
-    sub-meaning
+    (λ slice-aggregate-put. search needs)
+    (λ put-requires κs. search needs)
+    (λ sub-meaning. search needs)
     meaning-requires
-    same-length
+    (λ same-length. search needs)
     returns
-    meaning-requires-2
-    same-length-2
+    (λ meaning-requires-2 κs. search needs)
+    (λ same-length-2. search needs)
     returns-2)

@@ -19,15 +19,6 @@ abbrev μ-loop : tie.MeasureT-loop
 loop-holds : tie.Need-loop-holds Inv-loop μ-loop
 loop-holds c = (omega arith, c .before .pre, refl)
 
-line-end-requires : tie.Need-line-end-requires Inv-loop μ-loop
-line-end-requires c κs = search needs
-
-sub-left : tie.Need-sub-left Inv-loop μ-loop
-sub-left c = search needs
-
-loop-less : tie.Need-loop-less Inv-loop μ-loop
-loop-less c = search needs
-
 loop-again : tie.Need-loop-again Inv-loop μ-loop
 loop-again c =
     let l = c .before .before .loop in
@@ -53,8 +44,8 @@ behind-spec =
     Inv-loop
     μ-loop
     loop-holds
-    line-end-requires
-    sub-left
-    loop-less
+    (λ line-end-requires κs. search needs)
+    (λ sub-left. search needs)
+    (λ loop-less. search needs)
     loop-again
     returns)

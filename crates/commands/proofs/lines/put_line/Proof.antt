@@ -8,9 +8,6 @@ use borrow.Author.Needs.{needs}
 use Rattle.commands.proofs.lines.put_line.Statement.{statement}
 use Rattle.commands.proofs.lines.put_line.Tie as tie
 
-behind-requires : tie.Need-behind-requires
-behind-requires c κs = search needs
-
 line-end-requires : tie.Need-line-end-requires
 line-end-requires c κs = c .behind .ensures .inside
 
@@ -32,9 +29,6 @@ put-requires c κs =
     let y = b .ensures .inside in
     omega (arith, length-take (e .result - b .result) (drop (b .result) (s .args .text .now)), length-drop (b .result) (s .args .text .now))
 
-same-length : tie.Need-same-length
-same-length c = search needs
-
 returns : tie.Need-returns
 returns c =
     let s = c .before .before .before .before .before .before .before .before .before in
@@ -49,11 +43,11 @@ pub put-line-spec : {M : Type 1} → statement M
 put-line-spec =
     tie.close
     (tie.spec
-    behind-requires
+    (λ behind-requires κs. search needs)
     line-end-requires
     sub-put
     part-put-start
     part-put-end
     put-requires
-    same-length
+    (λ same-length. search needs)
     returns)

@@ -8,9 +8,6 @@ use borrow.Author.Needs.{needs}
 use Rattle.commands.proofs.lines.put_lines.Statement.{statement}
 use Rattle.commands.proofs.lines.put_lines.Tie as tie
 
-behind-requires : tie.Need-behind-requires
-behind-requires c κs = search needs
-
 behind-requires-2 : tie.Need-behind-requires-2
 behind-requires-2 c κs = c .behind .ensures .inside
 
@@ -31,9 +28,6 @@ put-requires c κs =
     let x = e .ensures .inside in
     omega (arith, length-take (e .result - b .result) (drop (b .result) (s .args .text .now)), length-drop (b .result) (s .args .text .now))
 
-same-length : tie.Need-same-length
-same-length c = search needs
-
 returns : tie.Need-returns
 returns c =
     let s = c .before .before .before .before .before .before .before .before .before in
@@ -45,11 +39,11 @@ pub put-lines-spec : {M : Type 1} → statement M
 put-lines-spec =
     tie.close
     (tie.spec
-    behind-requires
+    (λ behind-requires κs. search needs)
     behind-requires-2
     sub-put
     part-put-start
     part-put-end
     put-requires
-    same-length
+    (λ same-length. search needs)
     returns)

@@ -10,26 +10,8 @@ use borrow.Author.Needs.{needs}
 use Rattle.commands.proofs.listings.listing_text.Statement.{statement}
 use Rattle.commands.proofs.listings.listing_text.Tie as tie
 
-write-requires : tie.Need-write-requires
-write-requires c κs = search needs
-
-enum-known-n : tie.Need-enum-known-n
-enum-known-n c = search needs
-
-enum-known-r : tie.Need-enum-known-r
-enum-known-r c = search needs
-
-refusal-number-requires : tie.Need-refusal-number-requires
-refusal-number-requires c κs = search needs
-
-refusal-place-requires : tie.Need-refusal-place-requires
-refusal-place-requires c κs = search needs
-
 refusal-line-requires : tie.Need-refusal-line-requires
 refusal-line-requires c κs = let k = c .before .before .before .before .before .before .before .before .write .kept .1 .0 in omega arith
-
-same-length : tie.Need-same-length
-same-length c = search needs
 
 returns : tie.Need-returns
 unfolding answered
@@ -37,9 +19,6 @@ returns c =
     let s = c .before .before .before .before .before .before .before .before .before in
     let w = c .before .before .before .before .before .write .ensures in
     listing-done (s .args .words .now) (s .args .out .now) _ (s .pre) (w .1) _ (sym (w .0) ∙ ap answered (c .before .n .given .1))
-
-same-length-2 : tie.Need-same-length-2
-same-length-2 c = search needs
 
 returns-2 : tie.Need-returns-2
 unfolding answered
@@ -55,13 +34,13 @@ pub listing-text-spec : {M : Type 1} → statement M
 listing-text-spec =
     tie.close
     (tie.spec
-    write-requires
-    enum-known-n
-    enum-known-r
-    refusal-number-requires
-    refusal-place-requires
+    (λ write-requires κs. search needs)
+    (λ enum-known-n. search needs)
+    (λ enum-known-r. search needs)
+    (λ refusal-number-requires κs. search needs)
+    (λ refusal-place-requires κs. search needs)
     refusal-line-requires
-    same-length
+    (λ same-length. search needs)
     returns
-    same-length-2
+    (λ same-length-2. search needs)
     returns-2)

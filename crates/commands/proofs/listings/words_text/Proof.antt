@@ -13,15 +13,6 @@ use borrow.Author.Needs.{needs}
 use Rattle.commands.proofs.listings.words_text.Statement.{statement}
 use Rattle.commands.proofs.listings.words_text.Tie as tie
 
-slice-aggregate-read : tie.Need-slice-aggregate-read
-slice-aggregate-read c = search needs
-
-read-requires : tie.Need-read-requires
-read-requires c κs = search needs
-
-enum-known-n : tie.Need-enum-known-n
-enum-known-n c = search needs
-
 array-share-prefix-words : tie.Need-array-share-prefix-words
 unfolding answered
 array-share-prefix-words c =
@@ -36,27 +27,9 @@ slice-aggregate-bytes-of c =
     let r = c .before .before .before .before .before .read in
     sym (length-take-le _ _ (omega (arith, read-few (s .args .input .now) _ (sym (r .ensures .0) ∙ ap answered (c .before .before .n .given .1)), r .kept .1 .0)))
 
-bytes-of-requires : tie.Need-bytes-of-requires
-bytes-of-requires c κs = search needs
-
 mul-result : tie.Need-mul-result
 unfolding answered
 mul-result c = let w = c .before .before .bytes-of .ensures .0 in omega arith
-
-enum-known-r : tie.Need-enum-known-r
-enum-known-r c = search needs
-
-refusal-number-requires : tie.Need-refusal-number-requires
-refusal-number-requires c κs = search needs
-
-refusal-place-requires : tie.Need-refusal-place-requires
-refusal-place-requires c κs = search needs
-
-refusal-line-requires : tie.Need-refusal-line-requires
-refusal-line-requires c κs = search needs
-
-same-length : tie.Need-same-length
-same-length c = search needs
 
 returns : tie.Need-returns
 unfolding answered
@@ -65,9 +38,6 @@ returns c =
     let r = c .before .before .before .before .before .before .before .before .before .read in
     let w = c .before .before .bytes-of in
     words-done (s .args .input .now) (r .last .1 .0) (replicate 1024 0) (s .args .out .now) _ _ _ (sym (r .ensures .0) ∙ ap answered (c .before .before .before .before .before .before .n .given .1)) (r .ensures .1) (s .pre) (w .ensures .0) (w .ensures .1)
-
-same-length-2 : tie.Need-same-length-2
-same-length-2 c = search needs
 
 returns-2 : tie.Need-returns-2
 unfolding answered
@@ -81,18 +51,18 @@ pub words-text-spec : {M : Type 1} → statement M
 words-text-spec =
     tie.close
     (tie.spec
-    slice-aggregate-read
-    read-requires
-    enum-known-n
+    (λ slice-aggregate-read. search needs)
+    (λ read-requires κs. search needs)
+    (λ enum-known-n. search needs)
     array-share-prefix-words
     slice-aggregate-bytes-of
-    bytes-of-requires
+    (λ bytes-of-requires κs. search needs)
     mul-result
-    enum-known-r
-    refusal-number-requires
-    refusal-place-requires
-    refusal-line-requires
-    same-length
+    (λ enum-known-r. search needs)
+    (λ refusal-number-requires κs. search needs)
+    (λ refusal-place-requires κs. search needs)
+    (λ refusal-line-requires κs. search needs)
+    (λ same-length. search needs)
     returns
-    same-length-2
+    (λ same-length-2. search needs)
     returns-2)

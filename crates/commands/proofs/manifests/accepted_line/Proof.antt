@@ -6,20 +6,8 @@ use borrow.Author.Needs.{needs}
 use Rattle.commands.proofs.manifests.accepted_line.Statement.{statement}
 use Rattle.commands.proofs.manifests.accepted_line.Tie as tie
 
-slice-aggregate-number-field : tie.Need-slice-aggregate-number-field
-slice-aggregate-number-field c = search needs
-
-number-field-requires : tie.Need-number-field-requires
-number-field-requires c κs = search needs
-
-slice-aggregate-set-field : tie.Need-slice-aggregate-set-field
-slice-aggregate-set-field c = search needs
-
 set-field-requires : tie.Need-set-field-requires
 set-field-requires c κs = let w = c .before .before .before .before .number-field .ensures in omega (arith, w .1, wrote-length (w .0))
-
-slice-aggregate-number-field-2 : tie.Need-slice-aggregate-number-field-2
-slice-aggregate-number-field-2 c = search needs
 
 number-field-requires-2 : tie.Need-number-field-requires-2
 number-field-requires-2 c κs =
@@ -27,18 +15,12 @@ number-field-requires-2 c κs =
     let w = c .before .before .before .before .set-field .ensures in
     omega (arith, v .1, w .1, wrote-length (v .0), wrote-length (w .0))
 
-slice-aggregate-put : tie.Need-slice-aggregate-put
-slice-aggregate-put c = search needs
-
 put-requires : tie.Need-put-requires
 put-requires c κs =
     let u = c .before .before .before .before .before .before .before .before .before .before .before .before .before .before .number-field .ensures in
     let v = c .before .before .before .before .before .before .before .before .before .set-field .ensures in
     let w = c .before .before .before .before .number-field2 .ensures in
     omega (arith, u .1, v .1, w .1, wrote-length (u .0), wrote-length (v .0), wrote-length (w .0))
-
-same-length : tie.Need-same-length
-same-length c = search needs
 
 returns : tie.Need-returns
 unfolding outcomeText
@@ -48,13 +30,13 @@ pub accepted-line-spec : {M : Type 1} → statement M
 accepted-line-spec =
     tie.close
     (tie.spec
-    slice-aggregate-number-field
-    number-field-requires
-    slice-aggregate-set-field
+    (λ slice-aggregate-number-field. search needs)
+    (λ number-field-requires κs. search needs)
+    (λ slice-aggregate-set-field. search needs)
     set-field-requires
-    slice-aggregate-number-field-2
+    (λ slice-aggregate-number-field-2. search needs)
     number-field-requires-2
-    slice-aggregate-put
+    (λ slice-aggregate-put. search needs)
     put-requires
-    same-length
+    (λ same-length. search needs)
     returns)

@@ -10,34 +10,10 @@ use borrow.Author.Needs.{needs}
 use Rattle.commands.proofs.manifests.manifest_text.Statement.{statement}
 use Rattle.commands.proofs.manifests.manifest_text.Tie as tie
 
-read-requires : tie.Need-read-requires
-read-requires c κs = search needs
-
-enum-known-version : tie.Need-enum-known-version
-enum-known-version c = search needs
-
-accepted-line-requires : tie.Need-accepted-line-requires
-accepted-line-requires c κs = search needs
-
-enum-known-r : tie.Need-enum-known-r
-enum-known-r c = search needs
-
-refusal-number-requires : tie.Need-refusal-number-requires
-refusal-number-requires c κs = search needs
-
-refusal-line-requires : tie.Need-refusal-line-requires
-refusal-line-requires c κs = search needs
-
-same-length : tie.Need-same-length
-same-length c = search needs
-
 returns : tie.Need-returns
 returns c =
     let r = c .before .before .before .before .before .before .before .read .ensures .0 in
     reworded (ap outcomeText (sym (ap outcome (c .before .before .before .before .before .version .given .1)) ∙ r)) (c .before .before .accepted-line .ensures)
-
-same-length-2 : tie.Need-same-length-2
-same-length-2 c = search needs
 
 returns-2 : tie.Need-returns-2
 unfolding outcomeText
@@ -49,13 +25,13 @@ pub manifest-text-spec : {M : Type 1} → statement M
 manifest-text-spec =
     tie.close
     (tie.spec
-    read-requires
-    enum-known-version
-    accepted-line-requires
-    enum-known-r
-    refusal-number-requires
-    refusal-line-requires
-    same-length
+    (λ read-requires κs. search needs)
+    (λ enum-known-version. search needs)
+    (λ accepted-line-requires κs. search needs)
+    (λ enum-known-r. search needs)
+    (λ refusal-number-requires κs. search needs)
+    (λ refusal-line-requires κs. search needs)
+    (λ same-length. search needs)
     returns
-    same-length-2
+    (λ same-length-2. search needs)
     returns-2)

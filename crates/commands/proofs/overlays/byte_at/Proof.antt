@@ -6,9 +6,6 @@ use borrow.Author.Needs.{needs}
 use Rattle.commands.proofs.overlays.byte_at.Statement.{statement}
 use Rattle.commands.proofs.overlays.byte_at.Tie as tie
 
-shared-slice-read-result : tie.Need-shared-slice-read-result
-shared-slice-read-result c = search needs
-
 returns : tie.Need-returns
 returns c = refl
 
@@ -19,6 +16,6 @@ pub byte-at-spec : {M : Type 1} → statement M
 byte-at-spec =
     tie.close
     (tie.spec
-    shared-slice-read-result
+    (λ shared-slice-read-result. search needs)
     returns
     returns-2)

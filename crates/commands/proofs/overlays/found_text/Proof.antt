@@ -15,32 +15,8 @@ use borrow.Author.Needs.{needs}
 use Rattle.commands.proofs.overlays.found_text.Statement.{statement}
 use Rattle.commands.proofs.overlays.found_text.Tie as tie
 
-second-start-requires : tie.Need-second-start-requires
-second-start-requires c κs = search needs
-
 slice-aggregate-first : tie.Need-slice-aggregate-first
 slice-aggregate-first c = sym (length-take-le _ _ (c .before .second-start .ensures .1))
-
-sub-second : tie.Need-sub-second
-sub-second c = search needs
-
-part-second-start : tie.Need-part-second-start
-part-second-start c = search needs
-
-part-second-end : tie.Need-part-second-end
-part-second-end c = search needs
-
-slice-aggregate-read-pair : tie.Need-slice-aggregate-read-pair
-slice-aggregate-read-pair c = search needs
-
-slice-aggregate-read-pair-2 : tie.Need-slice-aggregate-read-pair-2
-slice-aggregate-read-pair-2 c = search needs
-
-read-pair-requires : tie.Need-read-pair-requires
-read-pair-requires c κs = search needs
-
-enum-known-m : tie.Need-enum-known-m
-enum-known-m c = search needs
 
 array-share-prefix-under : tie.Need-array-share-prefix-under
 array-share-prefix-under c =
@@ -69,15 +45,6 @@ place-text-requires c κs =
     let input = s .args .input .now in
     (omega (arith, length-take k input), omega (arith, length-take (length input - k) (drop k input), length-drop k input), omega arith)
 
-enum-known-number : tie.Need-enum-known-number
-enum-known-number c = search needs
-
-refusal-line-requires : tie.Need-refusal-line-requires
-refusal-line-requires c κs = search needs
-
-same-length : tie.Need-same-length
-same-length c = search needs
-
 returns : tie.Need-returns
 unfolding foundText
 returns c =
@@ -86,9 +53,6 @@ returns c =
     let k = c .before .before .before .before .before .before .before .before .before .before .before .before .before .before .before .before .second-start .result in
     let b = subst (PairAs _ _ _ _) (c .before .before .before .before .before .before .before .m .given .1) (c .before .before .before .before .before .before .before .before .before .before .before .read-pair .ensures) in
     reworded (ap₂ (λ (u v : List ℕ). placeText (take k input) (take (length input - k) (drop k input)) (placeOf u v (s .args .name) (s .args .perms))) (b .base) (b .overlay) ∙ both-text input k (c .before .before .before .before .before .before .before .before .before .before .before .before .before .before .before .before .second-start .ensures .0) (λ (x y : List ℕ). placeText x y (placeOf (wordsOf x) (wordsOf y) (s .args .name) (s .args .perms))) b) (c .before .before .place-text .ensures)
-
-same-length-2 : tie.Need-same-length-2
-same-length-2 c = search needs
 
 returns-2 : tie.Need-returns-2
 unfolding foundText
@@ -101,23 +65,23 @@ pub found-text-spec : {M : Type 1} → statement M
 found-text-spec =
     tie.close
     (tie.spec
-    second-start-requires
+    (λ second-start-requires κs. search needs)
     slice-aggregate-first
-    sub-second
-    part-second-start
-    part-second-end
-    slice-aggregate-read-pair
-    slice-aggregate-read-pair-2
-    read-pair-requires
-    enum-known-m
+    (λ sub-second. search needs)
+    (λ part-second-start. search needs)
+    (λ part-second-end. search needs)
+    (λ slice-aggregate-read-pair. search needs)
+    (λ slice-aggregate-read-pair-2. search needs)
+    (λ read-pair-requires κs. search needs)
+    (λ enum-known-m. search needs)
     array-share-prefix-under
     slice-aggregate-place-text
     array-share-prefix-over
     slice-aggregate-place-text-2
     place-text-requires
-    enum-known-number
-    refusal-line-requires
-    same-length
+    (λ enum-known-number. search needs)
+    (λ refusal-line-requires κs. search needs)
+    (λ same-length. search needs)
     returns
-    same-length-2
+    (λ same-length-2. search needs)
     returns-2)

@@ -13,32 +13,8 @@ use borrow.Author.Needs.{needs}
 use Rattle.commands.proofs.overlays.join_text.Statement.{statement}
 use Rattle.commands.proofs.overlays.join_text.Tie as tie
 
-second-start-requires : tie.Need-second-start-requires
-second-start-requires c κs = search needs
-
 slice-aggregate-read-pair : tie.Need-slice-aggregate-read-pair
 slice-aggregate-read-pair c = sym (length-take-le _ _ (c .before .second-start .ensures .1))
-
-sub-read-pair : tie.Need-sub-read-pair
-sub-read-pair c = search needs
-
-part-read-pair-start : tie.Need-part-read-pair-start
-part-read-pair-start c = search needs
-
-part-read-pair-end : tie.Need-part-read-pair-end
-part-read-pair-end c = search needs
-
-slice-aggregate-read-pair-2 : tie.Need-slice-aggregate-read-pair-2
-slice-aggregate-read-pair-2 c = search needs
-
-slice-aggregate-read-pair-3 : tie.Need-slice-aggregate-read-pair-3
-slice-aggregate-read-pair-3 c = search needs
-
-read-pair-requires : tie.Need-read-pair-requires
-read-pair-requires c κs = search needs
-
-enum-known-m : tie.Need-enum-known-m
-enum-known-m c = search needs
 
 array-share-prefix-under : tie.Need-array-share-prefix-under
 array-share-prefix-under c =
@@ -60,27 +36,12 @@ slice-aggregate-joined-text-2 c =
     let b = subst (PairAs _ _ _ _) (c .before .before .before .m .given .1) (c .before .before .before .before .before .before .before .read-pair .ensures) in
     sym (length-take-le _ _ (omega (arith, b .fit, c .before .before .before .before .before .before .before .read-pair .kept .1 .1 .1 .0)))
 
-joined-text-requires : tie.Need-joined-text-requires
-joined-text-requires c κs = search needs
-
-enum-known-number : tie.Need-enum-known-number
-enum-known-number c = search needs
-
-refusal-line-requires : tie.Need-refusal-line-requires
-refusal-line-requires c κs = search needs
-
-same-length : tie.Need-same-length
-same-length c = search needs
-
 returns : tie.Need-returns
 unfolding joinText
 returns c =
     let s = c .before .before .before .before .before .before .before .before .before .before .before .before .before .before .before .before .before .before .before in
     let b = subst (PairAs _ _ _ _) (c .before .before .before .before .before .before .before .m .given .1) (c .before .before .before .before .before .before .before .before .before .before .before .read-pair .ensures) in
     reworded (ap₂ joinedText (b .base) (b .overlay) ∙ both-text (s .args .input .now) _ (c .before .before .before .before .before .before .before .before .before .before .before .before .before .before .before .before .second-start .ensures .0) (λ (x y : List ℕ). joinedText (wordsOf x) (wordsOf y)) b) (c .before .before .joined-text .ensures)
-
-same-length-2 : tie.Need-same-length-2
-same-length-2 c = search needs
 
 returns-2 : tie.Need-returns-2
 unfolding joinText
@@ -93,23 +54,23 @@ pub join-text-spec : {M : Type 1} → statement M
 join-text-spec =
     tie.close
     (tie.spec
-    second-start-requires
+    (λ second-start-requires κs. search needs)
     slice-aggregate-read-pair
-    sub-read-pair
-    part-read-pair-start
-    part-read-pair-end
-    slice-aggregate-read-pair-2
-    slice-aggregate-read-pair-3
-    read-pair-requires
-    enum-known-m
+    (λ sub-read-pair. search needs)
+    (λ part-read-pair-start. search needs)
+    (λ part-read-pair-end. search needs)
+    (λ slice-aggregate-read-pair-2. search needs)
+    (λ slice-aggregate-read-pair-3. search needs)
+    (λ read-pair-requires κs. search needs)
+    (λ enum-known-m. search needs)
     array-share-prefix-under
     slice-aggregate-joined-text
     array-share-prefix-over
     slice-aggregate-joined-text-2
-    joined-text-requires
-    enum-known-number
-    refusal-line-requires
-    same-length
+    (λ joined-text-requires κs. search needs)
+    (λ enum-known-number. search needs)
+    (λ refusal-line-requires κs. search needs)
+    (λ same-length. search needs)
     returns
-    same-length-2
+    (λ same-length-2. search needs)
     returns-2)

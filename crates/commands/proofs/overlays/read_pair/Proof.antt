@@ -9,41 +9,8 @@ use borrow.Author.Needs.{needs}
 use Rattle.commands.proofs.overlays.read_pair.Statement.{statement}
 use Rattle.commands.proofs.overlays.read_pair.Tie as tie
 
-read-requires : tie.Need-read-requires
-read-requires c κs = search needs
-
-enum-known-r : tie.Need-enum-known-r
-enum-known-r c = search needs
-
-refusal-number-requires : tie.Need-refusal-number-requires
-refusal-number-requires c κs = search needs
-
-refusal-place-requires : tie.Need-refusal-place-requires
-refusal-place-requires c κs = search needs
-
-enum-known-m : tie.Need-enum-known-m
-enum-known-m c = search needs
-
-read-requires-2 : tie.Need-read-requires-2
-read-requires-2 c κs = search needs
-
-enum-known-r-2 : tie.Need-enum-known-r-2
-enum-known-r-2 c = search needs
-
-refusal-number-requires-2 : tie.Need-refusal-number-requires-2
-refusal-number-requires-2 c κs = search needs
-
 add-t20 : tie.Need-add-t20
 add-t20 c = omega (arith, c .refusal-number2 .ensures, number-small (c .before .before .r2 .given .0 .0))
-
-refusal-place-requires-2 : tie.Need-refusal-place-requires-2
-refusal-place-requires-2 c κs = search needs
-
-enum-known-n : tie.Need-enum-known-n
-enum-known-n c = search needs
-
-same-length : tie.Need-same-length
-same-length c = search needs
 
 returns : tie.Need-returns
 unfolding answered
@@ -51,12 +18,6 @@ returns c =
     let s = c .before .before .before .before .before .before .before .before .before .before .before .before .before in
     let e = sym (c .before .before .before .before .before .before .before .read .ensures .0) ∙ ap answered (c .before .before .before .r .given .1) in
     λ t. first-refused (s .args .first .now) (s .args .second .now) _ 1024 (s .pre .0) refl _ _ e t ∙ sym (ap₂ refusalLine (c .before .refusal-number .ensures) (c .refusal-place .ensures))
-
-same-length-2 : tie.Need-same-length-2
-same-length-2 c = search needs
-
-same-length-3 : tie.Need-same-length-3
-same-length-3 c = search needs
 
 returns-2 : tie.Need-returns-2
 unfolding answered
@@ -66,12 +27,6 @@ returns-2 c =
     let e = sym (c .before .before .before .before .before .before .before .read2 .ensures .0) ∙ ap answered (c .before .before .before .r2 .given .1) in
     λ t. second-refused (s .args .first .now) (s .args .second .now) _ _ (s .pre .0) (s .pre .1) _ d _ _ e t
     ∙ sym (ap₂ (λ (n p : ℕ). refusalLine (100 + n) p) (c .before .refusal-number2 .ensures) (c .refusal-place2 .ensures))
-
-same-length-4 : tie.Need-same-length-4
-same-length-4 c = search needs
-
-same-length-5 : tie.Need-same-length-5
-same-length-5 c = search needs
 
 returns-3 : tie.Need-returns-3
 unfolding answered
@@ -85,22 +40,22 @@ pub read-pair-spec : {M : Type 1} → statement M
 read-pair-spec =
     tie.close
     (tie.spec
-    read-requires
-    enum-known-r
-    refusal-number-requires
-    refusal-place-requires
-    enum-known-m
-    read-requires-2
-    enum-known-r-2
-    refusal-number-requires-2
+    (λ read-requires κs. search needs)
+    (λ enum-known-r. search needs)
+    (λ refusal-number-requires κs. search needs)
+    (λ refusal-place-requires κs. search needs)
+    (λ enum-known-m. search needs)
+    (λ read-requires-2 κs. search needs)
+    (λ enum-known-r-2. search needs)
+    (λ refusal-number-requires-2 κs. search needs)
     add-t20
-    refusal-place-requires-2
-    enum-known-n
-    same-length
+    (λ refusal-place-requires-2 κs. search needs)
+    (λ enum-known-n. search needs)
+    (λ same-length. search needs)
     returns
-    same-length-2
-    same-length-3
+    (λ same-length-2. search needs)
+    (λ same-length-3. search needs)
     returns-2
-    same-length-4
-    same-length-5
+    (λ same-length-4. search needs)
+    (λ same-length-5. search needs)
     returns-3)

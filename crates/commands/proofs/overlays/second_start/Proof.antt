@@ -20,24 +20,12 @@ abbrev μ-loop : tie.MeasureT-loop
 loop-holds : tie.Need-loop-holds Inv-loop μ-loop
 loop-holds c = (omega arith, omega arith)
 
-starts-system-requires : tie.Need-starts-system-requires Inv-loop μ-loop
-starts-system-requires c κs = search needs
-
 returns : tie.Need-returns Inv-loop μ-loop
 returns c =
     let l = c .before .before .before .before .loop in
     let text = c .before .before .before .before .before .before .args .text .now in
     let e = ap (λ (s : Bool). before s (drop (l .i) text)) (c .before .before .if1 .taken) ∙ before-here text (l .i) (omega arith) (sym (c .before .starts-system .ensures) ∙ c .if2 .taken) in
     (omega (arith, l .inv .1, e), l .inv .0)
-
-shared-slice-read-start : tie.Need-shared-slice-read-start Inv-loop μ-loop
-shared-slice-read-start c = search needs
-
-add-i : tie.Need-add-i Inv-loop μ-loop
-add-i c = search needs
-
-loop-less : tie.Need-loop-less Inv-loop μ-loop
-loop-less c = search needs
 
 loop-again : tie.Need-loop-again Inv-loop μ-loop
 loop-again c =
@@ -60,10 +48,10 @@ second-start-spec =
     Inv-loop
     μ-loop
     loop-holds
-    starts-system-requires
+    (λ starts-system-requires κs. search needs)
     returns
-    shared-slice-read-start
-    add-i
-    loop-less
+    (λ shared-slice-read-start. search needs)
+    (λ add-i. search needs)
+    (λ loop-less. search needs)
     loop-again
     returns-2)

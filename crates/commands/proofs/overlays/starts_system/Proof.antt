@@ -12,39 +12,6 @@ use borrow.Author.Needs.{needs}
 use Rattle.commands.proofs.overlays.starts_system.Statement.{statement}
 use Rattle.commands.proofs.overlays.starts_system.Tie as tie
 
-byte-at-requires : tie.Need-byte-at-requires
-byte-at-requires c κs = search needs
-
-add-byte-at : tie.Need-add-byte-at
-add-byte-at c = search needs
-
-byte-at-requires-2 : tie.Need-byte-at-requires-2
-byte-at-requires-2 c κs = search needs
-
-add-byte-at-2 : tie.Need-add-byte-at-2
-add-byte-at-2 c = search needs
-
-byte-at-requires-3 : tie.Need-byte-at-requires-3
-byte-at-requires-3 c κs = search needs
-
-add-byte-at-3 : tie.Need-add-byte-at-3
-add-byte-at-3 c = search needs
-
-byte-at-requires-4 : tie.Need-byte-at-requires-4
-byte-at-requires-4 c κs = search needs
-
-add-byte-at-4 : tie.Need-add-byte-at-4
-add-byte-at-4 c = search needs
-
-byte-at-requires-5 : tie.Need-byte-at-requires-5
-byte-at-requires-5 c κs = search needs
-
-add-byte-at-5 : tie.Need-add-byte-at-5
-add-byte-at-5 c = search needs
-
-byte-at-requires-6 : tie.Need-byte-at-requires-6
-byte-at-requires-6 c κs = search needs
-
 returns : tie.Need-returns
 unfolding startsSystem
 returns c =
@@ -60,15 +27,15 @@ pub starts-system-spec : {M : Type 1} → statement M
 starts-system-spec =
     tie.close
     (tie.spec
-    byte-at-requires
-    add-byte-at
-    byte-at-requires-2
-    add-byte-at-2
-    byte-at-requires-3
-    add-byte-at-3
-    byte-at-requires-4
-    add-byte-at-4
-    byte-at-requires-5
-    add-byte-at-5
-    byte-at-requires-6
+    (λ byte-at-requires κs. search needs)
+    (λ add-byte-at. search needs)
+    (λ byte-at-requires-2 κs. search needs)
+    (λ add-byte-at-2. search needs)
+    (λ byte-at-requires-3 κs. search needs)
+    (λ add-byte-at-3. search needs)
+    (λ byte-at-requires-4 κs. search needs)
+    (λ add-byte-at-4. search needs)
+    (λ byte-at-requires-5 κs. search needs)
+    (λ add-byte-at-5. search needs)
+    (λ byte-at-requires-6 κs. search needs)
     returns)

@@ -12,15 +12,6 @@ use borrow.Author.Needs.{needs}
 use Rattle.commands.proofs.packing.pack_text.Statement.{statement}
 use Rattle.commands.proofs.packing.pack_text.Tie as tie
 
-slice-aggregate-read : tie.Need-slice-aggregate-read
-slice-aggregate-read c = search needs
-
-read-requires : tie.Need-read-requires
-read-requires c κs = search needs
-
-enum-known-n : tie.Need-enum-known-n
-enum-known-n c = search needs
-
 array-share-prefix-words : tie.Need-array-share-prefix-words
 unfolding answered
 array-share-prefix-words c =
@@ -35,33 +26,12 @@ slice-aggregate-put-system c =
     let r = c .before .before .before .before .before .read in
     sym (length-take-le _ _ (omega (arith, read-few (s .args .input .now) _ (sym (r .ensures .0) ∙ ap answered (c .before .before .n .given .1)), r .kept .1 .0)))
 
-put-system-requires : tie.Need-put-system-requires
-put-system-requires c κs = search needs
-
-enum-known-r : tie.Need-enum-known-r
-enum-known-r c = search needs
-
-refusal-number-requires : tie.Need-refusal-number-requires
-refusal-number-requires c κs = search needs
-
-refusal-place-requires : tie.Need-refusal-place-requires
-refusal-place-requires c κs = search needs
-
-refusal-line-requires : tie.Need-refusal-line-requires
-refusal-line-requires c κs = search needs
-
-same-length : tie.Need-same-length
-same-length c = search needs
-
 returns : tie.Need-returns
 unfolding answered
 returns c =
     let s = c .before .before .before .before .before .before .before .before .before .before .before .before .before in
     let r = c .before .before .before .before .before .before .before .before .before .read in
     reworded (pack-done (s .args .rho) (s .args .input .now) (r .last .1 .0) (replicate 1024 0) _ (sym (r .ensures .0) ∙ ap answered (c .before .before .before .before .before .before .n .given .1)) (r .ensures .1)) (c .before .before .put-system .ensures)
-
-same-length-2 : tie.Need-same-length-2
-same-length-2 c = search needs
 
 returns-2 : tie.Need-returns-2
 unfolding answered
@@ -75,17 +45,17 @@ pub pack-text-spec : {M : Type 1} → statement M
 pack-text-spec =
     tie.close
     (tie.spec
-    slice-aggregate-read
-    read-requires
-    enum-known-n
+    (λ slice-aggregate-read. search needs)
+    (λ read-requires κs. search needs)
+    (λ enum-known-n. search needs)
     array-share-prefix-words
     slice-aggregate-put-system
-    put-system-requires
-    enum-known-r
-    refusal-number-requires
-    refusal-place-requires
-    refusal-line-requires
-    same-length
+    (λ put-system-requires κs. search needs)
+    (λ enum-known-r. search needs)
+    (λ refusal-number-requires κs. search needs)
+    (λ refusal-place-requires κs. search needs)
+    (λ refusal-line-requires κs. search needs)
+    (λ same-length. search needs)
     returns
-    same-length-2
+    (λ same-length-2. search needs)
     returns-2)

@@ -5,22 +5,10 @@ use borrow.Author.Needs.{needs}
 use Rattle.commands.proofs.packing.put_system.Statement.{statement}
 use Rattle.commands.proofs.packing.put_system.Tie as tie
 
-refusal-line-requires : tie.Need-refusal-line-requires
-refusal-line-requires c κs = search needs
-
-same-length : tie.Need-same-length
-same-length c = search needs
-
 returns : tie.Need-returns
 returns c =
     let t = c .before .before .before .before in let a = t .before .before .before .args in
     reworded (system-long (a .rho) (a .words .now) (t .if1 .taken)) (c .before .before .refusal-line .ensures .0)
-
-put-packed-requires : tie.Need-put-packed-requires
-put-packed-requires c κs = search needs
-
-same-length-2 : tie.Need-same-length-2
-same-length-2 c = search needs
 
 returns-2 : tie.Need-returns-2
 returns-2 c =
@@ -31,9 +19,9 @@ pub put-system-spec : {M : Type 1} → statement M
 put-system-spec =
     tie.close
     (tie.spec
-    refusal-line-requires
-    same-length
+    (λ refusal-line-requires κs. search needs)
+    (λ same-length. search needs)
     returns
-    put-packed-requires
-    same-length-2
+    (λ put-packed-requires κs. search needs)
+    (λ same-length-2. search needs)
     returns-2)

@@ -6,20 +6,8 @@ use borrow.Author.Needs.{needs}
 use Rattle.deliveries.proofs.lines.add_line.Statement.{statement}
 use Rattle.deliveries.proofs.lines.add_line.Tie as tie
 
-delivery-line-requires : tie.Need-delivery-line-requires
-delivery-line-requires c κs = search needs
-
-array-share-prefix-line : tie.Need-array-share-prefix-line
-array-share-prefix-line c = search needs
-
-slice-aggregate-put-room : tie.Need-slice-aggregate-put-room
-slice-aggregate-put-room c = search needs
-
 put-room-requires : tie.Need-put-room-requires
 put-room-requires c κs = let l = c .before .before .delivery-line .ensures in (search needs, omega (arith, l .0 .counts, l .1))
-
-same-length : tie.Need-same-length
-same-length c = search needs
 
 returns : tie.Need-returns
 returns c =
@@ -30,9 +18,9 @@ pub add-line-spec : {M : Type 1} → statement M
 add-line-spec =
     tie.close
     (tie.spec
-    delivery-line-requires
-    array-share-prefix-line
-    slice-aggregate-put-room
+    (λ delivery-line-requires κs. search needs)
+    (λ array-share-prefix-line. search needs)
+    (λ slice-aggregate-put-room. search needs)
     put-room-requires
-    same-length
+    (λ same-length. search needs)
     returns)

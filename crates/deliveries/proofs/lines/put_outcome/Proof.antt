@@ -6,65 +6,17 @@ use borrow.Author.Needs.{needs}
 use Rattle.deliveries.proofs.lines.put_outcome.Statement.{statement}
 use Rattle.deliveries.proofs.lines.put_outcome.Tie as tie
 
-enum-told : tie.Need-enum-told
-enum-told c = search needs
-
-slice-aggregate-put : tie.Need-slice-aggregate-put
-slice-aggregate-put c = search needs
-
-put-requires : tie.Need-put-requires
-put-requires c κs = search needs
-
-enum-known-d : tie.Need-enum-known-d
-enum-known-d c = search needs
-
-slice-aggregate-set-line : tie.Need-slice-aggregate-set-line
-slice-aggregate-set-line c = search needs
-
-set-line-requires : tie.Need-set-line-requires
-set-line-requires c κs = search needs
-
-enum-known-d-2 : tie.Need-enum-known-d-2
-enum-known-d-2 c = search needs
-
-slice-aggregate-set-line-2 : tie.Need-slice-aggregate-set-line-2
-slice-aggregate-set-line-2 c = search needs
-
-set-line-requires-2 : tie.Need-set-line-requires-2
-set-line-requires-2 c κs = search needs
-
-enum-told-2 : tie.Need-enum-told-2
-enum-told-2 c = search needs
-
-slice-aggregate-put-2 : tie.Need-slice-aggregate-put-2
-slice-aggregate-put-2 c = search needs
-
-put-requires-2 : tie.Need-put-requires-2
-put-requires-2 c κs = search needs
-
-same-length : tie.Need-same-length
-same-length c = search needs
-
 returns : tie.Need-returns
 unfolding outcome
 returns c = reworded (sym (ap outcome (c .before .before .before .before .before .enum-told .given .1))) (c .before .before .put .ensures)
-
-same-length-2 : tie.Need-same-length-2
-same-length-2 c = search needs
 
 returns-2 : tie.Need-returns-2
 unfolding outcome
 returns-2 c = reworded (sym (ap outcome (c .before .before .before .before .before .before .d .given .1))) (c .before .before .set-line .ensures)
 
-same-length-3 : tie.Need-same-length-3
-same-length-3 c = search needs
-
 returns-3 : tie.Need-returns-3
 unfolding outcome
 returns-3 c = reworded (sym (ap outcome (c .before .before .before .before .before .before .d2 .given .1))) (c .before .before .set-line2 .ensures)
-
-same-length-4 : tie.Need-same-length-4
-same-length-4 c = search needs
 
 returns-4 : tie.Need-returns-4
 unfolding outcome
@@ -74,23 +26,23 @@ pub put-outcome-spec : {M : Type 1} → statement M
 put-outcome-spec =
     tie.close
     (tie.spec
-    enum-told
-    slice-aggregate-put
-    put-requires
-    enum-known-d
-    slice-aggregate-set-line
-    set-line-requires
-    enum-known-d-2
-    slice-aggregate-set-line-2
-    set-line-requires-2
-    enum-told-2
-    slice-aggregate-put-2
-    put-requires-2
-    same-length
+    (λ enum-told. search needs)
+    (λ slice-aggregate-put. search needs)
+    (λ put-requires κs. search needs)
+    (λ enum-known-d. search needs)
+    (λ slice-aggregate-set-line. search needs)
+    (λ set-line-requires κs. search needs)
+    (λ enum-known-d-2. search needs)
+    (λ slice-aggregate-set-line-2. search needs)
+    (λ set-line-requires-2 κs. search needs)
+    (λ enum-told-2. search needs)
+    (λ slice-aggregate-put-2. search needs)
+    (λ put-requires-2 κs. search needs)
+    (λ same-length. search needs)
     returns
-    same-length-2
+    (λ same-length-2. search needs)
     returns-2
-    same-length-3
+    (λ same-length-3. search needs)
     returns-3
-    same-length-4
+    (λ same-length-4. search needs)
     returns-4)

@@ -4,18 +4,6 @@ use Rattle.delivery.specs.Delivery.{delivered}
 use Rattle.delivery.proofs.Delivery.delivered.Statement.{statement}
 use Rattle.delivery.proofs.Delivery.delivered.Tie as tie
 
-enum-told : tie.Need-enum-told
-enum-told c = search needs
-
-enum-told-2 : tie.Need-enum-told-2
-enum-told-2 c = search needs
-
-enum-told-3 : tie.Need-enum-told-3
-enum-told-3 c = search needs
-
-enum-told-4 : tie.Need-enum-told-4
-enum-told-4 c = search needs
-
 returns : tie.Need-returns
 unfolding delivered
 returns c = search needs
@@ -35,4 +23,4 @@ returns-4 c = search needs
 pub delivered-spec : {M : Type 1} → statement M
 delivered-spec =
     tie.close
-    (tie.spec enum-told enum-told-2 enum-told-3 enum-told-4 returns returns-2 returns-3 returns-4)
+    (tie.spec (λ enum-told. search needs) (λ enum-told-2. search needs) (λ enum-told-3. search needs) (λ enum-told-4. search needs) returns returns-2 returns-3 returns-4)

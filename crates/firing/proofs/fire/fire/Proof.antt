@@ -14,24 +14,12 @@ holds-requires c κs =
     let s = c .before .before .before .before .before .before .before .before in let a = s .args in let w = a .words .now in let l = a .l in let g = a .k .guard in let e = a .k .effect in
     (sized w (a .links .now) (a .masks .now) l (s .pre .0) (a .est .now) (s .pre .1), s .pre .2 .guard, s .pre .0 .masked .long)
 
-add-requires : tie.Need-add-requires
-add-requires c κs = search needs
-
-same-length : tie.Need-same-length
-same-length c = search needs
-
-same-length-2 : tie.Need-same-length-2
-same-length-2 c = search needs
-
 returns : tie.Need-returns
 unfolding asks
 returns c =
     let s = c .before .before .before .before .before .before .before .before .before .before .before .before .before .before .before .before .before in let a = s .args in let w = a .words .now in let l = a .l in let g = a .k .guard in let e = a .k .effect in
     let d = c .before .before .before .before .add .ensures in
     record { words = d .words ∙ sym (guard-holds (code w) (a .est .now) (g .d) (g .a) (g .v) (effect (code w) (e .what) (e .x) (e .y) (e .z) (a .f)) (g .test) (sym (c .before .before .before .before .before .before .before .before .holds .ensures (code w) (s .pre .0 .laid) (s .pre .1) (s .pre .0 .masked)) ∙ c .before .before .before .before .before .before .before .if1 .taken)); count = d .count }
-
-same-length-3 : tie.Need-same-length-3
-same-length-3 c = search needs
 
 returns-2 : tie.Need-returns-2
 unfolding asks
@@ -44,9 +32,9 @@ fire-spec =
     tie.close
     (tie.spec
     holds-requires
-    add-requires
-    same-length
-    same-length-2
+    (λ add-requires κs. search needs)
+    (λ same-length. search needs)
+    (λ same-length-2. search needs)
     returns
-    same-length-3
+    (λ same-length-3. search needs)
     returns-2)

@@ -10,9 +10,6 @@ use borrow.Author.Needs.{needs}
 use Rattle.firing.proofs.fire.fire_send.Statement.{statement}
 use Rattle.firing.proofs.fire.fire_send.Tie as tie
 
-sender-of-requires : tie.Need-sender-of-requires
-sender-of-requires c κs = search needs
-
 send-all-requires : tie.Need-send-all-requires
 send-all-requires c κs =
     let s = c .before .before .before .before .before .before .before .before .before in let a = s .args in let e = a .e in let w = a .words .now in (
@@ -52,24 +49,12 @@ send-one-requires c κs =
       omega (arith, s .pre .2 .required),
     )
 
-same-length : tie.Need-same-length
-same-length c = search needs
-
-same-length-2 : tie.Need-same-length-2
-same-length-2 c = search needs
-
 returns : tie.Need-returns
 unfolding blocks
 returns c =
     let s = c .before .before .before .before .before .before .before .before .before .before .before .before .before .before in let a = s .args in let e = a .e in let w = a .words .now in
     let d = c .before .before .before .before .send-all .ensures in
     record { words = d .words ∙ all-blocks (code w) (e .x) (e .y) (e .z) (a .f) (a .est .now) (c .before .before .before .before .before .before .before .if1 .taken); count = d .count }
-
-same-length-3 : tie.Need-same-length-3
-same-length-3 c = search needs
-
-same-length-4 : tie.Need-same-length-4
-same-length-4 c = search needs
 
 returns-2 : tie.Need-returns-2
 returns-2 c =
@@ -81,12 +66,12 @@ pub fire-send-spec : {M : Type 1} → statement M
 fire-send-spec =
     tie.close
     (tie.spec
-    sender-of-requires
+    (λ sender-of-requires κs. search needs)
     send-all-requires
     send-one-requires
-    same-length
-    same-length-2
+    (λ same-length. search needs)
+    (λ same-length-2. search needs)
     returns
-    same-length-3
-    same-length-4
+    (λ same-length-3. search needs)
+    (λ same-length-4. search needs)
     returns-2)

@@ -6,29 +6,11 @@ use borrow.Author.Needs.{needs}
 use Rattle.firing.proofs.fire.fire_things.Statement.{statement}
 use Rattle.firing.proofs.fire.fire_things.Tie as tie
 
-each-thing-requires : tie.Need-each-thing-requires
-each-thing-requires c κs = search needs
-
-one-thing-requires : tie.Need-one-thing-requires
-one-thing-requires c κs = search needs
-
-same-length : tie.Need-same-length
-same-length c = search needs
-
-same-length-2 : tie.Need-same-length-2
-same-length-2 c = search needs
-
 returns : tie.Need-returns
 unfolding things
 returns c =
     let a = c .before .before .before .before .before .before .before .before .before .before .before .args in let e = a .e in let d = c .before .before .before .before .each-thing .ensures in
     record { words = λ k o m. d .words k o m ∙ all-things k (e .what) (e .x) (e .y) (e .z) (a .f) (a .est .now) (c .before .before .before .before .before .before .before .if1 .taken); count = d .count }
-
-same-length-3 : tie.Need-same-length-3
-same-length-3 c = search needs
-
-same-length-4 : tie.Need-same-length-4
-same-length-4 c = search needs
 
 returns-2 : tie.Need-returns-2
 returns-2 c =
@@ -39,11 +21,11 @@ pub fire-things-spec : {M : Type 1} → statement M
 fire-things-spec =
     tie.close
     (tie.spec
-    each-thing-requires
-    one-thing-requires
-    same-length
-    same-length-2
+    (λ each-thing-requires κs. search needs)
+    (λ one-thing-requires κs. search needs)
+    (λ same-length. search needs)
+    (λ same-length-2. search needs)
     returns
-    same-length-3
-    same-length-4
+    (λ same-length-3. search needs)
+    (λ same-length-4. search needs)
     returns-2)

@@ -14,24 +14,6 @@ use borrow.Author.Needs.{needs}
 use Rattle.firing.proofs.sends.deliver.Statement.{statement}
 use Rattle.firing.proofs.sends.deliver.Tie as tie
 
-wake-requires : tie.Need-wake-requires
-wake-requires c κs = search needs
-
-mul-pass : tie.Need-mul-pass
-mul-pass c = search needs
-
-mul-pass-2 : tie.Need-mul-pass-2
-mul-pass-2 c = search needs
-
-add-pass : tie.Need-add-pass
-add-pass c = search needs
-
-pass-requires : tie.Need-pass-requires
-pass-requires c κs = search needs
-
-lift-requires : tie.Need-lift-requires
-lift-requires c κs = search needs
-
 add-result : tie.Need-add-result
 add-result c =
     let s = c .before .before .before .before .before .before .before .before .before .before .before .before .before .before .before .before .before .before .before .before .before .before .before .before in let a = s .args in
@@ -39,14 +21,10 @@ add-result c =
 
 add-result-2 : tie.Need-add-result-2
 add-result-2 c =
+    let t = c .before .before .before .before .before .before .before .before .before .before .before in
+    let u = c .before .before .before .before in
     let s = c .before .before .before .before .before .before .before .before .before .before .before .before .before .before .before .before .before .before .before .before .before .before .before .before in let a = s .args in
-    omega (arith, c .before .before .before .before .before .before .before .before .before .before .before .before .before .before .before .before .before .before .wake .ensures .0 .count, c .before .before .before .before .before .before .before .before .before .before .before .pass .ensures .count, c .before .before .before .before .lift .ensures .count, sum-fits _ _ _ _ _ (c .before .before .before .before .before .before .before .before .before .before .before .pass .ensures .count) (c .before .before .before .before .lift .ensures .count), facts-most (c .before .before .before .before .lift .last .0), c .before .before .before .before .lift .kept .0, c .before .before .before .before .before .before .before .before .before .before .before .pass .kept .0, c .before .before .before .before .before .before .before .before .before .before .before .before .before .before .before .before .before .before .wake .kept .0, s .pre .0 .short)
-
-same-length : tie.Need-same-length
-same-length c = search needs
-
-same-length-2 : tie.Need-same-length-2
-same-length-2 c = search needs
+    omega (arith, c .before .before .before .before .before .before .before .before .before .before .before .before .before .before .before .before .before .before .wake .ensures .0 .count, t .pass .ensures .count, u .lift .ensures .count, sum-fits _ _ _ _ _ (t .pass .ensures .count) (u .lift .ensures .count), facts-most (u .lift .last .0), u .lift .kept .0, t .pass .kept .0, c .before .before .before .before .before .before .before .before .before .before .before .before .before .before .before .before .before .before .wake .kept .0, s .pre .0 .short)
 
 returns : tie.Need-returns
 returns c =
@@ -62,14 +40,14 @@ pub deliver-spec : {M : Type 1} → statement M
 deliver-spec =
     tie.close
     (tie.spec
-    wake-requires
-    mul-pass
-    mul-pass-2
-    add-pass
-    pass-requires
-    lift-requires
+    (λ wake-requires κs. search needs)
+    (λ mul-pass. search needs)
+    (λ mul-pass-2. search needs)
+    (λ add-pass. search needs)
+    (λ pass-requires κs. search needs)
+    (λ lift-requires κs. search needs)
     add-result
     add-result-2
-    same-length
-    same-length-2
+    (λ same-length. search needs)
+    (λ same-length-2. search needs)
     returns)

@@ -13,18 +13,6 @@ use borrow.Author.Needs.{needs}
 use Rattle.firing.proofs.sends.deliver_from.Statement.{statement}
 use Rattle.firing.proofs.sends.deliver_from.Tie as tie
 
-deliver-requires : tie.Need-deliver-requires
-deliver-requires c κs = search needs
-
-mul-mark : tie.Need-mul-mark
-mul-mark c = search needs
-
-mul-mark-2 : tie.Need-mul-mark-2
-mul-mark-2 c = search needs
-
-add-mark : tie.Need-add-mark
-add-mark c = search needs
-
 mark-requires : tie.Need-mark-requires
 mark-requires c κs =
     let s = c .before .before .before .before .before .before .before .before .before .before .before .before in let a = s .args in
@@ -34,12 +22,6 @@ add-result : tie.Need-add-result
 add-result c =
     let s = c .before .before .before .before .before .before .before .before .before .before .before .before .before .before .before in let d = c .before .before .before .before .before .before .before .before .before .deliver in let m = c .before .before .mark in
     omega (arith, d .ensures .count, m .ensures .count, facts-most (m .last .0), m .kept .0, d .kept .0, s .pre .0 .short)
-
-same-length : tie.Need-same-length
-same-length c = search needs
-
-same-length-2 : tie.Need-same-length-2
-same-length-2 c = search needs
 
 returns : tie.Need-returns
 returns c =
@@ -52,12 +34,12 @@ pub deliver-from-spec : {M : Type 1} → statement M
 deliver-from-spec =
     tie.close
     (tie.spec
-    deliver-requires
-    mul-mark
-    mul-mark-2
-    add-mark
+    (λ deliver-requires κs. search needs)
+    (λ mul-mark. search needs)
+    (λ mul-mark-2. search needs)
+    (λ add-mark. search needs)
     mark-requires
     add-result
-    same-length
-    same-length-2
+    (λ same-length. search needs)
+    (λ same-length-2. search needs)
     returns)

@@ -62,13 +62,14 @@ loop-less c =
 
 loop-again : tie.Need-loop-again Inv-loop μ-loop
 loop-again c =
+    let u = c .before .before .before .before .before in
     let s = c .before .before .before .before .before .before .before .before .before .before .before .before .before .before .before in let a = s .args in let e = a .e in let w = a .words .now in
     let i = c .before .before .before .before .before .before .before .before .before .loop in let g : i .b < length w = c .before .before .before .before .before .before .before .before .loop-test .taken in let t = named-there w (s .pre .0 .readable) (i .b) (i .inv .3) g in
-    let f = c .before .before .before .before .before .send-to .ensures in let new = c .before .before .before .before .before .send-to .last .1 .0 in
+    let f = u .send-to .ensures in let new = u .send-to .last .1 .0 in
     let n : c .link-at .result .end ≡ endOf w (i .b + 3) = ap (λ (k : Link). k .end) (c .link-at .ensures) ∙ next-is w (s .pre .0 .readable) (i .b) g t (a .links .now) (record { slice = s .pre .0 .slice; room = s .pre .0 .room; made = s .pre .0 .from }) in (
-      c .before .before .before .before .before .send-to .kept .1 .0 ∙ i .inv .0,
-      c .before .before .before .before .before .send-to .kept .1 .1 .1 .0 ∙ i .inv .1,
-      sends-again w (a .masks .now) (i .est) new (a .l) e (a .own) (i .inv .2) (i .b) (item-is w (s .pre .0 .readable) (i .b) g t) (c .before .before .before .before .before .send-to .kept .1 .0) (f .words),
+      u .send-to .kept .1 .0 ∙ i .inv .0,
+      u .send-to .kept .1 .1 .1 .0 ∙ i .inv .1,
+      sends-again w (a .masks .now) (i .est) new (a .l) e (a .own) (i .inv .2) (i .b) (item-is w (s .pre .0 .readable) (i .b) g t) (u .send-to .kept .1 .0) (f .words),
       subst (Follows w) (sym n) (follows-next w (s .pre .0 .readable) (i .b) g t),
       ap (λ (x : ℕ). fire (code w) (each (blocksOn w x) (atBlock (code w) (e .x) (e .y) (e .z))) new) n ∙ all-step w (s .pre .0 .readable) (atBlock (code w) (e .x) (e .y) (e .z)) (i .b) g t (i .est) new (f .words) ∙ i .inv .4,
       omega (arith, f .count, i .inv .5),

@@ -7,28 +7,10 @@ use borrow.Author.Needs.{needs}
 use Rattle.firing.proofs.sends.send_one.Statement.{statement}
 use Rattle.firing.proofs.sends.send_one.Tie as tie
 
-mul-kind-of : tie.Need-mul-kind-of
-mul-kind-of c = search needs
-
-shared-slice-read-kind-of : tie.Need-shared-slice-read-kind-of
-shared-slice-read-kind-of c = search needs
-
-kind-of-requires : tie.Need-kind-of-requires
-kind-of-requires c κs = search needs
-
 send-to-requires : tie.Need-send-to-requires
 send-to-requires c κs =
     let s = c .before .before .before .before .before .before .before .before .before in let a = s .args in let e = a .e in let w = a .words .now in
     (s .pre .0, item-block w (a .b) (sym (c .before .before .before .kind-of .ensures) ∙ c .before .before .if1 .taken), s .pre .2)
-
-same-length : tie.Need-same-length
-same-length c = search needs
-
-same-length-2 : tie.Need-same-length-2
-same-length-2 c = search needs
-
-returns : tie.Need-returns
-returns c = search needs
 
 returns-2 : tie.Need-returns-2
 returns-2 c =
@@ -39,11 +21,11 @@ pub send-one-spec : {M : Type 1} → statement M
 send-one-spec =
     tie.close
     (tie.spec
-    mul-kind-of
-    shared-slice-read-kind-of
-    kind-of-requires
+    (λ mul-kind-of. search needs)
+    (λ shared-slice-read-kind-of. search needs)
+    (λ kind-of-requires κs. search needs)
     send-to-requires
-    same-length
-    same-length-2
-    returns
+    (λ same-length. search needs)
+    (λ same-length-2. search needs)
+    (λ returns. search needs)
     returns-2)

@@ -13,17 +13,11 @@ use borrow.Author.Needs.{needs}
 use Rattle.firing.proofs.sends.send_to.Statement.{statement}
 use Rattle.firing.proofs.sends.send_to.Tie as tie
 
-cast-t11 : tie.Need-cast-t11
-cast-t11 c = search needs
-
 starts-requires : tie.Need-starts-requires
 unfolding rowWords code
 starts-requires c κs =
     let s = c .before .before .before .before .before .before in let a = s .args in let e = a .e in let w = a .words .now in
     (block-inside w (s .pre .0 .readable) w (omega arith) (a .est .now) (e .x) (e .y) (e .z) (a .own .perms .bits) (s .pre .0 .sender) (a .b) (s .pre .1), value-in (a .l) (a .est .now) (s .pre .0 .sized) (e .x + 1) (s .pre .0 .word), omega (arith, name-small w (s .pre .0 .readable) w (omega arith) (a .est .now) (e .x) (e .y) (e .z) (a .own .perms .bits) (s .pre .0 .sender) (a .b) (s .pre .1), s .pre .0 .laid .row, s .pre .0 .laid .lead), omega (arith, s .pre .0 .word, s .pre .0 .sized .size))
-
-same-length : tie.Need-same-length
-same-length c = search needs
 
 returns : tie.Need-returns
 returns c =
@@ -34,12 +28,6 @@ deliver-from-requires : tie.Need-deliver-from-requires
 deliver-from-requires c κs =
     let s = c .before .before .before .before .before .before .before .before .before .before in let a = s .args in let e = a .e in let w = a .words .now in
     (s .pre .0 .sized, omega (arith, s .pre .0 .word), s .pre .0 .message, omega (arith, block-inside w (s .pre .0 .readable) w (omega arith) (a .est .now) (e .x) (e .y) (e .z) (a .own .perms .bits) (s .pre .0 .sender) (a .b) (s .pre .1), s .pre .0 .laid .size), s .pre .0 .masked .long, s .pre .0 .homed)
-
-same-length-2 : tie.Need-same-length-2
-same-length-2 c = search needs
-
-same-length-3 : tie.Need-same-length-3
-same-length-3 c = search needs
 
 returns-2 : tie.Need-returns-2
 returns-2 c =
@@ -57,11 +45,11 @@ pub send-to-spec : {M : Type 1} → statement M
 send-to-spec =
     tie.close
     (tie.spec
-    cast-t11
+    (λ cast-t11. search needs)
     starts-requires
-    same-length
+    (λ same-length. search needs)
     returns
     deliver-from-requires
-    same-length-2
-    same-length-3
+    (λ same-length-2. search needs)
+    (λ same-length-3. search needs)
     returns-2)

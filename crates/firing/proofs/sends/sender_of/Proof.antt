@@ -5,14 +5,8 @@ use borrow.Author.Needs.{needs}
 use Rattle.firing.proofs.sends.sender_of.Statement.{statement}
 use Rattle.firing.proofs.sends.sender_of.Tie as tie
 
-link-at-requires : tie.Need-link-at-requires
-link-at-requires c κs = search needs
-
-permissions-of-requires : tie.Need-permissions-of-requires
-permissions-of-requires c κs = search needs
-
 returns : tie.Need-returns
 returns c = (c .permissions-of .ensures, ap (λ (x : Link). x .home) (c .before .link-at .ensures))
 
 pub sender-of-spec : {M : Type 1} → statement M
-sender-of-spec = tie.close (tie.spec link-at-requires permissions-of-requires returns)
+sender-of-spec = tie.close (tie.spec (λ link-at-requires κs. search needs) (λ permissions-of-requires κs. search needs) returns)

@@ -32,9 +32,6 @@ is-live-requires c κs =
     let s = c .before .before .before .before .before .before in let a = s .args in
     (sized (a .words .now) (a .links .now) (a .masks .now) (a .l) (s .pre .0) (a .est .now) (s .pre .1), s .pre .2)
 
-same-length : tie.Need-same-length
-same-length c = search needs
-
 returns : tie.Need-returns
 returns c =
     let s = c .before .before .before .before .before .before .before .before in let a = s .args in let d = code (a .words .now) in (
@@ -71,12 +68,6 @@ fire-requires c κs =
       s .pre .3,
     )
 
-same-length-2 : tie.Need-same-length-2
-same-length-2 c = search needs
-
-same-length-3 : tie.Need-same-length-3
-same-length-3 c = search needs
-
 returns-2 : tie.Need-returns-2
 returns-2 c =
     let s = c .before .before .before .before .before .before .before .before .before .before .before .before .before .before .before .before .before in let a = s .args in let w = a .words .now in let d = code w in let old = a .est .now in
@@ -98,11 +89,11 @@ step-spec =
     tie.close
     (tie.spec
     is-live-requires
-    same-length
+    (λ same-length. search needs)
     returns
     mul-clause
     clause-requires
     fire-requires
-    same-length-2
-    same-length-3
+    (λ same-length-2. search needs)
+    (λ same-length-3. search needs)
     returns-2)

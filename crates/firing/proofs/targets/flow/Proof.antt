@@ -4,18 +4,6 @@ use borrow.Author.Needs.{needs}
 use Rattle.firing.proofs.targets.flow.Statement.{statement}
 use Rattle.firing.proofs.targets.flow.Tie as tie
 
-join-row-requires : tie.Need-join-row-requires
-join-row-requires c κs = search needs
-
-grew-row-requires : tie.Need-grew-row-requires
-grew-row-requires c κs = search needs
-
-same-length : tie.Need-same-length
-same-length c = search needs
-
-same-length-2 : tie.Need-same-length-2
-same-length-2 c = search needs
-
 returns : tie.Need-returns
 returns c =
     let s = c .before .before .before .before .before .before .before .before .before .before in let a = s .args in
@@ -23,4 +11,4 @@ returns c =
 
 pub flow-spec : {M : Type 1} → statement M
 flow-spec =
-    tie.close (tie.spec join-row-requires grew-row-requires same-length same-length-2 returns)
+    tie.close (tie.spec (λ join-row-requires κs. search needs) (λ grew-row-requires κs. search needs) (λ same-length. search needs) (λ same-length-2. search needs) returns)

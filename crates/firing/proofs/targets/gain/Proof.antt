@@ -8,30 +8,6 @@ use borrow.Author.Needs.{needs}
 use Rattle.firing.proofs.targets.gain.Statement.{statement}
 use Rattle.firing.proofs.targets.gain.Tie as tie
 
-flags-requires : tie.Need-flags-requires
-flags-requires c κs = search needs
-
-add-set : tie.Need-add-set
-add-set c = search needs
-
-mul-set : tie.Need-mul-set
-mul-set c = search needs
-
-sub-set : tie.Need-sub-set
-sub-set c = search needs
-
-part-set-start : tie.Need-part-set-start
-part-set-start c = search needs
-
-part-set-end : tie.Need-part-set-end
-part-set-end c = search needs
-
-set-requires : tie.Need-set-requires
-set-requires c κs = search needs
-
-same-length : tie.Need-same-length
-same-length c = search needs
-
 returns : tie.Need-returns
 returns c =
     let a = c .before .before .before .before .before .before .args in
@@ -43,12 +19,12 @@ pub gain-spec : {M : Type 1} → statement M
 gain-spec =
     tie.close
     (tie.spec
-    flags-requires
-    add-set
-    mul-set
-    sub-set
-    part-set-start
-    part-set-end
-    set-requires
-    same-length
+    (λ flags-requires κs. search needs)
+    (λ add-set. search needs)
+    (λ mul-set. search needs)
+    (λ sub-set. search needs)
+    (λ part-set-start. search needs)
+    (λ part-set-end. search needs)
+    (λ set-requires κs. search needs)
+    (λ same-length. search needs)
     returns)

@@ -1,121 +1,56 @@
--- `firing::targets::join_masked` meets its contract: where nothing is lacking nothing changes; else the row is copied and or-ed in. Assumes nothing.
-use mathlib.Core.Path.{sym, ap, _∙_}
-use Prim.Native.Nat.{_+_, _-_, _*_}
+-- `firing::targets::join_masked` meets its contract: where nothing is lacking nothing changes; else what is missing is or-ed in. Assumes nothing.
+use mathlib.Core.Path.{sym, _∙_}
+use Prim.Native.Nat.{_+_, _*_}
 use native.Mathlib.Omega.{arith}
 use lib.ListN.{take, drop}
-use lib.Seq.{length-take-le, take-at}
+use lib.Seq.{length-take-le}
 use borrow.Author.Tests.{not-true}
 use Rattle.calculus.specs.Layout.{masked}
-use Rattle.rows.proofs.Laws.{length-part, same-part, row-joined, nothing-added, length-masked, length-masked-row}
+use Rattle.rows.proofs.Laws.{length-part, row-joined, nothing-added, length-masked-row}
 use borrow.Author.Needs.{needs}
 use Rattle.firing.proofs.targets.join_masked.Statement.{statement}
 use Rattle.firing.proofs.targets.join_masked.Tie as tie
 
-mul-from : tie.Need-mul-from
-mul-from c = search needs
-
-mul-to : tie.Need-mul-to
-mul-to c = search needs
-
-lacks-masked-requires : tie.Need-lacks-masked-requires
-lacks-masked-requires c κs = search needs
-
-same-length : tie.Need-same-length
-same-length c = search needs
-
 returns : tie.Need-returns
 returns c =
-    let s = c .before .before .before .before .before in let a = s .args in
-    nothing-added (a .est .now) (a .b * a .row) (masked (a .mask .now) (take (a .row) (drop (a .a * a .row) (a .est .now)))) (a .row) (length-masked-row (a .mask .now) (a .est .now) (a .a * a .row) (a .row) (omega (arith, s .pre)) (omega (arith, s .pre))) (omega arith) (sym (c .before .lacks-masked .ensures) ∙ not-true _ (c .if1 .taken))
-
-add-copy-masked : tie.Need-add-copy-masked
-add-copy-masked c = search needs
-
-mul-copy-masked : tie.Need-mul-copy-masked
-mul-copy-masked c = search needs
-
-sub-copy-masked : tie.Need-sub-copy-masked
-sub-copy-masked c = search needs
-
-part-copy-masked-start : tie.Need-part-copy-masked-start
-part-copy-masked-start c = search needs
-
-part-copy-masked-end : tie.Need-part-copy-masked-end
-part-copy-masked-end c = search needs
-
-slice-aggregate-copy-masked : tie.Need-slice-aggregate-copy-masked
-slice-aggregate-copy-masked c = search needs
-
-copy-masked-requires : tie.Need-copy-masked-requires
-copy-masked-requires c κs = search needs
-
-add-join : tie.Need-add-join
-add-join c = search needs
-
-mul-join : tie.Need-mul-join
-mul-join c = search needs
-
-sub-join : tie.Need-sub-join
-sub-join c = search needs
-
-part-join-start : tie.Need-part-join-start
-part-join-start c = search needs
-
-part-join-end : tie.Need-part-join-end
-part-join-end c = search needs
-
-array-share-prefix-scratch : tie.Need-array-share-prefix-scratch
-array-share-prefix-scratch c = search needs
+    let s = c .before .before .before .before .before .before .before in let a = s .args in
+    nothing-added (a .est .now) (a .b * a .row) (masked (a .mask .now) (take (a .row) (drop (a .a * a .row) (a .est .now)))) (a .row) (length-masked-row (a .mask .now) (a .est .now) (a .a * a .row) (a .row) (omega (arith, s .pre)) (omega (arith, s .pre))) (omega arith)
+    (sym (c .before .before .lacked-masked .ensures .0) ∙ not-true _ (c .if1 .taken))
 
 slice-aggregate-join : tie.Need-slice-aggregate-join
 slice-aggregate-join c =
-    let s = c .before .before .before .before .before .before .before .before .before .before .before .before in let a = s .args in
-    sym (length-take-le (a .row) _ (omega (arith, s .pre, c .before .before .before .copy-masked .kept .1 .1 .0)))
+    let s = c .before .before .before .before .before .before .before .before .before in
+    sym (length-take-le (s .args .row) _ (omega (arith, s .pre, c .before .before .before .before .lacked-masked .kept .1 .1 .1 .1 .1 .0)))
 
 join-requires : tie.Need-join-requires
 join-requires c κs =
-    let s = c .before .before .before .before .before .before .before .before .before .before .before .before in let a = s .args in
+    let s = c .before .before .before .before .before .before .before .before .before in let a = s .args in
     let part = length-part (a .est .now) (a .b * a .row) (a .row) (omega (arith, s .pre)) in
-    (length-take-le (a .row) _ (omega (arith, s .pre, c .before .before .before .copy-masked .kept .1 .1 .0)) ∙ sym part, omega (arith, part, s .pre))
-
-same-length-2 : tie.Need-same-length-2
-same-length-2 c = search needs
+    (length-take-le (a .row) _ (omega (arith, s .pre, c .before .before .before .before .lacked-masked .kept .1 .1 .1 .1 .1 .0)) ∙ sym part, omega (arith, part, s .pre))
 
 returns-2 : tie.Need-returns-2
 returns-2 c =
-    let s = c .before .before .before .before .before .before .before .before .before .before .before .before .before .before .before in let a = s .args in
-    let from = a .a * a .row in
-    let part = length-part (a .est .now) from (a .row) (omega (arith, s .pre)) in
-    row-joined (a .est .now) (a .b * a .row) (a .row) _ _ (masked (a .mask .now) (take (a .row) (drop (a .a * a .row) (a .est .now)))) _
-    (ap (take (a .row)) (c .before .before .before .before .before .before .copy-masked .ensures)
-    ∙ take-at (masked (a .mask .now) (take (from + a .row - from) (drop from (a .est .now)))) _ (a .row)
-    (length-masked (a .mask .now) (take (from + a .row - from) (drop from (a .est .now))) (omega (arith, part, s .pre)) ∙ part)
-    ∙ ap (masked (a .mask .now)) (same-part (a .est .now) from (a .row)))
-    (length-masked-row (a .mask .now) (a .est .now) (a .a * a .row) (a .row) (omega (arith, s .pre)) (omega (arith, s .pre))) (c .before .before .join .ensures)
+    let s = c .before .before .before .before .before .before .before .before .before .before .before .before in let a = s .args in
+    row-joined (a .est .now) (a .b * a .row) (a .row) _ _ _ (masked (a .mask .now) (take (a .row) (drop (a .a * a .row) (a .est .now)))) _ (omega (arith, s .pre))
+    (length-masked-row (a .mask .now) (a .est .now) (a .a * a .row) (a .row) (omega (arith, s .pre)) (omega (arith, s .pre))) (c .before .before .before .before .before .before .before .lacked-masked .ensures .1) (c .before .before .join .ensures)
 
 pub join-masked-spec : {M : Type 1} → statement M
 join-masked-spec =
     tie.close
     (tie.spec
-    mul-from
-    mul-to
-    lacks-masked-requires
-    same-length
+    (λ c. search needs)
+    (λ c. search needs)
+    (λ c. search needs)
+    (λ c κs. search needs)
+    (λ c. search needs)
     returns
-    add-copy-masked
-    mul-copy-masked
-    sub-copy-masked
-    part-copy-masked-start
-    part-copy-masked-end
-    slice-aggregate-copy-masked
-    copy-masked-requires
-    add-join
-    mul-join
-    sub-join
-    part-join-start
-    part-join-end
-    array-share-prefix-scratch
+    (λ c. search needs)
+    (λ c. search needs)
+    (λ c. search needs)
+    (λ c. search needs)
+    (λ c. search needs)
+    (λ c. search needs)
     slice-aggregate-join
     join-requires
-    same-length-2
+    (λ c. search needs)
     returns-2)

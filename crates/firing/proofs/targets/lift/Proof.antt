@@ -4,27 +4,6 @@ use borrow.Author.Needs.{needs}
 use Rattle.firing.proofs.targets.lift.Statement.{statement}
 use Rattle.firing.proofs.targets.lift.Tie as tie
 
-flags-requires : tie.Need-flags-requires
-flags-requires c κs = search needs
-
-mul-bits : tie.Need-mul-bits
-mul-bits c = search needs
-
-slice-read-bits : tie.Need-slice-read-bits
-slice-read-bits c = search needs
-
-gain-requires : tie.Need-gain-requires
-gain-requires c κs = search needs
-
-grew-perms-requires : tie.Need-grew-perms-requires
-grew-perms-requires c κs = search needs
-
-same-length : tie.Need-same-length
-same-length c = search needs
-
-same-length-2 : tie.Need-same-length-2
-same-length-2 c = search needs
-
 returns : tie.Need-returns
 returns c =
     let s = c .before .before .before .before .before .before .before .before .before .before .before .before in let a = s .args in
@@ -34,11 +13,11 @@ pub lift-spec : {M : Type 1} → statement M
 lift-spec =
     tie.close
     (tie.spec
-    flags-requires
-    mul-bits
-    slice-read-bits
-    gain-requires
-    grew-perms-requires
-    same-length
-    same-length-2
+    (λ flags-requires κs. search needs)
+    (λ mul-bits. search needs)
+    (λ slice-read-bits. search needs)
+    (λ gain-requires κs. search needs)
+    (λ grew-perms-requires κs. search needs)
+    (λ same-length. search needs)
+    (λ same-length-2. search needs)
     returns)

@@ -7,22 +7,10 @@ use borrow.Author.Needs.{needs}
 use Rattle.firing.proofs.targets.part.Statement.{statement}
 use Rattle.firing.proofs.targets.part.Tie as tie
 
-start-requires : tie.Need-start-requires
-start-requires c κs = search needs
-
-lift-requires : tie.Need-lift-requires
-lift-requires c κs = search needs
-
 add-result : tie.Need-add-result
 add-result c =
     let s = c .before .before .before .before .before .before .before .before .before .before .before .before .before in let a = s .args in
     omega (arith, sum-fits (a .est .now) _ _ _ _ (c .before .before .before .before .before .before .before .before .before .start .ensures .count) (c .before .before .before .before .lift .ensures .count), c .before .before .before .before .lift .kept .0, c .before .before .before .before .before .before .before .before .before .start .kept .0, s .pre .0 .short)
-
-same-length : tie.Need-same-length
-same-length c = search needs
-
-same-length-2 : tie.Need-same-length-2
-same-length-2 c = search needs
 
 returns : tie.Need-returns
 returns c =
@@ -31,4 +19,4 @@ returns c =
 
 pub part-spec : {M : Type 1} → statement M
 part-spec =
-    tie.close (tie.spec start-requires lift-requires add-result same-length same-length-2 returns)
+    tie.close (tie.spec (λ start-requires κs. search needs) (λ lift-requires κs. search needs) add-result (λ same-length. search needs) (λ same-length-2. search needs) returns)

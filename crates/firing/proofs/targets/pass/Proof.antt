@@ -31,12 +31,6 @@ mul-join-masked c =
     let s = c .before .before .before .before in let a = s .args in
     omega (arith, mask-in _ (a .l .row) (a .m) (s .pre .4) (s .pre .3))
 
-sub-join-masked : tie.Need-sub-join-masked
-sub-join-masked c = search needs
-
-part-join-masked-start : tie.Need-part-join-masked-start
-part-join-masked-start c = search needs
-
 part-join-masked-end : tie.Need-part-join-masked-end
 part-join-masked-end c =
     let s = c .before .before .before .before in let a = s .args in
@@ -46,15 +40,6 @@ join-masked-requires : tie.Need-join-masked-requires
 join-masked-requires c κs =
     let s = c .before .before .before .before .before in let a = s .args in
     (row-in (a .l) (a .est .now) (s .pre .0) (a .a) (s .pre .1), row-in (a .l) (a .est .now) (s .pre .0) (a .b) (s .pre .2), s .pre .0 .most, length-part (a .masks .now) (a .m * a .l .row) (a .l .row) (mask-in _ (a .l .row) (a .m) (s .pre .4) (s .pre .3)))
-
-grew-row-requires : tie.Need-grew-row-requires
-grew-row-requires c κs = search needs
-
-same-length : tie.Need-same-length
-same-length c = search needs
-
-same-length-2 : tie.Need-same-length-2
-same-length-2 c = search needs
 
 returns : tie.Need-returns
 returns c =
@@ -71,11 +56,11 @@ pass-spec =
     mul-at
     add-join-masked
     mul-join-masked
-    sub-join-masked
-    part-join-masked-start
+    (λ sub-join-masked. search needs)
+    (λ part-join-masked-start. search needs)
     part-join-masked-end
     join-masked-requires
-    grew-row-requires
-    same-length
-    same-length-2
+    (λ grew-row-requires κs. search needs)
+    (λ same-length. search needs)
+    (λ same-length-2. search needs)
     returns)

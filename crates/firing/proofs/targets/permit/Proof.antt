@@ -4,18 +4,6 @@ use borrow.Author.Needs.{needs}
 use Rattle.firing.proofs.targets.permit.Statement.{statement}
 use Rattle.firing.proofs.targets.permit.Tie as tie
 
-gain-requires : tie.Need-gain-requires
-gain-requires c κs = search needs
-
-grew-perms-requires : tie.Need-grew-perms-requires
-grew-perms-requires c κs = search needs
-
-same-length : tie.Need-same-length
-same-length c = search needs
-
-same-length-2 : tie.Need-same-length-2
-same-length-2 c = search needs
-
 returns : tie.Need-returns
 returns c =
     let s = c .before .before .before .before .before .before .before .before .before .before in let a = s .args in
@@ -23,4 +11,4 @@ returns c =
 
 pub permit-spec : {M : Type 1} → statement M
 permit-spec =
-    tie.close (tie.spec gain-requires grew-perms-requires same-length same-length-2 returns)
+    tie.close (tie.spec (λ gain-requires κs. search needs) (λ grew-perms-requires κs. search needs) (λ same-length. search needs) (λ same-length-2. search needs) returns)

@@ -7,15 +7,6 @@ use borrow.Author.Needs.{needs}
 use Rattle.firing.proofs.terms.operate_at.Statement.{statement}
 use Rattle.firing.proofs.terms.operate_at.Tie as tie
 
-add-results-of : tie.Need-add-results-of
-add-results-of c = search needs
-
-mul-results-of : tie.Need-mul-results-of
-mul-results-of c = search needs
-
-mul-results-of-2 : tie.Need-mul-results-of-2
-mul-results-of-2 c = search needs
-
 results-of-requires : tie.Need-results-of-requires
 results-of-requires c κs =
     let s = c .before .before .before in let a = s .args in
@@ -27,19 +18,10 @@ results-of-requires c κs =
       z .most,
     )
 
-mul-put-word : tie.Need-mul-put-word
-mul-put-word c = search needs
-
 put-word-requires : tie.Need-put-word-requires
 put-word-requires c κs =
     let s = c .before .before .before .before .before .before in let a = s .args in
     (value-in (a .l) (a .est .now) (s .pre .0) (a .p) (omega (arith, s .pre .1)), some-words (a .l) (a .est .now) (s .pre .0))
-
-same-length : tie.Need-same-length
-same-length c = search needs
-
-same-length-2 : tie.Need-same-length-2
-same-length-2 c = search needs
 
 returns : tie.Need-returns
 returns c =
@@ -50,12 +32,12 @@ pub operate-at-spec : {M : Type 1} → statement M
 operate-at-spec =
     tie.close
     (tie.spec
-    add-results-of
-    mul-results-of
-    mul-results-of-2
+    (λ add-results-of. search needs)
+    (λ mul-results-of. search needs)
+    (λ mul-results-of-2. search needs)
     results-of-requires
-    mul-put-word
+    (λ mul-put-word. search needs)
     put-word-requires
-    same-length
-    same-length-2
+    (λ same-length. search needs)
+    (λ same-length-2. search needs)
     returns)

@@ -8,18 +8,6 @@ use borrow.Author.Needs.{needs}
 use Rattle.firing.proofs.terms.results_of.Statement.{statement}
 use Rattle.firing.proofs.terms.results_of.Tie as tie
 
-operation-of-requires : tie.Need-operation-of-requires
-operation-of-requires c κs = search needs
-
-mul-operate-at : tie.Need-mul-operate-at
-mul-operate-at c = search needs
-
-mul-operate-at-2 : tie.Need-mul-operate-at-2
-mul-operate-at-2 c = search needs
-
-operate-at-requires : tie.Need-operate-at-requires
-operate-at-requires c κs = search needs
-
 returns : tie.Need-returns
 returns c =
     let a = c .before .before .before .before .before .args in
@@ -31,4 +19,4 @@ returns c =
 pub results-of-spec : {M : Type 1} → statement M
 results-of-spec =
     tie.close
-    (tie.spec operation-of-requires mul-operate-at mul-operate-at-2 operate-at-requires returns)
+    (tie.spec (λ operation-of-requires κs. search needs) (λ mul-operate-at. search needs) (λ mul-operate-at-2. search needs) (λ operate-at-requires κs. search needs) returns)

@@ -60,9 +60,10 @@ for-thing-requires c κs =
 
 add-added : tie.Need-add-added Inv-loop μ-loop
 add-added c =
+    let t = c .before .before .before .before in
     let s = c .before .before .before .before .before .before .before .before .before .before .before .before .before .before in let a = s .args in let e = a .e in
     let i = c .before .before .before .before .before .before .before .before .loop in
-    omega (arith, c .before .before .before .before .for-thing .ensures .count, i .inv .4, facts-most (c .before .before .before .before .for-thing .last .0), c .before .before .before .before .for-thing .kept .0, i .inv .0, s .pre .0 .short)
+    omega (arith, t .for-thing .ensures .count, i .inv .4, facts-most (t .for-thing .last .0), t .for-thing .kept .0, i .inv .0, s .pre .0 .short)
 
 add-next-thing-2 : tie.Need-add-next-thing-2 Inv-loop μ-loop
 add-next-thing-2 c =

@@ -8,12 +8,6 @@ use borrow.Author.Needs.{needs}
 use Rattle.firing.proofs.things.one_thing.Statement.{statement}
 use Rattle.firing.proofs.things.one_thing.Tie as tie
 
-add-has-thing : tie.Need-add-has-thing
-add-has-thing c = search needs
-
-mul-has-thing : tie.Need-mul-has-thing
-mul-has-thing c = search needs
-
 has-thing-requires : tie.Need-has-thing-requires
 has-thing-requires c κs =
     let s = c .before .before .before .before in let a = s .args in let e = a .e in
@@ -31,12 +25,6 @@ for-thing-requires c κs =
       },
     )
 
-same-length : tie.Need-same-length
-same-length c = search needs
-
-same-length-2 : tie.Need-same-length-2
-same-length-2 c = search needs
-
 returns : tie.Need-returns
 returns c =
     let s = c .before .before .before .before .before .before .before .before .before .before .before .before .before in let a = s .args in let e = a .e in
@@ -47,9 +35,6 @@ returns c =
           ∙ sym (present (a .l) (a .masks .now) (e .z) (s .pre .1 .mask) k o m (e .x + 1) (s .pre .1 .word) (e .what) (e .x) (e .y) refl (a .est .now) (a .f) (omega (arith, s .pre .2, o .size)) (sym (c .before .before .before .before .before .before .before .before .has-thing .ensures) ∙ c .before .before .before .before .before .before .before .if1 .taken));
       count = c .before .before .before .before .for-thing .ensures .count;
     }
-
-same-length-3 : tie.Need-same-length-3
-same-length-3 c = search needs
 
 returns-2 : tie.Need-returns-2
 returns-2 c =
@@ -65,12 +50,12 @@ pub one-thing-spec : {M : Type 1} → statement M
 one-thing-spec =
     tie.close
     (tie.spec
-    add-has-thing
-    mul-has-thing
+    (λ add-has-thing. search needs)
+    (λ mul-has-thing. search needs)
     has-thing-requires
     for-thing-requires
-    same-length
-    same-length-2
+    (λ same-length. search needs)
+    (λ same-length-2. search needs)
     returns
-    same-length-3
+    (λ same-length-3. search needs)
     returns-2)

@@ -22,7 +22,10 @@ abbrev μ-loop : tie.MeasureT-loop
 μ-loop words links masks est₀ h₀ out₀ l rho room added₀ est h out added = 32 * length est - facts est
 
 loop-holds : tie.Need-loop-holds Inv-loop μ-loop
-loop-holds c = (refl, refl, refl, grown-none (code (c .before .before .before .before .before .before .args .words .now)) (c .before .before .before .before .before .before .args .rho .bits) (c .before .before .before .before .before .before .args .est .now), omega arith)
+loop-holds c =
+    let s = c .before .before .before .before .before .before in
+    let a = s .args in
+    (refl, refl, refl, grown-none (code (a .words .now)) (a .rho .bits) (a .est .now), omega arith)
 
 broken-requires : tie.Need-broken-requires Inv-loop μ-loop
 broken-requires c κs = (c .before .before .before .before .before .before .before .before .pre .0, c .before .loop .inv .3 .sound .well (c .before .before .before .before .before .before .before .before .pre .1))
@@ -37,7 +40,11 @@ same-length-3 : tie.Need-same-length-3 Inv-loop μ-loop
 same-length-3 c = c .before .before .before .before .loop .inv .2
 
 returns : tie.Need-returns Inv-loop μ-loop
-returns c = record { grown = c .before .before .before .before .loop .inv .3; obeyed = λ z. unbroken (code (c .before .before .before .before .before .before .before .before .before .before .before .args .words .now)) (c .before .before .before .before .before .before .before .before .before .before .before .args .rho .bits) (c .before .before .before .before .loop .est) (omega (arith, c .before .before .broken .ensures, broken-most (code (c .before .before .before .before .before .before .before .before .before .before .before .args .words .now)) (c .before .before .before .before .before .before .before .before .before .before .before .args .rho .bits) (c .before .before .before .before .loop .est), c .before .before .before .before .before .before .before .before .before .before .before .pre .0 .laid .size, c .if1 .taken)) }
+returns c =
+    let s = c .before .before .before .before .before .before .before .before .before .before .before in
+    let a = s .args in
+    let t = c .before .before .before .before in
+    record { grown = t .loop .inv .3; obeyed = λ z. unbroken (code (a .words .now)) (a .rho .bits) (t .loop .est) (omega (arith, c .before .before .broken .ensures, broken-most (code (a .words .now)) (a .rho .bits) (t .loop .est), s .pre .0 .laid .size, c .if1 .taken)) }
 
 sub-mend : tie.Need-sub-mend Inv-loop μ-loop
 sub-mend c = omega (arith, c .before .before .before .before .before .before .before .loop .inv .4)
@@ -47,8 +54,10 @@ mend-requires c κs = (c .before .before .before .before .before .before .before
 
 add-added : tie.Need-add-added Inv-loop μ-loop
 add-added c =
-    let g = grown-then (code (c .before .before .before .before .before .before .before .before .before .before .before .before .before .before .before .before .before .before .before .before .before .args .words .now)) (c .before .before .before .before .before .before .before .before .before .before .before .before .before .before .before .before .before .before .before .before .before .args .rho .bits) (c .before .before .before .before .before .before .before .before .before .before .before .before .before .before .loop .inv .3) (c .before .before .before .before .before .before .mend .ensures .grown) in
-    omega (arith, few-facts (c .before .before .before .before .before .before .before .before .before .before .before .before .before .before .before .before .before .before .before .before .before .args .words .now) (c .before .before .before .before .before .before .before .before .before .before .before .before .before .before .before .before .before .before .before .before .before .args .links .now) (c .before .before .before .before .before .before .before .before .before .before .before .before .before .before .before .before .before .before .before .before .before .args .masks .now) (c .before .before .before .before .before .before .before .before .before .before .before .before .before .before .before .before .before .before .before .before .before .args .l) (c .before .before .before .before .before .before .before .before .before .before .before .before .before .before .before .before .before .before .before .before .before .pre .0) (c .before .before .before .before .before .before .before .before .before .before .before .before .before .before .before .before .before .before .before .before .before .args .est .now) _ _ (g .sound .well (c .before .before .before .before .before .before .before .before .before .before .before .before .before .before .before .before .before .before .before .before .before .pre .1)) (g .count))
+    let s = c .before .before .before .before .before .before .before .before .before .before .before .before .before .before .before .before .before .before .before .before .before in
+    let a = s .args in
+    let g = grown-then (code (a .words .now)) (a .rho .bits) (c .before .before .before .before .before .before .before .before .before .before .before .before .before .before .loop .inv .3) (c .before .before .before .before .before .before .mend .ensures .grown) in
+    omega (arith, few-facts (a .words .now) (a .links .now) (a .masks .now) (a .l) (s .pre .0) (a .est .now) _ _ (g .sound .well (s .pre .1)) (g .count))
 
 same-length-4 : tie.Need-same-length-4 Inv-loop μ-loop
 same-length-4 c = c .before .before .before .before .before .before .before .mend .kept .1 .1 .1 .0 ∙ c .before .before .before .before .before .before .before .before .before .before .before .before .before .before .before .loop .inv .0
@@ -64,11 +73,16 @@ returns-2 c = record { grown = grown-then (code (c .before .before .before .befo
 
 loop-less : tie.Need-loop-less Inv-loop μ-loop
 loop-less c =
+    let s = c .before .before .before .before .before .before .before .before .before .before .before .before .before .before .before .before .before .before .before .before .before .before in
+    let a = s .args in
     let m = c .before .before .before .before .before .before .before .mend in
-    omega (arith, mended (code (c .before .before .before .before .before .before .before .before .before .before .before .before .before .before .before .before .before .before .before .before .before .before .args .words .now)) (c .before .before .before .before .before .before .before .before .before .before .before .before .before .before .before .before .before .before .before .before .before .before .args .rho .bits) (c .before .before .before .before .before .before .before .before .before .before .before .before .before .before .before .loop .est) (c .before .before .before .before .before .before .before .before .before .before .before .before .before .broken .result) (c .before .before .before .before .before .before .before .before .before .before .before .before .before .broken .ensures) (omega (arith, c .before .before .before .before .before .before .before .before .before .before .before .before .before .before .before .before .before .before .before .before .before .before .pre .0 .laid .size, c .before .before .before .before .before .before .before .before .before .before .before .if1 .left)) _ _ (m .ensures), m .ensures .grown .count, m .kept .1 .1 .1 .0, facts-most (m .last .1 .1 .1 .0))
+    omega (arith, mended (code (a .words .now)) (a .rho .bits) (c .before .before .before .before .before .before .before .before .before .before .before .before .before .before .before .loop .est) (c .before .before .before .before .before .before .before .before .before .before .before .before .before .broken .result) (c .before .before .before .before .before .before .before .before .before .before .before .before .before .broken .ensures) (omega (arith, s .pre .0 .laid .size, c .before .before .before .before .before .before .before .before .before .before .before .if1 .left)) _ _ (m .ensures), m .ensures .grown .count, m .kept .1 .1 .1 .0, facts-most (m .last .1 .1 .1 .0))
 
 loop-again : tie.Need-loop-again Inv-loop μ-loop
-loop-again c = (c .before .before .before .before .before .before .before .mend .kept .1 .1 .1 .0 ∙ c .before .before .before .before .before .before .before .before .before .before .before .before .before .before .before .loop .inv .0, c .before .before .before .before .before .before .before .mend .kept .1 .1 .1 .1 .0 ∙ c .before .before .before .before .before .before .before .before .before .before .before .before .before .before .before .loop .inv .1, c .before .before .before .before .before .before .before .mend .kept .1 .1 .1 .1 .1 .0 ∙ c .before .before .before .before .before .before .before .before .before .before .before .before .before .before .before .loop .inv .2, grown-then (code (c .before .before .before .before .before .before .before .before .before .before .before .before .before .before .before .before .before .before .before .before .before .before .args .words .now)) (c .before .before .before .before .before .before .before .before .before .before .before .before .before .before .before .before .before .before .before .before .before .before .args .rho .bits) (c .before .before .before .before .before .before .before .before .before .before .before .before .before .before .before .loop .inv .3) (c .before .before .before .before .before .before .before .mend .ensures .grown), omega (arith, c .if2 .left))
+loop-again c =
+    let s = c .before .before .before .before .before .before .before .before .before .before .before .before .before .before .before in
+    let t = c .before .before .before .before .before .before .before in
+    (t .mend .kept .1 .1 .1 .0 ∙ s .loop .inv .0, t .mend .kept .1 .1 .1 .1 .0 ∙ s .loop .inv .1, t .mend .kept .1 .1 .1 .1 .1 .0 ∙ s .loop .inv .2, grown-then (code (c .before .before .before .before .before .before .before .before .before .before .before .before .before .before .before .before .before .before .before .before .before .before .args .words .now)) (c .before .before .before .before .before .before .before .before .before .before .before .before .before .before .before .before .before .before .before .before .before .before .args .rho .bits) (s .loop .inv .3) (t .mend .ensures .grown), omega (arith, c .if2 .left))
 
 pub close-spec : {M : Type 1} → statement M
 close-spec =

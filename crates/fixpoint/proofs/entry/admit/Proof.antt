@@ -11,18 +11,6 @@ use borrow.Author.Needs.{needs}
 use Rattle.fixpoint.proofs.entry.admit.Statement.{statement}
 use Rattle.fixpoint.proofs.entry.admit.Tie as tie
 
-mul-fill : tie.Need-mul-fill
-mul-fill c = search needs
-
-add-fill : tie.Need-add-fill
-add-fill c = search needs
-
-fill-requires : tie.Need-fill-requires
-fill-requires c κs = search needs
-
-mul-mark : tie.Need-mul-mark
-mul-mark c = search needs
-
 mark-requires : tie.Need-mark-requires
 mark-requires c κs =
     let s = c .before .before .before .before .before .before .before .before .before .before in let a = s .args in
@@ -32,12 +20,6 @@ add-result : tie.Need-add-result
 add-result c =
     let s = c .before .before .before .before .before .before .before .before .before .before .before .before .before in let f = c .before .before .before .before .before .before .before .before .fill in let m = c .before .before .mark in
     omega (arith, sum-fits (s .args .est .now) _ _ _ _ (f .ensures .0 .count) (m .ensures .count), m .kept .0, f .kept .0, s .pre .0 .short)
-
-same-length : tie.Need-same-length
-same-length c = search needs
-
-same-length-2 : tie.Need-same-length-2
-same-length-2 c = search needs
 
 returns : tie.Need-returns
 returns c =
@@ -49,12 +31,12 @@ pub admit-spec : {M : Type 1} → statement M
 admit-spec =
     tie.close
     (tie.spec
-    mul-fill
-    add-fill
-    fill-requires
-    mul-mark
+    (λ mul-fill. search needs)
+    (λ add-fill. search needs)
+    (λ fill-requires κs. search needs)
+    (λ mul-mark. search needs)
     mark-requires
     add-result
-    same-length
-    same-length-2
+    (λ same-length. search needs)
+    (λ same-length-2. search needs)
     returns)

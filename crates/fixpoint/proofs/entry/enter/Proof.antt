@@ -9,19 +9,19 @@ opens-requires : tie.Need-opens-requires
 opens-requires c κs = (c .before .before .before .pre .0, c .before .before .before .pre .3)
 
 returns : tie.Need-returns
-returns c = not-entered (c .before .before .before .before .before .args .words .now) (c .before .before .before .before .before .args .rho .bits) (c .before .before .before .before .before .args .p) (c .before .before .before .before .before .args .est .now) (c .before .opens .ensures) (c .if1 .taken)
+returns c =
+    let s = c .before .before .before .before .before in
+    let a = s .args in
+    not-entered (a .words .now) (a .rho .bits) (a .p) (a .est .now) (c .before .opens .ensures) (c .if1 .taken)
 
 let-in-requires : tie.Need-let-in-requires
 let-in-requires c κs = (c .before .before .before .before .before .before .before .pre .1, c .before .before .before .before .before .before .before .pre .3)
 
-same-length : tie.Need-same-length
-same-length c = search needs
-
-same-length-2 : tie.Need-same-length-2
-same-length-2 c = search needs
-
 returns-2 : tie.Need-returns-2
-returns-2 c = was-entered (c .before .before .before .before .before .before .before .before .before .before .before .before .args .words .now) (c .before .before .before .before .before .before .before .before .before .before .before .before .args .rho .bits) (c .before .before .before .before .before .before .before .before .before .before .before .before .args .p) (c .before .before .before .before .before .before .before .before .before .before .before .before .args .est .now) (c .before .before .before .before .before .before .before .before .opens .ensures) (c .before .before .before .before .before .before .before .if1 .left) (c .before .before .before .before .before .before .before .before .before .before .before .before .args .l) (c .before .before .before .before .before .before .before .before .before .before .before .before .pre .0 .laid) (c .before .before .before .before .before .before .before .before .before .before .before .before .pre .2) _ _ (c .before .before .before .before .let-in .ensures)
+returns-2 c =
+    let s = c .before .before .before .before .before .before .before .before .before .before .before .before in
+    let a = s .args in
+    was-entered (a .words .now) (a .rho .bits) (a .p) (a .est .now) (c .before .before .before .before .before .before .before .before .opens .ensures) (c .before .before .before .before .before .before .before .if1 .left) (a .l) (s .pre .0 .laid) (s .pre .2) _ _ (c .before .before .before .before .let-in .ensures)
 
 pub enter-spec : {M : Type 1} → statement M
 enter-spec =
@@ -30,6 +30,6 @@ enter-spec =
     opens-requires
     returns
     let-in-requires
-    same-length
-    same-length-2
+    (λ same-length. search needs)
+    (λ same-length-2. search needs)
     returns-2)

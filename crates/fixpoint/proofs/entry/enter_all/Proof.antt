@@ -32,9 +32,6 @@ add-added c =
     let step = entered (code (a .words .now)) (a .rho .bits) (linked (a .words .now) (s .pre .0 .readable)) (i .p) (omega (arith, s .pre .0 .laid .size, c .before .before .before .before .before .before .before .loop-test .taken)) (e .ensures) in
     omega (arith, few-sized (a .l) (a .est .now) _ _ (sized-again (a .l) (a .est .now) _ (s .pre .1) (e .kept .1 .0 ∙ i .inv .0)) (grown-then (code (a .words .now)) (a .rho .bits) (i .inv .2) step .count))
 
-add-past : tie.Need-add-past Inv-loop μ-loop
-add-past c = search needs
-
 past-requires : tie.Need-past-requires Inv-loop μ-loop
 past-requires c κs = omega (arith, c .before .before .before .before .before .before .before .before .before .before .before .before .before .pre .1 .size, c .before .before .before .before .before .before .before .loop-test .taken)
 
@@ -68,7 +65,7 @@ enter-all-spec =
     loop-holds
     enter-requires
     add-added
-    add-past
+    (λ add-past. search needs)
     past-requires
     loop-less
     loop-again

@@ -12,9 +12,6 @@ use borrow.Author.Needs.{needs}
 use Rattle.fixpoint.proofs.entry.let_in.Statement.{statement}
 use Rattle.fixpoint.proofs.entry.let_in.Tie as tie
 
-wake-requires : tie.Need-wake-requires
-wake-requires c κs = search needs
-
 admit-requires : tie.Need-admit-requires
 admit-requires c κs =
     let s = c .before .before .before .before .before .before .before .before .before .before .before in
@@ -24,12 +21,6 @@ add-result : tie.Need-add-result
 add-result c =
     let s = c .before .before .before .before .before .before .before .before .before .before .before .before .before .before .before .before in let w = c .before .before .before .before .before .before .before .before .before .before .before .wake in let a = c .before .before .before .before .admit in
     omega (arith, sum-fits (s .args .est .now) _ _ _ _ (w .ensures .0 .count) (a .ensures .count), a .kept .0, w .kept .0, s .pre .0 .short)
-
-same-length : tie.Need-same-length
-same-length c = search needs
-
-same-length-2 : tie.Need-same-length-2
-same-length-2 c = search needs
 
 returns : tie.Need-returns
 returns c =
@@ -43,9 +34,9 @@ pub let-in-spec : {M : Type 1} → statement M
 let-in-spec =
     tie.close
     (tie.spec
-    wake-requires
+    (λ wake-requires κs. search needs)
     admit-requires
     add-result
-    same-length
-    same-length-2
+    (λ same-length. search needs)
+    (λ same-length-2. search needs)
     returns)

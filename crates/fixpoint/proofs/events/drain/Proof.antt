@@ -19,11 +19,11 @@ Inv-loop words links masks est₀ h₀ out l p room last added₀ i₀ est h add
 abbrev μ-loop : tie.MeasureT-loop
 μ-loop words links masks est₀ h₀ out l p room last added₀ i₀ est h added i = last - i
 
-number-requires : tie.Need-number-requires Inv-loop μ-loop
-number-requires c κs = search needs
-
 loop-holds : tie.Need-loop-holds Inv-loop μ-loop
-loop-holds c = (refl, refl, omega arith, λ ρ. grown-none (code (c .before .before .before .before .before .before .before .args .words .now)) ρ (c .before .before .before .before .before .before .before .args .est .now), λ k z. tried-none (c .before .before .before .before .before .before .before .args .words .now) (c .before .before .before .before .before .before .before .args .links .now) (c .before .before .before .before .before .before .before .args .p) (c .before .before .before .before .before .before .before .args .est .now))
+loop-holds c =
+    let s = c .before .before .before .before .before .before .before in
+    let a = s .args in
+    (refl, refl, omega arith, λ ρ. grown-none (code (a .words .now)) ρ (a .est .now), λ k z. tried-none (a .words .now) (a .links .now) (a .p) (a .est .now))
 
 pick-requires : tie.Need-pick-requires Inv-loop μ-loop
 pick-requires c κs = omega (arith, c .before .before .loop-test .taken, c .before .before .before .before .number .ensures .0)
@@ -33,8 +33,10 @@ take-requires c κs = (c .before .before .before .before .before .before .before
 
 add-added : tie.Need-add-added Inv-loop μ-loop
 add-added c =
-    let g = grown-then (code (c .before .before .before .before .before .before .before .before .before .before .before .before .before .before .before .before .before .args .words .now)) 0 (c .before .before .before .before .before .before .before .before .before .loop .inv .3 0) (c .before .before .before .before .take .ensures .stepped 0) in
-    omega (arith, few-facts (c .before .before .before .before .before .before .before .before .before .before .before .before .before .before .before .before .before .args .words .now) (c .before .before .before .before .before .before .before .before .before .before .before .before .before .before .before .before .before .args .links .now) (c .before .before .before .before .before .before .before .before .before .before .before .before .before .before .before .before .before .args .masks .now) (c .before .before .before .before .before .before .before .before .before .before .before .before .before .before .before .before .before .args .l) (c .before .before .before .before .before .before .before .before .before .before .before .before .before .before .before .before .before .pre .0) (c .before .before .before .before .before .before .before .before .before .before .before .before .before .before .before .before .before .args .est .now) _ _ (g .sound .well (c .before .before .before .before .before .before .before .before .before .before .before .before .before .before .before .before .before .pre .1)) (g .count))
+    let s = c .before .before .before .before .before .before .before .before .before .before .before .before .before .before .before .before .before in
+    let a = s .args in
+    let g = grown-then (code (a .words .now)) 0 (c .before .before .before .before .before .before .before .before .before .loop .inv .3 0) (c .before .before .before .before .take .ensures .stepped 0) in
+    omega (arith, few-facts (a .words .now) (a .links .now) (a .masks .now) (a .l) (s .pre .0) (a .est .now) _ _ (g .sound .well (s .pre .1)) (g .count))
 
 same-length : tie.Need-same-length Inv-loop μ-loop
 same-length c = c .before .before .before .before .before .take .kept .1 .1 .1 .0 ∙ c .before .before .before .before .before .before .before .before .before .before .loop .inv .0
@@ -52,14 +54,18 @@ loop-less : tie.Need-loop-less Inv-loop μ-loop
 loop-less c = omega (arith, c .before .before .before .before .before .before .before .before .before .loop-test .taken)
 
 loop-again : tie.Need-loop-again Inv-loop μ-loop
-loop-again c = (
-  c .before .before .before .before .before .take .kept .1 .1 .1 .0 ∙ c .before .before .before .before .before .before .before .before .before .before .loop .inv .0,
-  c .before .before .before .before .before .take .kept .1 .1 .1 .1 .0 ∙ c .before .before .before .before .before .before .before .before .before .before .loop .inv .1,
-  omega (arith, c .before .before .before .before .before .before .before .before .before .loop-test .taken),
-  λ ρ. grown-then (code (c .before .before .before .before .before .before .before .before .before .before .before .before .before .before .before .before .before .before .args .words .now)) ρ (c .before .before .before .before .before .before .before .before .before .before .loop .inv .3 ρ) (c .before .before .before .before .before .take .ensures .stepped ρ),
-  λ k. tried-more (c .before .before .before .before .before .before .before .before .before .before .before .before .before .before .before .before .before .before .args .words .now) (c .before .before .before .before .before .before .before .before .before .before .before .before .before .before .before .before .before .before .args .links .now) (c .before .before .before .before .before .before .before .before .before .before .before .before .before .before .before .before .before .before .args .masks .now) (c .before .before .before .before .before .before .before .before .before .before .before .before .before .before .before .before .before .before .args .l) (c .before .before .before .before .before .before .before .before .before .before .before .before .before .before .before .before .before .before .pre .0) (c .before .before .before .before .before .before .before .before .before .before .before .before .before .before .before .before .before .before .args .p) k (c .before .before .before .before .before .before .before .before .before .before .before .before .before .before .before .before .before .before .args .est .now) (c .before .before .before .before .before .before .before .before .before .before .before .before .before .before .before .before .before .before .pre .1) (c .before .before .before .before .before .before .before .before .before .before .loop .i) (c .before .before .before .before .before .before .before .before .before .before .loop .est) _ _ _ (c .before .before .before .before .before .before .before .before .before .before .loop .inv .4 k)
-      (taken-fired (c .before .before .before .before .before .before .before .before .before .before .before .before .before .before .before .before .before .before .args .words .now) (c .before .before .before .before .before .before .before .before .before .before .before .before .before .before .before .before .before .before .args .links .now) (c .before .before .before .before .before .before .before .before .before .before .before .before .before .before .before .before .before .before .args .masks .now) (c .before .before .before .before .before .before .before .before .before .before .before .before .before .before .before .before .before .before .args .l) (c .before .before .before .before .before .before .before .before .before .before .before .before .before .before .before .before .before .before .pre .0) (c .before .before .before .before .before .before .before .before .before .before .before .before .before .before .before .before .before .before .args .p) k (c .before .before .before .before .before .before .before .before .before .before .before .before .before .before .before .before .before .before .args .est .now) (c .before .before .before .before .before .before .before .before .before .before .before .before .before .before .before .before .before .before .pre .1) _ (c .before .before .before .before .before .before .before .before .before .before .loop .i) _ _ _ (c .before .before .before .before .before .before .pick .ensures (omega (arith, k, sized (c .before .before .before .before .before .before .before .before .before .before .before .before .before .before .before .before .before .before .args .words .now) (c .before .before .before .before .before .before .before .before .before .before .before .before .before .before .before .before .before .before .args .links .now) (c .before .before .before .before .before .before .before .before .before .before .before .before .before .before .before .before .before .before .args .masks .now) (c .before .before .before .before .before .before .before .before .before .before .before .before .before .before .before .before .before .before .args .l) (c .before .before .before .before .before .before .before .before .before .before .before .before .before .before .before .before .before .before .pre .0) (c .before .before .before .before .before .before .before .before .before .before .before .before .before .before .before .before .before .before .args .est .now) (c .before .before .before .before .before .before .before .before .before .before .before .before .before .before .before .before .before .before .pre .1) .size))) (c .before .before .before .before .before .take .ensures)),
-)
+loop-again c =
+    let s = c .before .before .before .before .before .before .before .before .before .before .before .before .before .before .before .before .before .before in
+    let a = s .args in
+    let t = c .before .before .before .before .before .before .before .before .before .before in
+    let u = c .before .before .before .before .before in (
+      u .take .kept .1 .1 .1 .0 ∙ t .loop .inv .0,
+      u .take .kept .1 .1 .1 .1 .0 ∙ t .loop .inv .1,
+      omega (arith, c .before .before .before .before .before .before .before .before .before .loop-test .taken),
+      λ ρ. grown-then (code (a .words .now)) ρ (t .loop .inv .3 ρ) (u .take .ensures .stepped ρ),
+      λ k. tried-more (a .words .now) (a .links .now) (a .masks .now) (a .l) (s .pre .0) (a .p) k (a .est .now) (s .pre .1) (t .loop .i) (t .loop .est) _ _ _ (t .loop .inv .4 k)
+          (taken-fired (a .words .now) (a .links .now) (a .masks .now) (a .l) (s .pre .0) (a .p) k (a .est .now) (s .pre .1) _ (t .loop .i) _ _ _ (c .before .before .before .before .before .before .pick .ensures (omega (arith, k, sized (a .words .now) (a .links .now) (a .masks .now) (a .l) (s .pre .0) (a .est .now) (s .pre .1) .size))) (u .take .ensures)),
+    )
 
 same-length-3 : tie.Need-same-length-3 Inv-loop μ-loop
 same-length-3 c = c .before .loop .inv .0
@@ -69,12 +75,14 @@ same-length-4 c = c .before .loop .inv .1
 
 returns-2 : tie.Need-returns-2 Inv-loop μ-loop
 returns-2 c =
+    let s = c .before .before .before .before .before .before .before .before .before in
+    let a = s .args in
     record {
       stepped = c .before .loop .inv .3;
       nothing =
           λ k z.
-          let h : c .before .before .before .before .before .before .before .before .before .args .p < c .before .before .before .before .before .before .before .before .before .args .l .size = omega (arith, k, c .before .before .before .before .before .before .before .before .before .pre .0 .laid .size) in
-          tried-all (c .before .before .before .before .before .before .before .before .before .args .words .now) (c .before .before .before .before .before .before .before .before .before .args .links .now) (c .before .before .before .before .before .before .before .before .before .args .masks .now) (c .before .before .before .before .before .before .before .before .before .args .l) (c .before .before .before .before .before .before .before .before .before .pre .0) (c .before .before .before .before .before .before .before .before .before .args .p) h (c .before .before .before .before .before .before .before .before .before .args .est .now) (c .before .before .before .before .before .before .before .before .before .pre .1) (c .before .loop .i) (omega (arith, c .loop-test .left, c .before .before .number .ensures .1 (omega (arith, h, sized (c .before .before .before .before .before .before .before .before .before .args .words .now) (c .before .before .before .before .before .before .before .before .before .args .links .now) (c .before .before .before .before .before .before .before .before .before .args .masks .now) (c .before .before .before .before .before .before .before .before .before .args .l) (c .before .before .before .before .before .before .before .before .before .pre .0) (c .before .before .before .before .before .before .before .before .before .args .est .now) (c .before .before .before .before .before .before .before .before .before .pre .1) .size)))) (c .before .loop .est) (c .before .loop .inv .4 h z);
+          let h : a .p < a .l .size = omega (arith, k, s .pre .0 .laid .size) in
+          tried-all (a .words .now) (a .links .now) (a .masks .now) (a .l) (s .pre .0) (a .p) h (a .est .now) (s .pre .1) (c .before .loop .i) (omega (arith, c .loop-test .left, c .before .before .number .ensures .1 (omega (arith, h, sized (a .words .now) (a .links .now) (a .masks .now) (a .l) (s .pre .0) (a .est .now) (s .pre .1) .size)))) (c .before .loop .est) (c .before .loop .inv .4 h z);
     }
 
 pub drain-spec : {M : Type 1} → statement M
@@ -83,7 +91,7 @@ drain-spec =
     (tie.spec
     Inv-loop
     μ-loop
-    number-requires
+    (λ number-requires κs. search needs)
     loop-holds
     pick-requires
     take-requires

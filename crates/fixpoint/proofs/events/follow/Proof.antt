@@ -21,7 +21,10 @@ abbrev μ-loop : tie.MeasureT-loop
 μ-loop words links masks est₀ h₀ out₀ l p room first₀ added₀ turn₀ left₀ est h out first added turn left = left
 
 loop-holds : tie.Need-loop-holds Inv-loop μ-loop
-loop-holds c = (refl, refl, refl, omega arith, λ ρ. grown-none (code (c .before .before .before .before .before .before .args .words .now)) ρ (c .before .before .before .before .before .before .args .est .now), toward-start (c .before .before .before .before .before .before .args .words .now) (c .before .before .before .before .before .before .args .links .now) (c .before .before .before .before .before .before .args .p) (c .before .before .before .before .before .before .args .est .now), λ z. absurd (omega (arith, z)))
+loop-holds c =
+    let s = c .before .before .before .before .before .before in
+    let a = s .args in
+    (refl, refl, refl, omega arith, λ ρ. grown-none (code (a .words .now)) ρ (a .est .now), toward-start (a .words .now) (a .links .now) (a .p) (a .est .now), λ z. absurd (omega (arith, z)))
 
 sub-drain : tie.Need-sub-drain Inv-loop μ-loop
 sub-drain c = c .before .before .before .before .loop .inv .3
@@ -31,8 +34,10 @@ drain-requires c κs = (c .before .before .before .before .before .before .befor
 
 add-added : tie.Need-add-added Inv-loop μ-loop
 add-added c =
-    let g = grown-then (code (c .before .before .before .before .before .before .before .before .before .before .before .before .before .before .before .before .args .words .now)) 0 (c .before .before .before .before .before .before .before .before .before .loop .inv .4 0) (c .before .before .before .before .drain .ensures .stepped 0) in
-    omega (arith, few-facts (c .before .before .before .before .before .before .before .before .before .before .before .before .before .before .before .before .args .words .now) (c .before .before .before .before .before .before .before .before .before .before .before .before .before .before .before .before .args .links .now) (c .before .before .before .before .before .before .before .before .before .before .before .before .before .before .before .before .args .masks .now) (c .before .before .before .before .before .before .before .before .before .before .before .before .before .before .before .before .args .l) (c .before .before .before .before .before .before .before .before .before .before .before .before .before .before .before .before .pre .0) (c .before .before .before .before .before .before .before .before .before .before .before .before .before .before .before .before .args .est .now) _ _ (g .sound .well (c .before .before .before .before .before .before .before .before .before .before .before .before .before .before .before .before .pre .1)) (g .count))
+    let s = c .before .before .before .before .before .before .before .before .before .before .before .before .before .before .before .before in
+    let a = s .args in
+    let g = grown-then (code (a .words .now)) 0 (c .before .before .before .before .before .before .before .before .before .loop .inv .4 0) (c .before .before .before .before .drain .ensures .stepped 0) in
+    omega (arith, few-facts (a .words .now) (a .links .now) (a .masks .now) (a .l) (s .pre .0) (a .est .now) _ _ (g .sound .well (s .pre .1)) (g .count))
 
 same-length : tie.Need-same-length Inv-loop μ-loop
 same-length c = c .before .before .before .before .before .drain .kept .1 .1 .1 .0 ∙ c .before .before .before .before .before .before .before .before .before .before .loop .inv .0
@@ -45,9 +50,6 @@ same-length-3 c = c .before .before .before .before .before .before .before .bef
 
 returns : tie.Need-returns Inv-loop μ-loop
 returns c = c .before .before .before .before .before .before .before .before .before .before .loop .inv .5 _ _ (c .before .before .before .before .before .drain .ensures)
-
-next-requires : tie.Need-next-requires Inv-loop μ-loop
-next-requires c κs = search needs
 
 same-length-4 : tie.Need-same-length-4 Inv-loop μ-loop
 same-length-4 c = c .before .before .before .before .before .before .before .before .before .before .before .before .before .before .drain .kept .1 .1 .1 .0 ∙ c .before .before .before .before .before .before .before .before .before .before .before .before .before .before .before .before .before .before .before .loop .inv .0
@@ -68,15 +70,19 @@ loop-less : tie.Need-loop-less Inv-loop μ-loop
 loop-less c = omega (arith, c .before .before .before .before .before .before .before .before .before .before .before .before .before .before .before .before .before .before .loop-test .taken)
 
 loop-again : tie.Need-loop-again Inv-loop μ-loop
-loop-again c = (
-  c .before .before .before .before .before .before .before .before .before .before .before .before .before .before .drain .kept .1 .1 .1 .0 ∙ c .before .before .before .before .before .before .before .before .before .before .before .before .before .before .before .before .before .before .before .loop .inv .0,
-  c .before .before .before .before .before .next .kept .1 .1 .1 .1 .0 ∙ c .before .before .before .before .before .before .before .before .before .before .before .before .before .before .drain .kept .1 .1 .1 .1 .0 ∙ c .before .before .before .before .before .before .before .before .before .before .before .before .before .before .before .before .before .before .before .loop .inv .1,
-  c .before .before .before .before .before .next .kept .1 .1 .1 .1 .1 .0 ∙ c .before .before .before .before .before .before .before .before .before .before .before .before .before .before .before .before .before .before .before .loop .inv .2,
-  c .before .before .before .before .before .before .before .before .before .if1 .left,
-  λ ρ. grown-then (code (c .before .before .before .before .before .before .before .before .before .before .before .before .before .before .before .before .before .before .before .before .before .before .before .before .before .before .args .words .now)) ρ (c .before .before .before .before .before .before .before .before .before .before .before .before .before .before .before .before .before .before .before .loop .inv .4 ρ) (c .before .before .before .before .before .before .before .before .before .before .before .before .before .before .drain .ensures .stepped ρ),
-  toward-more (c .before .before .before .before .before .before .before .before .before .before .before .before .before .before .before .before .before .before .before .before .before .before .before .before .before .before .args .words .now) (c .before .before .before .before .before .before .before .before .before .before .before .before .before .before .before .before .before .before .before .before .before .before .before .before .before .before .args .links .now) (c .before .before .before .before .before .before .before .before .before .before .before .before .before .before .before .before .before .before .before .before .before .before .before .before .before .before .args .p) (c .before .before .before .before .before .before .before .before .before .before .before .before .before .before .before .before .before .before .before .before .before .before .before .before .before .before .args .est .now) (c .before .before .before .before .before .before .before .before .before .before .before .before .before .before .before .before .before .before .before .loop .first) (c .before .before .before .before .before .before .before .before .before .before .before .before .before .before .before .before .before .before .before .loop .est) _ (c .before .before .before .before .before .before .before .before .before .before .before .before .before .before .before .before .before .before .before .loop .inv .5) _ _ 1024 (c .before .before .before .before .before .before .before .before .before .before .before .before .before .before .drain .ensures),
-  λ z. omega arith,
-)
+loop-again c =
+    let s = c .before .before .before .before .before .before .before .before .before .before .before .before .before .before .before .before .before .before .before .before .before .before .before .before .before .before in
+    let a = s .args in
+    let t = c .before .before .before .before .before .before .before .before .before .before .before .before .before .before .before .before .before .before .before in
+    let u = c .before .before .before .before .before .before .before .before .before .before .before .before .before .before in (
+      u .drain .kept .1 .1 .1 .0 ∙ t .loop .inv .0,
+      c .before .before .before .before .before .next .kept .1 .1 .1 .1 .0 ∙ u .drain .kept .1 .1 .1 .1 .0 ∙ t .loop .inv .1,
+      c .before .before .before .before .before .next .kept .1 .1 .1 .1 .1 .0 ∙ t .loop .inv .2,
+      c .before .before .before .before .before .before .before .before .before .if1 .left,
+      λ ρ. grown-then (code (a .words .now)) ρ (t .loop .inv .4 ρ) (u .drain .ensures .stepped ρ),
+      toward-more (a .words .now) (a .links .now) (a .p) (a .est .now) (t .loop .first) (t .loop .est) _ (t .loop .inv .5) _ _ 1024 (u .drain .ensures),
+      λ z. omega arith,
+    )
 
 same-length-7 : tie.Need-same-length-7 Inv-loop μ-loop
 same-length-7 c = c .before .loop .inv .0
@@ -89,8 +95,10 @@ same-length-9 c = c .before .loop .inv .2
 
 returns-3 : tie.Need-returns-3 Inv-loop μ-loop
 returns-3 c =
-    toward-end (c .before .before .before .before .before .before .before .before .args .words .now) (c .before .before .before .before .before .before .before .before .args .links .now) (c .before .before .before .before .before .before .before .before .args .p) (c .before .before .before .before .before .before .before .before .args .est .now) (c .before .loop .first) (c .before .loop .est) _ (c .before .loop .inv .5)
-    (omega (arith, c .before .loop .inv .6 (omega (arith, c .loop-test .left)), c .before .before .before .before .before .before .before .before .pre .0 .laid .size, sized (c .before .before .before .before .before .before .before .before .args .words .now) (c .before .before .before .before .before .before .before .before .args .links .now) (c .before .before .before .before .before .before .before .before .args .masks .now) (c .before .before .before .before .before .before .before .before .args .l) (c .before .before .before .before .before .before .before .before .pre .0) (c .before .before .before .before .before .before .before .before .args .est .now) (c .before .before .before .before .before .before .before .before .pre .1) .size))
+    let s = c .before .before .before .before .before .before .before .before in
+    let a = s .args in
+    toward-end (a .words .now) (a .links .now) (a .p) (a .est .now) (c .before .loop .first) (c .before .loop .est) _ (c .before .loop .inv .5)
+    (omega (arith, c .before .loop .inv .6 (omega (arith, c .loop-test .left)), s .pre .0 .laid .size, sized (a .words .now) (a .links .now) (a .masks .now) (a .l) (s .pre .0) (a .est .now) (s .pre .1) .size))
 
 pub follow-spec : {M : Type 1} → statement M
 follow-spec =
@@ -106,7 +114,7 @@ follow-spec =
     same-length-2
     same-length-3
     returns
-    next-requires
+    (λ next-requires κs. search needs)
     same-length-4
     same-length-5
     same-length-6

@@ -52,18 +52,17 @@ returns c =
       nothing = λ z. absurd (omega (arith, z, c .if1 .taken));
     }
 
-add-p : tie.Need-add-p Inv-loop μ-loop
-add-p c = search needs
-
 loop-less : tie.Need-loop-less Inv-loop μ-loop
 loop-less c = omega (arith, c .before .before .before .before .before .before .before .before .before .before .before .loop-test .taken)
 
 loop-again : tie.Need-loop-again Inv-loop μ-loop
 loop-again c =
-    let s = c .before .before .before .before .before .before .before .before .before .before .before .before .before .before .before .before .before .before .before in let a = s .args in let i = c .before .before .before .before .before .before .before .before .before .before .before .before .loop in let f = c .before .before .before .before .before .before .before .follow in (
-      c .before .before .before .before .before .before .before .follow .kept .1 .1 .1 .0 ∙ c .before .before .before .before .before .before .before .before .before .before .before .before .loop .inv .0,
-      c .before .before .before .before .before .before .before .follow .kept .1 .1 .1 .1 .0 ∙ c .before .before .before .before .before .before .before .before .before .before .before .before .loop .inv .1,
-      c .before .before .before .before .before .before .before .follow .kept .1 .1 .1 .1 .1 .0 ∙ c .before .before .before .before .before .before .before .before .before .before .before .before .loop .inv .2,
+    let t = c .before .before .before .before .before .before .before .before .before .before .before .before in
+    let u = c .before .before .before .before .before .before .before in
+    let s = c .before .before .before .before .before .before .before .before .before .before .before .before .before .before .before .before .before .before .before in let a = s .args in let i = t .loop in let f = u .follow in (
+      u .follow .kept .1 .1 .1 .0 ∙ t .loop .inv .0,
+      u .follow .kept .1 .1 .1 .1 .0 ∙ t .loop .inv .1,
+      u .follow .kept .1 .1 .1 .1 .1 .0 ∙ t .loop .inv .2,
       omega (arith, c .before .before .before .before .before .before .before .before .before .before .before .loop-test .taken),
       omega (arith, c .if1 .left),
       λ ρ. grown-then (code (a .words .now)) ρ (i .inv .5 ρ) (f .ensures .stepped ρ),
@@ -99,7 +98,7 @@ follow-all-spec =
     same-length-2
     same-length-3
     returns
-    add-p
+    (λ add-p. search needs)
     loop-less
     loop-again
     same-length-4

@@ -5,9 +5,6 @@ use borrow.Author.Needs.{needs}
 use Rattle.fixpoint.proofs.events.number.Statement.{statement}
 use Rattle.fixpoint.proofs.events.number.Tie as tie
 
-count-requires : tie.Need-count-requires
-count-requires c κs = search needs
-
 returns : tie.Need-returns
 returns c = (omega arith, λ h. refl)
 
@@ -18,6 +15,6 @@ pub number-spec : {M : Type 1} → statement M
 number-spec =
     tie.close
     (tie.spec
-    count-requires
+    (λ count-requires κs. search needs)
     returns
     returns-2)

@@ -8,21 +8,6 @@ use Rattle.fixpoint.proofs.events.pick.Tie as tie
 returns : tie.Need-returns
 returns c = λ h. (refl, refl, refl)
 
-add-choice-at : tie.Need-add-choice-at
-add-choice-at c = search needs
-
-choice-at-requires : tie.Need-choice-at-requires
-choice-at-requires c κs = search needs
-
-choice-place-requires : tie.Need-choice-place-requires
-choice-place-requires c κs = search needs
-
-choice-clause-requires : tie.Need-choice-clause-requires
-choice-clause-requires c κs = search needs
-
-choice-target-requires : tie.Need-choice-target-requires
-choice-target-requires c κs = search needs
-
 returns-2 : tie.Need-returns-2
 returns-2 c = λ h. absurd (omega (arith, h, c .before .before .before .before .if1 .left))
 
@@ -31,9 +16,9 @@ pick-spec =
     tie.close
     (tie.spec
     returns
-    add-choice-at
-    choice-at-requires
-    choice-place-requires
-    choice-clause-requires
-    choice-target-requires
+    (λ add-choice-at. search needs)
+    (λ choice-at-requires κs. search needs)
+    (λ choice-place-requires κs. search needs)
+    (λ choice-clause-requires κs. search needs)
+    (λ choice-target-requires κs. search needs)
     returns-2)

@@ -16,17 +16,13 @@ returns-2 c = record { stepped = λ ρ. grown-none (code (c .before .before .bef
 step-requires : tie.Need-step-requires
 step-requires c κs = (c .before .before .before .before .before .before .before .before .before .before .before .pre .0, c .before .before .before .before .before .before .before .before .before .before .before .pre .1, omega (arith, c .before .before .before .before .if1 .left), omega (arith, c .before .before .if2 .left))
 
-same-length : tie.Need-same-length
-same-length c = search needs
-
-same-length-2 : tie.Need-same-length-2
-same-length-2 c = search needs
-
 returns-3 : tie.Need-returns-3
 returns-3 c =
+    let s = c .before .before .before .before .before .before .before .before .before .before .before .before .before .before .before .before in
+    let a = s .args in
     record {
-      stepped = stepped (c .before .before .before .before .before .before .before .before .before .before .before .before .before .before .before .before .args .words .now) (c .before .before .before .before .before .before .before .before .before .before .before .before .before .before .before .before .args .links .now) (c .before .before .before .before .before .before .before .before .before .before .before .before .before .before .before .before .args .masks .now) (c .before .before .before .before .before .before .before .before .before .before .before .before .before .before .before .before .args .l) (c .before .before .before .before .before .before .before .before .before .before .before .before .before .before .before .before .pre .0) _ _ _ (omega (arith, c .before .before .before .before .before .before .before .before .before .if1 .left)) (c .before .before .before .before .step .ensures .0);
-      fired = λ i z. all-targets (c .before .before .before .before .before .before .before .before .before .before .before .before .before .before .before .before .args .words .now) (c .before .before .before .before .before .before .before .before .before .before .before .before .before .before .before .before .args .links .now) _ _ _ _ _ _ z (c .before .before .before .before .step .ensures .0);
+      stepped = stepped (a .words .now) (a .links .now) (a .masks .now) (a .l) (s .pre .0) _ _ _ (omega (arith, c .before .before .before .before .before .before .before .before .before .if1 .left)) (c .before .before .before .before .step .ensures .0);
+      fired = λ i z. all-targets (a .words .now) (a .links .now) _ _ _ _ _ _ z (c .before .before .before .before .step .ensures .0);
     }
 
 pub take-spec : {M : Type 1} → statement M
@@ -36,6 +32,6 @@ take-spec =
     returns
     returns-2
     step-requires
-    same-length
-    same-length-2
+    (λ same-length. search needs)
+    (λ same-length-2. search needs)
     returns-3)

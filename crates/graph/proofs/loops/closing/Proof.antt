@@ -29,9 +29,6 @@ Inv-loop rows alive t limit set₀ m₀ set m =
 abbrev μ-loop : tie.MeasureT-loop
 μ-loop rows alive t limit set₀ m₀ set m = limit - m
 
-only-requires : tie.Need-only-requires Inv-loop μ-loop
-only-requires c κs = search needs
-
 loop-holds : tie.Need-loop-holds Inv-loop μ-loop
 unfolding reaching
 loop-holds c = (search needs, search needs, c .only .ensures, refl)
@@ -43,9 +40,6 @@ senders-requires c κs =
     subst (λ (s : ℕ). s < 2 ^ length (a .rows .now)) (sym (l .inv .2))
     (reaching-below (a .rows .now) (a .alive) (a .t) (length (a .rows .now)) (search needs) (l .m - 1))
 
-has-requires : tie.Need-has-requires Inv-loop μ-loop
-has-requires c κs = search needs
-
 returns : tie.Need-returns Inv-loop μ-loop
 returns c =
     let l = c .before .before .before .before .loop in
@@ -54,12 +48,6 @@ returns c =
     (sym (tested (a .rows .now) (a .alive) (a .t) (l .m) (l .set) _ _ (search needs) (l .inv .2) (c .before .before .senders .ensures)
     (c .before .has .ensures)) ∙ c .if1 .taken))
     ∙ l .inv .3
-
-add-m : tie.Need-add-m Inv-loop μ-loop
-add-m c = search needs
-
-loop-less : tie.Need-loop-less Inv-loop μ-loop
-loop-less c = search needs
 
 loop-again : tie.Need-loop-again Inv-loop μ-loop
 loop-again c =
@@ -87,12 +75,12 @@ closing-spec =
     (tie.spec
     Inv-loop
     μ-loop
-    only-requires
+    (λ only-requires κs. search needs)
     loop-holds
     senders-requires
-    has-requires
+    (λ has-requires κs. search needs)
     returns
-    add-m
-    loop-less
+    (λ add-m. search needs)
+    (λ loop-less. search needs)
     loop-again
     returns-2)

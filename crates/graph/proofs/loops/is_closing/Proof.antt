@@ -7,15 +7,9 @@ use Rattle.graph.specs.Search.{closes}
 use Rattle.graph.proofs.loops.is_closing.Statement.{statement}
 use Rattle.graph.proofs.loops.is_closing.Tie as tie
 
-reaching-requires : tie.Need-reaching-requires
-reaching-requires c κs = search needs
-
-has-requires : tie.Need-has-requires
-has-requires c κs = search needs
-
 returns : tie.Need-returns
 unfolding closes
 returns c = c .has .ensures ∙ ap (λ (s : ℕ). member s (c .before .before .before .args .t)) (c .before .reaching .ensures)
 
 pub is-closing-spec : {M : Type 1} → statement M
-is-closing-spec = tie.close (tie.spec reaching-requires has-requires returns)
+is-closing-spec = tie.close (tie.spec (λ reaching-requires κs. search needs) (λ has-requires κs. search needs) returns)

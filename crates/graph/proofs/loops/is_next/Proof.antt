@@ -8,18 +8,6 @@ use Rattle.graph.proofs.Digits.{both-tests, first-test}
 use Rattle.graph.proofs.loops.is_next.Statement.{statement}
 use Rattle.graph.proofs.loops.is_next.Tie as tie
 
-has-requires : tie.Need-has-requires
-has-requires c κs = search needs
-
-mul-has : tie.Need-mul-has
-mul-has c = search needs
-
-shared-slice-read-has : tie.Need-shared-slice-read-has
-shared-slice-read-has c = search needs
-
-has-requires-2 : tie.Need-has-requires-2
-has-requires-2 c κs = search needs
-
 returns : tie.Need-returns
 unfolding isNext
 returns c =
@@ -37,4 +25,4 @@ returns-2 c =
 pub is-next-spec : {M : Type 1} → statement M
 is-next-spec =
     tie.close
-    (tie.spec has-requires mul-has shared-slice-read-has has-requires-2 returns returns-2)
+    (tie.spec (λ has-requires κs. search needs) (λ mul-has. search needs) (λ shared-slice-read-has. search needs) (λ has-requires-2 κs. search needs) returns returns-2)

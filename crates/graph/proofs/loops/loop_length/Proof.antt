@@ -13,9 +13,6 @@ Inv-loop rows n alive shortest₀ t₀ shortest t = (t ≤ n) × Best rows alive
 abbrev μ-loop : tie.MeasureT-loop
 μ-loop rows n alive shortest₀ t₀ shortest t = n - t
 
-add-shortest : tie.Need-add-shortest Inv-loop μ-loop
-add-shortest c = search needs
-
 loop-holds : tie.Need-loop-holds Inv-loop μ-loop
 loop-holds c =
     let a = c .before .args in
@@ -23,12 +20,6 @@ loop-holds c =
 
 closing-requires : tie.Need-closing-requires Inv-loop μ-loop
 closing-requires c κs = (search needs, c .before .loop .inv .1 .positive, search needs)
-
-add-t : tie.Need-add-t Inv-loop μ-loop
-add-t c = search needs
-
-loop-less : tie.Need-loop-less Inv-loop μ-loop
-loop-less c = search needs
 
 loop-again : tie.Need-loop-again Inv-loop μ-loop
 loop-again c =
@@ -52,10 +43,10 @@ loop-length-spec =
     (tie.spec
     Inv-loop
     μ-loop
-    add-shortest
+    (λ add-shortest. search needs)
     loop-holds
     closing-requires
-    add-t
-    loop-less
+    (λ add-t. search needs)
+    (λ loop-less. search needs)
     loop-again
     returns)

@@ -19,9 +19,6 @@ loop-holds c =
     let a = c .before .args in
     (search needs, scan-start (closes (a .rows .now) (a .alive) (a .m)) (a .n))
 
-is-closing-requires : tie.Need-is-closing-requires Inv-loop μ-loop
-is-closing-requires c κs = search needs
-
 returns : tie.Need-returns Inv-loop μ-loop
 unfolding loopStart
 returns c =
@@ -29,12 +26,6 @@ returns c =
     let a = c .before .before .before .before .before .args in
     sym (scan-here (closes (a .rows .now) (a .alive) (a .m)) (a .n) (l .t) (search needs) (sym (c .before .is-closing .ensures) ∙ c .if1 .taken))
     ∙ l .inv .1
-
-add-t : tie.Need-add-t Inv-loop μ-loop
-add-t c = search needs
-
-loop-less : tie.Need-loop-less Inv-loop μ-loop
-loop-less c = search needs
 
 loop-again : tie.Need-loop-again Inv-loop μ-loop
 loop-again c =
@@ -58,9 +49,9 @@ loop-start-spec =
     Inv-loop
     μ-loop
     loop-holds
-    is-closing-requires
+    (λ is-closing-requires κs. search needs)
     returns
-    add-t
-    loop-less
+    (λ add-t. search needs)
+    (λ loop-less. search needs)
     loop-again
     returns-2)

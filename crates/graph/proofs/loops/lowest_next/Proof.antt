@@ -19,9 +19,6 @@ loop-holds c =
     let a = c .before .args in
     (search needs, scan-start (isNext (a .rows .now) (a .set) (a .x)) (a .n))
 
-is-next-requires : tie.Need-is-next-requires Inv-loop μ-loop
-is-next-requires c κs = search needs
-
 returns : tie.Need-returns Inv-loop μ-loop
 unfolding lowestNext
 returns c =
@@ -29,12 +26,6 @@ returns c =
     let a = c .before .before .before .before .before .args in
     sym (scan-here (isNext (a .rows .now) (a .set) (a .x)) (a .n) (l .z) (search needs) (sym (c .before .is-next .ensures) ∙ c .if1 .taken))
     ∙ l .inv .1
-
-add-z : tie.Need-add-z Inv-loop μ-loop
-add-z c = search needs
-
-loop-less : tie.Need-loop-less Inv-loop μ-loop
-loop-less c = search needs
 
 loop-again : tie.Need-loop-again Inv-loop μ-loop
 loop-again c =
@@ -58,9 +49,9 @@ lowest-next-spec =
     Inv-loop
     μ-loop
     loop-holds
-    is-next-requires
+    (λ is-next-requires κs. search needs)
     returns
-    add-z
-    loop-less
+    (λ add-z. search needs)
+    (λ loop-less. search needs)
     loop-again
     returns-2)

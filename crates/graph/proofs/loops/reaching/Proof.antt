@@ -15,9 +15,6 @@ Inv-loop rows alive t m set₀ i₀ set i = (i ≤ m) × (set ≡ reaching rows 
 abbrev μ-loop : tie.MeasureT-loop
 μ-loop rows alive t m set₀ i₀ set i = m - i
 
-only-requires : tie.Need-only-requires Inv-loop μ-loop
-only-requires c κs = search needs
-
 loop-holds : tie.Need-loop-holds Inv-loop μ-loop
 unfolding reaching
 loop-holds c = (search needs, c .only .ensures)
@@ -28,12 +25,6 @@ senders-requires c κs =
     let a = c .before .before .before .before .args in
     subst (λ (s : ℕ). s < 2 ^ length (a .rows .now)) (sym (l .inv .1))
     (reaching-below (a .rows .now) (a .alive) (a .t) (length (a .rows .now)) (search needs) (l .i))
-
-add-i : tie.Need-add-i Inv-loop μ-loop
-add-i c = search needs
-
-loop-less : tie.Need-loop-less Inv-loop μ-loop
-loop-less c = search needs
 
 loop-again : tie.Need-loop-again Inv-loop μ-loop
 loop-again c =
@@ -53,10 +44,10 @@ reaching-spec =
     (tie.spec
     Inv-loop
     μ-loop
-    only-requires
+    (λ only-requires κs. search needs)
     loop-holds
     senders-requires
-    add-i
-    loop-less
+    (λ add-i. search needs)
+    (λ loop-less. search needs)
     loop-again
     returns)

@@ -24,29 +24,8 @@ loop-holds c =
     let e : a .m - 0 ≡ a .m = omega arith in
     (search needs, search needs, rw e (partly-start _ _))
 
-cast-positions : tie.Need-cast-positions Inv-loop μ-loop
-cast-positions c = search needs
-
-mul-positions : tie.Need-mul-positions Inv-loop μ-loop
-mul-positions c = search needs
-
 slice-write-positions : tie.Need-slice-write-positions Inv-loop μ-loop
 slice-write-positions c = omega (arith, c .before .loop .inv .2 .size)
-
-add-i : tie.Need-add-i Inv-loop μ-loop
-add-i c = search needs
-
-sub-reaching : tie.Need-sub-reaching Inv-loop μ-loop
-sub-reaching c = search needs
-
-reaching-requires : tie.Need-reaching-requires Inv-loop μ-loop
-reaching-requires c κs = search needs
-
-lowest-next-requires : tie.Need-lowest-next-requires Inv-loop μ-loop
-lowest-next-requires c κs = search needs
-
-loop-less : tie.Need-loop-less Inv-loop μ-loop
-loop-less c = search needs
 
 loop-again : tie.Need-loop-again Inv-loop μ-loop
 unfolding lowestNext
@@ -80,14 +59,14 @@ write-loop-spec =
     Inv-loop
     μ-loop
     loop-holds
-    cast-positions
-    mul-positions
+    (λ cast-positions. search needs)
+    (λ mul-positions. search needs)
     slice-write-positions
-    add-i
-    sub-reaching
-    reaching-requires
-    lowest-next-requires
-    loop-less
+    (λ add-i. search needs)
+    (λ sub-reaching. search needs)
+    (λ reaching-requires κs. search needs)
+    (λ lowest-next-requires κs. search needs)
+    (λ loop-less. search needs)
     loop-again
     same-length
     returns)

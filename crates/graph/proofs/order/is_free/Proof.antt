@@ -6,15 +6,6 @@ use Rattle.graph.proofs.Digits.{both-tests, first-test}
 use Rattle.graph.proofs.order.is_free.Statement.{statement}
 use Rattle.graph.proofs.order.is_free.Tie as tie
 
-has-requires : tie.Need-has-requires
-has-requires c κs = search needs
-
-mul-result : tie.Need-mul-result
-mul-result c = search needs
-
-shared-slice-read-result : tie.Need-shared-slice-read-result
-shared-slice-read-result c = search needs
-
 returns : tie.Need-returns
 unfolding isFree
 returns c =
@@ -29,4 +20,4 @@ returns-2 c =
 
 pub is-free-spec : {M : Type 1} → statement M
 is-free-spec =
-    tie.close (tie.spec has-requires mul-result shared-slice-read-result returns returns-2)
+    tie.close (tie.spec (λ has-requires κs. search needs) (λ mul-result. search needs) (λ shared-slice-read-result. search needs) returns returns-2)

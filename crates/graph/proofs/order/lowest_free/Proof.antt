@@ -19,9 +19,6 @@ loop-holds c =
     let a = c .before .args in
     (search needs, scan-start (isFree (a .rows .now) (a .left)) (a .n))
 
-is-free-requires : tie.Need-is-free-requires Inv-loop μ-loop
-is-free-requires c κs = search needs
-
 returns : tie.Need-returns Inv-loop μ-loop
 unfolding lowestFree
 returns c =
@@ -29,12 +26,6 @@ returns c =
     let a = c .before .before .before .before .before .args in
     sym (scan-here (isFree (a .rows .now) (a .left)) (a .n) (l .p) (search needs) (sym (c .before .is-free .ensures) ∙ c .if1 .taken))
     ∙ l .inv .1
-
-add-p : tie.Need-add-p Inv-loop μ-loop
-add-p c = search needs
-
-loop-less : tie.Need-loop-less Inv-loop μ-loop
-loop-less c = search needs
 
 loop-again : tie.Need-loop-again Inv-loop μ-loop
 loop-again c =
@@ -58,9 +49,9 @@ lowest-free-spec =
     Inv-loop
     μ-loop
     loop-holds
-    is-free-requires
+    (λ is-free-requires κs. search needs)
     returns
-    add-p
-    loop-less
+    (λ add-p. search needs)
+    (λ loop-less. search needs)
     loop-again
     returns-2)

@@ -38,9 +38,6 @@ loop-holds c =
     let e : a .n - 0 ≡ a .n = omega arith in
     (search needs, rw e (partly-start _ _), rw e (zero-add _))
 
-lowest-free-requires : tie.Need-lowest-free-requires Inv-loop μ-loop
-lowest-free-requires c κs = search needs
-
 same-length : tie.Need-same-length Inv-loop μ-loop
 same-length c = c .before .before .before .loop .inv .1 .size
 
@@ -52,23 +49,8 @@ returns c =
     let e = order-stop r (a .n) (a .n - l .count) (l .left) (subst (λ (p : ℕ). a .n ≤ p) (c .before .lowest-free .ensures) (c .if1 .taken)) in
     finished r (a .n) (a .alive) (a .positions .now) (l .positions) (l .left) (l .count) e (search needs) (l .inv .1) (l .inv .2)
 
-cast-positions : tie.Need-cast-positions Inv-loop μ-loop
-cast-positions c = search needs
-
-mul-positions : tie.Need-mul-positions Inv-loop μ-loop
-mul-positions c = search needs
-
 slice-write-positions : tie.Need-slice-write-positions Inv-loop μ-loop
 slice-write-positions c = omega (arith, c .before .before .before .loop .inv .1 .size)
-
-without-requires : tie.Need-without-requires Inv-loop μ-loop
-without-requires c κs = search needs
-
-add-count : tie.Need-add-count Inv-loop μ-loop
-add-count c = search needs
-
-loop-less : tie.Need-loop-less Inv-loop μ-loop
-loop-less c = search needs
 
 loop-again : tie.Need-loop-again Inv-loop μ-loop
 loop-again c =
@@ -99,15 +81,15 @@ write-order-spec =
     Inv-loop
     μ-loop
     loop-holds
-    lowest-free-requires
+    (λ lowest-free-requires κs. search needs)
     same-length
     returns
-    cast-positions
-    mul-positions
+    (λ cast-positions. search needs)
+    (λ mul-positions. search needs)
     slice-write-positions
-    without-requires
-    add-count
-    loop-less
+    (λ without-requires κs. search needs)
+    (λ add-count. search needs)
+    (λ loop-less. search needs)
     loop-again
     same-length-2
     returns-2)

@@ -7,9 +7,6 @@ use lib.Pow.{pow-pos, pow-mono}
 use Rattle.graph.proofs.set.below.Statement.{statement}
 use Rattle.graph.proofs.set.below.Tie as tie
 
-single-requires : tie.Need-single-requires
-single-requires c κs = search needs
-
 rem-result : tie.Need-rem-result
 rem-result c = subst (λ (k : ℕ). 0 < k) (sym (c .single .ensures)) (pow-pos (c .before .before .args .n))
 
@@ -21,4 +18,4 @@ returns-2 c =
     sym (mod-eq-of-lt (le-trans {m = 2 ^ 64} (search needs) (pow-mono (c .if1 .left))))
 
 pub below-spec : {M : Type 1} → statement M
-below-spec = tie.close (tie.spec single-requires rem-result returns returns-2)
+below-spec = tie.close (tie.spec (λ single-requires κs. search needs) rem-result returns returns-2)

@@ -9,18 +9,9 @@ use Rattle.graph.proofs.set.has.Tie as tie
 returns : tie.Need-returns
 returns c = sym (member-beyond 64 _ _ (search needs) (search needs))
 
-cast-result : tie.Need-cast-result
-cast-result c = search needs
-
-cast-result-2 : tie.Need-cast-result-2
-cast-result-2 c = search needs
-
-shr-result : tie.Need-shr-result
-shr-result c = search needs
-
 returns-2 : tie.Need-returns-2
 unfolding member
 returns-2 c = search needs
 
 pub has-spec : {M : Type 1} → statement M
-has-spec = tie.close (tie.spec returns cast-result cast-result-2 shr-result returns-2)
+has-spec = tie.close (tie.spec returns (λ cast-result. search needs) (λ cast-result-2. search needs) (λ shr-result. search needs) returns-2)

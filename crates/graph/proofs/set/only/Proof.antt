@@ -6,11 +6,8 @@ use lib.Bits.{bitAnd}
 use Rattle.graph.proofs.set.only.Statement.{statement}
 use Rattle.graph.proofs.set.only.Tie as tie
 
-single-requires : tie.Need-single-requires
-single-requires c κs = search needs
-
 returns : tie.Need-returns
 returns c = ap (λ (k : ℕ). bitAnd k (c .before .args .set)) (c .single .ensures)
 
 pub only-spec : {M : Type 1} → statement M
-only-spec = tie.close (tie.spec single-requires returns)
+only-spec = tie.close (tie.spec (λ single-requires κs. search needs) returns)

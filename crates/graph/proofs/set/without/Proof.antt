@@ -7,9 +7,6 @@ use Rattle.permset.specs.Sets.{difference}
 use Rattle.graph.proofs.set.without.Statement.{statement}
 use Rattle.graph.proofs.set.without.Tie as tie
 
-single-requires : tie.Need-single-requires
-single-requires c κs = search needs
-
 sub-result : tie.Need-sub-result
 sub-result c = search and-le-l
 
@@ -18,4 +15,4 @@ unfolding difference
 returns c = ap (λ (k : ℕ). difference (c .before .args .set) k) (c .single .ensures)
 
 pub without-spec : {M : Type 1} → statement M
-without-spec = tie.close (tie.spec single-requires sub-result returns)
+without-spec = tie.close (tie.spec (λ single-requires κs. search needs) sub-result returns)

@@ -10,9 +10,6 @@ use Rattle.json.proofs.bytes.byte.Reads as reads
 use Rattle.json.proofs.bytes.byte.Lts as lts
 
 -- src/bytes.rt:13:9
-shared-slice-read-result : tie.Need-shared-slice-read-result
-shared-slice-read-result c = search needs
-
 -- src/bytes.rt:13:9
 cast-result : tie.Need-cast-result
 cast-result c = omega (arith, c .shared-slice-known .given (c .before .before .args .at))
@@ -26,4 +23,4 @@ returns-2 : tie.Need-returns-2
 returns-2 c = sym (head-over _ _ (c .if1 .left))
 
 pub byte-spec : {M : Type 1} → statement M
-byte-spec = tie.close (tie.spec shared-slice-read-result cast-result returns returns-2)
+byte-spec = tie.close (tie.spec (λ shared-slice-read-result. search needs) cast-result returns returns-2)

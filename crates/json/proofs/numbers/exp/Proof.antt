@@ -15,20 +15,11 @@ use borrow.Author.Needs.{needs}
 use Rattle.json.proofs.numbers.exp.Statement.{statement}
 use Rattle.json.proofs.numbers.exp.Tie as tie
 
-byte-requires : tie.Need-byte-requires
-byte-requires c κs = search needs
-
-is-either-requires : tie.Need-is-either-requires
-is-either-requires c κs = search needs
-
 add-sign : tie.Need-add-sign
-add-sign c = let h : c .before .before .before .before .args .at < length (c .before .before .before .before .args .text .now) = there (c .before .before .before .before .args .text .now) (c .before .before .before .before .args .at) (c .before .before .byte .ensures) (either-small 101 69 _ (omega arith) (omega arith) (sym (c .before .is-either .ensures) ∙ c .if1 .taken)) in omega arith
-
-sign-requires : tie.Need-sign-requires
-sign-requires c κs = search needs
-
-some-digits-requires : tie.Need-some-digits-requires
-some-digits-requires c κs = search needs
+add-sign c =
+    let s = c .before .before .before .before in
+    let a = s .args in
+    let h : a .at < length (a .text .now) = there (a .text .now) (a .at) (c .before .before .byte .ensures) (either-small 101 69 _ (omega arith) (omega arith) (sym (c .before .is-either .ensures) ∙ c .if1 .taken)) in omega arith
 
 returns : tie.Need-returns
 returns c =
@@ -45,10 +36,10 @@ pub exp-spec : {M : Type 1} → statement M
 exp-spec =
     tie.close
     (tie.spec
-    byte-requires
-    is-either-requires
+    (λ byte-requires κs. search needs)
+    (λ is-either-requires κs. search needs)
     add-sign
-    sign-requires
-    some-digits-requires
+    (λ sign-requires κs. search needs)
+    (λ some-digits-requires κs. search needs)
     returns
     returns-2)

@@ -13,14 +13,11 @@ use borrow.Author.Needs.{needs}
 use Rattle.json.proofs.numbers.frac.Statement.{statement}
 use Rattle.json.proofs.numbers.frac.Tie as tie
 
-byte-requires : tie.Need-byte-requires
-byte-requires c κs = search needs
-
 add-some-digits : tie.Need-add-some-digits
-add-some-digits c = let h : c .before .before .before .args .at < length (c .before .before .before .args .text .now) = there (c .before .before .before .args .text .now) (c .before .before .before .args .at) (c .before .byte .ensures) (omega arith) in omega arith
-
-some-digits-requires : tie.Need-some-digits-requires
-some-digits-requires c κs = search needs
+add-some-digits c =
+    let s = c .before .before .before in
+    let a = s .args in
+    let h : a .at < length (a .text .now) = there (a .text .now) (a .at) (c .before .byte .ensures) (omega arith) in omega arith
 
 returns : tie.Need-returns
 returns c = sym (frac-yes _ (is (c .before .before .byte .ensures) (c .before .if1 .taken)) ∙ ap someDigits (tail-drop (c .before .before .before .before .args .text .now) (c .before .before .before .before .args .at)) ∙ sym (c .some-digits .ensures))
@@ -30,4 +27,4 @@ returns-2 c = sym (frac-no _ (is-not (c .before .byte .ensures) (c .if1 .left)))
 
 pub frac-spec : {M : Type 1} → statement M
 frac-spec =
-    tie.close (tie.spec byte-requires add-some-digits some-digits-requires returns returns-2)
+    tie.close (tie.spec (λ byte-requires κs. search needs) add-some-digits (λ some-digits-requires κs. search needs) returns returns-2)

@@ -15,14 +15,11 @@ use borrow.Author.Needs.{needs}
 use Rattle.json.proofs.numbers.sign.Statement.{statement}
 use Rattle.json.proofs.numbers.sign.Tie as tie
 
-byte-requires : tie.Need-byte-requires
-byte-requires c κs = search needs
-
-is-either-requires : tie.Need-is-either-requires
-is-either-requires c κs = search needs
-
 add-result : tie.Need-add-result
-add-result c = let h : c .before .before .before .before .args .at < length (c .before .before .before .before .args .text .now) = there (c .before .before .before .before .args .text .now) (c .before .before .before .before .args .at) (c .before .before .byte .ensures) (either-small 45 43 _ (omega arith) (omega arith) (sym (c .before .is-either .ensures) ∙ c .if1 .taken)) in omega arith
+add-result c =
+    let s = c .before .before .before .before in
+    let a = s .args in
+    let h : a .at < length (a .text .now) = there (a .text .now) (a .at) (c .before .before .byte .ensures) (either-small 45 43 _ (omega arith) (omega arith) (sym (c .before .is-either .ensures) ∙ c .if1 .taken)) in omega arith
 
 returns : tie.Need-returns
 returns c =
@@ -35,4 +32,4 @@ returns-2 c =
     sym (sign-no _ (ap (λ (b : ℕ). eqb b 45 || eqb b 43) (sym (c .before .before .byte .ensures)) ∙ sym (c .before .is-either .ensures) ∙ c .if1 .left))
 
 pub sign-spec : {M : Type 1} → statement M
-sign-spec = tie.close (tie.spec byte-requires is-either-requires add-result returns returns-2)
+sign-spec = tie.close (tie.spec (λ byte-requires κs. search needs) (λ is-either-requires κs. search needs) add-result returns returns-2)

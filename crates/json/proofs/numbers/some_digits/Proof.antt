@@ -13,17 +13,11 @@ use borrow.Author.Needs.{needs}
 use Rattle.json.proofs.numbers.some_digits.Statement.{statement}
 use Rattle.json.proofs.numbers.some_digits.Tie as tie
 
-byte-requires : tie.Need-byte-requires
-byte-requires c κs = search needs
-
-is-within-requires : tie.Need-is-within-requires
-is-within-requires c κs = search needs
-
 add-digits : tie.Need-add-digits
-add-digits c = let h : c .before .before .before .before .args .at < length (c .before .before .before .before .args .text .now) = there (c .before .before .before .before .args .text .now) (c .before .before .before .before .args .at) (c .before .before .byte .ensures) (digit-small _ (sym (c .before .is-within .ensures) ∙ c .if1 .taken)) in omega arith
-
-digits-requires : tie.Need-digits-requires
-digits-requires c κs = search needs
+add-digits c =
+    let s = c .before .before .before .before in
+    let a = s .args in
+    let h : a .at < length (a .text .now) = there (a .text .now) (a .at) (c .before .before .byte .ensures) (digit-small _ (sym (c .before .is-within .ensures) ∙ c .if1 .taken)) in omega arith
 
 returns : tie.Need-returns
 returns c =
@@ -38,4 +32,4 @@ returns-2 c =
 pub some-digits-spec : {M : Type 1} → statement M
 some-digits-spec =
     tie.close
-    (tie.spec byte-requires is-within-requires add-digits digits-requires returns returns-2)
+    (tie.spec (λ byte-requires κs. search needs) (λ is-within-requires κs. search needs) add-digits (λ digits-requires κs. search needs) returns returns-2)

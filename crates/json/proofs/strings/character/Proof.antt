@@ -16,21 +16,21 @@ use borrow.Author.Needs.{needs}
 use Rattle.json.proofs.strings.character.Statement.{statement}
 use Rattle.json.proofs.strings.character.Tie as tie
 
-byte-requires : tie.Need-byte-requires
-byte-requires c κs = search needs
-
 add-t5 : tie.Need-add-t5
-add-t5 c = let h : c .before .before .before .args .at < length (c .before .before .before .args .text .now) = there (c .before .before .before .args .text .now) (c .before .before .before .args .at) (c .before .byte .ensures) (omega arith) in omega arith
+add-t5 c =
+    let s = c .before .before .before in
+    let a = s .args in
+    let h : a .at < length (a .text .now) = there (a .text .now) (a .at) (c .before .byte .ensures) (omega arith) in omega arith
 
 returns : tie.Need-returns
 returns c =
     sym (quote-ends _ (is (c .before .byte .ensures) (c .if1 .taken)) ∙ ap ends (tail-drop (c .before .before .before .args .text .now) (c .before .before .before .args .at)))
 
 add-escaped : tie.Need-add-escaped
-add-escaped c = let h : c .before .before .before .before .args .at < length (c .before .before .before .before .args .text .now) = there (c .before .before .before .before .args .text .now) (c .before .before .before .before .args .at) (c .before .before .byte .ensures) (omega arith) in omega arith
-
-escaped-requires : tie.Need-escaped-requires
-escaped-requires c κs = search needs
+add-escaped c =
+    let s = c .before .before .before .before in
+    let a = s .args in
+    let h : a .at < length (a .text .now) = there (a .text .now) (a .at) (c .before .before .byte .ensures) (omega arith) in omega arith
 
 returns-2 : tie.Need-returns-2
 returns-2 c =
@@ -41,41 +41,41 @@ returns-2 c =
 
 returns-3 : tie.Need-returns-3
 returns-3 c =
-    sym (control _ (is-not (c .before .before .before .byte .ensures) (c .before .before .if1 .left)) (is-not (c .before .before .before .byte .ensures) (c .before .if2 .left)) (ap (λ (b : ℕ). ltb b 32) (sym (c .before .before .before .byte .ensures)) ∙ lt-ltb _ _ (c .if3 .taken)))
+    let s = c .before .before .before in
+    sym (control _ (is-not (s .byte .ensures) (c .before .before .if1 .left)) (is-not (s .byte .ensures) (c .before .if2 .left)) (ap (λ (b : ℕ). ltb b 32) (sym (s .byte .ensures)) ∙ lt-ltb _ _ (c .if3 .taken)))
 
 add-t7 : tie.Need-add-t7
-add-t7 c = let h : c .before .before .before .before .before .before .args .at < length (c .before .before .before .before .before .before .args .text .now) = there (c .before .before .before .before .before .before .args .text .now) (c .before .before .before .before .before .before .args .at) (c .before .before .before .before .byte .ensures) (omega arith) in omega arith
+add-t7 c =
+    let s = c .before .before .before .before .before .before in
+    let a = s .args in
+    let h : a .at < length (a .text .now) = there (a .text .now) (a .at) (c .before .before .before .before .byte .ensures) (omega arith) in omega arith
 
 returns-4 : tie.Need-returns-4
 returns-4 c =
+    let s = c .before .before .before .before in
     sym
-    (ascii _ (is-not (c .before .before .before .before .byte .ensures) (c .before .before .before .if1 .left)) (is-not (c .before .before .before .before .byte .ensures) (c .before .before .if2 .left)) (ap (λ (b : ℕ). ltb b 32) (sym (c .before .before .before .before .byte .ensures)) ∙ le-ltb _ _ (c .before .if3 .left)) (ap (λ (b : ℕ). ltb b 128) (sym (c .before .before .before .before .byte .ensures)) ∙ lt-ltb _ _ (c .if4 .taken))
-    ∙ ap₂ (λ (u : ℕ) (bs : List ℕ). goes (u ∷ []) bs) (sym (c .before .before .before .before .byte .ensures)) (tail-drop (c .before .before .before .before .before .before .args .text .now) (c .before .before .before .before .before .before .args .at)))
-
-point-of-requires : tie.Need-point-of-requires
-point-of-requires c κs = search needs
-
-units-of-requires : tie.Need-units-of-requires
-units-of-requires c κs = search needs
+    (ascii _ (is-not (s .byte .ensures) (c .before .before .before .if1 .left)) (is-not (s .byte .ensures) (c .before .before .if2 .left)) (ap (λ (b : ℕ). ltb b 32) (sym (s .byte .ensures)) ∙ le-ltb _ _ (c .before .if3 .left)) (ap (λ (b : ℕ). ltb b 128) (sym (s .byte .ensures)) ∙ lt-ltb _ _ (c .if4 .taken))
+    ∙ ap₂ (λ (u : ℕ) (bs : List ℕ). goes (u ∷ []) bs) (sym (s .byte .ensures)) (tail-drop (c .before .before .before .before .before .before .args .text .now) (c .before .before .before .before .before .before .args .at)))
 
 returns-5 : tie.Need-returns-5
 returns-5 c =
+    let s = c .before .before .before .before .before .before in
     c .units-of .ensures (c .before .before .before .before .before .before .before .before .args .text .now) ∙ ap pointed (c .before .point-of .ensures)
-    ∙ sym (beyond _ (is-not (c .before .before .before .before .before .before .byte .ensures) (c .before .before .before .before .before .if1 .left)) (is-not (c .before .before .before .before .before .before .byte .ensures) (c .before .before .before .before .if2 .left)) (ap (λ (b : ℕ). ltb b 32) (sym (c .before .before .before .before .before .before .byte .ensures)) ∙ le-ltb _ _ (c .before .before .before .if3 .left)) (ap (λ (b : ℕ). ltb b 128) (sym (c .before .before .before .before .before .before .byte .ensures)) ∙ le-ltb _ _ (c .before .before .if4 .left)))
+    ∙ sym (beyond _ (is-not (s .byte .ensures) (c .before .before .before .before .before .if1 .left)) (is-not (s .byte .ensures) (c .before .before .before .before .if2 .left)) (ap (λ (b : ℕ). ltb b 32) (sym (s .byte .ensures)) ∙ le-ltb _ _ (c .before .before .before .if3 .left)) (ap (λ (b : ℕ). ltb b 128) (sym (s .byte .ensures)) ∙ le-ltb _ _ (c .before .before .if4 .left)))
 
 pub character-spec : {M : Type 1} → statement M
 character-spec =
     tie.close
     (tie.spec
-    byte-requires
+    (λ byte-requires κs. search needs)
     add-t5
     returns
     add-escaped
-    escaped-requires
+    (λ escaped-requires κs. search needs)
     returns-2
     returns-3
     add-t7
     returns-4
-    point-of-requires
-    units-of-requires
+    (λ point-of-requires κs. search needs)
+    (λ units-of-requires κs. search needs)
     returns-5)

@@ -8,26 +8,17 @@ use borrow.Author.Needs.{needs}
 use Rattle.json.proofs.strings.hex_of.Statement.{statement}
 use Rattle.json.proofs.strings.hex_of.Tie as tie
 
-is-within-requires : tie.Need-is-within-requires
-is-within-requires c κs = search needs
-
 sub-result : tie.Need-sub-result
 sub-result c = let h = within-true 0x30 0x39 (c .before .before .args .b) (sym (c .before .is-within .ensures) ∙ c .if1 .taken) in omega arith
 
 returns : tie.Need-returns
 returns c = sym (hex-decimal _ (sym (c .before .is-within .ensures) ∙ c .if1 .taken))
 
-is-within-requires-2 : tie.Need-is-within-requires-2
-is-within-requires-2 c κs = search needs
-
 sub-result-2 : tie.Need-sub-result-2
 sub-result-2 c = let h = within-true 0x41 0x46 (c .before .before .before .before .args .b) (sym (c .before .is-within2 .ensures) ∙ c .if2 .taken) in omega arith
 
 returns-2 : tie.Need-returns-2
 returns-2 c = sym (hex-upper _ (sym (c .before .before .before .is-within .ensures) ∙ c .before .before .if1 .left) (sym (c .before .is-within2 .ensures) ∙ c .if2 .taken))
-
-is-within-requires-3 : tie.Need-is-within-requires-3
-is-within-requires-3 c κs = search needs
 
 sub-result-3 : tie.Need-sub-result-3
 sub-result-3 c = let h = within-true 0x61 0x66 (c .before .before .before .before .before .before .args .b) (sym (c .before .is-within3 .ensures) ∙ c .if3 .taken) in omega arith
@@ -42,13 +33,13 @@ pub hex-of-spec : {M : Type 1} → statement M
 hex-of-spec =
     tie.close
     (tie.spec
-    is-within-requires
+    (λ is-within-requires κs. search needs)
     sub-result
     returns
-    is-within-requires-2
+    (λ is-within-requires-2 κs. search needs)
     sub-result-2
     returns-2
-    is-within-requires-3
+    (λ is-within-requires-3 κs. search needs)
     sub-result-3
     returns-3
     returns-4)

@@ -7,21 +7,6 @@ use borrow.Author.Needs.{needs}
 use Rattle.json.proofs.strings.hex_unit.Statement.{statement}
 use Rattle.json.proofs.strings.hex_unit.Tie as tie
 
-hexed-requires : tie.Need-hexed-requires
-hexed-requires c κs = search needs
-
-hexed-requires-2 : tie.Need-hexed-requires-2
-hexed-requires-2 c κs = search needs
-
-hexed-requires-3 : tie.Need-hexed-requires-3
-hexed-requires-3 c κs = search needs
-
-hexed-requires-4 : tie.Need-hexed-requires-4
-hexed-requires-4 c κs = search needs
-
-units-of-requires : tie.Need-units-of-requires
-units-of-requires c κs = search needs
-
 returns : tie.Need-returns
 returns c =
     c .units-of .ensures (c .before .before .before .before .before .before .args .text .now)
@@ -32,9 +17,9 @@ pub hex-unit-spec : {M : Type 1} → statement M
 hex-unit-spec =
     tie.close
     (tie.spec
-    hexed-requires
-    hexed-requires-2
-    hexed-requires-3
-    hexed-requires-4
-    units-of-requires
+    (λ hexed-requires κs. search needs)
+    (λ hexed-requires-2 κs. search needs)
+    (λ hexed-requires-3 κs. search needs)
+    (λ hexed-requires-4 κs. search needs)
+    (λ units-of-requires κs. search needs)
     returns)

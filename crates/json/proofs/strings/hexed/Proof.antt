@@ -12,18 +12,6 @@ use borrow.Author.Needs.{needs}
 use Rattle.json.proofs.strings.hexed.Statement.{statement}
 use Rattle.json.proofs.strings.hexed.Tie as tie
 
-enum-told : tie.Need-enum-told
-enum-told c = search needs
-
-enum-known-s : tie.Need-enum-known-s
-enum-known-s c = search needs
-
-byte-requires : tie.Need-byte-requires
-byte-requires c κs = search needs
-
-hex-of-requires : tie.Need-hex-of-requires
-hex-of-requires c κs = search needs
-
 mul-t10 : tie.Need-mul-t10
 mul-t10 c = let k : codeOf (c .before .before .before .before .before .before .before .args .s) ≡ c .before .before .before .before .s .given .0 .0 = ap codeOf (c .before .before .before .before .s .given .1) in omega (arith, c .before .before .before .before .before .before .before .pre)
 
@@ -38,8 +26,9 @@ returns c = (hexed-bad (c .before .before .before .args .text .now) _ (c .enum-t
 
 returns-2 : tie.Need-returns-2
 returns-2 c =
-    let k : codeOf (c .before .before .before .before .before .before .before .args .s) ≡ c .before .before .before .before .s .given .0 .0 = ap codeOf (c .before .before .before .before .s .given .1) in
-    (hexed-yes (c .before .before .before .before .before .before .before .args .text .now) _ _ _ (c .before .before .before .before .s .given .1) _ (c .before .hex-of .ensures ∙ ap hexOf (c .before .before .byte .ensures)) (c .if1 .taken), omega arith)
+    let s = c .before .before .before .before in
+    let k : codeOf (c .before .before .before .before .before .before .before .args .s) ≡ s .s .given .0 .0 = ap codeOf (s .s .given .1) in
+    (hexed-yes (c .before .before .before .before .before .before .before .args .text .now) _ _ _ (s .s .given .1) _ (c .before .hex-of .ensures ∙ ap hexOf (c .before .before .byte .ensures)) (c .if1 .taken), omega arith)
 
 returns-3 : tie.Need-returns-3
 returns-3 c =
@@ -49,10 +38,10 @@ pub hexed-spec : {M : Type 1} → statement M
 hexed-spec =
     tie.close
     (tie.spec
-    enum-told
-    enum-known-s
-    byte-requires
-    hex-of-requires
+    (λ enum-told. search needs)
+    (λ enum-known-s. search needs)
+    (λ byte-requires κs. search needs)
+    (λ hex-of-requires κs. search needs)
     mul-t10
     add-t11
     add-t12

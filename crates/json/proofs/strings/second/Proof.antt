@@ -13,32 +13,22 @@ use borrow.Author.Needs.{needs}
 use Rattle.json.proofs.strings.second.Statement.{statement}
 use Rattle.json.proofs.strings.second.Tie as tie
 
-byte-requires : tie.Need-byte-requires
-byte-requires c κs = search needs
-
-low-requires : tie.Need-low-requires
-low-requires c κs = search needs
-
-high-requires : tie.Need-high-requires
-high-requires c κs = search needs
-
-sub-t7 : tie.Need-sub-t7
-sub-t7 c = search needs
-
 add-t8 : tie.Need-add-t8
-add-t8 c = let h : c .before .before .before .before .args .at < length (c .before .before .before .before .args .text .now) = there (c .before .before .before .before .args .text .now) (c .before .before .before .before .args .at) (c .before .before .byte .ensures) (omega (arith, c .before .before .byte .ensures, c .before .before .before .before .pre)) in omega arith
-
-continued-requires : tie.Need-continued-requires
-continued-requires c κs = search needs
+add-t8 c =
+    let s = c .before .before .before .before in
+    let a = s .args in
+    let h : a .at < length (a .text .now) = there (a .text .now) (a .at) (c .before .before .byte .ensures) (omega (arith, c .before .before .byte .ensures, s .pre)) in omega arith
 
 returns : tie.Need-returns
-returns c = (
-  c .continued .ensures .0
-      ∙ second-read (c .before .before .before .before .before .args .text .now) (c .before .before .before .before .before .args .at) _ _ _ _ (c .before .before .before .byte .ensures) (c .before .before .low .ensures .0) (c .before .high .ensures .0),
-  omega (arith, c .before .before .before .byte .ensures, c .before .before .before .before .before .pre, c .continued .ensures .1),
-)
+returns c =
+    let s = c .before .before .before .before .before in
+    let a = s .args in (
+      c .continued .ensures .0
+          ∙ second-read (a .text .now) (a .at) _ _ _ _ (c .before .before .before .byte .ensures) (c .before .before .low .ensures .0) (c .before .high .ensures .0),
+      omega (arith, c .before .before .before .byte .ensures, s .pre, c .continued .ensures .1),
+    )
 
 pub second-spec : {M : Type 1} → statement M
 second-spec =
     tie.close
-    (tie.spec byte-requires low-requires high-requires sub-t7 add-t8 continued-requires returns)
+    (tie.spec (λ byte-requires κs. search needs) (λ low-requires κs. search needs) (λ high-requires κs. search needs) (λ sub-t7. search needs) add-t8 (λ continued-requires κs. search needs) returns)

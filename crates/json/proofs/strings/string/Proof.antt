@@ -22,15 +22,9 @@ loop-holds c = refl
 character-requires : tie.Need-character-requires Inv-loop μ-loop
 character-requires c κs = tt
 
-enum-told : tie.Need-enum-told Inv-loop μ-loop
-enum-told c = search needs
-
 returns : tie.Need-returns Inv-loop μ-loop
 returns c =
     sym (c .before .before .before .loop .inv ∙ after-fails character character-narrow (drop (c .before .before .before .loop .p) (c .before .before .before .before .before .args .text .now)) (sym (c .before .before .character .ensures) ∙ ap (read (c .before .before .before .before .before .args .text .now)) (c .enum-told .given .1)))
-
-enum-known-q : tie.Need-enum-known-q Inv-loop μ-loop
-enum-known-q c = search needs
 
 loop-less : tie.Need-loop-less Inv-loop μ-loop
 loop-less c = character-narrow (drop (c .before .before .before .before .loop .p) (c .before .before .before .before .before .before .args .text .now)) _ _ (sym (c .before .before .before .character .ensures) ∙ ap (read (c .before .before .before .before .before .before .args .text .now)) (c .before .q .given .1))
@@ -39,18 +33,12 @@ loop-again : tie.Need-loop-again Inv-loop μ-loop
 loop-again c =
     c .before .before .before .before .loop .inv ∙ after-goes character character-narrow (drop (c .before .before .before .before .loop .p) (c .before .before .before .before .before .before .args .text .now)) _ _ (sym (c .before .before .before .character .ensures) ∙ ap (read (c .before .before .before .before .before .before .args .text .now)) (c .before .q .given .1))
 
-enum-known-q-2 : tie.Need-enum-known-q-2 Inv-loop μ-loop
-enum-known-q-2 c = search needs
-
 loop-less-2 : tie.Need-loop-less-2 Inv-loop μ-loop
 loop-less-2 c = character-narrow (drop (c .before .before .before .before .loop .p) (c .before .before .before .before .before .before .args .text .now)) _ _ (sym (c .before .before .before .character .ensures) ∙ ap (read (c .before .before .before .before .before .before .args .text .now)) (c .before .q2 .given .1))
 
 loop-again-2 : tie.Need-loop-again-2 Inv-loop μ-loop
 loop-again-2 c =
     c .before .before .before .before .loop .inv ∙ after-goes character character-narrow (drop (c .before .before .before .before .loop .p) (c .before .before .before .before .before .before .args .text .now)) _ _ (sym (c .before .before .before .character .ensures) ∙ ap (read (c .before .before .before .before .before .before .args .text .now)) (c .before .q2 .given .1))
-
-enum-known-q-3 : tie.Need-enum-known-q-3 Inv-loop μ-loop
-enum-known-q-3 c = search needs
 
 returns-2 : tie.Need-returns-2 Inv-loop μ-loop
 returns-2 c =
@@ -64,13 +52,13 @@ string-spec =
     μ-loop
     loop-holds
     character-requires
-    enum-told
+    (λ enum-told. search needs)
     returns
-    enum-known-q
+    (λ enum-known-q. search needs)
     loop-less
     loop-again
-    enum-known-q-2
+    (λ enum-known-q-2. search needs)
     loop-less-2
     loop-again-2
-    enum-known-q-3
+    (λ enum-known-q-3. search needs)
     returns-2)

@@ -5,18 +5,6 @@ use borrow.Author.Needs.{needs}
 use Rattle.json.proofs.strings.units_of.Statement.{statement}
 use Rattle.json.proofs.strings.units_of.Tie as tie
 
-enum-told : tie.Need-enum-told
-enum-told c = search needs
-
-enum-known-s : tie.Need-enum-known-s
-enum-known-s c = search needs
-
-add-t9 : tie.Need-add-t9
-add-t9 c = search needs
-
-add-t11 : tie.Need-add-t11
-add-t11 c = search needs
-
 returns : tie.Need-returns
 returns c = λ text. pointed-bad text _ (c .enum-told .given .1)
 
@@ -28,4 +16,4 @@ returns-3 c = λ text. units-two text _ _ _ (c .before .before .s .given .1) (c 
 
 pub units-of-spec : {M : Type 1} → statement M
 units-of-spec =
-    tie.close (tie.spec enum-told enum-known-s add-t9 add-t11 returns returns-2 returns-3)
+    tie.close (tie.spec (λ enum-told. search needs) (λ enum-known-s. search needs) (λ add-t9. search needs) (λ add-t11. search needs) returns returns-2 returns-3)

@@ -28,15 +28,9 @@ returns c =
 unit-requires : tie.Need-unit-requires Inv-loop μ-loop
 unit-requires c κs = tt
 
-enum-told : tie.Need-enum-told Inv-loop μ-loop
-enum-told c = search needs
-
 returns-2 : tie.Need-returns-2 Inv-loop μ-loop
 returns-2 c =
     sym (c .before .before .before .before .before .loop .inv ∙ contains-none _ _ (c .before .before .unit .ensures ∙ ap (uncons (c .before .before .before .before .before .before .before .before .args .text .now)) (c .enum-told .given .1)) (sym (c .before .before .before .before .matches .ensures) ∙ c .before .before .before .if1 .left))
-
-enum-known-q : tie.Need-enum-known-q Inv-loop μ-loop
-enum-known-q c = search needs
 
 loop-less : tie.Need-loop-less Inv-loop μ-loop
 loop-less c = shorter (c .before .before .before .unit .ensures ∙ ap (uncons (c .before .before .before .before .before .before .before .before .before .args .text .now)) (c .before .q .given .1))
@@ -55,8 +49,8 @@ contains-spec =
     matches-requires
     returns
     unit-requires
-    enum-told
+    (λ enum-told. search needs)
     returns-2
-    enum-known-q
+    (λ enum-known-q. search needs)
     loop-less
     loop-again)

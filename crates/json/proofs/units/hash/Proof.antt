@@ -24,9 +24,6 @@ loop-holds c = (refl, omega arith)
 unit-requires : tie.Need-unit-requires Inv-loop μ-loop
 unit-requires c κs = tt
 
-enum-known-u : tie.Need-enum-known-u Inv-loop μ-loop
-enum-known-u c = search needs
-
 mul-n : tie.Need-mul-n Inv-loop μ-loop
 mul-n c = omega (arith, c .before .before .before .before .loop .inv .1)
 
@@ -43,9 +40,6 @@ loop-again : tie.Need-loop-again Inv-loop μ-loop
 loop-again c =
     (c .before .before .before .before .loop .inv .0 ∙ spread-next _ _ (c .before .before .before .unit .ensures ∙ ap (uncons (c .before .before .before .before .before .before .args .text .now)) (c .before .u .given .1)), omega arith)
 
-enum-told : tie.Need-enum-told Inv-loop μ-loop
-enum-told c = search needs
-
 returns : tie.Need-returns Inv-loop μ-loop
 returns c =
     (sym (c .before .before .before .loop .inv .0 ∙ spread-end _ _ (c .before .before .unit .ensures ∙ ap (uncons (c .before .before .before .before .before .args .text .now)) (c .enum-told .given .1))), c .before .before .before .loop .inv .1)
@@ -58,11 +52,11 @@ hash-spec =
     μ-loop
     loop-holds
     unit-requires
-    enum-known-u
+    (λ enum-known-u. search needs)
     mul-n
     cast-n
     add-n
     loop-less
     loop-again
-    enum-told
+    (λ enum-told. search needs)
     returns)

@@ -25,15 +25,9 @@ loop-holds c = refl
 unit-requires : tie.Need-unit-requires Inv-loop μ-loop
 unit-requires c κs = tt
 
-enum-told : tie.Need-enum-told Inv-loop μ-loop
-enum-told c = search needs
-
 returns : tie.Need-returns Inv-loop μ-loop
 returns c =
     sym (c .before .before .before .before .loop .inv ∙ units-over _ _ _ (drop-at (c .before .before .before .before .before .before .before .args .word .now) (c .before .before .before .before .loop .i) (omega (arith, c .before .before .before .loop-test .taken))) (c .before .before .unit .ensures ∙ ap (uncons (c .before .before .before .before .before .before .before .args .text .now)) (c .enum-told .given .1)))
-
-enum-known-u : tie.Need-enum-known-u Inv-loop μ-loop
-enum-known-u c = search needs
 
 shared-slice-read-if1 : tie.Need-shared-slice-read-if1 Inv-loop μ-loop
 shared-slice-read-if1 c = omega arith
@@ -62,12 +56,6 @@ returns-3 c =
 unit-requires-2 : tie.Need-unit-requires-2 Inv-loop μ-loop
 unit-requires-2 c κs = tt
 
-enum-told-2 : tie.Need-enum-told-2 Inv-loop μ-loop
-enum-told-2 c = search needs
-
-enum-told-3 : tie.Need-enum-told-3 Inv-loop μ-loop
-enum-told-3 c = search needs
-
 returns-4 : tie.Need-returns-4 Inv-loop μ-loop
 returns-4 c =
     sym (c .before .before .before .before .before .loop .inv ∙ word-over _ _ _ (drop-of-length-le (c .before .before .before .before .before .before .before .before .args .word .now) (c .before .before .before .before .loop-test .left)) (c .before .before .unit2 .ensures ∙ ap (uncons (c .before .before .before .before .before .before .before .before .args .text .now)) (c .enum-told2 .given .1)))
@@ -84,9 +72,9 @@ matches-spec =
     μ-loop
     loop-holds
     unit-requires
-    enum-told
+    (λ enum-told. search needs)
     returns
-    enum-known-u
+    (λ enum-known-u. search needs)
     shared-slice-read-if1
     cast-if1
     returns-2
@@ -95,7 +83,7 @@ matches-spec =
     loop-again
     returns-3
     unit-requires-2
-    enum-told-2
-    enum-told-3
+    (λ enum-told-2. search needs)
+    (λ enum-told-3. search needs)
     returns-4
     returns-5)

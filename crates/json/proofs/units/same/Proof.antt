@@ -23,17 +23,8 @@ loop-holds c = refl
 unit-requires : tie.Need-unit-requires Inv-loop μ-loop
 unit-requires c κs = tt
 
-enum-known-u : tie.Need-enum-known-u Inv-loop μ-loop
-enum-known-u c = search needs
-
 unit-requires-2 : tie.Need-unit-requires-2 Inv-loop μ-loop
 unit-requires-2 c κs = tt
-
-enum-known-v : tie.Need-enum-known-v Inv-loop μ-loop
-enum-known-v c = search needs
-
-enum-told : tie.Need-enum-told Inv-loop μ-loop
-enum-told c = search needs
 
 returns : tie.Need-returns Inv-loop μ-loop
 returns c =
@@ -50,17 +41,8 @@ loop-again : tie.Need-loop-again Inv-loop μ-loop
 loop-again c =
     c .before .before .before .before .before .before .before .before .before .loop .inv ∙ next-unit _ _ _ (c .before .before .before .before .before .before .before .before .unit .ensures ∙ ap (uncons (c .before .before .before .before .before .before .before .before .before .before .before .args .text .now)) (c .before .before .before .before .before .before .u .given .1)) (c .before .before .before .before .unit2 .ensures ∙ ap (uncons (c .before .before .before .before .before .before .before .before .before .before .before .args .text .now)) (c .before .before .v .given .1)) (c .if1 .left)
 
-enum-told-2 : tie.Need-enum-told-2 Inv-loop μ-loop
-enum-told-2 c = search needs
-
 unit-requires-3 : tie.Need-unit-requires-3 Inv-loop μ-loop
 unit-requires-3 c κs = tt
-
-enum-told-3 : tie.Need-enum-told-3 Inv-loop μ-loop
-enum-told-3 c = search needs
-
-enum-told-4 : tie.Need-enum-told-4 Inv-loop μ-loop
-enum-told-4 c = search needs
 
 returns-3 : tie.Need-returns-3 Inv-loop μ-loop
 returns-3 c =
@@ -78,17 +60,17 @@ same-spec =
     μ-loop
     loop-holds
     unit-requires
-    enum-known-u
+    (λ enum-known-u. search needs)
     unit-requires-2
-    enum-known-v
-    enum-told
+    (λ enum-known-v. search needs)
+    (λ enum-told. search needs)
     returns
     returns-2
     loop-less
     loop-again
-    enum-told-2
+    (λ enum-told-2. search needs)
     unit-requires-3
-    enum-told-3
-    enum-told-4
+    (λ enum-told-3. search needs)
+    (λ enum-told-4. search needs)
     returns-3
     returns-4)

@@ -15,47 +15,40 @@ use Rattle.json.proofs.units.unit.Tie as tie
 returns : tie.Need-returns
 returns c = ap (λ (b : Bool). held b (c .before .before .args .low) (drop (c .before .before .args .at) (c .before .before .args .text .now))) (c .if1 .taken)
 
-character-requires : tie.Need-character-requires
-character-requires c κs = search needs
-
-enum-told : tie.Need-enum-told
-enum-told c = search needs
-
-enum-known-u : tie.Need-enum-known-u
-enum-known-u c = search needs
-
-enum-known-u-2 : tie.Need-enum-known-u-2
-enum-known-u-2 c = search needs
-
-enum-told-2 : tie.Need-enum-told-2
-enum-told-2 c = search needs
-
 returns-2 : tie.Need-returns-2
 returns-2 c =
-    (ap (λ (b : Bool). held b (c .before .before .before .before .before .args .low) (drop (c .before .before .before .before .before .args .at) (c .before .before .before .before .before .args .text .now))) (c .before .before .before .if1 .left)) ∙ units-fails character character-narrow (drop (c .before .before .before .before .before .args .at) (c .before .before .before .before .before .args .text .now)) (sym (c .before .before .character .ensures) ∙ ap (read (c .before .before .before .before .before .args .text .now)) (c .enum-told .given .1))
+    let s = c .before .before .before .before .before in
+    let a = s .args in
+    (ap (λ (b : Bool). held b (a .low) (drop (a .at) (a .text .now))) (c .before .before .before .if1 .left)) ∙ units-fails character character-narrow (drop (a .at) (a .text .now)) (sym (c .before .before .character .ensures) ∙ ap (read (a .text .now)) (c .enum-told .given .1))
 
 returns-3 : tie.Need-returns-3
 returns-3 c =
-    (ap (λ (b : Bool). held b (c .before .before .before .before .before .before .args .low) (drop (c .before .before .before .before .before .before .args .at) (c .before .before .before .before .before .before .args .text .now))) (c .before .before .before .before .if1 .left)) ∙ units-goes character character-narrow (drop (c .before .before .before .before .before .before .args .at) (c .before .before .before .before .before .before .args .text .now)) _ _ (sym (c .before .before .before .character .ensures) ∙ ap (read (c .before .before .before .before .before .before .args .text .now)) (c .before .u .given .1))
+    let s = c .before .before .before .before .before .before in
+    let a = s .args in
+    (ap (λ (b : Bool). held b (a .low) (drop (a .at) (a .text .now))) (c .before .before .before .before .if1 .left)) ∙ units-goes character character-narrow (drop (a .at) (a .text .now)) _ _ (sym (c .before .before .before .character .ensures) ∙ ap (read (a .text .now)) (c .before .u .given .1))
 
 returns-4 : tie.Need-returns-4
 returns-4 c =
-    (ap (λ (b : Bool). held b (c .before .before .before .before .before .before .args .low) (drop (c .before .before .before .before .before .before .args .at) (c .before .before .before .before .before .before .args .text .now))) (c .before .before .before .before .if1 .left)) ∙ units-goes character character-narrow (drop (c .before .before .before .before .before .before .args .at) (c .before .before .before .before .before .before .args .text .now)) _ _ (sym (c .before .before .before .character .ensures) ∙ ap (read (c .before .before .before .before .before .before .args .text .now)) (c .before .u2 .given .1))
+    let s = c .before .before .before .before .before .before in
+    let a = s .args in
+    (ap (λ (b : Bool). held b (a .low) (drop (a .at) (a .text .now))) (c .before .before .before .before .if1 .left)) ∙ units-goes character character-narrow (drop (a .at) (a .text .now)) _ _ (sym (c .before .before .before .character .ensures) ∙ ap (read (a .text .now)) (c .before .u2 .given .1))
 
 returns-5 : tie.Need-returns-5
 returns-5 c =
-    (ap (λ (b : Bool). held b (c .before .before .before .before .before .args .low) (drop (c .before .before .before .before .before .args .at) (c .before .before .before .before .before .args .text .now))) (c .before .before .before .if1 .left)) ∙ units-ends character character-narrow (drop (c .before .before .before .before .before .args .at) (c .before .before .before .before .before .args .text .now)) _ (sym (c .before .before .character .ensures) ∙ ap (read (c .before .before .before .before .before .args .text .now)) (c .enum-told2 .given .1))
+    let s = c .before .before .before .before .before in
+    let a = s .args in
+    (ap (λ (b : Bool). held b (a .low) (drop (a .at) (a .text .now))) (c .before .before .before .if1 .left)) ∙ units-ends character character-narrow (drop (a .at) (a .text .now)) _ (sym (c .before .before .character .ensures) ∙ ap (read (a .text .now)) (c .enum-told2 .given .1))
 
 pub unit-spec : {M : Type 1} → statement M
 unit-spec =
     tie.close
     (tie.spec
     returns
-    character-requires
-    enum-told
-    enum-known-u
-    enum-known-u-2
-    enum-told-2
+    (λ character-requires κs. search needs)
+    (λ enum-told. search needs)
+    (λ enum-known-u. search needs)
+    (λ enum-known-u-2. search needs)
+    (λ enum-told-2. search needs)
     returns-2
     returns-3
     returns-4

@@ -8,15 +8,6 @@ use borrow.Author.Needs.{needs}
 use Rattle.json.proofs.values.first.Statement.{statement}
 use Rattle.json.proofs.values.first.Tie as tie
 
-space-requires : tie.Need-space-requires
-space-requires c κs = search needs
-
-byte-requires : tie.Need-byte-requires
-byte-requires c κs = search needs
-
-closing-requires : tie.Need-closing-requires
-closing-requires c κs = search needs
-
 returns : tie.Need-returns
 returns c =
     sym (first-none _ _ (is (c .before .before .byte .ensures ∙ ap head (c .before .before .before .space .ensures)) (c .if1 .taken ∙ c .before .closing .ensures .0)))
@@ -28,4 +19,4 @@ returns-2 c =
     ∙ ap rest (sym (c .before .before .before .space .ensures)))
 
 pub first-spec : {M : Type 1} → statement M
-first-spec = tie.close (tie.spec space-requires byte-requires closing-requires returns returns-2)
+first-spec = tie.close (tie.spec (λ space-requires κs. search needs) (λ byte-requires κs. search needs) (λ closing-requires κs. search needs) returns returns-2)

@@ -8,40 +8,29 @@ use borrow.Author.Needs.{needs}
 use Rattle.json.proofs.values.is_text.Statement.{statement}
 use Rattle.json.proofs.values.is_text.Tie as tie
 
-space-requires : tie.Need-space-requires
-space-requires c κs = search needs
-
-value-requires : tie.Need-value-requires
-value-requires c κs = search needs
-
-enum-told : tie.Need-enum-told
-enum-told c = search needs
-
-enum-known-p : tie.Need-enum-known-p
-enum-known-p c = search needs
-
-space-requires-2 : tie.Need-space-requires-2
-space-requires-2 c κs = search needs
-
 returns : tie.Need-returns
 returns c =
-    sym (text-none _ (c .before .before .before .before .before .args .nest) (ap (value (c .before .before .before .before .before .args .nest)) (sym (c .before .before .before .space .ensures)) ∙ sym (c .before .before .value .ensures) ∙ ap (ended (c .before .before .before .before .before .args .text .now)) (c .enum-told .given .1)))
+    let s = c .before .before .before .before .before in
+    let a = s .args in
+    sym (text-none _ (a .nest) (ap (value (a .nest)) (sym (c .before .before .before .space .ensures)) ∙ sym (c .before .before .value .ensures) ∙ ap (ended (a .text .now)) (c .enum-told .given .1)))
 
 returns-2 : tie.Need-returns-2
 returns-2 c =
+    let s = c .before .before .before .before .before .before .before in
+    let a = s .args in
     sym
-    (text-ends _ (c .before .before .before .before .before .before .before .args .nest) _ (ap (value (c .before .before .before .before .before .before .before .args .nest)) (sym (c .before .before .before .before .before .space .ensures)) ∙ sym (c .before .before .before .before .value .ensures) ∙ ap (ended (c .before .before .before .before .before .before .before .args .text .now)) (c .before .before .p .given .1))
+    (text-ends _ (a .nest) _ (ap (value (a .nest)) (sym (c .before .before .before .before .before .space .ensures)) ∙ sym (c .before .before .before .before .value .ensures) ∙ ap (ended (a .text .now)) (c .before .before .p .given .1))
     ∙ ap over (sym (c .space2 .ensures))
-    ∙ over-at (c .before .before .before .before .before .before .before .args .text .now) (c .space2 .result))
+    ∙ over-at (a .text .now) (c .space2 .result))
 
 pub is-text-spec : {M : Type 1} → statement M
 is-text-spec =
     tie.close
     (tie.spec
-    space-requires
-    value-requires
-    enum-told
-    enum-known-p
-    space-requires-2
+    (λ space-requires κs. search needs)
+    (λ value-requires κs. search needs)
+    (λ enum-told. search needs)
+    (λ enum-known-p. search needs)
+    (λ space-requires-2 κs. search needs)
     returns
     returns-2)

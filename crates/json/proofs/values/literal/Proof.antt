@@ -30,11 +30,13 @@ cast-if1 c = omega (arith, c .shared-slice-known3 .given (c .before .before .bef
 
 returns : tie.Need-returns Inv-loop μ-loop
 returns c =
-    sym (c .before .before .before .before .loop .inv ∙ literal-stops (c .before .before .before .before .before .before .before .args .word .now) (c .before .before .before .before .before .before .before .args .text .now) (c .before .before .before .before .loop .i) (c .before .before .before .before .loop .p) (omega (arith, c .before .before .before .loop-test .taken)) _ (c .before .before .byte .ensures) (c .if1 .taken))
+    let s = c .before .before .before .before in
+    sym (s .loop .inv ∙ literal-stops (c .before .before .before .before .before .before .before .args .word .now) (c .before .before .before .before .before .before .before .args .text .now) (s .loop .i) (s .loop .p) (omega (arith, c .before .before .before .loop-test .taken)) _ (c .before .before .byte .ensures) (c .if1 .taken))
 
 add-p : tie.Need-add-p Inv-loop μ-loop
 add-p c =
-    let h : c .before .before .before .before .loop .p < length (c .before .before .before .before .before .before .before .args .text .now) = there (c .before .before .before .before .before .before .before .args .text .now) (c .before .before .before .before .loop .p) (c .before .before .byte .ensures) (omega (arith, c .before .shared-slice-known3 .given (c .before .before .before .before .loop .i))) in omega arith
+    let s = c .before .before .before .before in
+    let h : s .loop .p < length (c .before .before .before .before .before .before .before .args .text .now) = there (c .before .before .before .before .before .before .before .args .text .now) (s .loop .p) (c .before .before .byte .ensures) (omega (arith, c .before .shared-slice-known3 .given (s .loop .i))) in omega arith
 
 add-i : tie.Need-add-i Inv-loop μ-loop
 add-i c = omega arith
@@ -44,7 +46,8 @@ loop-less c = omega arith
 
 loop-again : tie.Need-loop-again Inv-loop μ-loop
 loop-again c =
-    c .before .before .before .before .loop .inv ∙ literal-goes (c .before .before .before .before .before .before .before .args .word .now) (c .before .before .before .before .before .before .before .args .text .now) (c .before .before .before .before .loop .i) (c .before .before .before .before .loop .p) (omega (arith, c .before .before .before .loop-test .taken)) _ (c .before .before .byte .ensures) (c .if1 .left)
+    let s = c .before .before .before .before in
+    s .loop .inv ∙ literal-goes (c .before .before .before .before .before .before .before .args .word .now) (c .before .before .before .before .before .before .before .args .text .now) (s .loop .i) (s .loop .p) (omega (arith, c .before .before .before .loop-test .taken)) _ (c .before .before .byte .ensures) (c .if1 .left)
 
 returns-2 : tie.Need-returns-2 Inv-loop μ-loop
 returns-2 c =

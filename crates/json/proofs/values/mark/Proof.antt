@@ -14,15 +14,11 @@ use borrow.Author.Needs.{needs}
 use Rattle.json.proofs.values.mark.Statement.{statement}
 use Rattle.json.proofs.values.mark.Tie as tie
 
-byte-requires : tie.Need-byte-requires
-byte-requires c κs = search needs
-
 add-space : tie.Need-add-space
 add-space c =
-    let h : c .before .before .before .args .at < length (c .before .before .before .args .text .now) = there (c .before .before .before .args .text .now) (c .before .before .before .args .at) (c .before .byte .ensures) (omega (arith, c .before .before .before .pre)) in omega arith
-
-space-requires : tie.Need-space-requires
-space-requires c κs = search needs
+    let s = c .before .before .before in
+    let a = s .args in
+    let h : a .at < length (a .text .now) = there (a .text .now) (a .at) (c .before .byte .ensures) (omega (arith, s .pre)) in omega arith
 
 returns : tie.Need-returns
 returns c =
@@ -33,4 +29,4 @@ returns-2 c =
     sym (mark-no _ _ (is-not (c .before .byte .ensures) (c .if1 .left)))
 
 pub mark-spec : {M : Type 1} → statement M
-mark-spec = tie.close (tie.spec byte-requires add-space space-requires returns returns-2)
+mark-spec = tie.close (tie.spec (λ byte-requires κs. search needs) add-space (λ space-requires κs. search needs) returns returns-2)

@@ -20,40 +20,28 @@ use Rattle.json.proofs.values.name.Tie as tie
 returns : tie.Need-returns
 returns c = sym (name-element _ _ (not-true _ (c .if1 .taken)))
 
-byte-requires : tie.Need-byte-requires
-byte-requires c κs = search needs
-
 returns-2 : tie.Need-returns-2
 returns-2 c =
     sym (name-none _ _ (not-false _ (c .before .before .if1 .left)) (is-not (c .before .byte .ensures) (c .if2 .taken)))
 
 add-string : tie.Need-add-string
 add-string c =
-    let h : c .before .before .before .before .args .at < length (c .before .before .before .before .args .text .now) = there (c .before .before .before .before .args .text .now) (c .before .before .before .before .args .at) (c .before .byte .ensures) (omega arith) in omega arith
-
-string-requires : tie.Need-string-requires
-string-requires c κs = search needs
-
-enum-known-p : tie.Need-enum-known-p
-enum-known-p c = search needs
-
-enum-told : tie.Need-enum-told
-enum-told c = search needs
+    let s = c .before .before .before .before in
+    let a = s .args in
+    let h : a .at < length (a .text .now) = there (a .text .now) (a .at) (c .before .byte .ensures) (omega arith) in omega arith
 
 returns-3 : tie.Need-returns-3
 returns-3 c =
-    sym (name-half _ _ (not-false _ (c .before .before .before .before .before .if1 .left)) (is (c .before .before .before .before .byte .ensures) (c .before .before .before .if2 .left)) (ap string (tail-drop (c .before .before .before .before .before .before .before .args .text .now) (c .before .before .before .before .before .before .before .args .at)) ∙ sym (c .before .before .string .ensures) ∙ ap (ended (c .before .before .before .before .before .before .before .args .text .now)) (c .enum-told .given .1)))
-
-space-requires : tie.Need-space-requires
-space-requires c κs = search needs
-
-mark-requires : tie.Need-mark-requires
-mark-requires c κs = search needs
+    let s = c .before .before .before .before .before .before .before in
+    let a = s .args in
+    sym (name-half _ _ (not-false _ (c .before .before .before .before .before .if1 .left)) (is (c .before .before .before .before .byte .ensures) (c .before .before .before .if2 .left)) (ap string (tail-drop (a .text .now) (a .at)) ∙ sym (c .before .before .string .ensures) ∙ ap (ended (a .text .now)) (c .enum-told .given .1)))
 
 returns-4 : tie.Need-returns-4
 returns-4 c =
+    let s = c .before .before .before .before .before .before .before .before .before .before in
+    let a = s .args in
     sym
-    (name-whole _ _ (not-false _ (c .before .before .before .before .before .before .before .before .if1 .left)) (is (c .before .before .before .before .before .before .before .byte .ensures) (c .before .before .before .before .before .before .if2 .left)) _ (ap string (tail-drop (c .before .before .before .before .before .before .before .before .before .before .args .text .now) (c .before .before .before .before .before .before .before .before .before .before .args .at)) ∙ sym (c .before .before .before .before .before .string .ensures) ∙ ap (ended (c .before .before .before .before .before .before .before .before .before .before .args .text .now)) (c .before .before .before .p .given .1))
+    (name-whole _ _ (not-false _ (c .before .before .before .before .before .before .before .before .if1 .left)) (is (c .before .before .before .before .before .before .before .byte .ensures) (c .before .before .before .before .before .before .if2 .left)) _ (ap string (tail-drop (a .text .now) (a .at)) ∙ sym (c .before .before .before .before .before .string .ensures) ∙ ap (ended (a .text .now)) (c .before .before .before .p .given .1))
     ∙ ap (mark 0x3a) (sym (c .before .space .ensures)) ∙ sym (c .mark .ensures))
 
 pub name-spec : {M : Type 1} → statement M
@@ -61,13 +49,13 @@ name-spec =
     tie.close
     (tie.spec
     returns
-    byte-requires
+    (λ byte-requires κs. search needs)
     returns-2
     add-string
-    string-requires
-    enum-known-p
-    enum-told
+    (λ string-requires κs. search needs)
+    (λ enum-known-p. search needs)
+    (λ enum-told. search needs)
     returns-3
-    space-requires
-    mark-requires
+    (λ space-requires κs. search needs)
+    (λ mark-requires κs. search needs)
     returns-4)

@@ -14,26 +14,21 @@ use borrow.Author.Needs.{needs}
 use Rattle.json.proofs.values.separated.Statement.{statement}
 use Rattle.json.proofs.values.separated.Tie as tie
 
-byte-requires : tie.Need-byte-requires
-byte-requires c κs = search needs
-
 add-space : tie.Need-add-space
 add-space c =
-    let h : c .before .before .before .args .at < length (c .before .before .before .args .text .now) = there (c .before .before .before .args .text .now) (c .before .before .before .args .at) (c .before .byte .ensures) (omega arith) in omega arith
-
-space-requires : tie.Need-space-requires
-space-requires c κs = search needs
+    let s = c .before .before .before in
+    let a = s .args in
+    let h : a .at < length (a .text .now) = there (a .text .now) (a .at) (c .before .byte .ensures) (omega arith) in omega arith
 
 returns : tie.Need-returns
 returns c =
     sym (separated-comma _ _ (is (c .before .before .byte .ensures) (c .before .if1 .taken)) ∙ ap (goes []) (ap space (tail-drop (c .before .before .before .before .args .text .now) (c .before .before .before .before .args .at)) ∙ sym (c .space .ensures)))
 
-closing-requires : tie.Need-closing-requires
-closing-requires c κs = search needs
-
 add-t9 : tie.Need-add-t9
 add-t9 c =
-    let h : c .before .before .before .before .before .args .at < length (c .before .before .before .before .before .args .text .now) = there (c .before .before .before .before .before .args .text .now) (c .before .before .before .before .before .args .at) (c .before .before .before .byte .ensures) (omega (arith, c .before .closing .ensures .1)) in omega arith
+    let s = c .before .before .before .before .before in
+    let a = s .args in
+    let h : a .at < length (a .text .now) = there (a .text .now) (a .at) (c .before .before .before .byte .ensures) (omega (arith, c .before .closing .ensures .1)) in omega arith
 
 returns-2 : tie.Need-returns-2
 returns-2 c =
@@ -50,11 +45,11 @@ pub separated-spec : {M : Type 1} → statement M
 separated-spec =
     tie.close
     (tie.spec
-    byte-requires
+    (λ byte-requires κs. search needs)
     add-space
-    space-requires
+    (λ space-requires κs. search needs)
     returns
-    closing-requires
+    (λ closing-requires κs. search needs)
     add-t9
     returns-2
     returns-3)

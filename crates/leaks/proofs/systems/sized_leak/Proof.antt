@@ -10,18 +10,6 @@ use borrow.Author.Needs.{needs}
 use Rattle.leaks.proofs.systems.sized_leak.Statement.{statement}
 use Rattle.leaks.proofs.systems.sized_leak.Tie as tie
 
-tell-within-requires : tie.Need-tell-within-requires
-tell-within-requires c κs = search needs
-
-same-length : tie.Need-same-length
-same-length c = search needs
-
-same-length-2 : tie.Need-same-length-2
-same-length-2 c = search needs
-
-same-length-3 : tie.Need-same-length-3
-same-length-3 c = search needs
-
 returns : tie.Need-returns
 returns c =
     let s = c .before .before .before .before .before .before .before .before .before .before .before .before .before .before in
@@ -33,4 +21,4 @@ returns c =
 
 pub sized-leak-spec : {M : Type 1} → statement M
 sized-leak-spec =
-    tie.close (tie.spec tell-within-requires same-length same-length-2 same-length-3 returns)
+    tie.close (tie.spec (λ tell-within-requires κs. search needs) (λ same-length. search needs) (λ same-length-2. search needs) (λ same-length-3. search needs) returns)

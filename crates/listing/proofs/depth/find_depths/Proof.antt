@@ -37,21 +37,6 @@ array-read-d c =
           (no-wide-word (c .before .before .before .before .args .words .now) (c .before .before .before .before .pre .0) (l .i) (c .loop-test .taken)),
     )
 
-mul-w : tie.Need-mul-w Inv-loop μ-loop
-mul-w c = search needs
-
-shared-slice-read-w : tie.Need-shared-slice-read-w Inv-loop μ-loop
-shared-slice-read-w c = search needs
-
-slice-write-depths : tie.Need-slice-write-depths Inv-loop μ-loop
-slice-write-depths c = search needs
-
-slice-aggregate-push-left : tie.Need-slice-aggregate-push-left Inv-loop μ-loop
-slice-aggregate-push-left c = search needs
-
-add-push-left : tie.Need-add-push-left Inv-loop μ-loop
-add-push-left c = search needs
-
 push-left-requires : tie.Need-push-left-requires Inv-loop μ-loop
 push-left-requires c κs =
     let l = c .before .before .before .loop in
@@ -62,12 +47,6 @@ push-left-requires c κs =
       omega (arith, depth-inside ws (l .stack) (l .top) (l .i) (l .inv .5) t five),
       depth-low ws (l .stack) (l .top) (l .i) (l .inv .5) t five,
     )
-
-add-i : tie.Need-add-i Inv-loop μ-loop
-add-i c = search needs
-
-loop-less : tie.Need-loop-less Inv-loop μ-loop
-loop-less c = search needs
 
 loop-again : tie.Need-loop-again Inv-loop μ-loop
 loop-again c =
@@ -87,9 +66,6 @@ loop-again c =
       taken-more (l .depths) (Listing·depths ws) (l .i) _ (omega arith) (omega (arith, depths-length ws (s .pre .0))) d (l .inv .6),
     )
 
-same-length : tie.Need-same-length Inv-loop μ-loop
-same-length c = search needs
-
 returns : tie.Need-returns Inv-loop μ-loop
 returns c =
     let l = c .before .loop in
@@ -106,14 +82,14 @@ find-depths-spec =
     μ-loop
     loop-holds
     array-read-d
-    mul-w
-    shared-slice-read-w
-    slice-write-depths
-    slice-aggregate-push-left
-    add-push-left
+    (λ mul-w. search needs)
+    (λ shared-slice-read-w. search needs)
+    (λ slice-write-depths. search needs)
+    (λ slice-aggregate-push-left. search needs)
+    (λ add-push-left. search needs)
     push-left-requires
-    add-i
-    loop-less
+    (λ add-i. search needs)
+    (λ loop-less. search needs)
     loop-again
-    same-length
+    (λ same-length. search needs)
     returns)

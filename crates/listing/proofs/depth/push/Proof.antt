@@ -21,18 +21,6 @@ loop-holds c =
     let zero : c .args .count - c .args .count ≡ 0 = omega arith in
     (search needs, search needs, refl, rw zero)
 
-sub-at : tie.Need-sub-at Inv-loop μ-loop
-sub-at c = search needs
-
-slice-write-stack : tie.Need-slice-write-stack Inv-loop μ-loop
-slice-write-stack c = search needs
-
-sub-left : tie.Need-sub-left Inv-loop μ-loop
-sub-left c = search needs
-
-loop-less : tie.Need-loop-less Inv-loop μ-loop
-loop-less c = search needs
-
 loop-again : tie.Need-loop-again Inv-loop μ-loop
 loop-again c =
     let l = c .before .loop in
@@ -42,9 +30,6 @@ loop-again c =
       simp length-set (l .inv .2),
       pushed-more (l .stack) (drop (a .top) (a .stack .now)) (l .at) (a .d) (l .left) (a .count) (omega arith) (omega arith) (omega arith) (omega arith) (l .inv .3),
     )
-
-same-length : tie.Need-same-length Inv-loop μ-loop
-same-length c = search needs
 
 returns : tie.Need-returns Inv-loop μ-loop
 returns c =
@@ -59,10 +44,10 @@ push-spec =
     Inv-loop
     μ-loop
     loop-holds
-    sub-at
-    slice-write-stack
-    sub-left
-    loop-less
+    (λ sub-at. search needs)
+    (λ slice-write-stack. search needs)
+    (λ sub-left. search needs)
+    (λ loop-less. search needs)
     loop-again
-    same-length
+    (λ same-length. search needs)
     returns)

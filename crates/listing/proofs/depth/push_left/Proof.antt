@@ -13,24 +13,12 @@ use borrow.Author.Needs.{needs}
 use Rattle.listing.proofs.depth.push_left.Statement.{statement}
 use Rattle.listing.proofs.depth.push_left.Tie as tie
 
-kind-of-requires : tie.Need-kind-of-requires
-kind-of-requires c κs = search needs
-
-argument-of-requires : tie.Need-argument-of-requires
-argument-of-requires c κs = search needs
-
-cast-push : tie.Need-cast-push
-cast-push c = search needs
-
 push-requires : tie.Need-push-requires
 push-requires c κs =
     let s = c .before .before .before .before .before in
     let e = leaves-system (s .args .w) (s .args .d) (sym (c .before .before .before .kind-of .ensures) ∙ c .before .before .if1 .taken) in
     let size = ap length e in
     (omega (arith, size, length-replicate {A = ℕ} (argument (s .args .w)) 0, c .argument-of .ensures, s .pre .0), omega (arith, s .pre .1))
-
-same-length : tie.Need-same-length
-same-length c = search needs
 
 returns : tie.Need-returns
 returns c =
@@ -51,9 +39,6 @@ push-requires-3 c κs =
     let size = ap length (leaves-handler (s .args .w) (s .args .d) (sym (c .before .before .before .before .before .before .before .kind-of .ensures) ∙ c .before .before .before .before .before .if2 .taken)) in
     (omega (arith, size, s .pre .0, c .before .before .before .push2 .ensures .0), search needs)
 
-same-length-2 : tie.Need-same-length-2
-same-length-2 c = search needs
-
 returns-2 : tie.Need-returns-2
 returns-2 c =
     let s = c .before .before .before .before .before .before .before .before .before .before .before .before in
@@ -69,21 +54,12 @@ returns-3 c =
     let e = leaves-none (s .args .w) (s .args .d) (λ q. c .before .before .if1 .left (k ∙ q)) (λ q. c .before .if2 .left (k ∙ q)) (omega (arith, k)) in
     as-left _ _ e (add-zero _) refl
 
-arity-of-requires : tie.Need-arity-of-requires
-arity-of-requires c κs = search needs
-
-add-push : tie.Need-add-push
-add-push c = search needs
-
 push-requires-4 : tie.Need-push-requires-4
 push-requires-4 c κs =
     let s = c .before .before .before .before .before .before .before in
     let k = c .before .before .before .before .before .kind-of .ensures in
     let size = ap length (leaves-parts (s .args .w) (s .args .d) (omega (arith, k))) in
     (omega (arith, size, length-replicate {A = ℕ} (arity (s .args .w)) (suc (s .args .d)), c .arity-of .ensures, s .pre .0), omega (arith, s .pre .1))
-
-same-length-3 : tie.Need-same-length-3
-same-length-3 c = search needs
 
 returns-4 : tie.Need-returns-4
 returns-4 c =
@@ -97,19 +73,19 @@ pub push-left-spec : {M : Type 1} → statement M
 push-left-spec =
     tie.close
     (tie.spec
-    kind-of-requires
-    argument-of-requires
-    cast-push
+    (λ kind-of-requires κs. search needs)
+    (λ argument-of-requires κs. search needs)
+    (λ cast-push. search needs)
     push-requires
-    same-length
+    (λ same-length. search needs)
     returns
     push-requires-2
     push-requires-3
-    same-length-2
+    (λ same-length-2. search needs)
     returns-2
     returns-3
-    arity-of-requires
-    add-push
+    (λ arity-of-requires κs. search needs)
+    (λ add-push. search needs)
     push-requires-4
-    same-length-3
+    (λ same-length-3. search needs)
     returns-4)

@@ -22,9 +22,6 @@ loop-holds : tie.Need-loop-holds Inv-loop μ-loop
 loop-holds c =
     (search needs, refl)
 
-shared-slice-read-b : tie.Need-shared-slice-read-b Inv-loop μ-loop
-shared-slice-read-b c = search needs
-
 returns : tie.Need-returns Inv-loop μ-loop
 returns c =
     let l = c .before .before .before .loop in
@@ -37,20 +34,11 @@ mul-v c =
     let a = c .before .before .before .before .before .args in
     record { fits = omega (arith, l .inv .0, c .before .before .before .before .before .pre, mul-le-mul-left {m = a .base} {n = 16} (l .v) (c .before .before .before .before .before .pre)) }
 
-digit-requires : tie.Need-digit-requires Inv-loop μ-loop
-digit-requires c κs = search needs
-
 add-v : tie.Need-add-v Inv-loop μ-loop
 add-v c =
     let l = c .before .before .before .before .loop in
     let a = c .before .before .before .before .before .before .args in
     record { fits = omega (arith, l .inv .0, c .digit .ensures .1, mul-le-mul-left {m = a .base} {n = 16} (l .v) (c .before .before .before .before .before .before .pre)) }
-
-add-i : tie.Need-add-i Inv-loop μ-loop
-add-i c = search needs
-
-loop-less : tie.Need-loop-less Inv-loop μ-loop
-loop-less c = search needs
 
 loop-again : tie.Need-loop-again Inv-loop μ-loop
 loop-again c =
@@ -75,12 +63,12 @@ folded-spec =
     Inv-loop
     μ-loop
     loop-holds
-    shared-slice-read-b
+    (λ shared-slice-read-b. search needs)
     returns
     mul-v
-    digit-requires
+    (λ digit-requires κs. search needs)
     add-v
-    add-i
-    loop-less
+    (λ add-i. search needs)
+    (λ loop-less. search needs)
     loop-again
     returns-2)

@@ -10,21 +10,6 @@ use borrow.Author.Needs.{needs}
 use Rattle.listing.proofs.guess.guessed_argument.Statement.{statement}
 use Rattle.listing.proofs.guess.guessed_argument.Tie as tie
 
-add-folded : tie.Need-add-folded
-add-folded c = search needs
-
-folded-requires : tie.Need-folded-requires
-folded-requires c κs = search needs
-
-add-folded-2 : tie.Need-add-folded-2
-add-folded-2 c = search needs
-
-folded-requires-2 : tie.Need-folded-requires-2
-folded-requires-2 c κs = search needs
-
-signed-argument-requires : tie.Need-signed-argument-requires
-signed-argument-requires c κs = search needs
-
 returns : tie.Need-returns
 unfolding styleLetter guessedArgument
 returns c =
@@ -53,11 +38,11 @@ pub guessed-argument-spec : {M : Type 1} → statement M
 guessed-argument-spec =
     tie.close
     (tie.spec
-    add-folded
-    folded-requires
-    add-folded-2
-    folded-requires-2
-    signed-argument-requires
+    (λ add-folded. search needs)
+    (λ folded-requires κs. search needs)
+    (λ add-folded-2. search needs)
+    (λ folded-requires-2 κs. search needs)
+    (λ signed-argument-requires κs. search needs)
     returns
     returns-2
     returns-3

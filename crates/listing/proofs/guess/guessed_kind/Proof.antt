@@ -22,20 +22,11 @@ loop-holds : tie.Need-loop-holds Inv-loop μ-loop
 loop-holds c =
     (search needs, kind-start _)
 
-has-keyword-requires : tie.Need-has-keyword-requires Inv-loop μ-loop
-has-keyword-requires c κs = search needs
-
 returns : tie.Need-returns Inv-loop μ-loop
 returns c =
     let l = c .before .before .before .loop in
     let a = c .before .before .before .before .before .before .args in
     (sym (l .inv .1 ∙ kind-found (l .k) (a .l .now) (omega arith) (sym (c .before .has-keyword .ensures) ∙ c .if1 .taken)), omega arith)
-
-add-k : tie.Need-add-k Inv-loop μ-loop
-add-k c = search needs
-
-loop-less : tie.Need-loop-less Inv-loop μ-loop
-loop-less c = search needs
 
 loop-again : tie.Need-loop-again Inv-loop μ-loop
 loop-again c =
@@ -56,9 +47,9 @@ guessed-kind-spec =
     Inv-loop
     μ-loop
     loop-holds
-    has-keyword-requires
+    (λ has-keyword-requires κs. search needs)
     returns
-    add-k
-    loop-less
+    (λ add-k. search needs)
+    (λ loop-less. search needs)
     loop-again
     returns-2)

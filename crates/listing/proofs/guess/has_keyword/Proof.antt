@@ -11,37 +11,19 @@ use borrow.Author.Needs.{needs}
 use Rattle.listing.proofs.guess.has_keyword.Statement.{statement}
 use Rattle.listing.proofs.guess.has_keyword.Tie as tie
 
-keyword-size-requires : tie.Need-keyword-size-requires
-keyword-size-requires c κs = search needs
-
 returns : tie.Need-returns
 returns c =
     let a = c .before .before .before .before .args in
     unused-no (a .k) (a .l .now) (sym (c .before .keyword-size .ensures) ∙ c .if1 .taken)
 
-mul-from : tie.Need-mul-from
-mul-from c = search needs
-
-add-from : tie.Need-add-from
-add-from c = search needs
-
 add-to : tie.Need-add-to
 add-to c =
     omega (arith, c .before .keyword-size .ensures, keyword-short (c .before .before .before .before .args .k))
-
-sub-starts-with : tie.Need-sub-starts-with
-sub-starts-with c = search needs
-
-part-starts-with-start : tie.Need-part-starts-with-start
-part-starts-with-start c = search needs
 
 part-starts-with-end : tie.Need-part-starts-with-end
 part-starts-with-end c =
     let s = c .before .before .before .before in
     omega (arith, c .before .keyword-size .ensures, keyword-short (s .args .k), ap length (s .pre .0) ∙ letters-length)
-
-starts-with-requires : tie.Need-starts-with-requires
-starts-with-requires c κs = search needs
 
 returns-2 : tie.Need-returns-2
 returns-2 c =
@@ -55,13 +37,13 @@ pub has-keyword-spec : {M : Type 1} → statement M
 has-keyword-spec =
     tie.close
     (tie.spec
-    keyword-size-requires
+    (λ keyword-size-requires κs. search needs)
     returns
-    mul-from
-    add-from
+    (λ mul-from. search needs)
+    (λ add-from. search needs)
     add-to
-    sub-starts-with
-    part-starts-with-start
+    (λ sub-starts-with. search needs)
+    (λ part-starts-with-start. search needs)
     part-starts-with-end
-    starts-with-requires
+    (λ starts-with-requires κs. search needs)
     returns-2)

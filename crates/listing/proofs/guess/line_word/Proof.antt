@@ -40,48 +40,18 @@ found c =
     let text = line-taken (c .before .before .before .spell .ensures .0) ∙ ap spelled (word g) in
     ap (λ (x : List ℕ). prefix x (line g)) (sym text) ∙ sym (c .starts-with .ensures)
 
-guessed-kind-requires : tie.Need-guessed-kind-requires
-guessed-kind-requires c κs = search needs
-
 returns : tie.Need-returns
 returns c =
     spells-none (c .before .before .before .before .args .l .now) _ (c .before .guessed-kind .ensures .0) (c .if1 .taken)
-
-keyword-size-requires : tie.Need-keyword-size-requires
-keyword-size-requires c κs = search needs
-
-style-at-requires : tie.Need-style-at-requires
-style-at-requires c κs = search needs
-
-cast-w : tie.Need-cast-w
-cast-w c = search needs
-
-mul-w : tie.Need-mul-w
-mul-w c = search needs
 
 guessed-argument-requires : tie.Need-guessed-argument-requires
 guessed-argument-requires c κs =
     omega (arith, c .before .keyword-size .ensures, keyword-short (c .before .before .before .guessed-kind .result))
 
-add-w : tie.Need-add-w
-add-w c = search needs
-
-spell-requires : tie.Need-spell-requires
-spell-requires c κs = search needs
-
 returns-2 : tie.Need-returns-2
 returns-2 c =
     let g = c .before .before .before in
     spells-longer (line g) (kind g) (guess g) (some g) (λ e. c .if2 .taken (c .before .spell .ensures .0 .ends ∙ ap (λ (w : ℕ). length (spelled w)) (word g) ∙ e))
-
-array-share-prefix-line : tie.Need-array-share-prefix-line
-array-share-prefix-line c = search needs
-
-slice-aggregate-starts-with : tie.Need-slice-aggregate-starts-with
-slice-aggregate-starts-with c = search needs
-
-starts-with-requires : tie.Need-starts-with-requires
-starts-with-requires c κs = search needs
 
 returns-3 : tie.Need-returns-3
 returns-3 c =
@@ -97,18 +67,18 @@ pub line-word-spec : {M : Type 1} → statement M
 line-word-spec =
     tie.close
     (tie.spec
-    guessed-kind-requires
+    (λ guessed-kind-requires κs. search needs)
     returns
-    keyword-size-requires
-    style-at-requires
-    cast-w
-    mul-w
+    (λ keyword-size-requires κs. search needs)
+    (λ style-at-requires κs. search needs)
+    (λ cast-w. search needs)
+    (λ mul-w. search needs)
     guessed-argument-requires
-    add-w
-    spell-requires
+    (λ add-w. search needs)
+    (λ spell-requires κs. search needs)
     returns-2
-    array-share-prefix-line
-    slice-aggregate-starts-with
-    starts-with-requires
+    (λ array-share-prefix-line. search needs)
+    (λ slice-aggregate-starts-with. search needs)
+    (λ starts-with-requires κs. search needs)
     returns-3
     returns-4)

@@ -12,28 +12,10 @@ use borrow.Author.Needs.{needs}
 use Rattle.listing.proofs.guess.signed_argument.Statement.{statement}
 use Rattle.listing.proofs.guess.signed_argument.Tie as tie
 
-add-first : tie.Need-add-first
-add-first c = search needs
-
-shared-slice-read-if2 : tie.Need-shared-slice-read-if2
-shared-slice-read-if2 c = search needs
-
-add-folded : tie.Need-add-folded
-add-folded c = search needs
-
-folded-requires : tie.Need-folded-requires
-folded-requires c κs = search needs
-
-sub-result : tie.Need-sub-result
-sub-result c = search needs
-
 returns : tie.Need-returns
 returns c =
     let a = c .before .before .before .before .before .args in
     (ap (λ (n : ℕ). (2 ^ 24 - n) % 2 ^ 24) (c .folded .ensures .0) ∙ argument-minus (a .l .now) (a .at) (c .before .if2 .taken), mod-lt _ (omega arith))
-
-folded-requires-2 : tie.Need-folded-requires-2
-folded-requires-2 c κs = search needs
 
 returns-2 : tie.Need-returns-2
 returns-2 c =
@@ -45,11 +27,11 @@ pub signed-argument-spec : {M : Type 1} → statement M
 signed-argument-spec =
     tie.close
     (tie.spec
-    add-first
-    shared-slice-read-if2
-    add-folded
-    folded-requires
-    sub-result
+    (λ add-first. search needs)
+    (λ shared-slice-read-if2. search needs)
+    (λ add-folded. search needs)
+    (λ folded-requires κs. search needs)
+    (λ sub-result. search needs)
     returns
-    folded-requires-2
+    (λ folded-requires-2 κs. search needs)
     returns-2)

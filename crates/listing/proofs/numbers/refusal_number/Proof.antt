@@ -5,21 +5,6 @@ use borrow.Author.Needs.{needs}
 use Rattle.listing.proofs.numbers.refusal_number.Statement.{statement}
 use Rattle.listing.proofs.numbers.refusal_number.Tie as tie
 
-enum-known-r : tie.Need-enum-known-r
-enum-known-r c = search needs
-
-refusal-number-requires : tie.Need-refusal-number-requires
-refusal-number-requires c κs = search needs
-
-enum-told : tie.Need-enum-told
-enum-told c = search needs
-
-enum-told-2 : tie.Need-enum-told-2
-enum-told-2 c = search needs
-
-enum-told-3 : tie.Need-enum-told-3
-enum-told-3 c = search needs
-
 returns : tie.Need-returns
 unfolding number
 returns c =
@@ -44,11 +29,11 @@ pub refusal-number-spec : {M : Type 1} → statement M
 refusal-number-spec =
     tie.close
     (tie.spec
-    enum-known-r
-    refusal-number-requires
-    enum-told
-    enum-told-2
-    enum-told-3
+    (λ enum-known-r. search needs)
+    (λ refusal-number-requires κs. search needs)
+    (λ enum-told. search needs)
+    (λ enum-told-2. search needs)
+    (λ enum-told-3. search needs)
     returns
     returns-2
     returns-3

@@ -5,21 +5,6 @@ use borrow.Author.Needs.{needs}
 use Rattle.listing.proofs.numbers.refusal_place.Statement.{statement}
 use Rattle.listing.proofs.numbers.refusal_place.Tie as tie
 
-enum-known-r : tie.Need-enum-known-r
-enum-known-r c = search needs
-
-refusal-place-requires : tie.Need-refusal-place-requires
-refusal-place-requires c κs = search needs
-
-enum-known-r-2 : tie.Need-enum-known-r-2
-enum-known-r-2 c = search needs
-
-enum-told : tie.Need-enum-told
-enum-told c = search needs
-
-enum-told-2 : tie.Need-enum-told-2
-enum-told-2 c = search needs
-
 returns : tie.Need-returns
 unfolding place
 returns c =
@@ -44,11 +29,11 @@ pub refusal-place-spec : {M : Type 1} → statement M
 refusal-place-spec =
     tie.close
     (tie.spec
-    enum-known-r
-    refusal-place-requires
-    enum-known-r-2
-    enum-told
-    enum-told-2
+    (λ enum-known-r. search needs)
+    (λ refusal-place-requires κs. search needs)
+    (λ enum-known-r-2. search needs)
+    (λ enum-told. search needs)
+    (λ enum-told-2. search needs)
     returns
     returns-2
     returns-3

@@ -14,9 +14,6 @@ use borrow.Author.Needs.{needs}
 use Rattle.listing.proofs.read.finish.Statement.{statement}
 use Rattle.listing.proofs.read.finish.Tie as tie
 
-misspelled-requires : tie.Need-misspelled-requires
-misspelled-requires c κs = search needs
-
 returns : tie.Need-returns
 unfolding answered left number place
 returns c =
@@ -25,12 +22,6 @@ returns c =
     let m = c .before .misspelled in
     let e = left-bad text (s .args .n) (s .args .at) (s .args .words .now) (s .args .spaces .now) (s .pre .1 .0) (m .result) (m .ensures) in
     (sym (spelt-line (wordsOf text) (indents text) _ (m .result) e (c .if2 .taken)), refl)
-
-shared-slice-read-too-many : tie.Need-shared-slice-read-too-many
-shared-slice-read-too-many c = search needs
-
-too-many-requires : tie.Need-too-many-requires
-too-many-requires c κs = search needs
 
 returns-2 : tie.Need-returns-2
 unfolding answered left number place
@@ -56,12 +47,6 @@ slice-aggregate-place-2 c =
     let s = c .before .before .before .before .before .before .before .before in
     sym (length-take-le (s .args .n) (s .args .spaces .now) (omega (arith, s .pre .0 .2, s .pre .1 .1)))
 
-place-requires : tie.Need-place-requires
-place-requires c κs = search needs
-
-same-length : tie.Need-same-length
-same-length c = search needs
-
 returns-3 : tie.Need-returns-3
 returns-3 c =
     let s = c .before .before .before .before .before .before .before .before .before .before .before .before in
@@ -80,13 +65,13 @@ pub finish-spec : {M : Type 1} → statement M
 finish-spec =
     tie.close
     (tie.spec
-    misspelled-requires
+    (λ misspelled-requires κs. search needs)
     returns
-    shared-slice-read-too-many
-    too-many-requires
+    (λ shared-slice-read-too-many. search needs)
+    (λ too-many-requires κs. search needs)
     returns-2
     slice-aggregate-place
     slice-aggregate-place-2
-    place-requires
-    same-length
+    (λ place-requires κs. search needs)
+    (λ same-length. search needs)
     returns-3)

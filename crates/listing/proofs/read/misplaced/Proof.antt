@@ -27,35 +27,11 @@ returns c =
     let a = c .before .before .before .before .before .args in
     sym (l .inv .1 ∙ placed-short (a .depths .now) (a .spaces .now) (l .i) (omega arith) (c .if1 .taken))
 
-mul-if2 : tie.Need-mul-if2 Inv-loop μ-loop
-mul-if2 c = search needs
-
-shared-slice-read-if2 : tie.Need-shared-slice-read-if2 Inv-loop μ-loop
-shared-slice-read-if2 c = search needs
-
-shared-slice-read-wide : tie.Need-shared-slice-read-wide Inv-loop μ-loop
-shared-slice-read-wide c = search needs
-
-wide-requires : tie.Need-wide-requires Inv-loop μ-loop
-wide-requires c κs = search needs
-
-mul-if2-2 : tie.Need-mul-if2-2 Inv-loop μ-loop
-mul-if2-2 c = search needs
-
-add-result : tie.Need-add-result Inv-loop μ-loop
-add-result c = search needs
-
 returns-2 : tie.Need-returns-2 Inv-loop μ-loop
 returns-2 c =
     let l = c .before .before .before .before .before .before .loop in
     let a = c .before .before .before .before .before .before .before .before .before .args in
     sym (l .inv .1 ∙ placed-other (a .depths .now) (a .spaces .now) (l .i) (omega arith) (omega arith) (λ e. c .if2 .taken (e ∙ ap (λ (d : ℕ). 2 * d) (sym (c .before .wide .ensures .0)))))
-
-add-i : tie.Need-add-i Inv-loop μ-loop
-add-i c = search needs
-
-loop-less : tie.Need-loop-less Inv-loop μ-loop
-loop-less c = search needs
 
 loop-again : tie.Need-loop-again Inv-loop μ-loop
 loop-again c =
@@ -77,14 +53,14 @@ misplaced-spec =
     μ-loop
     loop-holds
     returns
-    mul-if2
-    shared-slice-read-if2
-    shared-slice-read-wide
-    wide-requires
-    mul-if2-2
-    add-result
+    (λ mul-if2. search needs)
+    (λ shared-slice-read-if2. search needs)
+    (λ shared-slice-read-wide. search needs)
+    (λ wide-requires κs. search needs)
+    (λ mul-if2-2. search needs)
+    (λ add-result. search needs)
     returns-2
-    add-i
-    loop-less
+    (λ add-i. search needs)
+    (λ loop-less. search needs)
     loop-again
     returns-3)

@@ -25,27 +25,6 @@ loop-holds : tie.Need-loop-holds Inv-loop μ-loop
 loop-holds c =
     (search needs, search needs, refl)
 
-line-end-requires : tie.Need-line-end-requires Inv-loop μ-loop
-line-end-requires c κs = search needs
-
-sub-l : tie.Need-sub-l Inv-loop μ-loop
-sub-l c = search needs
-
-part-l-start : tie.Need-part-l-start Inv-loop μ-loop
-part-l-start c = search needs
-
-part-l-end : tie.Need-part-l-end Inv-loop μ-loop
-part-l-end c = search needs
-
-indent-requires : tie.Need-indent-requires Inv-loop μ-loop
-indent-requires c κs = search needs
-
-add-n : tie.Need-add-n Inv-loop μ-loop
-add-n c = search needs
-
-word-in-requires : tie.Need-word-in-requires Inv-loop μ-loop
-word-in-requires c κs = search needs
-
 returns : tie.Need-returns Inv-loop μ-loop
 returns c =
     let l = c .before .before .before .before .before .before .loop in
@@ -81,13 +60,13 @@ misspelled-spec =
     Inv-loop
     μ-loop
     loop-holds
-    line-end-requires
-    sub-l
-    part-l-start
-    part-l-end
-    indent-requires
-    add-n
-    word-in-requires
+    (λ line-end-requires κs. search needs)
+    (λ sub-l. search needs)
+    (λ part-l-start. search needs)
+    (λ part-l-end. search needs)
+    (λ indent-requires κs. search needs)
+    (λ add-n. search needs)
+    (λ word-in-requires κs. search needs)
     returns
     loop-less
     loop-again

@@ -13,9 +13,6 @@ use borrow.Author.Needs.{needs}
 use Rattle.listing.proofs.read.place_accepted.Statement.{statement}
 use Rattle.listing.proofs.read.place_accepted.Tie as tie
 
-slice-aggregate-find-depths : tie.Need-slice-aggregate-find-depths
-slice-aggregate-find-depths c = search needs
-
 find-depths-requires : tie.Need-find-depths-requires
 find-depths-requires c κs =
     let s = c .before .before .before .before in
@@ -30,9 +27,6 @@ slice-aggregate-misplaced : tie.Need-slice-aggregate-misplaced
 slice-aggregate-misplaced c =
     let s = c .before .before .before .before .before .before .before in
     sym (length-take-le _ _ (omega (arith, narrow-size (s .args .words .now) (s .pre), c .before .before .find-depths .kept .1 .0)))
-
-misplaced-requires : tie.Need-misplaced-requires
-misplaced-requires c κs = search needs
 
 returns : tie.Need-returns
 unfolding answered left number place
@@ -50,12 +44,6 @@ returns-2 c =
     let d = ap (λ (ds : List ℕ). misplaced 1 ds (s .args .spaces .now)) (c .before .before .before .before .before .find-depths .ensures) in
     (sym (place-short (s .args .words .now) (s .args .spaces .now) _ (s .pre) (sym d ∙ sym (m .ensures) ∙ c .before .if1 .left) (c .if2 .taken)), refl)
 
-put-words-requires : tie.Need-put-words-requires
-put-words-requires c κs = search needs
-
-same-length : tie.Need-same-length
-same-length c = search needs
-
 returns-3 : tie.Need-returns-3
 unfolding answered left
 returns-3 c =
@@ -68,13 +56,13 @@ pub place-accepted-spec : {M : Type 1} → statement M
 place-accepted-spec =
     tie.close
     (tie.spec
-    slice-aggregate-find-depths
+    (λ slice-aggregate-find-depths. search needs)
     find-depths-requires
     array-share-prefix-depths
     slice-aggregate-misplaced
-    misplaced-requires
+    (λ misplaced-requires κs. search needs)
     returns
     returns-2
-    put-words-requires
-    same-length
+    (λ put-words-requires κs. search needs)
+    (λ same-length. search needs)
     returns-3)

@@ -23,34 +23,10 @@ returns c =
     let e = read-long (s .args .text .now) (length (s .args .out .now)) (c .if1 .taken) in
     (sym e, sym (ap (λ (a : Answered). left a (wordsOf (s .args .text .now)) (s .args .out .now)) e))
 
-slice-aggregate-decode : tie.Need-slice-aggregate-decode
-slice-aggregate-decode c = search needs
-
-slice-aggregate-decode-2 : tie.Need-slice-aggregate-decode-2
-slice-aggregate-decode-2 c = search needs
-
-slice-aggregate-decode-3 : tie.Need-slice-aggregate-decode-3
-slice-aggregate-decode-3 c = search needs
-
 decode-requires : tie.Need-decode-requires
 unfolding letters entries packedAll packed styleLetter
 decode-requires c κs =
     (refl, omega arith, omega arith)
-
-enum-known-n : tie.Need-enum-known-n
-enum-known-n c = search needs
-
-enum-known-n-2 : tie.Need-enum-known-n-2
-enum-known-n-2 c = search needs
-
-slice-aggregate-finish : tie.Need-slice-aggregate-finish
-slice-aggregate-finish c = search needs
-
-slice-aggregate-finish-2 : tie.Need-slice-aggregate-finish-2
-slice-aggregate-finish-2 c = search needs
-
-slice-aggregate-finish-3 : tie.Need-slice-aggregate-finish-3
-slice-aggregate-finish-3 c = search needs
 
 finish-requires : tie.Need-finish-requires
 unfolding letters entries packedAll packed styleLetter
@@ -69,9 +45,6 @@ returns-2 c =
     let e = read-spelt text (length (s .args .out .now)) (c .before .before .before .before .before .before .before .before .before .if1 .left) ∙ spelt-line (wordsOf text) (indents text) _ _ (known .0) (λ z. omega (arith, known .1)) in
     (sym e, sym (ap (λ (a : Answered). left a (wordsOf text) (s .args .out .now)) e))
 
-same-length : tie.Need-same-length
-same-length c = search needs
-
 returns-3 : tie.Need-returns-3
 returns-3 c =
     let s = c .before .before .before .before .before .before .before .before .before .before .before .before .before .before .before .before .before .before .before in
@@ -86,16 +59,16 @@ read-spec =
     tie.close
     (tie.spec
     returns
-    slice-aggregate-decode
-    slice-aggregate-decode-2
-    slice-aggregate-decode-3
+    (λ slice-aggregate-decode. search needs)
+    (λ slice-aggregate-decode-2. search needs)
+    (λ slice-aggregate-decode-3. search needs)
     decode-requires
-    enum-known-n
-    enum-known-n-2
-    slice-aggregate-finish
-    slice-aggregate-finish-2
-    slice-aggregate-finish-3
+    (λ enum-known-n. search needs)
+    (λ enum-known-n-2. search needs)
+    (λ slice-aggregate-finish. search needs)
+    (λ slice-aggregate-finish-2. search needs)
+    (λ slice-aggregate-finish-3. search needs)
     finish-requires
     returns-2
-    same-length
+    (λ same-length. search needs)
     returns-3)

@@ -7,9 +7,6 @@ use borrow.Author.Needs.{needs}
 use Rattle.listing.proofs.read.too_many.Statement.{statement}
 use Rattle.listing.proofs.read.too_many.Tie as tie
 
-kind-of-requires : tie.Need-kind-of-requires
-kind-of-requires c κs = search needs
-
 returns : tie.Need-returns
 unfolding number place
 returns c =
@@ -21,4 +18,4 @@ returns-2 c =
     λ ws h e. long-other ws h (λ q. c .if1 .left (c .before .kind-of .ensures ∙ sym (ap kind e) ∙ q))
 
 pub too-many-spec : {M : Type 1} → statement M
-too-many-spec = tie.close (tie.spec kind-of-requires returns returns-2)
+too-many-spec = tie.close (tie.spec (λ kind-of-requires κs. search needs) returns returns-2)

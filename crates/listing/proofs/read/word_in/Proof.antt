@@ -9,18 +9,6 @@ use borrow.Author.Needs.{needs}
 use Rattle.listing.proofs.read.word_in.Statement.{statement}
 use Rattle.listing.proofs.read.word_in.Tie as tie
 
-sub-line-word : tie.Need-sub-line-word
-sub-line-word c = search needs
-
-part-line-word-start : tie.Need-part-line-word-start
-part-line-word-start c = search needs
-
-part-line-word-end : tie.Need-part-line-word-end
-part-line-word-end c = search needs
-
-line-word-requires : tie.Need-line-word-requires
-line-word-requires c κs = search needs
-
 returns : tie.Need-returns
 unfolding wordIn
 returns c =
@@ -32,4 +20,4 @@ returns c =
 pub word-in-spec : {M : Type 1} → statement M
 word-in-spec =
     tie.close
-    (tie.spec sub-line-word part-line-word-start part-line-word-end line-word-requires returns)
+    (tie.spec (λ sub-line-word. search needs) (λ part-line-word-start. search needs) (λ part-line-word-end. search needs) (λ line-word-requires κs. search needs) returns)

@@ -9,29 +9,11 @@ use borrow.Author.Needs.{needs}
 use Rattle.listing.proofs.spell.argument_field.Statement.{statement}
 use Rattle.listing.proofs.spell.argument_field.Tie as tie
 
-slice-aggregate-set-field : tie.Need-slice-aggregate-set-field
-slice-aggregate-set-field c = search needs
-
-set-field-requires : tie.Need-set-field-requires
-set-field-requires c κs = search needs
-
-slice-aggregate-number-field : tie.Need-slice-aggregate-number-field
-slice-aggregate-number-field c = search needs
-
-number-field-requires : tie.Need-number-field-requires
-number-field-requires c κs = search needs
-
-signed-field-requires : tie.Need-signed-field-requires
-signed-field-requires c κs = search needs
-
 returns : tie.Need-returns
 unfolding spelledArgument styleLetter
 returns c =
     let a = c .before .before .args in
     (λ s e. reworded (ap (λ (t : Style). spelledArgument t (a .a)) (letter-injective omitted s (sym (c .match .keys1) ∙ e))) (wrote-nothing _ _ (omega arith)), omega arith)
-
-same-length : tie.Need-same-length
-same-length c = search needs
 
 returns-2 : tie.Need-returns-2
 unfolding spelledArgument styleLetter
@@ -39,17 +21,11 @@ returns-2 c =
     let a = c .before .before .before .before .before .before .before .args in
     (λ s e. reworded (ap (λ (t : Style). spelledArgument t (a .a)) (letter-injective hex s (sym (c .before .before .before .before .before .match .keys2) ∙ e))) (c .before .before .set-field .ensures .0), omega arith)
 
-same-length-2 : tie.Need-same-length-2
-same-length-2 c = search needs
-
 returns-3 : tie.Need-returns-3
 unfolding spelledArgument styleLetter
 returns-3 c =
     let a = c .before .before .before .before .before .before .before .args in
     (λ s e. reworded (ap (λ (t : Style). spelledArgument t (a .a)) (letter-injective whole s (sym (c .before .before .before .before .before .match .keys3) ∙ e))) (c .before .before .number-field .ensures .0), omega arith)
-
-same-length-3 : tie.Need-same-length-3
-same-length-3 c = search needs
 
 returns-4 : tie.Need-returns-4
 returns-4 c =
@@ -61,15 +37,15 @@ pub argument-field-spec : {M : Type 1} → statement M
 argument-field-spec =
     tie.close
     (tie.spec
-    slice-aggregate-set-field
-    set-field-requires
-    slice-aggregate-number-field
-    number-field-requires
-    signed-field-requires
+    (λ slice-aggregate-set-field. search needs)
+    (λ set-field-requires κs. search needs)
+    (λ slice-aggregate-number-field. search needs)
+    (λ number-field-requires κs. search needs)
+    (λ signed-field-requires κs. search needs)
     returns
-    same-length
+    (λ same-length. search needs)
     returns-2
-    same-length-2
+    (λ same-length-2. search needs)
     returns-3
-    same-length-3
+    (λ same-length-3. search needs)
     returns-4)

@@ -9,24 +9,9 @@ use borrow.Author.Needs.{needs}
 use Rattle.listing.proofs.spell.keyword_field.Statement.{statement}
 use Rattle.listing.proofs.spell.keyword_field.Tie as tie
 
-mul-from : tie.Need-mul-from
-mul-from c = search needs
-
-add-from : tie.Need-add-from
-add-from c = search needs
-
-keyword-size-requires : tie.Need-keyword-size-requires
-keyword-size-requires c κs = search needs
-
 add-to : tie.Need-add-to
 add-to c =
     omega (arith, c .keyword-size .ensures, keyword-short (c .before .before .before .args .k))
-
-sub-put : tie.Need-sub-put
-sub-put c = search needs
-
-part-put-start : tie.Need-part-put-start
-part-put-start c = search needs
 
 part-put-end : tie.Need-part-put-end
 part-put-end c =
@@ -36,9 +21,6 @@ put-requires : tie.Need-put-requires
 put-requires c κs =
     let s = c .before .before .before .before .before in
     omega (arith, ap length (keyword-part (s .args .k) _ _ (s .pre .1) (s .pre .0) (c .before .before .keyword-size .ensures)), keyword-short (s .args .k))
-
-same-length : tie.Need-same-length
-same-length c = search needs
 
 returns : tie.Need-returns
 returns c =
@@ -51,13 +33,13 @@ pub keyword-field-spec : {M : Type 1} → statement M
 keyword-field-spec =
     tie.close
     (tie.spec
-    mul-from
-    add-from
-    keyword-size-requires
+    (λ mul-from. search needs)
+    (λ add-from. search needs)
+    (λ keyword-size-requires κs. search needs)
     add-to
-    sub-put
-    part-put-start
+    (λ sub-put. search needs)
+    (λ part-put-start. search needs)
     part-put-end
     put-requires
-    same-length
+    (λ same-length. search needs)
     returns)

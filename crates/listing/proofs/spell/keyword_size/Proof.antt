@@ -9,9 +9,6 @@ use borrow.Author.Needs.{needs}
 use Rattle.listing.proofs.spell.keyword_size.Statement.{statement}
 use Rattle.listing.proofs.spell.keyword_size.Tie as tie
 
-mul-b : tie.Need-mul-b
-mul-b c = search needs
-
 shared-slice-read-b : tie.Need-shared-slice-read-b
 shared-slice-read-b c =
     omega (arith, ap length (c .before .pre .0) ∙ letters-length)
@@ -25,4 +22,4 @@ returns c =
     ap (λ (l : List ℕ). getD l (16 * c .before .args .k) 0) (c .before .pre .0) ∙ size-at (c .before .args .k) (c .before .pre .1)
 
 pub keyword-size-spec : {M : Type 1} → statement M
-keyword-size-spec = tie.close (tie.spec mul-b shared-slice-read-b cast-result returns)
+keyword-size-spec = tie.close (tie.spec (λ mul-b. search needs) shared-slice-read-b cast-result returns)

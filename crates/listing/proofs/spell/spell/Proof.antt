@@ -9,30 +9,6 @@ use borrow.Author.Needs.{needs}
 use Rattle.listing.proofs.spell.spell.Statement.{statement}
 use Rattle.listing.proofs.spell.spell.Tie as tie
 
-kind-of-requires : tie.Need-kind-of-requires
-kind-of-requires c κs = search needs
-
-cast-k : tie.Need-cast-k
-cast-k c = search needs
-
-keyword-field-requires : tie.Need-keyword-field-requires
-keyword-field-requires c κs = search needs
-
-style-at-requires : tie.Need-style-at-requires
-style-at-requires c κs = search needs
-
-argument-of-requires : tie.Need-argument-of-requires
-argument-of-requires c κs = search needs
-
-argument-field-requires : tie.Need-argument-field-requires
-argument-field-requires c κs = search needs
-
-slice-aggregate-put : tie.Need-slice-aggregate-put
-slice-aggregate-put c = search needs
-
-put-requires : tie.Need-put-requires
-put-requires c κs = search needs
-
 returns : tie.Need-returns
 unfolding spelled lineOf
 returns c =
@@ -46,12 +22,12 @@ pub spell-spec : {M : Type 1} → statement M
 spell-spec =
     tie.close
     (tie.spec
-    kind-of-requires
-    cast-k
-    keyword-field-requires
-    style-at-requires
-    argument-of-requires
-    argument-field-requires
-    slice-aggregate-put
-    put-requires
+    (λ kind-of-requires κs. search needs)
+    (λ cast-k. search needs)
+    (λ keyword-field-requires κs. search needs)
+    (λ style-at-requires κs. search needs)
+    (λ argument-of-requires κs. search needs)
+    (λ argument-field-requires κs. search needs)
+    (λ slice-aggregate-put. search needs)
+    (λ put-requires κs. search needs)
     returns)

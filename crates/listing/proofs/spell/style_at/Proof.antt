@@ -9,12 +9,6 @@ use borrow.Author.Needs.{needs}
 use Rattle.listing.proofs.spell.style_at.Statement.{statement}
 use Rattle.listing.proofs.spell.style_at.Tie as tie
 
-mul-result : tie.Need-mul-result
-mul-result c = search needs
-
-add-result : tie.Need-add-result
-add-result c = search needs
-
 shared-slice-read-result : tie.Need-shared-slice-read-result
 shared-slice-read-result c =
     omega (arith, ap length (c .before .pre .0) ∙ letters-length)
@@ -24,4 +18,4 @@ returns c =
     ap (λ (l : List ℕ). getD l (16 * c .before .args .k + 1) 0) (c .before .pre .0) ∙ style-at (c .before .args .k) (c .before .pre .1)
 
 pub style-at-spec : {M : Type 1} → statement M
-style-at-spec = tie.close (tie.spec mul-result add-result shared-slice-read-result returns)
+style-at-spec = tie.close (tie.spec (λ mul-result. search needs) (λ add-result. search needs) shared-slice-read-result returns)

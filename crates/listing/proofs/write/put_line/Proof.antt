@@ -11,25 +11,10 @@ use borrow.Author.Needs.{needs}
 use Rattle.listing.proofs.write.put_line.Statement.{statement}
 use Rattle.listing.proofs.write.put_line.Tie as tie
 
-spell-requires : tie.Need-spell-requires
-spell-requires c κs = search needs
-
-wide-requires : tie.Need-wide-requires
-wide-requires c κs = search needs
-
-mul-put-spaces : tie.Need-mul-put-spaces
-mul-put-spaces c = search needs
-
 put-spaces-requires : tie.Need-put-spaces-requires
 put-spaces-requires c κs =
     let s = c .before .before .before .before .before .before in
     omega (arith, s .pre .2, c .wide .ensures .0, indented-length (s .args .d) (s .args .w))
-
-array-share-prefix-line : tie.Need-array-share-prefix-line
-array-share-prefix-line c = search needs
-
-slice-aggregate-put : tie.Need-slice-aggregate-put
-slice-aggregate-put c = search needs
 
 put-requires : tie.Need-put-requires
 put-requires c κs =
@@ -37,9 +22,6 @@ put-requires c κs =
     let spaces = c .before .before .before .before in
     let line = c .before .before .before .before .before .before .before in
     omega (arith, s .pre .2, spaces .before .wide .ensures .0, indented-length (s .args .d) (s .args .w), spaces .put-spaces .ensures .ends, length-replicate (2 * spaces .before .wide .result) space, wrote-length (spaces .put-spaces .ensures), ap length (line-taken (line .spell .ensures .0)))
-
-same-length : tie.Need-same-length
-same-length c = search needs
 
 returns : tie.Need-returns
 returns c =
@@ -53,12 +35,12 @@ pub put-line-spec : {M : Type 1} → statement M
 put-line-spec =
     tie.close
     (tie.spec
-    spell-requires
-    wide-requires
-    mul-put-spaces
+    (λ spell-requires κs. search needs)
+    (λ wide-requires κs. search needs)
+    (λ mul-put-spaces. search needs)
     put-spaces-requires
-    array-share-prefix-line
-    slice-aggregate-put
+    (λ array-share-prefix-line. search needs)
+    (λ slice-aggregate-put. search needs)
     put-requires
-    same-length
+    (λ same-length. search needs)
     returns)

@@ -29,12 +29,6 @@ loop-holds c =
     let s = c .before .before .before .before in
     (search needs, refl, search needs, sym (rest-start (s .args .words .now) (s .pre .0 .1)), wrote-nothing _ _ (omega arith))
 
-mul-put-line : tie.Need-mul-put-line Inv-loop μ-loop
-mul-put-line c = search needs
-
-shared-slice-read-put-line : tie.Need-shared-slice-read-put-line Inv-loop μ-loop
-shared-slice-read-put-line c = search needs
-
 shared-slice-read-put-line-2 : tie.Need-shared-slice-read-put-line-2 Inv-loop μ-loop
 shared-slice-read-put-line-2 c =
     let s = c .before .before .before .before .before .before .before .before in
@@ -53,12 +47,6 @@ put-line-requires c κs =
       omega (arith, text-fits (listing ws) x y (l .at) (l .inv .3 ∙ here) (l .inv .2), s .pre .1 .1, l .inv .1),
     )
 
-add-i : tie.Need-add-i Inv-loop μ-loop
-add-i c = search needs
-
-loop-less : tie.Need-loop-less Inv-loop μ-loop
-loop-less c = search needs
-
 loop-again : tie.Need-loop-again Inv-loop μ-loop
 loop-again c =
     let s = c .before .before .before .before .before .before .before .before .before .before .before .before in
@@ -75,9 +63,6 @@ loop-again c =
       reworded (sym (ap (λ (n : ℕ). take n (listing ws)) (p .ends) ∙ text-take (listing ws) x y (l .at) e)) (then (l .inv .4) p),
     )
 
-same-length : tie.Need-same-length Inv-loop μ-loop
-same-length c = search needs
-
 returns : tie.Need-returns Inv-loop μ-loop
 returns c =
     let s = c .before .before .before .before .before .before in
@@ -93,12 +78,12 @@ put-lines-spec =
     Inv-loop
     μ-loop
     loop-holds
-    mul-put-line
-    shared-slice-read-put-line
+    (λ mul-put-line. search needs)
+    (λ shared-slice-read-put-line. search needs)
     shared-slice-read-put-line-2
     put-line-requires
-    add-i
-    loop-less
+    (λ add-i. search needs)
+    (λ loop-less. search needs)
     loop-again
-    same-length
+    (λ same-length. search needs)
     returns)

@@ -24,18 +24,6 @@ loop-holds : tie.Need-loop-holds Inv-loop μ-loop
 loop-holds c =
     (search needs, refl, rw add-zero (wrote-nothing _ _ (omega arith)))
 
-add-out : tie.Need-add-out Inv-loop μ-loop
-add-out c = search needs
-
-slice-write-out : tie.Need-slice-write-out Inv-loop μ-loop
-slice-write-out c = search needs
-
-add-i : tie.Need-add-i Inv-loop μ-loop
-add-i c = search needs
-
-loop-less : tie.Need-loop-less Inv-loop μ-loop
-loop-less c = search needs
-
 loop-again : tie.Need-loop-again Inv-loop μ-loop
 loop-again c =
     let l = c .before .loop in
@@ -44,12 +32,6 @@ loop-again c =
       search needs,
       rw (← add-assoc) (reworded (replicate-append-replicate (l .i) 1 space) (then (l .inv .2) (wrote-byte (l .out) (a .at + l .i) space (omega arith)))),
     )
-
-add-result : tie.Need-add-result Inv-loop μ-loop
-add-result c = search needs
-
-same-length : tie.Need-same-length Inv-loop μ-loop
-same-length c = search needs
 
 returns : tie.Need-returns Inv-loop μ-loop
 returns c =
@@ -63,11 +45,11 @@ put-spaces-spec =
     Inv-loop
     μ-loop
     loop-holds
-    add-out
-    slice-write-out
-    add-i
-    loop-less
+    (λ add-out. search needs)
+    (λ slice-write-out. search needs)
+    (λ add-i. search needs)
+    (λ loop-less. search needs)
     loop-again
-    add-result
-    same-length
+    (λ add-result. search needs)
+    (λ same-length. search needs)
     returns)

@@ -31,34 +31,10 @@ shared-slice-read-wide c =
     let s = c .before .before .before .before .before .before in
     omega (arith, depth-there (s .args .words .now) (s .pre .0 .1) (s .args .depths .now) (s .pre .1))
 
-wide-requires : tie.Need-wide-requires Inv-loop μ-loop
-wide-requires c κs = search needs
-
-mul-n : tie.Need-mul-n Inv-loop μ-loop
-mul-n c = search needs
-
-mul-spell : tie.Need-mul-spell Inv-loop μ-loop
-mul-spell c = search needs
-
-shared-slice-read-spell : tie.Need-shared-slice-read-spell Inv-loop μ-loop
-shared-slice-read-spell c = search needs
-
 spell-requires : tie.Need-spell-requires Inv-loop μ-loop
 spell-requires c κs =
     let s = c .before .before .before .before .before .before .before .before .before in
     (s .pre .0 .0, kind-small (s .args .words .now) (s .pre .0 .1) (c .before .before .before .before .before .loop .i) (omega arith))
-
-add-n : tie.Need-add-n Inv-loop μ-loop
-add-n c = search needs
-
-add-n-2 : tie.Need-add-n-2 Inv-loop μ-loop
-add-n-2 c = search needs
-
-add-i : tie.Need-add-i Inv-loop μ-loop
-add-i c = search needs
-
-loop-less : tie.Need-loop-less Inv-loop μ-loop
-loop-less c = search needs
 
 loop-again : tie.Need-loop-again Inv-loop μ-loop
 loop-again c =
@@ -86,14 +62,14 @@ text-size-spec =
     μ-loop
     loop-holds
     shared-slice-read-wide
-    wide-requires
-    mul-n
-    mul-spell
-    shared-slice-read-spell
+    (λ wide-requires κs. search needs)
+    (λ mul-n. search needs)
+    (λ mul-spell. search needs)
+    (λ shared-slice-read-spell. search needs)
     spell-requires
-    add-n
-    add-n-2
-    add-i
-    loop-less
+    (λ add-n. search needs)
+    (λ add-n-2. search needs)
+    (λ add-i. search needs)
+    (λ loop-less. search needs)
     loop-again
     returns)

@@ -12,12 +12,6 @@ use borrow.Author.Needs.{needs}
 use Rattle.listing.proofs.write.write.Statement.{statement}
 use Rattle.listing.proofs.write.write.Tie as tie
 
-read-narrow-requires : tie.Need-read-narrow-requires
-read-narrow-requires c κs = search needs
-
-enum-known-r : tie.Need-enum-known-r
-enum-known-r c = search needs
-
 returns : tie.Need-returns
 unfolding answered left number place outcome
 returns c =
@@ -26,16 +20,10 @@ returns c =
     let e = write-refused ws (length (s .args .out .now)) _ _ (sym (c .before .before .before .read-narrow .ensures) ∙ ap outcome (c .before .r .given .1)) in
     (sym e, sym (ap (λ (a : Answered). left a (listing ws) (s .args .out .now)) e))
 
-enum-told : tie.Need-enum-told
-enum-told c = search needs
-
 write-accepted-requires : tie.Need-write-accepted-requires
 unfolding outcome
 write-accepted-requires c κs =
     sym (c .before .before .before .read-narrow .ensures) ∙ ap outcome (c .before .enum-told .given .1)
-
-same-length : tie.Need-same-length
-same-length c = search needs
 
 returns-2 : tie.Need-returns-2
 returns-2 c =
@@ -47,10 +35,10 @@ pub write-spec : {M : Type 1} → statement M
 write-spec =
     tie.close
     (tie.spec
-    read-narrow-requires
-    enum-known-r
+    (λ read-narrow-requires κs. search needs)
+    (λ enum-known-r. search needs)
     returns
-    enum-told
+    (λ enum-told. search needs)
     write-accepted-requires
-    same-length
+    (λ same-length. search needs)
     returns-2)

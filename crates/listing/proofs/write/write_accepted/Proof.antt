@@ -13,19 +13,10 @@ use borrow.Author.Needs.{needs}
 use Rattle.listing.proofs.write.write_accepted.Statement.{statement}
 use Rattle.listing.proofs.write.write_accepted.Tie as tie
 
-slice-aggregate-find-depths : tie.Need-slice-aggregate-find-depths
-slice-aggregate-find-depths c = search needs
-
 find-depths-requires : tie.Need-find-depths-requires
 find-depths-requires c κs =
     let s = c .before .before .before in
     (s .pre, narrow-size (s .args .words .now) (s .pre))
-
-slice-aggregate-text-size : tie.Need-slice-aggregate-text-size
-slice-aggregate-text-size c = search needs
-
-slice-aggregate-text-size-2 : tie.Need-slice-aggregate-text-size-2
-slice-aggregate-text-size-2 c = search needs
 
 text-size-requires : tie.Need-text-size-requires
 unfolding letters entries packedAll packed styleLetter
@@ -46,20 +37,11 @@ returns-2 c =
     let size = c .before .before .text-size .ensures in
     (sym (write-short (s .args .words .now) _ (s .pre) (omega (arith, size)) (omega (arith, size))), refl)
 
-slice-aggregate-put-lines : tie.Need-slice-aggregate-put-lines
-slice-aggregate-put-lines c = search needs
-
-slice-aggregate-put-lines-2 : tie.Need-slice-aggregate-put-lines-2
-slice-aggregate-put-lines-2 c = search needs
-
 put-lines-requires : tie.Need-put-lines-requires
 unfolding letters entries packedAll packed styleLetter
 put-lines-requires c κs =
     let s = c .before .before .before .before .before .before .before .before .before .before .before .before .before in
     ((refl, s .pre), (c .before .before .before .before .before .before .before .before .before .find-depths .ensures, omega (arith, c .before .before .before .before .before .text-size .ensures)))
-
-same-length : tie.Need-same-length
-same-length c = search needs
 
 returns-3 : tie.Need-returns-3
 unfolding answered left
@@ -75,15 +57,15 @@ pub write-accepted-spec : {M : Type 1} → statement M
 write-accepted-spec =
     tie.close
     (tie.spec
-    slice-aggregate-find-depths
+    (λ slice-aggregate-find-depths. search needs)
     find-depths-requires
-    slice-aggregate-text-size
-    slice-aggregate-text-size-2
+    (λ slice-aggregate-text-size. search needs)
+    (λ slice-aggregate-text-size-2. search needs)
     text-size-requires
     returns
     returns-2
-    slice-aggregate-put-lines
-    slice-aggregate-put-lines-2
+    (λ slice-aggregate-put-lines. search needs)
+    (λ slice-aggregate-put-lines-2. search needs)
     put-lines-requires
-    same-length
+    (λ same-length. search needs)
     returns-3)

@@ -36,20 +36,17 @@ element-requires c κs = omega (arith, c .loop .inv .1, c .before .before .pre)
 item-requires : tie.Need-item-requires Inv-loop μ-loop
 item-requires c κs = tt
 
-enum-told : tie.Need-enum-told Inv-loop μ-loop
-enum-told c = search needs
-
 returns : tie.Need-returns Inv-loop μ-loop
-returns c = (
-  sym
-      (c .before .before .before .before .loop .inv .0
-      ∙ ap (λ (l : List (List ℕ)). counted (c .before .before .before .before .before .before .args .names) (c .before .before .before .before .before .before .args .hosts) l (countOf (c .before .before .before .before .loop .sum))) (starts-fails (item (value 14) false) (narrow 14 false) (drop (c .before .before .before .before .loop .p) (c .before .before .before .before .before .before .args .text .now)) (sym (c .before .before .item .ensures) ∙ ap (stepped (c .before .before .before .before .before .before .args .text .now)) (c .enum-told .given .1)))
-      ∙ counted-cons (c .before .before .before .before .before .before .args .names) (c .before .before .before .before .before .before .args .hosts) (drop (c .before .before .before .before .loop .p) (c .before .before .before .before .before .before .args .text .now)) _ (countOf (c .before .before .before .before .loop .sum)) ∙ counted-none (c .before .before .before .before .before .before .args .names) (c .before .before .before .before .before .before .args .hosts) _ ∙ sym (c .before .before .before .element .ensures .0)),
-  omega (arith, c .before .before .before .before .loop .inv .1, c .before .before .before .element .ensures .1),
-)
-
-enum-known-q : tie.Need-enum-known-q Inv-loop μ-loop
-enum-known-q c = search needs
+returns c =
+    let s = c .before .before .before .before .before .before in
+    let a = s .args in
+    let t = c .before .before .before .before in (
+      sym
+          (t .loop .inv .0
+          ∙ ap (λ (l : List (List ℕ)). counted (a .names) (a .hosts) l (countOf (t .loop .sum))) (starts-fails (item (value 14) false) (narrow 14 false) (drop (t .loop .p) (a .text .now)) (sym (c .before .before .item .ensures) ∙ ap (stepped (a .text .now)) (c .enum-told .given .1)))
+          ∙ counted-cons (a .names) (a .hosts) (drop (t .loop .p) (a .text .now)) _ (countOf (t .loop .sum)) ∙ counted-none (a .names) (a .hosts) _ ∙ sym (c .before .before .before .element .ensures .0)),
+      omega (arith, t .loop .inv .1, c .before .before .before .element .ensures .1),
+    )
 
 loop-less : tie.Need-loop-less Inv-loop μ-loop
 loop-less c =
@@ -57,25 +54,28 @@ loop-less c =
 
 loop-again : tie.Need-loop-again Inv-loop μ-loop
 loop-again c =
-    let l : length (drop (c .before .q .given .0 .0) (c .before .before .before .before .before .before .before .args .text .now)) < length (drop (c .before .before .before .before .before .loop .p) (c .before .before .before .before .before .before .before .args .text .now)) = narrow 14 false (drop (c .before .before .before .before .before .loop .p) (c .before .before .before .before .before .before .before .args .text .now)) _ _ (sym (c .before .before .before .item .ensures) ∙ ap (stepped (c .before .before .before .before .before .before .before .args .text .now)) (c .before .q .given .1)) in (
-      c .before .before .before .before .before .loop .inv .0
-          ∙ ap (λ (l : List (List ℕ)). counted (c .before .before .before .before .before .before .before .args .names) (c .before .before .before .before .before .before .before .args .hosts) l (countOf (c .before .before .before .before .before .loop .sum))) (starts-goes (item (value 14) false) (narrow 14 false) (drop (c .before .before .before .before .before .loop .p) (c .before .before .before .before .before .before .before .args .text .now)) _ _ (sym (c .before .before .before .item .ensures) ∙ ap (stepped (c .before .before .before .before .before .before .before .args .text .now)) (c .before .q .given .1)))
-          ∙ counted-cons (c .before .before .before .before .before .before .before .args .names) (c .before .before .before .before .before .before .before .args .hosts) (drop (c .before .before .before .before .before .loop .p) (c .before .before .before .before .before .before .before .args .text .now)) _ (countOf (c .before .before .before .before .before .loop .sum))
-          ∙ ap (counted (c .before .before .before .before .before .before .before .args .names) (c .before .before .before .before .before .before .before .args .hosts) (starts (item (value 14) false) (drop (c .before .q .given .0 .0) (c .before .before .before .before .before .before .before .args .text .now)))) (sym (c .before .before .before .before .element .ensures .0)),
-      omega (arith, c .before .before .before .before .before .loop .inv .1, c .before .before .before .before .element .ensures .1),
+    let s = c .before .before .before .before .before .before .before in
+    let a = s .args in
+    let t = c .before .before .before .before .before in
+    let l : length (drop (c .before .q .given .0 .0) (a .text .now)) < length (drop (t .loop .p) (a .text .now)) = narrow 14 false (drop (t .loop .p) (a .text .now)) _ _ (sym (c .before .before .before .item .ensures) ∙ ap (stepped (a .text .now)) (c .before .q .given .1)) in (
+      t .loop .inv .0
+          ∙ ap (λ (l : List (List ℕ)). counted (a .names) (a .hosts) l (countOf (t .loop .sum))) (starts-goes (item (value 14) false) (narrow 14 false) (drop (t .loop .p) (a .text .now)) _ _ (sym (c .before .before .before .item .ensures) ∙ ap (stepped (a .text .now)) (c .before .q .given .1)))
+          ∙ counted-cons (a .names) (a .hosts) (drop (t .loop .p) (a .text .now)) _ (countOf (t .loop .sum))
+          ∙ ap (counted (a .names) (a .hosts) (starts (item (value 14) false) (drop (c .before .q .given .0 .0) (a .text .now)))) (sym (c .before .before .before .before .element .ensures .0)),
+      omega (arith, t .loop .inv .1, c .before .before .before .before .element .ensures .1),
     )
 
-enum-told-2 : tie.Need-enum-told-2 Inv-loop μ-loop
-enum-told-2 c = search needs
-
 returns-2 : tie.Need-returns-2 Inv-loop μ-loop
-returns-2 c = (
-  sym
-      (c .before .before .before .before .loop .inv .0
-      ∙ ap (λ (l : List (List ℕ)). counted (c .before .before .before .before .before .before .args .names) (c .before .before .before .before .before .before .args .hosts) l (countOf (c .before .before .before .before .loop .sum))) (starts-ends (item (value 14) false) (narrow 14 false) (drop (c .before .before .before .before .loop .p) (c .before .before .before .before .before .before .args .text .now)) _ (sym (c .before .before .item .ensures) ∙ ap (stepped (c .before .before .before .before .before .before .args .text .now)) (c .enum-told2 .given .1)))
-      ∙ counted-cons (c .before .before .before .before .before .before .args .names) (c .before .before .before .before .before .before .args .hosts) (drop (c .before .before .before .before .loop .p) (c .before .before .before .before .before .before .args .text .now)) _ (countOf (c .before .before .before .before .loop .sum)) ∙ counted-none (c .before .before .before .before .before .before .args .names) (c .before .before .before .before .before .before .args .hosts) _ ∙ sym (c .before .before .before .element .ensures .0)),
-  omega (arith, c .before .before .before .before .loop .inv .1, c .before .before .before .element .ensures .1),
-)
+returns-2 c =
+    let s = c .before .before .before .before .before .before in
+    let a = s .args in
+    let t = c .before .before .before .before in (
+      sym
+          (t .loop .inv .0
+          ∙ ap (λ (l : List (List ℕ)). counted (a .names) (a .hosts) l (countOf (t .loop .sum))) (starts-ends (item (value 14) false) (narrow 14 false) (drop (t .loop .p) (a .text .now)) _ (sym (c .before .before .item .ensures) ∙ ap (stepped (a .text .now)) (c .enum-told2 .given .1)))
+          ∙ counted-cons (a .names) (a .hosts) (drop (t .loop .p) (a .text .now)) _ (countOf (t .loop .sum)) ∙ counted-none (a .names) (a .hosts) _ ∙ sym (c .before .before .before .element .ensures .0)),
+      omega (arith, t .loop .inv .1, c .before .before .before .element .ensures .1),
+    )
 
 pub elements-spec : {M : Type 1} → statement M
 elements-spec =
@@ -86,10 +86,10 @@ elements-spec =
     loop-holds
     element-requires
     item-requires
-    enum-told
+    (λ enum-told. search needs)
     returns
-    enum-known-q
+    (λ enum-known-q. search needs)
     loop-less
     loop-again
-    enum-told-2
+    (λ enum-told-2. search needs)
     returns-2)

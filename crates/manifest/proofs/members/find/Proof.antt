@@ -25,12 +25,6 @@ Inv-loop text key at p₀ p =
 abbrev μ-loop : tie.MeasureT-loop
 μ-loop text key at p₀ p = length (drop p text)
 
-enum-known-members : tie.Need-enum-known-members Inv-loop μ-loop
-enum-known-members c = search needs
-
-enum-told : tie.Need-enum-told Inv-loop μ-loop
-enum-told c = search needs
-
 returns : tie.Need-returns Inv-loop μ-loop
 returns c =
     sym (ap (find (c .before .before .before .before .args .key .now)) (starts-none 15 true (c .before .before .before .before .args .text .now) _ (c .enum-told .given .1)) ∙ find-none _)
@@ -49,20 +43,19 @@ name-requires c κs = tt
 
 returns-2 : tie.Need-returns-2 Inv-loop μ-loop
 returns-2 c =
-    sym (ap (find (c .before .before .before .before .before .before .before .before .before .before .args .key .now)) (starts-at 15 true (c .before .before .before .before .before .before .before .before .before .before .args .text .now) _ _ (c .before .before .before .before .before .before .members .given .1)) ∙ c .before .before .before .before .loop .inv ∙ find-here (item (value 15) true) _ (drop (c .before .before .before .before .loop .p) (c .before .before .before .before .before .before .before .before .before .before .args .text .now)) (ap (λ (bs : List ℕ). matches true (c .before .before .before .before .before .before .before .before .before .before .args .key .now) (units bs)) (sym (c .before .before .before .behind .ensures)) ∙ sym (c .before .before .spells .ensures) ∙ c .before .if1 .taken) ∙ sym (c .name .ensures))
+    let s = c .before .before .before .before .before .before .before .before .before .before in
+    let a = s .args in
+    sym (ap (find (a .key .now)) (starts-at 15 true (a .text .now) _ _ (c .before .before .before .before .before .before .members .given .1)) ∙ c .before .before .before .before .loop .inv ∙ find-here (item (value 15) true) _ (drop (c .before .before .before .before .loop .p) (a .text .now)) (ap (λ (bs : List ℕ). matches true (a .key .now) (units bs)) (sym (c .before .before .before .behind .ensures)) ∙ sym (c .before .before .spells .ensures) ∙ c .before .if1 .taken) ∙ sym (c .name .ensures))
 
 item-requires : tie.Need-item-requires Inv-loop μ-loop
 item-requires c κs = tt
 
-enum-told-2 : tie.Need-enum-told-2 Inv-loop μ-loop
-enum-told-2 c = search needs
-
 returns-3 : tie.Need-returns-3 Inv-loop μ-loop
 returns-3 c =
-    sym (ap (find (c .before .before .before .before .before .before .before .before .before .before .before .before .args .key .now)) (starts-at 15 true (c .before .before .before .before .before .before .before .before .before .before .before .before .args .text .now) _ _ (c .before .before .before .before .before .before .before .before .members .given .1)) ∙ c .before .before .before .before .before .before .loop .inv ∙ find-later (item (value 15) true) _ (drop (c .before .before .before .before .before .before .loop .p) (c .before .before .before .before .before .before .before .before .before .before .before .before .args .text .now)) [] (starts-fails (item (value 15) true) (narrow 15 true) (drop (c .before .before .before .before .before .before .loop .p) (c .before .before .before .before .before .before .before .before .before .before .before .before .args .text .now)) (sym (c .before .before .item .ensures) ∙ ap (stepped (c .before .before .before .before .before .before .before .before .before .before .before .before .args .text .now)) (c .enum-told2 .given .1))) (ap (λ (bs : List ℕ). matches true (c .before .before .before .before .before .before .before .before .before .before .before .before .args .key .now) (units bs)) (sym (c .before .before .before .before .before .behind .ensures)) ∙ sym (c .before .before .before .before .spells .ensures) ∙ c .before .before .before .if1 .left) ∙ find-none _)
-
-enum-known-q : tie.Need-enum-known-q Inv-loop μ-loop
-enum-known-q c = search needs
+    let s = c .before .before .before .before .before .before .before .before .before .before .before .before in
+    let a = s .args in
+    let t = c .before .before .before .before .before .before in
+    sym (ap (find (a .key .now)) (starts-at 15 true (a .text .now) _ _ (c .before .before .before .before .before .before .before .before .members .given .1)) ∙ t .loop .inv ∙ find-later (item (value 15) true) _ (drop (t .loop .p) (a .text .now)) [] (starts-fails (item (value 15) true) (narrow 15 true) (drop (t .loop .p) (a .text .now)) (sym (c .before .before .item .ensures) ∙ ap (stepped (a .text .now)) (c .enum-told2 .given .1))) (ap (λ (bs : List ℕ). matches true (a .key .now) (units bs)) (sym (c .before .before .before .before .before .behind .ensures)) ∙ sym (c .before .before .before .before .spells .ensures) ∙ c .before .before .before .if1 .left) ∙ find-none _)
 
 loop-less : tie.Need-loop-less Inv-loop μ-loop
 loop-less c =
@@ -70,14 +63,17 @@ loop-less c =
 
 loop-again : tie.Need-loop-again Inv-loop μ-loop
 loop-again c =
-    c .before .before .before .before .before .before .before .loop .inv ∙ find-later (item (value 15) true) _ (drop (c .before .before .before .before .before .before .before .loop .p) (c .before .before .before .before .before .before .before .before .before .before .before .before .before .args .text .now)) _ (starts-goes (item (value 15) true) (narrow 15 true) (drop (c .before .before .before .before .before .before .before .loop .p) (c .before .before .before .before .before .before .before .before .before .before .before .before .before .args .text .now)) _ _ (sym (c .before .before .before .item .ensures) ∙ ap (stepped (c .before .before .before .before .before .before .before .before .before .before .before .before .before .args .text .now)) (c .before .q .given .1))) (ap (λ (bs : List ℕ). matches true (c .before .before .before .before .before .before .before .before .before .before .before .before .before .args .key .now) (units bs)) (sym (c .before .before .before .before .before .before .behind .ensures)) ∙ sym (c .before .before .before .before .before .spells .ensures) ∙ c .before .before .before .before .if1 .left)
-
-enum-told-3 : tie.Need-enum-told-3 Inv-loop μ-loop
-enum-told-3 c = search needs
+    let s = c .before .before .before .before .before .before .before .before .before .before .before .before .before in
+    let a = s .args in
+    let t = c .before .before .before .before .before .before .before in
+    t .loop .inv ∙ find-later (item (value 15) true) _ (drop (t .loop .p) (a .text .now)) _ (starts-goes (item (value 15) true) (narrow 15 true) (drop (t .loop .p) (a .text .now)) _ _ (sym (c .before .before .before .item .ensures) ∙ ap (stepped (a .text .now)) (c .before .q .given .1))) (ap (λ (bs : List ℕ). matches true (a .key .now) (units bs)) (sym (c .before .before .before .before .before .before .behind .ensures)) ∙ sym (c .before .before .before .before .before .spells .ensures) ∙ c .before .before .before .before .if1 .left)
 
 returns-4 : tie.Need-returns-4 Inv-loop μ-loop
 returns-4 c =
-    sym (ap (find (c .before .before .before .before .before .before .before .before .before .before .before .before .args .key .now)) (starts-at 15 true (c .before .before .before .before .before .before .before .before .before .before .before .before .args .text .now) _ _ (c .before .before .before .before .before .before .before .before .members .given .1)) ∙ c .before .before .before .before .before .before .loop .inv ∙ find-later (item (value 15) true) _ (drop (c .before .before .before .before .before .before .loop .p) (c .before .before .before .before .before .before .before .before .before .before .before .before .args .text .now)) [] (starts-ends (item (value 15) true) (narrow 15 true) (drop (c .before .before .before .before .before .before .loop .p) (c .before .before .before .before .before .before .before .before .before .before .before .before .args .text .now)) _ (sym (c .before .before .item .ensures) ∙ ap (stepped (c .before .before .before .before .before .before .before .before .before .before .before .before .args .text .now)) (c .enum-told3 .given .1))) (ap (λ (bs : List ℕ). matches true (c .before .before .before .before .before .before .before .before .before .before .before .before .args .key .now) (units bs)) (sym (c .before .before .before .before .before .behind .ensures)) ∙ sym (c .before .before .before .before .spells .ensures) ∙ c .before .before .before .if1 .left) ∙ find-none _)
+    let s = c .before .before .before .before .before .before .before .before .before .before .before .before in
+    let a = s .args in
+    let t = c .before .before .before .before .before .before in
+    sym (ap (find (a .key .now)) (starts-at 15 true (a .text .now) _ _ (c .before .before .before .before .before .before .before .before .members .given .1)) ∙ t .loop .inv ∙ find-later (item (value 15) true) _ (drop (t .loop .p) (a .text .now)) [] (starts-ends (item (value 15) true) (narrow 15 true) (drop (t .loop .p) (a .text .now)) _ (sym (c .before .before .item .ensures) ∙ ap (stepped (a .text .now)) (c .enum-told3 .given .1))) (ap (λ (bs : List ℕ). matches true (a .key .now) (units bs)) (sym (c .before .before .before .before .before .behind .ensures)) ∙ sym (c .before .before .before .before .spells .ensures) ∙ c .before .before .before .if1 .left) ∙ find-none _)
 
 pub find-spec : {M : Type 1} → statement M
 find-spec =
@@ -85,8 +81,8 @@ find-spec =
     (tie.spec
     Inv-loop
     μ-loop
-    enum-known-members
-    enum-told
+    (λ enum-known-members. search needs)
+    (λ enum-told. search needs)
     returns
     loop-holds
     behind-requires
@@ -94,10 +90,10 @@ find-spec =
     name-requires
     returns-2
     item-requires
-    enum-told-2
+    (λ enum-told-2. search needs)
     returns-3
-    enum-known-q
+    (λ enum-known-q. search needs)
     loop-less
     loop-again
-    enum-told-3
+    (λ enum-told-3. search needs)
     returns-4)

@@ -37,27 +37,27 @@ same-requires c κs = tt
 
 returns : tie.Need-returns Inv-loop μ-loop
 returns c =
-    sym (c .before .before .before .before .loop .inv ∙ has-here (item (value 15) true) _ (drop (c .before .before .before .before .loop .p) (c .before .before .before .before .before .before .args .text .now)) (c .before .before .before .before .loop .left) (omega (arith, c .before .before .before .loop-test .taken)) (ap (λ (bs : List ℕ). matches true (units bs) (units (drop (c .before .before .before .before .before .before .args .key) (c .before .before .before .before .before .before .args .text .now)))) (sym (c .before .before .behind .ensures)) ∙ sym (c .before .same .ensures) ∙ c .if1 .taken))
+    let s = c .before .before .before .before .before .before in
+    let a = s .args in
+    let t = c .before .before .before .before in
+    sym (t .loop .inv ∙ has-here (item (value 15) true) _ (drop (t .loop .p) (a .text .now)) (t .loop .left) (omega (arith, c .before .before .before .loop-test .taken)) (ap (λ (bs : List ℕ). matches true (units bs) (units (drop (a .key) (a .text .now)))) (sym (c .before .before .behind .ensures)) ∙ sym (c .before .same .ensures) ∙ c .if1 .taken))
 
 item-requires : tie.Need-item-requires Inv-loop μ-loop
 item-requires c κs = tt
 
-enum-told : tie.Need-enum-told Inv-loop μ-loop
-enum-told c = search needs
-
 returns-2 : tie.Need-returns-2 Inv-loop μ-loop
 returns-2 c =
-    sym (c .before .before .before .before .before .before .before .loop .inv ∙ has-last (item (value 15) true) _ (drop (c .before .before .before .before .before .before .before .loop .p) (c .before .before .before .before .before .before .before .before .before .args .text .now)) (c .before .before .before .before .before .before .before .loop .left) (omega (arith, c .before .before .before .before .before .before .loop-test .taken)) (starts-fails (item (value 15) true) (narrow 15 true) (drop (c .before .before .before .before .before .before .before .loop .p) (c .before .before .before .before .before .before .before .before .before .args .text .now)) (sym (c .before .before .item .ensures) ∙ ap (stepped (c .before .before .before .before .before .before .before .before .before .args .text .now)) (c .enum-told .given .1))) (ap (λ (bs : List ℕ). matches true (units bs) (units (drop (c .before .before .before .before .before .before .before .before .before .args .key) (c .before .before .before .before .before .before .before .before .before .args .text .now)))) (sym (c .before .before .before .before .before .behind .ensures)) ∙ sym (c .before .before .before .before .same .ensures) ∙ c .before .before .before .if1 .left))
-
-enum-known-q : tie.Need-enum-known-q Inv-loop μ-loop
-enum-known-q c = search needs
-
-enum-told-2 : tie.Need-enum-told-2 Inv-loop μ-loop
-enum-told-2 c = search needs
+    let s = c .before .before .before .before .before .before .before .before .before in
+    let a = s .args in
+    let t = c .before .before .before .before .before .before .before in
+    sym (t .loop .inv ∙ has-last (item (value 15) true) _ (drop (t .loop .p) (a .text .now)) (t .loop .left) (omega (arith, c .before .before .before .before .before .before .loop-test .taken)) (starts-fails (item (value 15) true) (narrow 15 true) (drop (t .loop .p) (a .text .now)) (sym (c .before .before .item .ensures) ∙ ap (stepped (a .text .now)) (c .enum-told .given .1))) (ap (λ (bs : List ℕ). matches true (units bs) (units (drop (a .key) (a .text .now)))) (sym (c .before .before .before .before .before .behind .ensures)) ∙ sym (c .before .before .before .before .same .ensures) ∙ c .before .before .before .if1 .left))
 
 returns-3 : tie.Need-returns-3 Inv-loop μ-loop
 returns-3 c =
-    sym (c .before .before .before .before .before .before .before .loop .inv ∙ has-last (item (value 15) true) _ (drop (c .before .before .before .before .before .before .before .loop .p) (c .before .before .before .before .before .before .before .before .before .args .text .now)) (c .before .before .before .before .before .before .before .loop .left) (omega (arith, c .before .before .before .before .before .before .loop-test .taken)) (starts-ends (item (value 15) true) (narrow 15 true) (drop (c .before .before .before .before .before .before .before .loop .p) (c .before .before .before .before .before .before .before .before .before .args .text .now)) _ (sym (c .before .before .item .ensures) ∙ ap (stepped (c .before .before .before .before .before .before .before .before .before .args .text .now)) (c .enum-told2 .given .1))) (ap (λ (bs : List ℕ). matches true (units bs) (units (drop (c .before .before .before .before .before .before .before .before .before .args .key) (c .before .before .before .before .before .before .before .before .before .args .text .now)))) (sym (c .before .before .before .before .before .behind .ensures)) ∙ sym (c .before .before .before .before .same .ensures) ∙ c .before .before .before .if1 .left))
+    let s = c .before .before .before .before .before .before .before .before .before in
+    let a = s .args in
+    let t = c .before .before .before .before .before .before .before in
+    sym (t .loop .inv ∙ has-last (item (value 15) true) _ (drop (t .loop .p) (a .text .now)) (t .loop .left) (omega (arith, c .before .before .before .before .before .before .loop-test .taken)) (starts-ends (item (value 15) true) (narrow 15 true) (drop (t .loop .p) (a .text .now)) _ (sym (c .before .before .item .ensures) ∙ ap (stepped (a .text .now)) (c .enum-told2 .given .1))) (ap (λ (bs : List ℕ). matches true (units bs) (units (drop (a .key) (a .text .now)))) (sym (c .before .before .before .before .before .behind .ensures)) ∙ sym (c .before .before .before .before .same .ensures) ∙ c .before .before .before .if1 .left))
 
 sub-left : tie.Need-sub-left Inv-loop μ-loop
 sub-left c = omega arith
@@ -67,7 +67,10 @@ loop-less c = omega arith
 
 loop-again : tie.Need-loop-again Inv-loop μ-loop
 loop-again c =
-    c .before .before .before .before .before .before .before .before .loop .inv ∙ has-later (item (value 15) true) _ (drop (c .before .before .before .before .before .before .before .before .loop .p) (c .before .before .before .before .before .before .before .before .before .before .args .text .now)) (c .before .before .before .before .before .before .before .before .loop .left) (omega (arith, c .before .before .before .before .before .before .before .loop-test .taken)) _ (starts-goes (item (value 15) true) (narrow 15 true) (drop (c .before .before .before .before .before .before .before .before .loop .p) (c .before .before .before .before .before .before .before .before .before .before .args .text .now)) _ _ (sym (c .before .before .before .item .ensures) ∙ ap (stepped (c .before .before .before .before .before .before .before .before .before .before .args .text .now)) (c .before .q .given .1))) (ap (λ (bs : List ℕ). matches true (units bs) (units (drop (c .before .before .before .before .before .before .before .before .before .before .args .key) (c .before .before .before .before .before .before .before .before .before .before .args .text .now)))) (sym (c .before .before .before .before .before .before .behind .ensures)) ∙ sym (c .before .before .before .before .before .same .ensures) ∙ c .before .before .before .before .if1 .left)
+    let s = c .before .before .before .before .before .before .before .before .before .before in
+    let a = s .args in
+    let t = c .before .before .before .before .before .before .before .before in
+    t .loop .inv ∙ has-later (item (value 15) true) _ (drop (t .loop .p) (a .text .now)) (t .loop .left) (omega (arith, c .before .before .before .before .before .before .before .loop-test .taken)) _ (starts-goes (item (value 15) true) (narrow 15 true) (drop (t .loop .p) (a .text .now)) _ _ (sym (c .before .before .before .item .ensures) ∙ ap (stepped (a .text .now)) (c .before .q .given .1))) (ap (λ (bs : List ℕ). matches true (units bs) (units (drop (a .key) (a .text .now)))) (sym (c .before .before .before .before .before .before .behind .ensures)) ∙ sym (c .before .before .before .before .before .same .ensures) ∙ c .before .before .before .before .if1 .left)
 
 returns-4 : tie.Need-returns-4 Inv-loop μ-loop
 returns-4 c =
@@ -84,10 +87,10 @@ has-spec =
     same-requires
     returns
     item-requires
-    enum-told
+    (λ enum-told. search needs)
     returns-2
-    enum-known-q
-    enum-told-2
+    (λ enum-known-q. search needs)
+    (λ enum-told-2. search needs)
     returns-3
     sub-left
     loop-less

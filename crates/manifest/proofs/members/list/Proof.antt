@@ -20,72 +20,59 @@ use borrow.Author.Needs.{needs}
 use Rattle.manifest.proofs.members.list.Statement.{statement}
 use Rattle.manifest.proofs.members.list.Tie as tie
 
-enum-known-value : tie.Need-enum-known-value
-enum-known-value c = search needs
-
-enum-told : tie.Need-enum-told
-enum-told c = search needs
-
 returns : tie.Need-returns
 returns c =
-    (sym (ap (λ (x : Ending). listed (c .before .before .before .args .names) (c .before .before .before .args .hosts) (ended (c .before .before .before .args .text .now) x) (countOf (c .before .before .before .args .tally))) (c .enum-told .given .1) ∙ list-missing (c .before .before .before .args .names) (c .before .before .before .args .hosts) _), omega arith)
-
-byte-requires : tie.Need-byte-requires
-byte-requires c κs = search needs
+    let s = c .before .before .before in
+    let a = s .args in
+    (sym (ap (λ (x : Ending). listed (a .names) (a .hosts) (ended (a .text .now) x) (countOf (a .tally))) (c .enum-told .given .1) ∙ list-missing (a .names) (a .hosts) _), omega arith)
 
 returns-2 : tie.Need-returns-2
 returns-2 c =
-    (sym (ap (λ (x : Ending). listed (c .before .before .before .before .before .before .args .names) (c .before .before .before .before .before .before .args .hosts) (ended (c .before .before .before .before .before .before .args .text .now) x) (countOf (c .before .before .before .before .before .before .args .tally))) (c .before .before .before .value .given .1) ∙ no-array (c .before .before .before .before .before .before .args .names) (c .before .before .before .before .before .before .args .hosts) _ _ (is-not (c .before .byte .ensures) (c .if1 .taken))), omega arith)
+    let s = c .before .before .before .before .before .before in
+    let a = s .args in
+    (sym (ap (λ (x : Ending). listed (a .names) (a .hosts) (ended (a .text .now) x) (countOf (a .tally))) (c .before .before .before .value .given .1) ∙ no-array (a .names) (a .hosts) _ _ (is-not (c .before .byte .ensures) (c .if1 .taken))), omega arith)
 
 add-first : tie.Need-add-first
 add-first c =
     let h : c .before .before .before .value .given .0 .0 < length (c .before .before .before .before .before .before .args .text .now) = there (c .before .before .before .before .before .before .args .text .now) (c .before .before .before .value .given .0 .0) (c .before .byte .ensures) (omega arith) in omega arith
 
-first-requires : tie.Need-first-requires
-first-requires c κs = search needs
-
-enum-known-p : tie.Need-enum-known-p
-enum-known-p c = search needs
-
-enum-told-2 : tie.Need-enum-told-2
-enum-told-2 c = search needs
-
 returns-3 : tie.Need-returns-3
-returns-3 c = (
-  sym
-      (ap (λ (x : Ending). listed (c .before .before .before .before .before .before .before .before .before .args .names) (c .before .before .before .before .before .before .before .before .before .args .hosts) (ended (c .before .before .before .before .before .before .before .before .before .args .text .now) x) (countOf (c .before .before .before .before .before .before .before .before .before .args .tally))) (c .before .before .before .before .before .before .value .given .1)
-      ∙ array (c .before .before .before .before .before .before .before .before .before .args .names) (c .before .before .before .before .before .before .before .before .before .args .hosts) _ _ (is (c .before .before .before .before .byte .ensures) (c .before .before .before .if1 .left))
-      ∙ ap (λ (l : List (List ℕ)). counted (c .before .before .before .before .before .before .before .before .before .args .names) (c .before .before .before .before .before .before .before .before .before .args .hosts) l (countOf (c .before .before .before .before .before .before .before .before .before .args .tally))) (ap (startsFrom (value 14) false) (ap (first false) (tail-drop (c .before .before .before .before .before .before .before .before .before .args .text .now) (c .before .before .before .before .before .before .value .given .0 .0)) ∙ sym (c .before .before .first .ensures)) ∙ starts-none 14 false (c .before .before .before .before .before .before .before .before .before .args .text .now) _ (c .enum-told2 .given .1))
-      ∙ counted-none (c .before .before .before .before .before .before .before .before .before .args .names) (c .before .before .before .before .before .before .before .before .before .args .hosts) _),
-  omega arith,
-)
-
-elements-requires : tie.Need-elements-requires
-elements-requires c κs = search needs
+returns-3 c =
+    let s = c .before .before .before .before .before .before .before .before .before in
+    let a = s .args in (
+      sym
+          (ap (λ (x : Ending). listed (a .names) (a .hosts) (ended (a .text .now) x) (countOf (a .tally))) (c .before .before .before .before .before .before .value .given .1)
+          ∙ array (a .names) (a .hosts) _ _ (is (c .before .before .before .before .byte .ensures) (c .before .before .before .if1 .left))
+          ∙ ap (λ (l : List (List ℕ)). counted (a .names) (a .hosts) l (countOf (a .tally))) (ap (startsFrom (value 14) false) (ap (first false) (tail-drop (a .text .now) (c .before .before .before .before .before .before .value .given .0 .0)) ∙ sym (c .before .before .first .ensures)) ∙ starts-none 14 false (a .text .now) _ (c .enum-told2 .given .1))
+          ∙ counted-none (a .names) (a .hosts) _),
+      omega arith,
+    )
 
 returns-4 : tie.Need-returns-4
-returns-4 c = (
-  sym
-      (ap (λ (x : Ending). listed (c .before .before .before .before .before .before .before .before .before .before .before .args .names) (c .before .before .before .before .before .before .before .before .before .before .before .args .hosts) (ended (c .before .before .before .before .before .before .before .before .before .before .before .args .text .now) x) (countOf (c .before .before .before .before .before .before .before .before .before .before .before .args .tally))) (c .before .before .before .before .before .before .before .before .value .given .1)
-      ∙ array (c .before .before .before .before .before .before .before .before .before .before .before .args .names) (c .before .before .before .before .before .before .before .before .before .before .before .args .hosts) _ _ (is (c .before .before .before .before .before .before .byte .ensures) (c .before .before .before .before .before .if1 .left))
-      ∙ ap (λ (l : List (List ℕ)). counted (c .before .before .before .before .before .before .before .before .before .before .before .args .names) (c .before .before .before .before .before .before .before .before .before .before .before .args .hosts) l (countOf (c .before .before .before .before .before .before .before .before .before .before .before .args .tally))) (ap (startsFrom (value 14) false) (ap (first false) (tail-drop (c .before .before .before .before .before .before .before .before .before .before .before .args .text .now) (c .before .before .before .before .before .before .before .before .value .given .0 .0)) ∙ sym (c .before .before .before .before .first .ensures)) ∙ starts-at 14 false (c .before .before .before .before .before .before .before .before .before .before .before .args .text .now) _ _ (c .before .before .p .given .1))
-      ∙ sym (c .elements .ensures .0)),
-  c .elements .ensures .1,
-)
+returns-4 c =
+    let s = c .before .before .before .before .before .before .before .before .before .before .before in
+    let a = s .args in (
+      sym
+          (ap (λ (x : Ending). listed (a .names) (a .hosts) (ended (a .text .now) x) (countOf (a .tally))) (c .before .before .before .before .before .before .before .before .value .given .1)
+          ∙ array (a .names) (a .hosts) _ _ (is (c .before .before .before .before .before .before .byte .ensures) (c .before .before .before .before .before .if1 .left))
+          ∙ ap (λ (l : List (List ℕ)). counted (a .names) (a .hosts) l (countOf (a .tally))) (ap (startsFrom (value 14) false) (ap (first false) (tail-drop (a .text .now) (c .before .before .before .before .before .before .before .before .value .given .0 .0)) ∙ sym (c .before .before .before .before .first .ensures)) ∙ starts-at 14 false (a .text .now) _ _ (c .before .before .p .given .1))
+          ∙ sym (c .elements .ensures .0)),
+      c .elements .ensures .1,
+    )
 
 pub list-spec : {M : Type 1} → statement M
 list-spec =
     tie.close
     (tie.spec
-    enum-known-value
-    enum-told
+    (λ enum-known-value. search needs)
+    (λ enum-told. search needs)
     returns
-    byte-requires
+    (λ byte-requires κs. search needs)
     returns-2
     add-first
-    first-requires
-    enum-known-p
-    enum-told-2
+    (λ first-requires κs. search needs)
+    (λ enum-known-p. search needs)
+    (λ enum-told-2. search needs)
     returns-3
-    elements-requires
+    (λ elements-requires κs. search needs)
     returns-4)

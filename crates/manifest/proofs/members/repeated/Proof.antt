@@ -9,21 +9,9 @@ use borrow.Author.Needs.{needs}
 use Rattle.manifest.proofs.members.repeated.Statement.{statement}
 use Rattle.manifest.proofs.members.repeated.Tie as tie
 
-enum-known-members : tie.Need-enum-known-members
-enum-known-members c = search needs
-
-enum-told : tie.Need-enum-told
-enum-told c = search needs
-
 returns : tie.Need-returns
 returns c =
     sym (ap (repeated []) (starts-none 15 true (c .before .before .before .args .text .now) _ (c .enum-told .given .1)) ∙ repeated-end [])
-
-slice-aggregate-repeated-from : tie.Need-slice-aggregate-repeated-from
-slice-aggregate-repeated-from c = search needs
-
-repeated-from-requires : tie.Need-repeated-from-requires
-repeated-from-requires c κs = search needs
 
 returns-2 : tie.Need-returns-2
 returns-2 c =
@@ -33,9 +21,9 @@ pub repeated-spec : {M : Type 1} → statement M
 repeated-spec =
     tie.close
     (tie.spec
-    enum-known-members
-    enum-told
+    (λ enum-known-members. search needs)
+    (λ enum-told. search needs)
     returns
-    slice-aggregate-repeated-from
-    repeated-from-requires
+    (λ slice-aggregate-repeated-from. search needs)
+    (λ repeated-from-requires κs. search needs)
     returns-2)

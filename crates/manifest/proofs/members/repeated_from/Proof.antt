@@ -52,9 +52,12 @@ same-length c = c .before .before .before .before .before .loop .inv .4
 
 returns : tie.Need-returns Inv-loop μ-loop
 returns c =
+    let s = c .before .before .before .before .before .before .before .before in
+    let a = s .args in
+    let t = c .before .before .before .before .before in
     sym
-    (c .before .before .before .before .before .loop .inv .0
-    ∙ repeated-here (item (value 15) true) (take (c .before .before .before .before .before .loop .count) (starts (item (value 15) true) (drop (c .before .before .before .before .before .before .before .before .args .at) (c .before .before .before .before .before .before .before .before .args .text .now)))) (drop (c .before .before .before .before .before .loop .p) (c .before .before .before .before .before .before .before .before .args .text .now)) ((ap (λ (bs : List ℕ). has (take (c .before .before .before .before .before .loop .count) (starts (item (value 15) true) (drop (c .before .before .before .before .before .before .before .before .args .at) (c .before .before .before .before .before .before .before .before .args .text .now)))) (units bs)) (sym (c .before .before .before .before .behind .ensures))) ∙ made _ _ (sym (c .before .has-marked .ensures) ∙ c .if1 .taken)))
+    (t .loop .inv .0
+    ∙ repeated-here (item (value 15) true) (take (t .loop .count) (starts (item (value 15) true) (drop (a .at) (a .text .now)))) (drop (t .loop .p) (a .text .now)) ((ap (λ (bs : List ℕ). has (take (t .loop .count) (starts (item (value 15) true) (drop (a .at) (a .text .now)))) (units bs)) (sym (c .before .before .before .before .behind .ensures))) ∙ made _ _ (sym (c .before .has-marked .ensures) ∙ c .if1 .taken)))
 
 slice-write-marks : tie.Need-slice-write-marks Inv-loop μ-loop
 slice-write-marks c = omega (arith, c .before .before .before .hash .ensures .1, c .before .before .before .before .before .loop .inv .4, c .before .before .before .before .before .before .before .before .pre)
@@ -62,33 +65,30 @@ slice-write-marks c = omega (arith, c .before .before .before .hash .ensures .1,
 item-requires : tie.Need-item-requires Inv-loop μ-loop
 item-requires c κs = tt
 
-enum-told : tie.Need-enum-told Inv-loop μ-loop
-enum-told c = search needs
-
 same-length-2 : tie.Need-same-length-2 Inv-loop μ-loop
 same-length-2 c = length-set (c .before .before .before .before .before .before .before .before .loop .marks) (c .before .before .before .before .before .before .hash .result) 1 ∙ c .before .before .before .before .before .before .before .before .loop .inv .4
 
 returns-2 : tie.Need-returns-2 Inv-loop μ-loop
 returns-2 c =
+    let s = c .before .before .before .before .before .before .before .before .before .before .before in
+    let a = s .args in
+    let t = c .before .before .before .before .before .before .before .before in
     sym
-    (c .before .before .before .before .before .before .before .before .loop .inv .0
-    ∙ repeated-later (item (value 15) true) (take (c .before .before .before .before .before .before .before .before .loop .count) (starts (item (value 15) true) (drop (c .before .before .before .before .before .before .before .before .before .before .before .args .at) (c .before .before .before .before .before .before .before .before .before .before .before .args .text .now)))) (drop (c .before .before .before .before .before .before .before .before .loop .p) (c .before .before .before .before .before .before .before .before .before .before .before .args .text .now)) [] (starts-fails (item (value 15) true) (narrow 15 true) (drop (c .before .before .before .before .before .before .before .before .loop .p) (c .before .before .before .before .before .before .before .before .before .before .before .args .text .now)) (sym (c .before .before .item .ensures) ∙ ap (stepped (c .before .before .before .before .before .before .before .before .before .before .before .args .text .now)) (c .enum-told .given .1))) ((ap (λ (bs : List ℕ). has (take (c .before .before .before .before .before .before .before .before .loop .count) (starts (item (value 15) true) (drop (c .before .before .before .before .before .before .before .before .before .before .before .args .at) (c .before .before .before .before .before .before .before .before .before .before .before .args .text .now)))) (units bs)) (sym (c .before .before .before .before .before .before .before .behind .ensures))) ∙ free (c .before .before .before .before .before .before .before .before .loop .marks) (take (c .before .before .before .before .before .before .before .before .loop .count) (starts (item (value 15) true) (drop (c .before .before .before .before .before .before .before .before .before .before .before .args .at) (c .before .before .before .before .before .before .before .before .before .before .before .args .text .now)))) _ _ (c .before .before .before .before .before .before .before .before .loop .inv .3) (c .before .before .before .before .before .before .hash .ensures .0) (sym (c .before .before .before .before .has-marked .ensures) ∙ c .before .before .before .if1 .left))
+    (t .loop .inv .0
+    ∙ repeated-later (item (value 15) true) (take (t .loop .count) (starts (item (value 15) true) (drop (a .at) (a .text .now)))) (drop (t .loop .p) (a .text .now)) [] (starts-fails (item (value 15) true) (narrow 15 true) (drop (t .loop .p) (a .text .now)) (sym (c .before .before .item .ensures) ∙ ap (stepped (a .text .now)) (c .enum-told .given .1))) ((ap (λ (bs : List ℕ). has (take (t .loop .count) (starts (item (value 15) true) (drop (a .at) (a .text .now)))) (units bs)) (sym (c .before .before .before .before .before .before .before .behind .ensures))) ∙ free (t .loop .marks) (take (t .loop .count) (starts (item (value 15) true) (drop (a .at) (a .text .now)))) _ _ (t .loop .inv .3) (c .before .before .before .before .before .before .hash .ensures .0) (sym (c .before .before .before .before .has-marked .ensures) ∙ c .before .before .before .if1 .left))
     ∙ repeated-end _)
-
-enum-known-q : tie.Need-enum-known-q Inv-loop μ-loop
-enum-known-q c = search needs
-
-enum-told-2 : tie.Need-enum-told-2 Inv-loop μ-loop
-enum-told-2 c = search needs
 
 same-length-3 : tie.Need-same-length-3 Inv-loop μ-loop
 same-length-3 c = length-set (c .before .before .before .before .before .before .before .before .loop .marks) (c .before .before .before .before .before .before .hash .result) 1 ∙ c .before .before .before .before .before .before .before .before .loop .inv .4
 
 returns-3 : tie.Need-returns-3 Inv-loop μ-loop
 returns-3 c =
+    let s = c .before .before .before .before .before .before .before .before .before .before .before in
+    let a = s .args in
+    let t = c .before .before .before .before .before .before .before .before in
     sym
-    (c .before .before .before .before .before .before .before .before .loop .inv .0
-    ∙ repeated-later (item (value 15) true) (take (c .before .before .before .before .before .before .before .before .loop .count) (starts (item (value 15) true) (drop (c .before .before .before .before .before .before .before .before .before .before .before .args .at) (c .before .before .before .before .before .before .before .before .before .before .before .args .text .now)))) (drop (c .before .before .before .before .before .before .before .before .loop .p) (c .before .before .before .before .before .before .before .before .before .before .before .args .text .now)) [] (starts-ends (item (value 15) true) (narrow 15 true) (drop (c .before .before .before .before .before .before .before .before .loop .p) (c .before .before .before .before .before .before .before .before .before .before .before .args .text .now)) _ (sym (c .before .before .item .ensures) ∙ ap (stepped (c .before .before .before .before .before .before .before .before .before .before .before .args .text .now)) (c .enum-told2 .given .1))) ((ap (λ (bs : List ℕ). has (take (c .before .before .before .before .before .before .before .before .loop .count) (starts (item (value 15) true) (drop (c .before .before .before .before .before .before .before .before .before .before .before .args .at) (c .before .before .before .before .before .before .before .before .before .before .before .args .text .now)))) (units bs)) (sym (c .before .before .before .before .before .before .before .behind .ensures))) ∙ free (c .before .before .before .before .before .before .before .before .loop .marks) (take (c .before .before .before .before .before .before .before .before .loop .count) (starts (item (value 15) true) (drop (c .before .before .before .before .before .before .before .before .before .before .before .args .at) (c .before .before .before .before .before .before .before .before .before .before .before .args .text .now)))) _ _ (c .before .before .before .before .before .before .before .before .loop .inv .3) (c .before .before .before .before .before .before .hash .ensures .0) (sym (c .before .before .before .before .has-marked .ensures) ∙ c .before .before .before .if1 .left))
+    (t .loop .inv .0
+    ∙ repeated-later (item (value 15) true) (take (t .loop .count) (starts (item (value 15) true) (drop (a .at) (a .text .now)))) (drop (t .loop .p) (a .text .now)) [] (starts-ends (item (value 15) true) (narrow 15 true) (drop (t .loop .p) (a .text .now)) _ (sym (c .before .before .item .ensures) ∙ ap (stepped (a .text .now)) (c .enum-told2 .given .1))) ((ap (λ (bs : List ℕ). has (take (t .loop .count) (starts (item (value 15) true) (drop (a .at) (a .text .now)))) (units bs)) (sym (c .before .before .before .before .before .before .before .behind .ensures))) ∙ free (t .loop .marks) (take (t .loop .count) (starts (item (value 15) true) (drop (a .at) (a .text .now)))) _ _ (t .loop .inv .3) (c .before .before .before .before .before .before .hash .ensures .0) (sym (c .before .before .before .before .has-marked .ensures) ∙ c .before .before .before .if1 .left))
     ∙ repeated-end _)
 
 add-count : tie.Need-add-count Inv-loop μ-loop
@@ -100,16 +100,20 @@ loop-less c =
 
 loop-again : tie.Need-loop-again Inv-loop μ-loop
 loop-again c =
-    let l : length (drop (c .before .q .given .0 .0) (c .before .before .before .before .before .before .before .before .before .before .before .before .args .text .now)) < length (drop (c .before .before .before .before .before .before .before .before .before .loop .p) (c .before .before .before .before .before .before .before .before .before .before .before .before .args .text .now)) = narrow 15 true (drop (c .before .before .before .before .before .before .before .before .before .loop .p) (c .before .before .before .before .before .before .before .before .before .before .before .before .args .text .now)) _ _ (sym (c .before .before .before .item .ensures) ∙ ap (stepped (c .before .before .before .before .before .before .before .before .before .before .before .before .args .text .now)) (c .before .q .given .1)) in
-    let s = starts-goes (item (value 15) true) (narrow 15 true) (drop (c .before .before .before .before .before .before .before .before .before .loop .p) (c .before .before .before .before .before .before .before .before .before .before .before .before .args .text .now)) _ _ (sym (c .before .before .before .item .ensures) ∙ ap (stepped (c .before .before .before .before .before .before .before .before .before .before .before .before .args .text .now)) (c .before .q .given .1)) in
-    let n = split-next (starts (item (value 15) true) (drop (c .before .before .before .before .before .before .before .before .before .before .before .before .args .at) (c .before .before .before .before .before .before .before .before .before .before .before .before .args .text .now))) (c .before .before .before .before .before .before .before .before .before .loop .count) (c .before .before .before .before .before .before .before .before .before .loop .inv .1 ∙ s) in (
-      c .before .before .before .before .before .before .before .before .before .loop .inv .0
-          ∙ repeated-later (item (value 15) true) (take (c .before .before .before .before .before .before .before .before .before .loop .count) (starts (item (value 15) true) (drop (c .before .before .before .before .before .before .before .before .before .before .before .before .args .at) (c .before .before .before .before .before .before .before .before .before .before .before .before .args .text .now)))) (drop (c .before .before .before .before .before .before .before .before .before .loop .p) (c .before .before .before .before .before .before .before .before .before .before .before .before .args .text .now)) _ s ((ap (λ (bs : List ℕ). has (take (c .before .before .before .before .before .before .before .before .before .loop .count) (starts (item (value 15) true) (drop (c .before .before .before .before .before .before .before .before .before .before .before .before .args .at) (c .before .before .before .before .before .before .before .before .before .before .before .before .args .text .now)))) (units bs)) (sym (c .before .before .before .before .before .before .before .before .behind .ensures))) ∙ free (c .before .before .before .before .before .before .before .before .before .loop .marks) (take (c .before .before .before .before .before .before .before .before .before .loop .count) (starts (item (value 15) true) (drop (c .before .before .before .before .before .before .before .before .before .before .before .before .args .at) (c .before .before .before .before .before .before .before .before .before .before .before .before .args .text .now)))) _ _ (c .before .before .before .before .before .before .before .before .before .loop .inv .3) (c .before .before .before .before .before .before .before .hash .ensures .0) (sym (c .before .before .before .before .before .has-marked .ensures) ∙ c .before .before .before .before .if1 .left))
-          ∙ ap (λ (l : List (List ℕ)). repeated l (starts (item (value 15) true) (drop (c .before .q .given .0 .0) (c .before .before .before .before .before .before .before .before .before .before .before .before .args .text .now)))) (sym (n .0)),
+    let t = c .before .before .before .before .before .before .before .before .before .before .before .before in
+    let a = t .args in
+    let u = c .before .before .before .before .before .before .before .before .before in
+    let v = c .before .before .before .before .before .before .before in
+    let l : length (drop (c .before .q .given .0 .0) (a .text .now)) < length (drop (u .loop .p) (a .text .now)) = narrow 15 true (drop (u .loop .p) (a .text .now)) _ _ (sym (c .before .before .before .item .ensures) ∙ ap (stepped (a .text .now)) (c .before .q .given .1)) in
+    let s = starts-goes (item (value 15) true) (narrow 15 true) (drop (u .loop .p) (a .text .now)) _ _ (sym (c .before .before .before .item .ensures) ∙ ap (stepped (a .text .now)) (c .before .q .given .1)) in
+    let n = split-next (starts (item (value 15) true) (drop (a .at) (a .text .now))) (u .loop .count) (u .loop .inv .1 ∙ s) in (
+      u .loop .inv .0
+          ∙ repeated-later (item (value 15) true) (take (u .loop .count) (starts (item (value 15) true) (drop (a .at) (a .text .now)))) (drop (u .loop .p) (a .text .now)) _ s ((ap (λ (bs : List ℕ). has (take (u .loop .count) (starts (item (value 15) true) (drop (a .at) (a .text .now)))) (units bs)) (sym (c .before .before .before .before .before .before .before .before .behind .ensures))) ∙ free (u .loop .marks) (take (u .loop .count) (starts (item (value 15) true) (drop (a .at) (a .text .now)))) _ _ (u .loop .inv .3) (v .hash .ensures .0) (sym (c .before .before .before .before .before .has-marked .ensures) ∙ c .before .before .before .before .if1 .left))
+          ∙ ap (λ (l : List (List ℕ)). repeated l (starts (item (value 15) true) (drop (c .before .q .given .0 .0) (a .text .now)))) (sym (n .0)),
       n .1,
-      omega (arith, c .before .before .before .before .before .before .before .before .before .loop .inv .2),
-      subst (Marked (set (c .before .before .before .before .before .before .before .before .before .loop .marks) (c .before .before .before .before .before .before .before .hash .result) 1)) (sym (n .0)) (marked-next (c .before .before .before .before .before .before .before .before .before .loop .marks) (take (c .before .before .before .before .before .before .before .before .before .loop .count) (starts (item (value 15) true) (drop (c .before .before .before .before .before .before .before .before .before .before .before .before .args .at) (c .before .before .before .before .before .before .before .before .before .before .before .before .args .text .now)))) (drop (c .before .before .before .before .before .before .before .before .before .loop .p) (c .before .before .before .before .before .before .before .before .before .before .before .before .args .text .now)) (c .before .before .before .before .before .before .before .hash .result) (c .before .before .before .before .before .before .before .before .before .loop .inv .3) (c .before .before .before .before .before .before .before .hash .ensures .0 ∙ ap (λ (bs : List ℕ). spread 0 (units bs)) (c .before .before .before .before .before .before .before .before .behind .ensures)) (omega (arith, c .before .before .before .before .before .before .before .hash .ensures .1, c .before .before .before .before .before .before .before .before .before .loop .inv .4, c .before .before .before .before .before .before .before .before .before .before .before .before .pre))),
-      length-set (c .before .before .before .before .before .before .before .before .before .loop .marks) (c .before .before .before .before .before .before .before .hash .result) 1 ∙ c .before .before .before .before .before .before .before .before .before .loop .inv .4,
+      omega (arith, u .loop .inv .2),
+      subst (Marked (set (u .loop .marks) (v .hash .result) 1)) (sym (n .0)) (marked-next (u .loop .marks) (take (u .loop .count) (starts (item (value 15) true) (drop (a .at) (a .text .now)))) (drop (u .loop .p) (a .text .now)) (v .hash .result) (u .loop .inv .3) (v .hash .ensures .0 ∙ ap (λ (bs : List ℕ). spread 0 (units bs)) (c .before .before .before .before .before .before .before .before .behind .ensures)) (omega (arith, v .hash .ensures .1, u .loop .inv .4, t .pre))),
+      length-set (u .loop .marks) (v .hash .result) 1 ∙ u .loop .inv .4,
     )
 
 pub repeated-from-spec : {M : Type 1} → statement M
@@ -127,11 +131,11 @@ repeated-from-spec =
     returns
     slice-write-marks
     item-requires
-    enum-told
+    (λ enum-told. search needs)
     same-length-2
     returns-2
-    enum-known-q
-    enum-told-2
+    (λ enum-known-q. search needs)
+    (λ enum-told-2. search needs)
     same-length-3
     returns-3
     add-count

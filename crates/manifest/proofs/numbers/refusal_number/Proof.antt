@@ -5,18 +5,6 @@ use borrow.Author.Needs.{needs}
 use Rattle.manifest.proofs.numbers.refusal_number.Statement.{statement}
 use Rattle.manifest.proofs.numbers.refusal_number.Tie as tie
 
-enum-told : tie.Need-enum-told
-enum-told c = search needs
-
-enum-told-2 : tie.Need-enum-told-2
-enum-told-2 c = search needs
-
-enum-told-3 : tie.Need-enum-told-3
-enum-told-3 c = search needs
-
-enum-told-4 : tie.Need-enum-told-4
-enum-told-4 c = search needs
-
 returns : tie.Need-returns
 returns c = sym (ap number (c .enum-told .given .1))
 
@@ -32,4 +20,4 @@ returns-4 c = sym (ap number (c .enum-told4 .given .1))
 pub refusal-number-spec : {M : Type 1} → statement M
 refusal-number-spec =
     tie.close
-    (tie.spec enum-told enum-told-2 enum-told-3 enum-told-4 returns returns-2 returns-3 returns-4)
+    (tie.spec (λ enum-told. search needs) (λ enum-told-2. search needs) (λ enum-told-3. search needs) (λ enum-told-4. search needs) returns returns-2 returns-3 returns-4)

@@ -10,38 +10,17 @@ use borrow.Author.Needs.{needs}
 use Rattle.manifest.proofs.read.judge.Statement.{statement}
 use Rattle.manifest.proofs.read.judge.Tie as tie
 
-repeated-requires : tie.Need-repeated-requires
-repeated-requires c κs = search needs
-
 returns : tie.Need-returns
 returns c = (
   sym (judged-repeated _ (sym (c .before .repeated .ensures) ∙ c .if1 .taken)),
   omega arith,
 )
 
-slice-aggregate-find : tie.Need-slice-aggregate-find
-slice-aggregate-find c = search needs
-
-find-requires : tie.Need-find-requires
-find-requires c κs = search needs
-
-version-requires : tie.Need-version-requires
-version-requires c κs = search needs
-
 returns-2 : tie.Need-returns-2
 returns-2 c = (
   sym (judged-unversioned _ (sym (c .before .before .before .before .before .repeated .ensures) ∙ c .before .before .before .before .if1 .left) ((ap version (sym (c .before .before .find .ensures)) ∙ sym (c .before .version .ensures)) ∙ c .if2 .taken)),
   omega arith,
 )
-
-total-requires : tie.Need-total-requires
-total-requires c κs = search needs
-
-enum-told : tie.Need-enum-told
-enum-told c = search needs
-
-enum-known-set : tie.Need-enum-known-set
-enum-known-set c = search needs
 
 returns-3 : tie.Need-returns-3
 returns-3 c = (
@@ -63,14 +42,14 @@ pub judge-spec : {M : Type 1} → statement M
 judge-spec =
     tie.close
     (tie.spec
-    repeated-requires
+    (λ repeated-requires κs. search needs)
     returns
-    slice-aggregate-find
-    find-requires
-    version-requires
+    (λ slice-aggregate-find. search needs)
+    (λ find-requires κs. search needs)
+    (λ version-requires κs. search needs)
     returns-2
-    total-requires
-    enum-told
-    enum-known-set
+    (λ total-requires κs. search needs)
+    (λ enum-told. search needs)
+    (λ enum-known-set. search needs)
     returns-3
     returns-4)

@@ -22,20 +22,11 @@ returns c = (
   omega arith,
 )
 
-is-text-requires : tie.Need-is-text-requires
-is-text-requires c κs = search needs
-
 returns-2 : tie.Need-returns-2
 returns-2 c = (
   sym (judged-not _ (no-text _ (le-leb _ _ (c .before .before .if1 .left)) (sym (c .before .is-text .ensures) ∙ not-true _ (c .if2 .taken)))),
   omega arith,
 )
-
-space-requires : tie.Need-space-requires
-space-requires c κs = search needs
-
-byte-requires : tie.Need-byte-requires
-byte-requires c κs = search needs
 
 returns-3 : tie.Need-returns-3
 returns-3 c = (
@@ -47,33 +38,28 @@ add-first : tie.Need-add-first
 add-first c =
     let h : c .before .before .space .result < length (c .before .before .before .before .before .before .before .args .text .now) = there (c .before .before .before .before .before .before .before .args .text .now) (c .before .before .space .result) (c .before .byte .ensures) (omega arith) in omega arith
 
-first-requires : tie.Need-first-requires
-first-requires c κs = search needs
-
-judge-requires : tie.Need-judge-requires
-judge-requires c κs = search needs
-
 returns-4 : tie.Need-returns-4
-returns-4 c = (
-  c .judge .ensures .0
-      ∙ sym
-      (judged-object _ (an-object _ (le-leb _ _ (c .before .before .before .before .before .before .before .if1 .left)) (sym (c .before .before .before .before .before .before .is-text .ensures) ∙ not-false _ (c .before .before .before .before .before .if2 .left)) (is (c .before .before .before .byte .ensures ∙ ap head (c .before .before .before .before .space .ensures)) (c .before .before .if3 .left)))
-      ∙ ap (λ bs. judgedFrom (startsFrom (value 15) true (first true bs))) (ap tail (sym (c .before .before .before .before .space .ensures)) ∙ tail-drop (c .before .before .before .before .before .before .before .before .before .args .text .now) (c .before .before .before .before .space .result))
-      ∙ ap (λ r. judgedFrom (startsFrom (value 15) true r)) (sym (c .before .first .ensures))),
-  c .judge .ensures .1,
-)
+returns-4 c =
+    let s = c .before .before .before .before in (
+      c .judge .ensures .0
+          ∙ sym
+          (judged-object _ (an-object _ (le-leb _ _ (c .before .before .before .before .before .before .before .if1 .left)) (sym (c .before .before .before .before .before .before .is-text .ensures) ∙ not-false _ (c .before .before .before .before .before .if2 .left)) (is (c .before .before .before .byte .ensures ∙ ap head (s .space .ensures)) (c .before .before .if3 .left)))
+          ∙ ap (λ bs. judgedFrom (startsFrom (value 15) true (first true bs))) (ap tail (sym (s .space .ensures)) ∙ tail-drop (c .before .before .before .before .before .before .before .before .before .args .text .now) (s .space .result))
+          ∙ ap (λ r. judgedFrom (startsFrom (value 15) true r)) (sym (c .before .first .ensures))),
+      c .judge .ensures .1,
+    )
 
 pub read-spec : {M : Type 1} → statement M
 read-spec =
     tie.close
     (tie.spec
     returns
-    is-text-requires
+    (λ is-text-requires κs. search needs)
     returns-2
-    space-requires
-    byte-requires
+    (λ space-requires κs. search needs)
+    (λ byte-requires κs. search needs)
     returns-3
     add-first
-    first-requires
-    judge-requires
+    (λ first-requires κs. search needs)
+    (λ judge-requires κs. search needs)
     returns-4)

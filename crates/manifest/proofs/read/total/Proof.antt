@@ -13,18 +13,6 @@ use borrow.Author.Needs.{needs}
 use Rattle.manifest.proofs.read.total.Statement.{statement}
 use Rattle.manifest.proofs.read.total.Tie as tie
 
-empty-requires : tie.Need-empty-requires
-empty-requires c κs = search needs
-
-slice-aggregate-find : tie.Need-slice-aggregate-find
-slice-aggregate-find c = search needs
-
-find-requires : tie.Need-find-requires
-find-requires c κs = search needs
-
-list-requires : tie.Need-list-requires
-list-requires c κs = search needs
-
 returns : tie.Need-returns
 returns c = (
   c .list .ensures .0
@@ -33,37 +21,27 @@ returns c = (
   omega (arith, c .list .ensures .1, c .before .before .before .before .before .before .pre),
 )
 
-list-requires-2 : tie.Need-list-requires-2
-list-requires-2 c κs = search needs
-
-slice-aggregate-find-2 : tie.Need-slice-aggregate-find-2
-slice-aggregate-find-2 c = search needs
-
-find-requires-2 : tie.Need-find-requires-2
-find-requires-2 c κs = search needs
-
-list-requires-3 : tie.Need-list-requires-3
-list-requires-3 c κs = search needs
-
 returns-2 : tie.Need-returns-2
-returns-2 c = (
-  c .list3 .ensures .0
-      ∙ ap₂ (listed false true) (c .before .find2 .ensures) (c .before .before .before .list2 .ensures .0 ∙ ap₂ (listed true false) (c .before .before .before .before .before .find .ensures) (ap (λ (s : PermSet). strings (s .bits) 0) (c .before .before .before .before .before .before .before .empty .ensures)))
-      ∙ sym (total-three (startsFrom (value 15) true (ended (c .before .before .before .before .before .before .before .before .before .args .text .now) (c .before .before .before .before .before .before .before .before .before .args .members))) _ _ (c .before .before .before .before .if1 .left)),
-  omega (arith, c .list3 .ensures .1, c .before .before .before .list2 .ensures .1, c .before .before .before .before .before .before .before .before .before .pre),
-)
+returns-2 c =
+    let t = c .before .before .before .before .before .before .before .before .before in
+    let a = t .args in (
+      c .list3 .ensures .0
+          ∙ ap₂ (listed false true) (c .before .find2 .ensures) (c .before .before .before .list2 .ensures .0 ∙ ap₂ (listed true false) (c .before .before .before .before .before .find .ensures) (ap (λ (s : PermSet). strings (s .bits) 0) (c .before .before .before .before .before .before .before .empty .ensures)))
+          ∙ sym (total-three (startsFrom (value 15) true (ended (a .text .now) (a .members))) _ _ (c .before .before .before .before .if1 .left)),
+      omega (arith, c .list3 .ensures .1, c .before .before .before .list2 .ensures .1, t .pre),
+    )
 
 pub total-spec : {M : Type 1} → statement M
 total-spec =
     tie.close
     (tie.spec
-    empty-requires
-    slice-aggregate-find
-    find-requires
-    list-requires
+    (λ empty-requires κs. search needs)
+    (λ slice-aggregate-find. search needs)
+    (λ find-requires κs. search needs)
+    (λ list-requires κs. search needs)
     returns
-    list-requires-2
-    slice-aggregate-find-2
-    find-requires-2
-    list-requires-3
+    (λ list-requires-2 κs. search needs)
+    (λ slice-aggregate-find-2. search needs)
+    (λ find-requires-2 κs. search needs)
+    (λ list-requires-3 κs. search needs)
     returns-2)

@@ -11,30 +11,12 @@ use borrow.Author.Needs.{needs}
 use Rattle.manifest.proofs.read.version.Statement.{statement}
 use Rattle.manifest.proofs.read.version.Tie as tie
 
-enum-known-value : tie.Need-enum-known-value
-enum-known-value c = search needs
-
-enum-told : tie.Need-enum-told
-enum-told c = search needs
-
 returns : tie.Need-returns
 returns c = sym (ap (λ (x : Ending). version (ended (c .before .before .before .args .text .now) x)) (c .enum-told .given .1) ∙ version-missing)
-
-behind-requires : tie.Need-behind-requires
-behind-requires c κs = search needs
-
-byte-requires : tie.Need-byte-requires
-byte-requires c κs = search needs
-
-goes-on-requires : tie.Need-goes-on-requires
-goes-on-requires c κs = search needs
 
 returns-2 : tie.Need-returns-2
 returns-2 c =
     sym (ap (λ (x : Ending). version (ended (c .before .before .before .before .before .before .before .before .args .text .now) x)) (c .before .before .before .before .before .value .given .1) ∙ version-long _ (ap goesOn (ap head (sym (c .before .before .before .behind .ensures)) ∙ sym (c .before .before .byte .ensures)) ∙ sym (c .before .goes-on .ensures) ∙ c .if1 .taken))
-
-byte-requires-2 : tie.Need-byte-requires-2
-byte-requires-2 c κs = search needs
 
 returns-3 : tie.Need-returns-3
 returns-3 c =
@@ -56,14 +38,14 @@ pub version-spec : {M : Type 1} → statement M
 version-spec =
     tie.close
     (tie.spec
-    enum-known-value
-    enum-told
+    (λ enum-known-value. search needs)
+    (λ enum-told. search needs)
     returns
-    behind-requires
-    byte-requires
-    goes-on-requires
+    (λ behind-requires κs. search needs)
+    (λ byte-requires κs. search needs)
+    (λ goes-on-requires κs. search needs)
     returns-2
-    byte-requires-2
+    (λ byte-requires-2 κs. search needs)
     returns-3
     returns-4
     returns-5)

@@ -8,21 +8,9 @@ use borrow.Author.Needs.{needs}
 use Rattle.manifest.proofs.strings.by_host.Statement.{statement}
 use Rattle.manifest.proofs.strings.by_host.Tie as tie
 
-empty-requires : tie.Need-empty-requires
-empty-requires c κs = search needs
-
 returns : tie.Need-returns
 returns c =
     ap (λ (s : PermSet). s .bits) (c .empty .ensures) ∙ sym (host-not _ _ (not-true _ (c .before .if1 .taken)))
-
-is-host-requires : tie.Need-is-host-requires
-is-host-requires c κs = search needs
-
-of-requires : tie.Need-of-requires
-of-requires c κs = search needs
-
-empty-requires-2 : tie.Need-empty-requires-2
-empty-requires-2 c κs = search needs
 
 returns-2 : tie.Need-returns-2
 returns-2 c =
@@ -38,10 +26,10 @@ pub by-host-spec : {M : Type 1} → statement M
 by-host-spec =
     tie.close
     (tie.spec
-    empty-requires
+    (λ empty-requires κs. search needs)
     returns
-    is-host-requires
-    of-requires
-    empty-requires-2
+    (λ is-host-requires κs. search needs)
+    (λ of-requires κs. search needs)
+    (λ empty-requires-2 κs. search needs)
     returns-2
     returns-3)

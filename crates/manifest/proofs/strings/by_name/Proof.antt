@@ -7,15 +7,6 @@ use borrow.Author.Needs.{needs}
 use Rattle.manifest.proofs.strings.by_name.Statement.{statement}
 use Rattle.manifest.proofs.strings.by_name.Tie as tie
 
-name-set-requires : tie.Need-name-set-requires
-name-set-requires c κs = search needs
-
-of-requires : tie.Need-of-requires
-of-requires c κs = search needs
-
-empty-requires : tie.Need-empty-requires
-empty-requires c κs = search needs
-
 returns : tie.Need-returns
 returns c =
     ap (λ (s : PermSet). s .bits) (c .of .ensures) ∙ c .before .name-set .ensures ∙ sym (name-counts _ _ (c .before .before .if1 .taken))
@@ -25,4 +16,4 @@ returns-2 c =
     ap (λ (s : PermSet). s .bits) (c .empty .ensures) ∙ sym (name-not _ _ (c .before .if1 .left))
 
 pub by-name-spec : {M : Type 1} → statement M
-by-name-spec = tie.close (tie.spec name-set-requires of-requires empty-requires returns returns-2)
+by-name-spec = tie.close (tie.spec (λ name-set-requires κs. search needs) (λ of-requires κs. search needs) (λ empty-requires κs. search needs) returns returns-2)

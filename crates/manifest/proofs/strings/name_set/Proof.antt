@@ -6,22 +6,10 @@ use borrow.Author.Needs.{needs}
 use Rattle.manifest.proofs.strings.name_set.Statement.{statement}
 use Rattle.manifest.proofs.strings.name_set.Tie as tie
 
-slice-aggregate-spells : tie.Need-slice-aggregate-spells
-slice-aggregate-spells c = search needs
-
-spells-requires : tie.Need-spells-requires
-spells-requires c κs = search needs
-
 returns : tie.Need-returns
 returns c =
     sym
     (named-yes _ _ _ _ (sym (c .before .spells .ensures) ∙ c .if1 .taken))
-
-slice-aggregate-spells-2 : tie.Need-slice-aggregate-spells-2
-slice-aggregate-spells-2 c = search needs
-
-spells-requires-2 : tie.Need-spells-requires-2
-spells-requires-2 c κs = search needs
 
 returns-2 : tie.Need-returns-2
 returns-2 c =
@@ -29,24 +17,12 @@ returns-2 c =
     (named-no _ _ _ _ (sym (c .before .before .before .before .spells .ensures) ∙ c .before .before .before .if1 .left)
     ∙ named-yes _ _ _ _ (sym (c .before .spells2 .ensures) ∙ c .if2 .taken))
 
-slice-aggregate-spells-3 : tie.Need-slice-aggregate-spells-3
-slice-aggregate-spells-3 c = search needs
-
-spells-requires-3 : tie.Need-spells-requires-3
-spells-requires-3 c κs = search needs
-
 returns-3 : tie.Need-returns-3
 returns-3 c =
     sym
     (named-no _ _ _ _ (sym (c .before .before .before .before .before .before .before .spells .ensures) ∙ c .before .before .before .before .before .before .if1 .left)
     ∙ named-no _ _ _ _ (sym (c .before .before .before .before .spells2 .ensures) ∙ c .before .before .before .if2 .left)
     ∙ named-yes _ _ _ _ (sym (c .before .spells3 .ensures) ∙ c .if3 .taken))
-
-slice-aggregate-spells-4 : tie.Need-slice-aggregate-spells-4
-slice-aggregate-spells-4 c = search needs
-
-spells-requires-4 : tie.Need-spells-requires-4
-spells-requires-4 c κs = search needs
 
 returns-4 : tie.Need-returns-4
 returns-4 c =
@@ -56,12 +32,6 @@ returns-4 c =
     ∙ named-no _ _ _ _ (sym (c .before .before .before .before .spells3 .ensures) ∙ c .before .before .before .if3 .left)
     ∙ named-yes _ _ _ _ (sym (c .before .spells4 .ensures) ∙ c .if4 .taken))
 
-slice-aggregate-spells-5 : tie.Need-slice-aggregate-spells-5
-slice-aggregate-spells-5 c = search needs
-
-spells-requires-5 : tie.Need-spells-requires-5
-spells-requires-5 c κs = search needs
-
 returns-5 : tie.Need-returns-5
 returns-5 c =
     sym
@@ -70,12 +40,6 @@ returns-5 c =
     ∙ named-no _ _ _ _ (sym (c .before .before .before .before .before .before .before .spells3 .ensures) ∙ c .before .before .before .before .before .before .if3 .left)
     ∙ named-no _ _ _ _ (sym (c .before .before .before .before .spells4 .ensures) ∙ c .before .before .before .if4 .left)
     ∙ named-yes _ _ _ _ (sym (c .before .spells5 .ensures) ∙ c .if5 .taken))
-
-slice-aggregate-spells-6 : tie.Need-slice-aggregate-spells-6
-slice-aggregate-spells-6 c = search needs
-
-spells-requires-6 : tie.Need-spells-requires-6
-spells-requires-6 c κs = search needs
 
 returns-6 : tie.Need-returns-6
 returns-6 c =
@@ -87,12 +51,6 @@ returns-6 c =
     ∙ named-no _ _ _ _ (sym (c .before .before .before .before .spells5 .ensures) ∙ c .before .before .before .if5 .left)
     ∙ named-yes _ _ _ _ (sym (c .before .spells6 .ensures) ∙ c .if6 .taken))
 
-slice-aggregate-spells-7 : tie.Need-slice-aggregate-spells-7
-slice-aggregate-spells-7 c = search needs
-
-spells-requires-7 : tie.Need-spells-requires-7
-spells-requires-7 c κs = search needs
-
 returns-7 : tie.Need-returns-7
 returns-7 c =
     sym
@@ -103,12 +61,6 @@ returns-7 c =
     ∙ named-no _ _ _ _ (sym (c .before .before .before .before .before .before .before .spells5 .ensures) ∙ c .before .before .before .before .before .before .if5 .left)
     ∙ named-no _ _ _ _ (sym (c .before .before .before .before .spells6 .ensures) ∙ c .before .before .before .if6 .left)
     ∙ named-yes _ _ _ _ (sym (c .before .spells7 .ensures) ∙ c .if7 .taken))
-
-slice-aggregate-spells-8 : tie.Need-slice-aggregate-spells-8
-slice-aggregate-spells-8 c = search needs
-
-spells-requires-8 : tie.Need-spells-requires-8
-spells-requires-8 c κs = search needs
 
 returns-8 : tie.Need-returns-8
 returns-8 c =
@@ -122,12 +74,6 @@ returns-8 c =
     ∙ named-no _ _ _ _ (sym (c .before .before .before .before .spells7 .ensures) ∙ c .before .before .before .if7 .left)
     ∙ named-yes _ _ _ _ (sym (c .before .spells8 .ensures) ∙ c .if8 .taken))
 
-slice-aggregate-spells-9 : tie.Need-slice-aggregate-spells-9
-slice-aggregate-spells-9 c = search needs
-
-spells-requires-9 : tie.Need-spells-requires-9
-spells-requires-9 c κs = search needs
-
 returns-9 : tie.Need-returns-9
 returns-9 c =
     sym
@@ -140,12 +86,6 @@ returns-9 c =
     ∙ named-no _ _ _ _ (sym (c .before .before .before .before .before .before .before .spells7 .ensures) ∙ c .before .before .before .before .before .before .if7 .left)
     ∙ named-no _ _ _ _ (sym (c .before .before .before .before .spells8 .ensures) ∙ c .before .before .before .if8 .left)
     ∙ named-yes _ _ _ _ (sym (c .before .spells9 .ensures) ∙ c .if9 .taken))
-
-slice-aggregate-spells-10 : tie.Need-slice-aggregate-spells-10
-slice-aggregate-spells-10 c = search needs
-
-spells-requires-10 : tie.Need-spells-requires-10
-spells-requires-10 c κs = search needs
 
 returns-10 : tie.Need-returns-10
 returns-10 c =
@@ -180,34 +120,34 @@ pub name-set-spec : {M : Type 1} → statement M
 name-set-spec =
     tie.close
     (tie.spec
-    slice-aggregate-spells
-    spells-requires
+    (λ slice-aggregate-spells. search needs)
+    (λ spells-requires κs. search needs)
     returns
-    slice-aggregate-spells-2
-    spells-requires-2
+    (λ slice-aggregate-spells-2. search needs)
+    (λ spells-requires-2 κs. search needs)
     returns-2
-    slice-aggregate-spells-3
-    spells-requires-3
+    (λ slice-aggregate-spells-3. search needs)
+    (λ spells-requires-3 κs. search needs)
     returns-3
-    slice-aggregate-spells-4
-    spells-requires-4
+    (λ slice-aggregate-spells-4. search needs)
+    (λ spells-requires-4 κs. search needs)
     returns-4
-    slice-aggregate-spells-5
-    spells-requires-5
+    (λ slice-aggregate-spells-5. search needs)
+    (λ spells-requires-5 κs. search needs)
     returns-5
-    slice-aggregate-spells-6
-    spells-requires-6
+    (λ slice-aggregate-spells-6. search needs)
+    (λ spells-requires-6 κs. search needs)
     returns-6
-    slice-aggregate-spells-7
-    spells-requires-7
+    (λ slice-aggregate-spells-7. search needs)
+    (λ spells-requires-7 κs. search needs)
     returns-7
-    slice-aggregate-spells-8
-    spells-requires-8
+    (λ slice-aggregate-spells-8. search needs)
+    (λ spells-requires-8 κs. search needs)
     returns-8
-    slice-aggregate-spells-9
-    spells-requires-9
+    (λ slice-aggregate-spells-9. search needs)
+    (λ spells-requires-9 κs. search needs)
     returns-9
-    slice-aggregate-spells-10
-    spells-requires-10
+    (λ slice-aggregate-spells-10. search needs)
+    (λ spells-requires-10 κs. search needs)
     returns-10
     returns-11)

@@ -8,19 +8,10 @@ use borrow.Author.Needs.{needs}
 use Rattle.manifest.proofs.strings.set_of.Statement.{statement}
 use Rattle.manifest.proofs.strings.set_of.Tie as tie
 
-by-name-requires : tie.Need-by-name-requires
-by-name-requires c κs = search needs
-
-by-host-requires : tie.Need-by-host-requires
-by-host-requires c κs = search needs
-
-union-requires : tie.Need-union-requires
-union-requires c κs = search needs
-
 returns : tie.Need-returns
 unfolding setOf
 returns c =
     ap (λ (s : PermSet). s .bits) (c .union .ensures) ∙ ap₂ union (c .before .before .by-name .ensures) (c .before .by-host .ensures)
 
 pub set-of-spec : {M : Type 1} → statement M
-set-of-spec = tie.close (tie.spec by-name-requires by-host-requires union-requires returns)
+set-of-spec = tie.close (tie.spec (λ by-name-requires κs. search needs) (λ by-host-requires κs. search needs) (λ union-requires κs. search needs) returns)

@@ -17,23 +17,11 @@ Inv-loop out₀ at part end i₀ out i = (i ≤ length part) × (out ≡ paste o
 abbrev μ-loop : tie.MeasureT-loop
 μ-loop out₀ at part end i₀ out i = length part - i
 
-add-end : tie.Need-add-end Inv-loop μ-loop
-add-end c = search needs
-
 returns : tie.Need-returns Inv-loop μ-loop
 returns c = record { ends = refl; written = λ h. let n : ⊥ = omega arith in absurd n }
 
 loop-holds : tie.Need-loop-holds Inv-loop μ-loop
 loop-holds c = (search needs, paste-zero (c .before .args .out .now) (c .before .args .at) (c .before .args .part .now))
-
-mul-out : tie.Need-mul-out Inv-loop μ-loop
-mul-out c = search needs
-
-shared-slice-read-out : tie.Need-shared-slice-read-out Inv-loop μ-loop
-shared-slice-read-out c = search needs
-
-add-out : tie.Need-add-out Inv-loop μ-loop
-add-out c = search needs
 
 -- the output is as long as it was
 kept : (c : tie.In-loop Inv-loop μ-loop) → length (c .before .loop .out) ≡ length (c .before .before .before .args .out .now)
@@ -47,12 +35,6 @@ mul-out-2 c = let k = kept (c .before) in search needs
 
 slice-write-out : tie.Need-slice-write-out Inv-loop μ-loop
 slice-write-out c = let k = kept (c .before) in omega arith
-
-add-i : tie.Need-add-i Inv-loop μ-loop
-add-i c = search needs
-
-loop-less : tie.Need-loop-less Inv-loop μ-loop
-loop-less c = search needs
 
 loop-again : tie.Need-loop-again Inv-loop μ-loop
 loop-again c =
@@ -83,16 +65,16 @@ append-spec =
     (tie.spec
     Inv-loop
     μ-loop
-    add-end
+    (λ add-end. search needs)
     returns
     loop-holds
-    mul-out
-    shared-slice-read-out
-    add-out
+    (λ mul-out. search needs)
+    (λ shared-slice-read-out. search needs)
+    (λ add-out. search needs)
     mul-out-2
     slice-write-out
-    add-i
-    loop-less
+    (λ add-i. search needs)
+    (λ loop-less. search needs)
     loop-again
     same-length
     returns-2)

@@ -18,24 +18,12 @@ use Rattle.overlay.proofs.Joins.{join-refused, out-refused, Ready, read
 use Rattle.overlay.proofs.join.join.Statement.{statement}
 use Rattle.overlay.proofs.join.join.Tie as tie
 
-check-requires : tie.Need-check-requires
-check-requires c κs = search needs
-
-enum-known-f : tie.Need-enum-known-f
-enum-known-f c = search needs
-
 returns : tie.Need-returns
 unfolding joinedAs checkedAs
 returns c =
     let e = sym (c .before .before .before .check .ensures) ∙ ap checkedAs (c .before .f .given .1) in
     let out = c .before .before .before .before .before .before .before .args .out .now in
     (sym (join-refused _ _ out _ _ e), sym (out-refused _ _ out _ _ e))
-
-enum-told : tie.Need-enum-told
-enum-told c = search needs
-
-slice-aggregate-put-blocks : tie.Need-slice-aggregate-put-blocks
-slice-aggregate-put-blocks c = search needs
 
 -- both tables are accepted
 both : (c : tie.After-enum-told) → tablesRead (c .before .before .before .before .before .before .args .base .now) (c .before .before .before .before .before .before .args .overlay .now) ≡ accepted
@@ -44,9 +32,6 @@ both c = sym (c .before .before .check .ensures) ∙ ap checkedAs (c .enum-told 
 
 put-blocks-requires : tie.Need-put-blocks-requires
 put-blocks-requires c κs = let t = tables-accepted _ _ (both (c .before)) in (omega arith, t .0, t .1)
-
-slice-aggregate-put-blocks-2 : tie.Need-slice-aggregate-put-blocks-2
-slice-aggregate-put-blocks-2 c = search needs
 
 put-blocks-requires-2 : tie.Need-put-blocks-requires-2
 put-blocks-requires-2 c κs =
@@ -90,29 +75,8 @@ returns-4 : tie.Need-returns-4
 unfolding joinedAs faultNumber faultPlace
 returns-4 c = short-output _ _ (written (c .before .before .before .before .before .before)) _ (both (c .before .before .before .before .before .before .before .before .before .before .before)) (search needs) (search needs) (search needs)
 
-cast-words : tie.Need-cast-words
-cast-words c = search needs
-
-add-words : tie.Need-add-words
-add-words c = search needs
-
-array-write-words : tie.Need-array-write-words
-array-write-words c = search needs
-
-sub-append : tie.Need-sub-append
-sub-append c = search needs
-
-part-append-start : tie.Need-part-append-start
-part-append-start c = search needs
-
 part-append-end : tie.Need-part-append-end
 part-append-end c = let l = buffer-long (c .before .before .before .before .before .before .before .before) in simp length-set (search needs)
-
-append-requires : tie.Need-append-requires
-append-requires c κs = search needs
-
-same-length : tie.Need-same-length
-same-length c = search needs
 
 returns-5 : tie.Need-returns-5
 unfolding joinedAs
@@ -134,24 +98,24 @@ pub join-spec : {M : Type 1} → statement M
 join-spec =
     tie.close
     (tie.spec
-    check-requires
-    enum-known-f
+    (λ check-requires κs. search needs)
+    (λ enum-known-f. search needs)
     returns
-    enum-told
-    slice-aggregate-put-blocks
+    (λ enum-told. search needs)
+    (λ slice-aggregate-put-blocks. search needs)
     put-blocks-requires
-    slice-aggregate-put-blocks-2
+    (λ slice-aggregate-put-blocks-2. search needs)
     put-blocks-requires-2
     add-count
     returns-2
     returns-3
     returns-4
-    cast-words
-    add-words
-    array-write-words
-    sub-append
-    part-append-start
+    (λ cast-words. search needs)
+    (λ add-words. search needs)
+    (λ array-write-words. search needs)
+    (λ sub-append. search needs)
+    (λ part-append-start. search needs)
     part-append-end
-    append-requires
-    same-length
+    (λ append-requires κs. search needs)
+    (λ same-length. search needs)
     returns-5)

@@ -21,30 +21,6 @@ use Rattle.overlay.proofs.Appended.{appended-as, appended-none}
 use Rattle.overlay.proofs.join.put_block.Statement.{statement}
 use Rattle.overlay.proofs.join.put_block.Tie as tie
 
-mul-argument-of : tie.Need-mul-argument-of
-mul-argument-of c = search needs
-
-shared-slice-read-argument-of : tie.Need-shared-slice-read-argument-of
-shared-slice-read-argument-of c = search needs
-
-argument-of-requires : tie.Need-argument-of-requires
-argument-of-requires c κs = search needs
-
-add-argument-of : tie.Need-add-argument-of
-add-argument-of c = search needs
-
-mul-argument-of-2 : tie.Need-mul-argument-of-2
-mul-argument-of-2 c = search needs
-
-shared-slice-read-argument-of-2 : tie.Need-shared-slice-read-argument-of-2
-shared-slice-read-argument-of-2 c = search needs
-
-argument-of-requires-2 : tie.Need-argument-of-requires-2
-argument-of-requires-2 c κs = search needs
-
-seek-requires : tie.Need-seek-requires
-seek-requires c κs = search needs
-
 -- the block, and the search for its key in the other table
 abbrev block : tie.After-seek → List ℕ
 block c = let a = c .before .before .before .before .before .before .before .before .args in part (a .start) (a .end) (a .table .now)
@@ -86,9 +62,6 @@ there c a e h =
       block-there = q .1 ∙ ap (found a) (sym (ap (λ (i : ℕ). part a i ws) (q .2) ∙ p .1));
     }
 
-enum-known-a : tie.Need-enum-known-a
-enum-known-a c = search needs
-
 mul-append : tie.Need-mul-append
 mul-append c = let q = there (c .before .before .before .before .before) _ _ (c .before .before .before .a .given .1) in search needs
 
@@ -103,27 +76,10 @@ part-append-end c = let q = there (c .before .before .before .before .before) _ 
 
 append-requires : tie.Need-append-requires
 append-requires c κs =
-    let q = there (c .before .before .before .before .before .before) _ _ (c .before .before .before .before .a .given .1) in
-    let l = length-part (c .before .before .before .before .before .before .before .before .before .before .before .before .before .before .args .other .now) (c .before .before .before .before .a .given .0 .0) (c .before .before .before .before .a .given .0 .1 .0) (q .inside) in
+    let s = c .before .before .before .before in
+    let q = there (c .before .before .before .before .before .before) _ _ (s .a .given .1) in
+    let l = length-part (c .before .before .before .before .before .before .before .before .before .before .before .before .before .before .args .other .now) (s .a .given .0 .0) (s .a .given .0 .1 .0) (q .inside) in
     (search needs, omega arith)
-
-enum-told : tie.Need-enum-told
-enum-told c = search needs
-
-mul-append-2 : tie.Need-mul-append-2
-mul-append-2 c = search needs
-
-sub-append-2 : tie.Need-sub-append-2
-sub-append-2 c = search needs
-
-part-append-start-2 : tie.Need-part-append-start-2
-part-append-start-2 c = search needs
-
-part-append-end-2 : tie.Need-part-append-end-2
-part-append-end-2 c = search needs
-
-append-requires-2 : tie.Need-append-requires-2
-append-requires-2 c κs = search needs
 
 returns : tie.Need-returns
 returns c =
@@ -133,9 +89,6 @@ returns c =
     ap (λ (x : Bool). given x (blocks (a .other .now)) (part (a .start) (a .end) (a .table .now))) (c .if1 .taken) ∙ given-none _ _ _ _ (q .block-there) in
     appended-as none (appended-none (a .at) (a .out .now))
 
-same-length : tie.Need-same-length
-same-length c = search needs
-
 returns-2 : tie.Need-returns-2
 returns-2 c =
     let a = c .before .before .before .before .before .before .before .before .before .before .before .before .before .before .before .before .before .args in
@@ -143,9 +96,6 @@ returns-2 c =
     appended-as
     (ap (λ (x : Bool). given x (blocks (a .other .now)) (part (a .start) (a .end) (a .table .now))) (c .before .before .before .before .before .if1 .left)
     ∙ given-other _ _ _ _ (q .block-there)) (c .before .before .append .ensures)
-
-same-length-2 : tie.Need-same-length-2
-same-length-2 c = search needs
 
 returns-3 : tie.Need-returns-3
 returns-3 c =
@@ -157,28 +107,28 @@ pub put-block-spec : {M : Type 1} → statement M
 put-block-spec =
     tie.close
     (tie.spec
-    mul-argument-of
-    shared-slice-read-argument-of
-    argument-of-requires
-    add-argument-of
-    mul-argument-of-2
-    shared-slice-read-argument-of-2
-    argument-of-requires-2
-    seek-requires
-    enum-known-a
+    (λ mul-argument-of. search needs)
+    (λ shared-slice-read-argument-of. search needs)
+    (λ argument-of-requires κs. search needs)
+    (λ add-argument-of. search needs)
+    (λ mul-argument-of-2. search needs)
+    (λ shared-slice-read-argument-of-2. search needs)
+    (λ argument-of-requires-2 κs. search needs)
+    (λ seek-requires κs. search needs)
+    (λ enum-known-a. search needs)
     mul-append
     sub-append
     part-append-start
     part-append-end
     append-requires
-    enum-told
-    mul-append-2
-    sub-append-2
-    part-append-start-2
-    part-append-end-2
-    append-requires-2
+    (λ enum-told. search needs)
+    (λ mul-append-2. search needs)
+    (λ sub-append-2. search needs)
+    (λ part-append-start-2. search needs)
+    (λ part-append-end-2. search needs)
+    (λ append-requires-2 κs. search needs)
     returns
-    same-length
+    (λ same-length. search needs)
     returns-2
-    same-length-2
+    (λ same-length-2. search needs)
     returns-3)

@@ -110,9 +110,6 @@ abbrev μ-loop : tie.MeasureT-loop
 shared-slice-read-argument-of : tie.Need-shared-slice-read-argument-of Inv-loop μ-loop
 shared-slice-read-argument-of c = accepted-table _ (c .before .before .before .before .pre .1) .inside
 
-argument-of-requires : tie.Need-argument-of-requires Inv-loop μ-loop
-argument-of-requires c κs = search needs
-
 loop-holds : tie.Need-loop-holds Inv-loop μ-loop
 unfolding blocks
 loop-holds c =
@@ -154,15 +151,6 @@ put-block-requires c κs =
     let p = c .before .before .before .before .before .before .before .before .before .pre .0 in
     (omega arith, omega arith, omega arith, accepted-table _ (c .before .before .before .before .before .before .before .before .before .pre .1) .short, c .before .before .before .before .before .before .before .before .before .pre .2)
 
-add-count : tie.Need-add-count Inv-loop μ-loop
-add-count c = search needs
-
-sub-left : tie.Need-sub-left Inv-loop μ-loop
-sub-left c = search needs
-
-loop-less : tie.Need-loop-less Inv-loop μ-loop
-loop-less c = search needs
-
 loop-again : tie.Need-loop-again Inv-loop μ-loop
 loop-again c =
     goes-on (c .before .before .before .before .before .before .before .loop .inv) (c .before .before .before .before .before .before .before .before .before .before .before .before .before .pre .1) (c .before .before .before .before .before .before .before .before .before .before .before .before .before .pre .2) (search needs) (at-loop (c .before .before .before .before .before .before)) (c .before .before .before .before .before .block-end .result)
@@ -195,13 +183,13 @@ put-blocks-spec =
     Inv-loop
     μ-loop
     shared-slice-read-argument-of
-    argument-of-requires
+    (λ argument-of-requires κs. search needs)
     loop-holds
     block-end-requires
     put-block-requires
-    add-count
-    sub-left
-    loop-less
+    (λ add-count. search needs)
+    (λ sub-left. search needs)
+    (λ loop-less. search needs)
     loop-again
     same-length
     returns)

@@ -10,18 +10,9 @@ use Rattle.overlay.proofs.Places.{at-span, no-span, place-refused, plac
 use Rattle.overlay.proofs.lookup.find.Statement.{statement}
 use Rattle.overlay.proofs.lookup.find.Tie as tie
 
-check-requires : tie.Need-check-requires
-check-requires c κs = search needs
-
-enum-known-f : tie.Need-enum-known-f
-enum-known-f c = search needs
-
 returns : tie.Need-returns
 unfolding foundAs checkedAs
 returns c = sym (place-refused _ _ _ _ _ _ (sym (c .before .before .before .check .ensures) ∙ ap checkedAs (c .before .f .given .1)))
-
-enum-told : tie.Need-enum-told
-enum-told c = search needs
 
 -- both tables are accepted where the search begins
 both : (c : tie.After-enum-told)
@@ -32,26 +23,14 @@ both c = sym (c .before .before .check .ensures) ∙ ap checkedAs (c .enum-told 
 seek-requires : tie.Need-seek-requires
 seek-requires c κs = let t = tables-accepted _ _ (both c) in let b = t .0 in let o = t .1 in cc
 
-enum-known-start : tie.Need-enum-known-start
-enum-known-start c = search needs
-
 returns-2 : tie.Need-returns-2
 unfolding foundAs
 returns-2 c =
     let q = at-span _ _ _ (sym (c .before .before .before .seek .ensures) ∙ c .before .start .given .1) in
     sym (place-found _ _ _ _ (both (c .before .before .before .before)) _ (found _ (q .0)) refl (q .1) ∙ ap (inOverlay (c .before .start .given .0 .0)) (sym (q .2)))
 
-enum-told-2 : tie.Need-enum-told-2
-enum-told-2 c = search needs
-
 seek-requires-2 : tie.Need-seek-requires-2
 seek-requires-2 c κs = let t = tables-accepted _ _ (both (c .before .before .before)) in let b = t .0 in let o = t .1 in cc
-
-enum-known-start-2 : tie.Need-enum-known-start-2
-enum-known-start-2 c = search needs
-
-enum-told-3 : tie.Need-enum-told-3
-enum-told-3 c = search needs
 
 returns-3 : tie.Need-returns-3
 unfolding foundAs
@@ -71,16 +50,16 @@ pub find-spec : {M : Type 1} → statement M
 find-spec =
     tie.close
     (tie.spec
-    check-requires
-    enum-known-f
+    (λ check-requires κs. search needs)
+    (λ enum-known-f. search needs)
     returns
-    enum-told
+    (λ enum-told. search needs)
     seek-requires
-    enum-known-start
+    (λ enum-known-start. search needs)
     returns-2
-    enum-told-2
+    (λ enum-told-2. search needs)
     seek-requires-2
-    enum-known-start-2
-    enum-told-3
+    (λ enum-known-start-2. search needs)
+    (λ enum-told-3. search needs)
     returns-3
     returns-4)

@@ -8,12 +8,6 @@ use Rattle.overlay.proofs.Places.{Stands, place-stands}
 use Rattle.overlay.proofs.lookup.lookup.Statement.{statement}
 use Rattle.overlay.proofs.lookup.lookup.Tie as tie
 
-find-requires : tie.Need-find-requires
-find-requires c κs = search needs
-
-enum-known-start : tie.Need-enum-known-start
-enum-known-start c = search needs
-
 -- what the answer of `find` says of the two slices
 answered : (c : tie.After-find) (r : Found) → c .find .result ≡ r
     → Stands (c .before .before .before .args .base .now) (c .before .before .before .args .overlay .now) (c .before .before .before .args .name) (c .before .before .before .args .perms) (foundAs r)
@@ -38,9 +32,6 @@ part-result-end : tie.Need-part-result-end
 unfolding foundAs
 part-result-end c = let q = answered (c .before .before .before) _ (c .before .start .given .1) in search needs
 
-enum-known-start-2 : tie.Need-enum-known-start-2
-enum-known-start-2 c = search needs
-
 mul-result-2 : tie.Need-mul-result-2
 unfolding foundAs
 mul-result-2 c = let q = answered (c .before .before .before) _ (c .before .start2 .given .1) in search needs
@@ -56,18 +47,6 @@ part-result-start-2 c = let q = answered (c .before .before .before) _ (c .befor
 part-result-end-2 : tie.Need-part-result-end-2
 unfolding foundAs
 part-result-end-2 c = let q = answered (c .before .before .before) _ (c .before .start2 .given .1) in search needs
-
-enum-told : tie.Need-enum-told
-enum-told c = search needs
-
-sub-result-3 : tie.Need-sub-result-3
-sub-result-3 c = search needs
-
-part-result-start-3 : tie.Need-part-result-start-3
-part-result-start-3 c = search needs
-
-part-result-end-3 : tie.Need-part-result-end-3
-part-result-end-3 c = search needs
 
 returns : tie.Need-returns
 unfolding foundAs
@@ -85,21 +64,21 @@ pub lookup-spec : {M : Type 1} → statement M
 lookup-spec =
     tie.close
     (tie.spec
-    find-requires
-    enum-known-start
+    (λ find-requires κs. search needs)
+    (λ enum-known-start. search needs)
     mul-result
     sub-result
     part-result-start
     part-result-end
-    enum-known-start-2
+    (λ enum-known-start-2. search needs)
     mul-result-2
     sub-result-2
     part-result-start-2
     part-result-end-2
-    enum-told
-    sub-result-3
-    part-result-start-3
-    part-result-end-3
+    (λ enum-told. search needs)
+    (λ sub-result-3. search needs)
+    (λ part-result-start-3. search needs)
+    (λ part-result-end-3. search needs)
     returns
     returns-2
     returns-3)

@@ -8,32 +8,8 @@ use borrow.Author.Needs.{needs}
 use Rattle.overlay.proofs.numbers.fault_number.Statement.{statement}
 use Rattle.overlay.proofs.numbers.fault_number.Tie as tie
 
-enum-known-f : tie.Need-enum-known-f
-enum-known-f c = search needs
-
-refusal-number-requires : tie.Need-refusal-number-requires
-refusal-number-requires c κs = search needs
-
-enum-known-f-2 : tie.Need-enum-known-f-2
-enum-known-f-2 c = search needs
-
-refusal-number-requires-2 : tie.Need-refusal-number-requires-2
-refusal-number-requires-2 c κs = search needs
-
 add-result : tie.Need-add-result
 add-result c = omega (arith, number-small (c .before .before .f2 .given .0 .0), c .refusal-number2 .ensures)
-
-enum-told : tie.Need-enum-told
-enum-told c = search needs
-
-enum-told-2 : tie.Need-enum-told-2
-enum-told-2 c = search needs
-
-enum-told-3 : tie.Need-enum-told-3
-enum-told-3 c = search needs
-
-enum-told-4 : tie.Need-enum-told-4
-enum-told-4 c = search needs
 
 returns : tie.Need-returns
 unfolding faultNumber
@@ -63,15 +39,15 @@ pub fault-number-spec : {M : Type 1} → statement M
 fault-number-spec =
     tie.close
     (tie.spec
-    enum-known-f
-    refusal-number-requires
-    enum-known-f-2
-    refusal-number-requires-2
+    (λ enum-known-f. search needs)
+    (λ refusal-number-requires κs. search needs)
+    (λ enum-known-f-2. search needs)
+    (λ refusal-number-requires-2 κs. search needs)
     add-result
-    enum-told
-    enum-told-2
-    enum-told-3
-    enum-told-4
+    (λ enum-told. search needs)
+    (λ enum-told-2. search needs)
+    (λ enum-told-3. search needs)
+    (λ enum-told-4. search needs)
     returns
     returns-2
     returns-3

@@ -6,14 +6,8 @@ use Rattle.overlay.proofs.Ends.{block-ends}
 use Rattle.overlay.proofs.search.block_end.Statement.{statement}
 use Rattle.overlay.proofs.search.block_end.Tie as tie
 
-add-term-end : tie.Need-add-term-end
-add-term-end c = search needs
-
-term-end-requires : tie.Need-term-end-requires
-term-end-requires c κs = search needs
-
 returns : tie.Need-returns
 returns c = c .term-end .ensures ∙ block-ends _ _
 
 pub block-end-spec : {M : Type 1} → statement M
-block-end-spec = tie.close (tie.spec add-term-end term-end-requires returns)
+block-end-spec = tie.close (tie.spec (λ add-term-end. search needs) (λ term-end-requires κs. search needs) returns)

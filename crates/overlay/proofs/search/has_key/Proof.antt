@@ -9,27 +9,6 @@ use Rattle.overlay.proofs.Seek.{keyed-at}
 use Rattle.overlay.proofs.search.has_key.Statement.{statement}
 use Rattle.overlay.proofs.search.has_key.Tie as tie
 
-mul-argument-of : tie.Need-mul-argument-of
-mul-argument-of c = search needs
-
-shared-slice-read-argument-of : tie.Need-shared-slice-read-argument-of
-shared-slice-read-argument-of c = search needs
-
-argument-of-requires : tie.Need-argument-of-requires
-argument-of-requires c κs = search needs
-
-add-argument-of : tie.Need-add-argument-of
-add-argument-of c = search needs
-
-mul-argument-of-2 : tie.Need-mul-argument-of-2
-mul-argument-of-2 c = search needs
-
-shared-slice-read-argument-of-2 : tie.Need-shared-slice-read-argument-of-2
-shared-slice-read-argument-of-2 c = search needs
-
-argument-of-requires-2 : tie.Need-argument-of-requires-2
-argument-of-requires-2 c κs = search needs
-
 returns : tie.Need-returns
 returns c =
     let a = c .before .before .before .before .before .before .args in
@@ -44,12 +23,12 @@ pub has-key-spec : {M : Type 1} → statement M
 has-key-spec =
     tie.close
     (tie.spec
-    mul-argument-of
-    shared-slice-read-argument-of
-    argument-of-requires
-    add-argument-of
-    mul-argument-of-2
-    shared-slice-read-argument-of-2
-    argument-of-requires-2
+    (λ mul-argument-of. search needs)
+    (λ shared-slice-read-argument-of. search needs)
+    (λ argument-of-requires κs. search needs)
+    (λ add-argument-of. search needs)
+    (λ mul-argument-of-2. search needs)
+    (λ shared-slice-read-argument-of-2. search needs)
+    (λ argument-of-requires-2 κs. search needs)
     returns
     returns-2)

@@ -28,9 +28,6 @@ abbrev μ-loop : tie.MeasureT-loop
 shared-slice-read-argument-of : tie.Need-shared-slice-read-argument-of Inv-loop μ-loop
 shared-slice-read-argument-of c = table _ (c .before .before .pre) .inside
 
-argument-of-requires : tie.Need-argument-of-requires Inv-loop μ-loop
-argument-of-requires c κs = search needs
-
 loop-holds : tie.Need-loop-holds Inv-loop μ-loop
 unfolding blocks
 loop-holds c =
@@ -62,12 +59,6 @@ returns c =
     c .before .before .block-end .ensures ∙ ap (λ (k : ℕ). l .at + k) (sym (r .whole ∙ r .sized)) in
     ap (λ (q : ℕ). spans.At (l .at) q) e
     ∙ sym (ap spanOf (l .inv .2 ∙ seek-here _ _ _ (l .left) (l .at) r (sym (c .before .has-key .ensures) ∙ c .if1 .taken)))
-
-sub-left : tie.Need-sub-left Inv-loop μ-loop
-sub-left c = search needs
-
-loop-less : tie.Need-loop-less Inv-loop μ-loop
-loop-less c = search needs
 
 loop-again : tie.Need-loop-again Inv-loop μ-loop
 loop-again c =
@@ -103,12 +94,12 @@ seek-spec =
     Inv-loop
     μ-loop
     shared-slice-read-argument-of
-    argument-of-requires
+    (λ argument-of-requires κs. search needs)
     loop-holds
     block-end-requires
     has-key-requires
     returns
-    sub-left
-    loop-less
+    (λ sub-left. search needs)
+    (λ loop-less. search needs)
     loop-again
     returns-2)

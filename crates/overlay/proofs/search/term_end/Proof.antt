@@ -29,28 +29,10 @@ returns c =
     let l = c .before .before .loop in
     sym (l .inv .1 ∙ skip-past (c .before .before .before .before .args .words .now) (l .next) (l .left) (c .if1 .taken))
 
-sub-left : tie.Need-sub-left Inv-loop μ-loop
-sub-left c = search needs
-
-mul-arity-of : tie.Need-mul-arity-of Inv-loop μ-loop
-mul-arity-of c = search needs
-
-shared-slice-read-arity-of : tie.Need-shared-slice-read-arity-of Inv-loop μ-loop
-shared-slice-read-arity-of c = search needs
-
-arity-of-requires : tie.Need-arity-of-requires Inv-loop μ-loop
-arity-of-requires c κs = search needs
-
 add-left : tie.Need-add-left Inv-loop μ-loop
 add-left c =
     let w = getD (c .before .before .before .before .before .before .args .words .now) (c .before .before .before .before .loop .next) 0 in
     omega (arith, arity-small w)
-
-add-next : tie.Need-add-next Inv-loop μ-loop
-add-next c = search needs
-
-loop-less : tie.Need-loop-less Inv-loop μ-loop
-loop-less c = search needs
 
 loop-again : tie.Need-loop-again Inv-loop μ-loop
 loop-again c =
@@ -78,12 +60,12 @@ term-end-spec =
     μ-loop
     loop-holds
     returns
-    sub-left
-    mul-arity-of
-    shared-slice-read-arity-of
-    arity-of-requires
+    (λ sub-left. search needs)
+    (λ mul-arity-of. search needs)
+    (λ shared-slice-read-arity-of. search needs)
+    (λ arity-of-requires κs. search needs)
     add-left
-    add-next
-    loop-less
+    (λ add-next. search needs)
+    (λ loop-less. search needs)
     loop-again
     returns-2)

@@ -10,12 +10,9 @@ returns : tie.Need-returns
 returns c =
     sym (member-beyond 32 _ _ (search needs) (search needs))
 
-shr-result : tie.Need-shr-result
-shr-result c = search needs
-
 returns-2 : tie.Need-returns-2
 unfolding member
 returns-2 c = search needs
 
 pub has-spec : {M : Type 1} → statement M
-has-spec = tie.close (tie.spec returns shr-result returns-2)
+has-spec = tie.close (tie.spec returns (λ shr-result. search needs) returns-2)

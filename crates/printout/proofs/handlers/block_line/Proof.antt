@@ -9,9 +9,6 @@ use borrow.Author.Needs.{needs}
 use Rattle.printout.proofs.handlers.block_line.Statement.{statement}
 use Rattle.printout.proofs.handlers.block_line.Tie as tie
 
-of-requires : tie.Need-of-requires
-of-requires c κs = search needs
-
 flags-requires : tie.Need-flags-requires
 flags-requires c κs =
     let s = c .before .before .before .before in
@@ -34,15 +31,6 @@ shared-slice-read-w c =
     let e = flags-base (code (s .args .words .now)) (c .before .before .of .result) (c .before .before .of .ensures) (s .args .p) ∙ sym (c .before .flags .ensures) in
     word-inside (s .args .words .now) (s .args .est .now) (s .pre .0) (s .args .p) _ (s .pre .1) e
 
-within-requires : tie.Need-within-requires
-within-requires c κs = search needs
-
-handler-line-requires : tie.Need-handler-line-requires
-handler-line-requires c κs = search needs
-
-same-length : tie.Need-same-length
-same-length c = search needs
-
 returns : tie.Need-returns
 returns c =
     let s = c .before .before .before .before .before .before .before .before .before .before .before .before in
@@ -58,11 +46,11 @@ pub block-line-spec : {M : Type 1} → statement M
 block-line-spec =
     tie.close
     (tie.spec
-    of-requires
+    (λ of-requires κs. search needs)
     flags-requires
     mul-w
     shared-slice-read-w
-    within-requires
-    handler-line-requires
-    same-length
+    (λ within-requires κs. search needs)
+    (λ handler-line-requires κs. search needs)
+    (λ same-length. search needs)
     returns)

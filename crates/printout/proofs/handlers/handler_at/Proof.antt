@@ -7,15 +7,6 @@ use borrow.Author.Needs.{needs}
 use Rattle.printout.proofs.handlers.handler_at.Statement.{statement}
 use Rattle.printout.proofs.handlers.handler_at.Tie as tie
 
-item-at-requires : tie.Need-item-at-requires
-item-at-requires c κs = search needs
-
-enum-told : tie.Need-enum-told
-enum-told c = search needs
-
-enum-known-h : tie.Need-enum-known-h
-enum-known-h c = search needs
-
 block-line-requires : tie.Need-block-line-requires
 block-line-requires c κs =
     let s = c .before .before .before .before .before .before .before .before in
@@ -23,21 +14,12 @@ block-line-requires c κs =
     let one = here-handler (s .args .words .now) (s .pre .0 .0 .readable) (s .args .p) (s .pre .0 .1) _ i in
     (s .pre .0 .0, s .pre .0 .1, omega (arith, s .pre .1, ap length one))
 
-add-t13 : tie.Need-add-t13
-add-t13 c = search needs
-
-enum-told-2 : tie.Need-enum-told-2
-enum-told-2 c = search needs
-
 returns : tie.Need-returns
 returns c =
     let s = c .before .before .before .before .before .before in
     let i = sym (c .before .before .item-at .ensures) ∙ c .enum-told .given .1 in
     stepped-none (s .args .words .now) (s .pre .0 .0 .readable) (s .args .p) (s .pre .0 .1) (s .args .rho) (s .args .est .now) (s .args .out .now) (s .args .c .at) (s .args .c .position) (s .pre .1)
     (here-gap (s .args .words .now) (s .pre .0 .0 .readable) (s .args .p) (s .pre .0 .1) i)
-
-same-length : tie.Need-same-length
-same-length c = search needs
 
 returns-2 : tie.Need-returns-2
 returns-2 c =
@@ -57,13 +39,13 @@ pub handler-at-spec : {M : Type 1} → statement M
 handler-at-spec =
     tie.close
     (tie.spec
-    item-at-requires
-    enum-told
-    enum-known-h
+    (λ item-at-requires κs. search needs)
+    (λ enum-told. search needs)
+    (λ enum-known-h. search needs)
     block-line-requires
-    add-t13
-    enum-told-2
+    (λ add-t13. search needs)
+    (λ enum-told-2. search needs)
     returns
-    same-length
+    (λ same-length. search needs)
     returns-2
     returns-3)

@@ -9,12 +9,6 @@ use borrow.Author.Needs.{needs}
 use Rattle.printout.proofs.limit.tell_narrow_within.Statement.{statement}
 use Rattle.printout.proofs.limit.tell_narrow_within.Tie as tie
 
-verdict-within-requires : tie.Need-verdict-within-requires
-verdict-within-requires c κs = search needs
-
-enum-known-v : tie.Need-enum-known-v
-enum-known-v c = search needs
-
 answer-text-requires : tie.Need-answer-text-requires
 unfolding limitedAnswer
 answer-text-requires c κs =
@@ -22,21 +16,6 @@ answer-text-requires c κs =
     let a = s .args in
     let v = c .before .before .before .before .before .before .before .before .before .verdict-within .ensures in
     (held-under (a .words .now) (a .rho) (a .bound) (a .ceiling) (a .est .now) (a .work .now) _ (s .pre .1) _ (sym (ap limitedAnswer (c .before .before .before .v .given .1)) ∙ v .0) (v .1 .0), s .pre .0)
-
-enum-known-n : tie.Need-enum-known-n
-enum-known-n c = search needs
-
-refusal-line-requires : tie.Need-refusal-line-requires
-refusal-line-requires c κs = search needs
-
-same-length : tie.Need-same-length
-same-length c = search needs
-
-same-length-2 : tie.Need-same-length-2
-same-length-2 c = search needs
-
-same-length-3 : tie.Need-same-length-3
-same-length-3 c = search needs
 
 returns : tie.Need-returns
 unfolding limitedAnswer
@@ -49,15 +28,6 @@ returns c =
       estimates = v .1 .0 ∙ if-other (a .words .now) (a .est .now) _ (s .pre .1);
       works = v .1 .1 ∙ if-other (a .words .now) (a .work .now) _ (s .pre .1);
     }
-
-same-length-4 : tie.Need-same-length-4
-same-length-4 c = search needs
-
-same-length-5 : tie.Need-same-length-5
-same-length-5 c = search needs
-
-same-length-6 : tie.Need-same-length-6
-same-length-6 c = search needs
 
 returns-2 : tie.Need-returns-2
 unfolding limitedAnswer answerText
@@ -75,16 +45,16 @@ pub tell-narrow-within-spec : {M : Type 1} → statement M
 tell-narrow-within-spec =
     tie.close
     (tie.spec
-    verdict-within-requires
-    enum-known-v
+    (λ verdict-within-requires κs. search needs)
+    (λ enum-known-v. search needs)
     answer-text-requires
-    enum-known-n
-    refusal-line-requires
-    same-length
-    same-length-2
-    same-length-3
+    (λ enum-known-n. search needs)
+    (λ refusal-line-requires κs. search needs)
+    (λ same-length. search needs)
+    (λ same-length-2. search needs)
+    (λ same-length-3. search needs)
     returns
-    same-length-4
-    same-length-5
-    same-length-6
+    (λ same-length-4. search needs)
+    (λ same-length-5. search needs)
+    (λ same-length-6. search needs)
     returns-2)

@@ -12,12 +12,6 @@ use borrow.Author.Needs.{needs}
 use Rattle.printout.proofs.program.lent_text.Statement.{statement}
 use Rattle.printout.proofs.program.lent_text.Tie as tie
 
-words-of-requires : tie.Need-words-of-requires
-words-of-requires c κs = search needs
-
-slice-reshare-prefix-words-text : tie.Need-slice-reshare-prefix-words-text
-slice-reshare-prefix-words-text c = search needs
-
 slice-aggregate-words-text : tie.Need-slice-aggregate-words-text
 slice-aggregate-words-text c =
     let s = c .before .before .before .before .before .before .before .before in
@@ -35,12 +29,6 @@ words-text-requires c κs =
     let n = length-wordsOf (s .args .input .now) in
     (omega (arith, ap length e), omega (arith, ap length e), s .pre .2)
 
-same-length : tie.Need-same-length
-same-length c = search needs
-
-same-length-2 : tie.Need-same-length-2
-same-length-2 c = search needs
-
 returns : tie.Need-returns
 returns c =
     let s = c .before .before .before .before .before .before .before .before .before .before .before .before in
@@ -54,10 +42,10 @@ pub lent-text-spec : {M : Type 1} → statement M
 lent-text-spec =
     tie.close
     (tie.spec
-    words-of-requires
-    slice-reshare-prefix-words-text
+    (λ words-of-requires κs. search needs)
+    (λ slice-reshare-prefix-words-text. search needs)
     slice-aggregate-words-text
     words-text-requires
-    same-length
-    same-length-2
+    (λ same-length. search needs)
+    (λ same-length-2. search needs)
     returns)

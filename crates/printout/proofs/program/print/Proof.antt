@@ -8,12 +8,6 @@ use Rattle.printout.proofs.program.print.Tie as tie
 returns : tie.Need-returns
 returns c = let s = c .before .before .before in unwritten _ (s .args .out .now) (omega (arith, c .if1 .taken))
 
-input-text-requires : tie.Need-input-text-requires
-input-text-requires c κs = search needs
-
-same-length : tie.Need-same-length
-same-length c = search needs
-
 returns-2 : tie.Need-returns-2
 returns-2 c = written (omega (arith, c .before .before .before .before .if1 .left)) (c .before .before .input-text .ensures)
 
@@ -22,6 +16,6 @@ print-spec =
     tie.close
     (tie.spec
     returns
-    input-text-requires
-    same-length
+    (λ input-text-requires κs. search needs)
+    (λ same-length. search needs)
     returns-2)

@@ -9,18 +9,6 @@ use borrow.Author.Needs.{needs}
 use Rattle.printout.proofs.program.sized_text.Statement.{statement}
 use Rattle.printout.proofs.program.sized_text.Tie as tie
 
-tell-requires : tie.Need-tell-requires
-tell-requires c κs = search needs
-
-same-length : tie.Need-same-length
-same-length c = search needs
-
-same-length-2 : tie.Need-same-length-2
-same-length-2 c = search needs
-
-same-length-3 : tie.Need-same-length-3
-same-length-3 c = search needs
-
 returns : tie.Need-returns
 returns c =
     let s = c .before .before .before .before .before .before .before .before .before .before .before .before .before .before in
@@ -33,8 +21,8 @@ pub sized-text-spec : {M : Type 1} → statement M
 sized-text-spec =
     tie.close
     (tie.spec
-    tell-requires
-    same-length
-    same-length-2
-    same-length-3
+    (λ tell-requires κs. search needs)
+    (λ same-length. search needs)
+    (λ same-length-2. search needs)
+    (λ same-length-3. search needs)
     returns)

@@ -11,27 +11,6 @@ use borrow.Author.Needs.{needs}
 use Rattle.printout.proofs.program.words_text.Statement.{statement}
 use Rattle.printout.proofs.program.words_text.Tie as tie
 
-sub-own-text : tie.Need-sub-own-text
-sub-own-text c = search needs
-
-part-own-text-start : tie.Need-part-own-text-start
-part-own-text-start c = search needs
-
-part-own-text-end : tie.Need-part-own-text-end
-part-own-text-end c = search needs
-
-shared-slice-read-own-text : tie.Need-shared-slice-read-own-text
-shared-slice-read-own-text c = search needs
-
-shared-slice-read-own-text-2 : tie.Need-shared-slice-read-own-text-2
-shared-slice-read-own-text-2 c = search needs
-
-own-text-requires : tie.Need-own-text-requires
-own-text-requires c κs = search needs
-
-same-length : tie.Need-same-length
-same-length c = search needs
-
 returns : tie.Need-returns
 returns c =
     let ws = c .before .before .before .before .before .before .before .before .before .args .words .now in
@@ -42,11 +21,11 @@ pub words-text-spec : {M : Type 1} → statement M
 words-text-spec =
     tie.close
     (tie.spec
-    sub-own-text
-    part-own-text-start
-    part-own-text-end
-    shared-slice-read-own-text
-    shared-slice-read-own-text-2
-    own-text-requires
-    same-length
+    (λ sub-own-text. search needs)
+    (λ part-own-text-start. search needs)
+    (λ part-own-text-end. search needs)
+    (λ shared-slice-read-own-text. search needs)
+    (λ shared-slice-read-own-text-2. search needs)
+    (λ own-text-requires κs. search needs)
+    (λ same-length. search needs)
     returns)

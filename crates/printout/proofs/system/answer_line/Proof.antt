@@ -9,33 +9,6 @@ use borrow.Author.Needs.{needs}
 use Rattle.printout.proofs.system.answer_line.Statement.{statement}
 use Rattle.printout.proofs.system.answer_line.Tie as tie
 
-enum-known-v : tie.Need-enum-known-v
-enum-known-v c = search needs
-
-fault-number-requires : tie.Need-fault-number-requires
-fault-number-requires c κs = search needs
-
-fault-place-requires : tie.Need-fault-place-requires
-fault-place-requires c κs = search needs
-
-refusal-line-requires : tie.Need-refusal-line-requires
-refusal-line-requires c κs = search needs
-
-enum-known-v-2 : tie.Need-enum-known-v-2
-enum-known-v-2 c = search needs
-
-report-line-requires : tie.Need-report-line-requires
-report-line-requires c κs = search needs
-
-enum-known-v-3 : tie.Need-enum-known-v-3
-enum-known-v-3 c = search needs
-
-report-line-requires-2 : tie.Need-report-line-requires-2
-report-line-requires-2 c κs = search needs
-
-same-length : tie.Need-same-length
-same-length c = search needs
-
 returns : tie.Need-returns
 unfolding firstLine answerOf
 returns c =
@@ -48,9 +21,6 @@ returns c =
       at-line .refusal-line .ensures .1,
     )
 
-same-length-2 : tie.Need-same-length-2
-same-length-2 c = search needs
-
 returns-2 : tie.Need-returns-2
 unfolding firstLine answerOf
 returns-2 c =
@@ -58,9 +28,6 @@ returns-2 c =
       reworded (sym (ap (λ (v : Verdict). firstLine (answerOf v)) (c .before .before .before .before .before .v2 .given .1))) (at-line .report-line .ensures .0),
       at-line .report-line .ensures .1,
     )
-
-same-length-3 : tie.Need-same-length-3
-same-length-3 c = search needs
 
 returns-3 : tie.Need-returns-3
 unfolding firstLine answerOf
@@ -74,17 +41,17 @@ pub answer-line-spec : {M : Type 1} → statement M
 answer-line-spec =
     tie.close
     (tie.spec
-    enum-known-v
-    fault-number-requires
-    fault-place-requires
-    refusal-line-requires
-    enum-known-v-2
-    report-line-requires
-    enum-known-v-3
-    report-line-requires-2
-    same-length
+    (λ enum-known-v. search needs)
+    (λ fault-number-requires κs. search needs)
+    (λ fault-place-requires κs. search needs)
+    (λ refusal-line-requires κs. search needs)
+    (λ enum-known-v-2. search needs)
+    (λ report-line-requires κs. search needs)
+    (λ enum-known-v-3. search needs)
+    (λ report-line-requires-2 κs. search needs)
+    (λ same-length. search needs)
     returns
-    same-length-2
+    (λ same-length-2. search needs)
     returns-2
-    same-length-3
+    (λ same-length-3. search needs)
     returns-3)

@@ -10,15 +10,6 @@ use borrow.Author.Needs.{needs}
 use Rattle.printout.proofs.system.answer_text.Statement.{statement}
 use Rattle.printout.proofs.system.answer_text.Tie as tie
 
-answer-line-requires : tie.Need-answer-line-requires
-answer-line-requires c κs = search needs
-
-enum-told : tie.Need-enum-told
-enum-told c = search needs
-
-enum-told-2 : tie.Need-enum-told-2
-enum-told-2 c = search needs
-
 handlers-of-requires : tie.Need-handlers-of-requires
 unfolding answerOf
 handlers-of-requires c κs =
@@ -27,9 +18,6 @@ handlers-of-requires c κs =
       subst (λ (v : Verdict). HeldFor (s .args .words .now) (s .args .rho) (s .args .est .now) (answerOf v)) (c .before .enum-told2 .given .1) (s .pre .0),
       omega (arith, s .pre .1, at-line .answer-line .ensures .1, wrote-length (at-line .answer-line .ensures .0)),
     )
-
-enum-told-3 : tie.Need-enum-told-3
-enum-told-3 c = search needs
 
 handlers-of-requires-2 : tie.Need-handlers-of-requires-2
 unfolding answerOf
@@ -40,9 +28,6 @@ handlers-of-requires-2 c κs =
       omega (arith, s .pre .1, at-line .answer-line .ensures .1, wrote-length (at-line .answer-line .ensures .0)),
     )
 
-same-length : tie.Need-same-length
-same-length c = search needs
-
 returns : tie.Need-returns
 unfolding answerOf
 returns c =
@@ -50,18 +35,12 @@ returns c =
     reworded (told-refused (s .args .words .now) (s .args .rho) (answerOf (s .args .v)) _ _ (ap answerOf (c .enum-told .given .1)))
     (c .before .before .before .before .answer-line .ensures .0)
 
-same-length-2 : tie.Need-same-length-2
-same-length-2 c = search needs
-
 returns-2 : tie.Need-returns-2
 unfolding answerOf
 returns-2 c =
     let s = c .before .before .before .before .before .before .before .before .before .before .before .before .before in
     reworded (told-verdict (s .args .words .now) (s .args .rho) (answerOf (s .args .v)) _ (ap answerOf (c .before .before .before .before .enum-told2 .given .1)))
     (then (c .before .before .before .before .before .before .before .before .answer-line .ensures .0) (c .before .before .handlers-of .ensures))
-
-same-length-3 : tie.Need-same-length-3
-same-length-3 c = search needs
 
 returns-3 : tie.Need-returns-3
 unfolding answerOf
@@ -74,15 +53,15 @@ pub answer-text-spec : {M : Type 1} → statement M
 answer-text-spec =
     tie.close
     (tie.spec
-    answer-line-requires
-    enum-told
-    enum-told-2
+    (λ answer-line-requires κs. search needs)
+    (λ enum-told. search needs)
+    (λ enum-told-2. search needs)
     handlers-of-requires
-    enum-told-3
+    (λ enum-told-3. search needs)
     handlers-of-requires-2
-    same-length
+    (λ same-length. search needs)
     returns
-    same-length-2
+    (λ same-length-2. search needs)
     returns-2
-    same-length-3
+    (λ same-length-3. search needs)
     returns-3)

@@ -12,9 +12,6 @@ use borrow.Author.Needs.{needs}
 use Rattle.printout.proofs.system.handlers_of.Statement.{statement}
 use Rattle.printout.proofs.system.handlers_of.Tie as tie
 
-words-needed-requires : tie.Need-words-needed-requires
-words-needed-requires c κs = search needs
-
 slice-aggregate-handler-lines : tie.Need-slice-aggregate-handler-lines
 slice-aggregate-handler-lines c =
     let s = c .before .before .before .before .before in
@@ -25,9 +22,6 @@ handler-lines-requires c κs =
     let s = c .before .before .before .before .before .before in
     let n = c .before .before .words-needed .ensures in
     (record { readable = s .pre .0 .readable; names = s .pre .0 .names; long = length-take-le _ _ (omega (arith, n, s .pre .0 .long)) ∙ n }, s .pre .1)
-
-same-length : tie.Need-same-length
-same-length c = search needs
 
 returns : tie.Need-returns
 returns c =
@@ -40,8 +34,8 @@ pub handlers-of-spec : {M : Type 1} → statement M
 handlers-of-spec =
     tie.close
     (tie.spec
-    words-needed-requires
+    (λ words-needed-requires κs. search needs)
     slice-aggregate-handler-lines
     handler-lines-requires
-    same-length
+    (λ same-length. search needs)
     returns)

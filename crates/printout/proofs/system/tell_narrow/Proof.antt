@@ -8,23 +8,11 @@ use borrow.Author.Needs.{needs}
 use Rattle.printout.proofs.system.tell_narrow.Statement.{statement}
 use Rattle.printout.proofs.system.tell_narrow.Tie as tie
 
-verdict-requires : tie.Need-verdict-requires
-verdict-requires c κs = search needs
-
 answer-text-requires : tie.Need-answer-text-requires
 answer-text-requires c κs =
     let s = c .before .before .before .before .before .before .before .before .before .before .before .before .before in
     let v = c .before .before .before .before .before .before .verdict .ensures in
     (held-after (s .args .words .now) (s .args .rho) (s .args .bound) (s .args .est .now) (s .args .work .now) _ (s .pre .1) _ (v .0) (v .1 .0), s .pre .0)
-
-same-length : tie.Need-same-length
-same-length c = search needs
-
-same-length-2 : tie.Need-same-length-2
-same-length-2 c = search needs
-
-same-length-3 : tie.Need-same-length-3
-same-length-3 c = search needs
 
 returns : tie.Need-returns
 returns c =
@@ -42,9 +30,9 @@ pub tell-narrow-spec : {M : Type 1} → statement M
 tell-narrow-spec =
     tie.close
     (tie.spec
-    verdict-requires
+    (λ verdict-requires κs. search needs)
     answer-text-requires
-    same-length
-    same-length-2
-    same-length-3
+    (λ same-length. search needs)
+    (λ same-length-2. search needs)
+    (λ same-length-3. search needs)
     returns)

@@ -7,15 +7,6 @@ use Rattle.table.proofs.Limits.{size-le}
 use Rattle.reading_order.proofs.firsts.list_firsts.Statement.{statement}
 use Rattle.reading_order.proofs.firsts.list_firsts.Tie as tie
 
-slice-aggregate-link : tie.Need-slice-aggregate-link
-slice-aggregate-link c = search needs
-
-link-requires : tie.Need-link-requires
-link-requires c κs = search needs
-
-slice-aggregate-list-linked : tie.Need-slice-aggregate-list-linked
-slice-aggregate-list-linked c = search needs
-
 list-linked-requires : tie.Need-list-linked-requires
 list-linked-requires c κs =
     let s = c .before .before .before .before .before .before .before in (
@@ -28,19 +19,13 @@ list-linked-requires c κs =
       s .pre .1,
     )
 
-same-length : tie.Need-same-length
-same-length c = search needs
-
-returns : tie.Need-returns
-returns c = search needs
-
 pub list-firsts-spec : {M : Type 1} → statement M
 list-firsts-spec =
     tie.close
     (tie.spec
-    slice-aggregate-link
-    link-requires
-    slice-aggregate-list-linked
+    (λ slice-aggregate-link. search needs)
+    (λ link-requires κs. search needs)
+    (λ slice-aggregate-list-linked. search needs)
     list-linked-requires
-    same-length
-    returns)
+    (λ same-length. search needs)
+    (λ returns. search needs))

@@ -79,9 +79,6 @@ add-link-at c =
     let s = c .before .before .before .before .before in
     omega (arith, c .loop-test .taken, size-le (s .args .words .now) (s .pre .0))
 
-link-at-requires : tie.Need-link-at-requires Inv-loop μ-loop
-link-at-requires c κs = search needs
-
 loop-less : tie.Need-loop-less Inv-loop μ-loop
 loop-less c =
     let s = c .before .before .before .before .before .before in
@@ -127,7 +124,7 @@ list-linked-spec =
     slice-write-firsts
     add-n
     add-link-at
-    link-at-requires
+    (λ link-at-requires κs. search needs)
     loop-less
     loop-again
     same-length

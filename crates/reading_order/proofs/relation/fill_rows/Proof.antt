@@ -35,12 +35,6 @@ abbrev μ-loop : tie.MeasureT-loop
 loop-holds : tie.Need-loop-holds Inv-loop μ-loop
 loop-holds c = (search needs, search needs, λ k o. partly-start _ _)
 
-mul-senders-to : tie.Need-mul-senders-to Inv-loop μ-loop
-mul-senders-to c = search needs
-
-shared-slice-read-senders-to : tie.Need-shared-slice-read-senders-to Inv-loop μ-loop
-shared-slice-read-senders-to c = search needs
-
 cast-senders-to : tie.Need-cast-senders-to Inv-loop μ-loop
 cast-senders-to c = omega (arith, c .shared-slice-known3 .given (c .before .before .loop .t))
 
@@ -48,18 +42,6 @@ senders-to-requires : tie.Need-senders-to-requires Inv-loop μ-loop
 senders-to-requires c κs =
     let h = c .before .before .before .before .before .before .pre in
     (h .0, h .1, h .1 .inside (c .before .before .loop .t) (c .before .loop-test .taken))
-
-mul-rows : tie.Need-mul-rows Inv-loop μ-loop
-mul-rows c = search needs
-
-slice-write-rows : tie.Need-slice-write-rows Inv-loop μ-loop
-slice-write-rows c = search needs
-
-add-t : tie.Need-add-t Inv-loop μ-loop
-add-t c = search needs
-
-loop-less : tie.Need-loop-less Inv-loop μ-loop
-loop-less c = search needs
 
 loop-again : tie.Need-loop-again Inv-loop μ-loop
 loop-again c =
@@ -71,9 +53,6 @@ loop-again c =
       λ k o. partly-on _ _ (i .rows) (i .t) (c .senders-to .result) _ _
           (row-next (sendersTo k (a .est .now) (a .blocks .now)) (a .blocks .now) (i .t) _ h (c .senders-to .ensures k o)) (i .inv .2 k o),
     )
-
-same-length : tie.Need-same-length Inv-loop μ-loop
-same-length c = search needs
 
 returns : tie.Need-returns Inv-loop μ-loop
 returns c =
@@ -91,14 +70,14 @@ fill-rows-spec =
     Inv-loop
     μ-loop
     loop-holds
-    mul-senders-to
-    shared-slice-read-senders-to
+    (λ mul-senders-to. search needs)
+    (λ shared-slice-read-senders-to. search needs)
     cast-senders-to
     senders-to-requires
-    mul-rows
-    slice-write-rows
-    add-t
-    loop-less
+    (λ mul-rows. search needs)
+    (λ slice-write-rows. search needs)
+    (λ add-t. search needs)
+    (λ loop-less. search needs)
     loop-again
-    same-length
+    (λ same-length. search needs)
     returns)

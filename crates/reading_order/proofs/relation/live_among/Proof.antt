@@ -25,15 +25,6 @@ abbrev μ-loop : tie.MeasureT-loop
 loop-holds : tie.Need-loop-holds Inv-loop μ-loop
 loop-holds c = collected-start _ _ _
 
-sub-i : tie.Need-sub-i Inv-loop μ-loop
-sub-i c = search needs
-
-mul-is-live : tie.Need-mul-is-live Inv-loop μ-loop
-mul-is-live c = search needs
-
-shared-slice-read-is-live : tie.Need-shared-slice-read-is-live Inv-loop μ-loop
-shared-slice-read-is-live c = search needs
-
 cast-is-live : tie.Need-cast-is-live Inv-loop μ-loop
 cast-is-live c = omega (arith, c .shared-slice-known3 .given (c .before .before .loop .i - 1))
 
@@ -48,9 +39,6 @@ shifted-requires c κs =
     let i = c .before .before .before .loop in
     let h = c .before .before .before .before .before .before .pre in
     collected-room _ _ _ (i .set) (i .i) (i .inv) (c .before .before .loop-test .taken) (h .1 .few)
-
-loop-less : tie.Need-loop-less Inv-loop μ-loop
-loop-less c = search needs
 
 loop-again : tie.Need-loop-again Inv-loop μ-loop
 loop-again c =
@@ -73,12 +61,12 @@ live-among-spec =
     Inv-loop
     μ-loop
     loop-holds
-    sub-i
-    mul-is-live
-    shared-slice-read-is-live
+    (λ sub-i. search needs)
+    (λ mul-is-live. search needs)
+    (λ shared-slice-read-is-live. search needs)
     cast-is-live
     is-live-requires
     shifted-requires
-    loop-less
+    (λ loop-less. search needs)
     loop-again
     returns)

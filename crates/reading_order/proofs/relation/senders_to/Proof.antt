@@ -29,21 +29,6 @@ abbrev μ-loop : tie.MeasureT-loop
 loop-holds : tie.Need-loop-holds Inv-loop μ-loop
 loop-holds c = collected-start _ _ _
 
-sub-i : tie.Need-sub-i Inv-loop μ-loop
-sub-i c = search needs
-
-mul-has : tie.Need-mul-has Inv-loop μ-loop
-mul-has c = search needs
-
-mul-has-2 : tie.Need-mul-has-2 Inv-loop μ-loop
-mul-has-2 c = search needs
-
-mul-has-3 : tie.Need-mul-has-3 Inv-loop μ-loop
-mul-has-3 c = search needs
-
-shared-slice-read-has : tie.Need-shared-slice-read-has Inv-loop μ-loop
-shared-slice-read-has c = search needs
-
 cast-has : tie.Need-cast-has Inv-loop μ-loop
 cast-has c = omega (arith, c .shared-slice-known3 .given (c .before .before .before .loop .i - 1))
 
@@ -66,9 +51,6 @@ shifted-requires c κs =
     let i = c .before .before .before .before .loop in
     let h = c .before .before .before .before .before .before .before .pre in
     collected-room _ _ _ (i .set) (i .i) (i .inv) (c .before .before .before .loop-test .taken) (h .1 .few)
-
-loop-less : tie.Need-loop-less Inv-loop μ-loop
-loop-less c = search needs
 
 loop-again : tie.Need-loop-again Inv-loop μ-loop
 loop-again c =
@@ -94,15 +76,15 @@ senders-to-spec =
     Inv-loop
     μ-loop
     loop-holds
-    sub-i
-    mul-has
-    mul-has-2
-    mul-has-3
-    shared-slice-read-has
+    (λ sub-i. search needs)
+    (λ mul-has. search needs)
+    (λ mul-has-2. search needs)
+    (λ mul-has-3. search needs)
+    (λ shared-slice-read-has. search needs)
     cast-has
     add-has
     has-requires
     shifted-requires
-    loop-less
+    (λ loop-less. search needs)
     loop-again
     returns)

@@ -6,15 +6,6 @@ use Rattle.reading_order.proofs.Places.{digit-is}
 use Rattle.reading_order.proofs.relation.shifted.Statement.{statement}
 use Rattle.reading_order.proofs.relation.shifted.Tie as tie
 
-mul-result : tie.Need-mul-result
-mul-result c = search needs
-
-add-result : tie.Need-add-result
-add-result c = search needs
-
-mul-result-2 : tie.Need-mul-result-2
-mul-result-2 c = search needs
-
 returns : tie.Need-returns
 unfolding digit
 returns c = omega (arith, digit-is _ _ (c .if1 .taken))
@@ -24,4 +15,4 @@ unfolding digit
 returns-2 c = omega (arith, digit-is _ _ (c .if1 .left))
 
 pub shifted-spec : {M : Type 1} → statement M
-shifted-spec = tie.close (tie.spec mul-result add-result mul-result-2 returns returns-2)
+shifted-spec = tie.close (tie.spec (λ mul-result. search needs) (λ add-result. search needs) (λ mul-result-2. search needs) returns returns-2)

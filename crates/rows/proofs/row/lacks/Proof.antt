@@ -24,30 +24,6 @@ abbrev μ-loop : tie.MeasureT-loop
 loop-holds : tie.Need-loop-holds Inv-loop μ-loop
 loop-holds c = (search needs, refl)
 
-add-x : tie.Need-add-x Inv-loop μ-loop
-add-x c = search needs
-
-mul-x : tie.Need-mul-x Inv-loop μ-loop
-mul-x c = search needs
-
-shared-slice-read-x : tie.Need-shared-slice-read-x Inv-loop μ-loop
-shared-slice-read-x c = search needs
-
-add-missing : tie.Need-add-missing Inv-loop μ-loop
-add-missing c = search needs
-
-mul-missing : tie.Need-mul-missing Inv-loop μ-loop
-mul-missing c = search needs
-
-shared-slice-read-missing : tie.Need-shared-slice-read-missing Inv-loop μ-loop
-shared-slice-read-missing c = search needs
-
-add-i : tie.Need-add-i Inv-loop μ-loop
-add-i c = search needs
-
-loop-less : tie.Need-loop-less Inv-loop μ-loop
-loop-less c = search needs
-
 loop-again : tie.Need-loop-again Inv-loop μ-loop
 loop-again c =
     let l = c .before .before .before .loop in
@@ -76,13 +52,13 @@ lacks-spec =
     Inv-loop
     μ-loop
     loop-holds
-    add-x
-    mul-x
-    shared-slice-read-x
-    add-missing
-    mul-missing
-    shared-slice-read-missing
-    add-i
-    loop-less
+    (λ add-x. search needs)
+    (λ mul-x. search needs)
+    (λ shared-slice-read-x. search needs)
+    (λ add-missing. search needs)
+    (λ mul-missing. search needs)
+    (λ shared-slice-read-missing. search needs)
+    (λ add-i. search needs)
+    (λ loop-less. search needs)
     loop-again
     returns)

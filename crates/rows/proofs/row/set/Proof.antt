@@ -9,29 +9,14 @@ use Rattle.rows.proofs.Laws.{nothing-new, different-bits}
 use Rattle.rows.proofs.row.set.Statement.{statement}
 use Rattle.rows.proofs.row.set.Tie as tie
 
-mul-old : tie.Need-mul-old
-mul-old c = search needs
-
-slice-read-old : tie.Need-slice-read-old
-slice-read-old c = search needs
-
 returns : tie.Need-returns
 returns c = let a = c .before .before .args in nothing-new (a .row .now) (a .k) (a .bits) (c .if1 .taken)
-
-mul-row : tie.Need-mul-row
-mul-row c = search needs
-
-slice-write-row : tie.Need-slice-write-row
-slice-write-row c = search needs
 
 cast-result : tie.Need-cast-result
 cast-result c =
     let a = c .before .before .args in
     let old = c .before .slice-known .given (a .k) .fits in
     omega (arith, ones-le 32 _ (xor-lt 32 _ (getD (a .row .now) (a .k) 0) (or-lt 32 (getD (a .row .now) (a .k) 0) (a .bits) old (c .before .before .fits .bits .fits)) old))
-
-same-length : tie.Need-same-length
-same-length c = search needs
 
 returns-2 : tie.Need-returns-2
 returns-2 c =
@@ -42,11 +27,11 @@ pub set-spec : {M : Type 1} → statement M
 set-spec =
     tie.close
     (tie.spec
-    mul-old
-    slice-read-old
+    (λ mul-old. search needs)
+    (λ slice-read-old. search needs)
     returns
-    mul-row
-    slice-write-row
+    (λ mul-row. search needs)
+    (λ slice-write-row. search needs)
     cast-result
-    same-length
+    (λ same-length. search needs)
     returns-2)

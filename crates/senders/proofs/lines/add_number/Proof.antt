@@ -6,21 +6,6 @@ use borrow.Author.Needs.{needs}
 use Rattle.senders.proofs.lines.add_number.Statement.{statement}
 use Rattle.senders.proofs.lines.add_number.Tie as tie
 
-number-line-requires : tie.Need-number-line-requires
-number-line-requires c κs = search needs
-
-array-share-prefix-line : tie.Need-array-share-prefix-line
-array-share-prefix-line c = search needs
-
-slice-aggregate-put-room : tie.Need-slice-aggregate-put-room
-slice-aggregate-put-room c = search needs
-
-put-room-requires : tie.Need-put-room-requires
-put-room-requires c κs = search needs
-
-same-length : tie.Need-same-length
-same-length c = search needs
-
 returns : tie.Need-returns
 returns c =
     let l = c .before .before .before .before .before .number-line .ensures in let r = c .before .before .put-room .ensures in
@@ -30,9 +15,9 @@ pub add-number-spec : {M : Type 1} → statement M
 add-number-spec =
     tie.close
     (tie.spec
-    number-line-requires
-    array-share-prefix-line
-    slice-aggregate-put-room
-    put-room-requires
-    same-length
+    (λ number-line-requires κs. search needs)
+    (λ array-share-prefix-line. search needs)
+    (λ slice-aggregate-put-room. search needs)
+    (λ put-room-requires κs. search needs)
+    (λ same-length. search needs)
     returns)

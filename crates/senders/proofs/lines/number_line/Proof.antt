@@ -5,11 +5,8 @@ use borrow.Author.Needs.{needs}
 use Rattle.senders.proofs.lines.number_line.Statement.{statement}
 use Rattle.senders.proofs.lines.number_line.Tie as tie
 
-number-field-requires : tie.Need-number-field-requires
-number-field-requires c κs = search needs
-
 returns : tie.Need-returns
 returns c = let f = c .number-field .ensures in (line (f .0), omega (arith, f .1))
 
 pub number-line-spec : {M : Type 1} → statement M
-number-line-spec = tie.close (tie.spec number-field-requires returns)
+number-line-spec = tie.close (tie.spec (λ number-field-requires κs. search needs) returns)

@@ -10,47 +10,39 @@ use borrow.Author.Needs.{needs}
 use Rattle.solver.proofs.analyse.analyse_within.Statement.{statement}
 use Rattle.solver.proofs.analyse.analyse_within.Tie as tie
 
-check-requires : tie.Need-check-requires
-check-requires c κs = search needs
-
-enum-known-f : tie.Need-enum-known-f
-enum-known-f c = search needs
-
-enum-told : tie.Need-enum-told
-enum-told c = search needs
-
 bounded-requires : tie.Need-bounded-requires
-bounded-requires c κs = subst (CheckedAs (c .before .before .before .before .before .before .before .before .args .words .now) (c .before .before .before .before .before .before .before .before .args .rho) standingBound (length (c .before .before .before .before .before .before .before .before .args .est .now)) (length (c .before .before .before .before .before .before .before .before .args .work .now))) (c .before .before .enum-told .given .1) (c .before .before .before .before .check .ensures) .fit
+bounded-requires c κs =
+    let s = c .before .before .before .before .before .before .before .before in
+    let a = s .args in
+    subst (CheckedAs (a .words .now) (a .rho) standingBound (length (a .est .now)) (length (a .work .now))) (c .before .before .enum-told .given .1) (c .before .before .before .before .check .ensures) .fit
 
 returns : tie.Need-returns
 unfolding outcomeOf
 returns c =
-    let e = subst (CheckedAs (c .before .before .before .before .before .before .before .args .words .now) (c .before .before .before .before .before .before .before .args .rho) standingBound (length (c .before .before .before .before .before .before .before .args .est .now)) (length (c .before .before .before .before .before .before .before .args .work .now))) (c .before .f .given .1) (c .before .before .before .check .ensures) in
-    let k = after-refused (c .before .before .before .before .before .before .before .args .words .now) (c .before .before .before .before .before .before .before .args .rho) standingBound (c .before .before .before .before .before .before .before .args .est .now) (c .before .before .before .before .before .before .before .args .work .now) _ _ e in
-    (sym (refused-is (c .before .before .before .before .before .before .before .args .words .now) (c .before .before .before .before .before .before .before .args .rho) (c .before .before .before .before .before .before .before .args .ceiling) (c .before .before .before .before .before .before .before .args .est .now) (c .before .before .before .before .before .before .before .args .work .now) _ _ e), (words-kept (c .before .before .before .before .before .before .before .args .words .now) (c .before .before .before .before .before .before .before .args .rho) (c .before .before .before .before .before .before .before .args .ceiling) (c .before .before .before .before .before .before .before .args .est .now) (c .before .before .before .before .before .before .before .args .work .now) _ _ e, (k .1, sound-refused (c .before .before .before .before .before .before .before .args .words .now) (c .before .before .before .before .before .before .before .args .rho) (c .before .before .before .before .before .before .before .args .ceiling) (c .before .before .before .before .before .before .before .args .est .now) (c .before .before .before .before .before .before .before .args .work .now) (c .before .before .before .before .before .before .before .args .est .now) _ _ _ refl)))
-
-same-length : tie.Need-same-length
-same-length c = search needs
-
-same-length-2 : tie.Need-same-length-2
-same-length-2 c = search needs
+    let s = c .before .before .before .before .before .before .before in
+    let a = s .args in
+    let e = subst (CheckedAs (a .words .now) (a .rho) standingBound (length (a .est .now)) (length (a .work .now))) (c .before .f .given .1) (c .before .before .before .check .ensures) in
+    let k = after-refused (a .words .now) (a .rho) standingBound (a .est .now) (a .work .now) _ _ e in
+    (sym (refused-is (a .words .now) (a .rho) (a .ceiling) (a .est .now) (a .work .now) _ _ e), (words-kept (a .words .now) (a .rho) (a .ceiling) (a .est .now) (a .work .now) _ _ e, (k .1, sound-refused (a .words .now) (a .rho) (a .ceiling) (a .est .now) (a .work .now) (a .est .now) _ _ _ refl)))
 
 returns-2 : tie.Need-returns-2
 returns-2 c =
-    let h = subst (CheckedAs (c .before .before .before .before .before .before .before .before .before .before .before .before .before .args .words .now) (c .before .before .before .before .before .before .before .before .before .before .before .before .before .args .rho) standingBound (length (c .before .before .before .before .before .before .before .before .before .before .before .before .before .args .est .now)) (length (c .before .before .before .before .before .before .before .before .before .before .before .before .before .args .work .now))) (c .before .before .before .before .before .before .before .enum-told .given .1) (c .before .before .before .before .before .before .before .before .before .check .ensures) in
+    let t = c .before .before .before .before .before .before .before .before .before .before .before .before .before in
+    let a = t .args in
+    let h = subst (CheckedAs (a .words .now) (a .rho) standingBound (length (a .est .now)) (length (a .work .now))) (c .before .before .before .before .before .before .before .enum-told .given .1) (c .before .before .before .before .before .before .before .before .before .check .ensures) in
     let s = c .before .before .before .before .bounded .ensures in
-    let k = after-solved (c .before .before .before .before .before .before .before .before .before .before .before .before .before .args .words .now) (c .before .before .before .before .before .before .before .before .before .before .before .before .before .args .rho) standingBound (c .before .before .before .before .before .before .before .before .before .before .before .before .before .args .est .now) (c .before .before .before .before .before .before .before .before .before .before .before .before .before .args .work .now) _ (h .judged) in
-    (s .says ∙ sym (within-is (c .before .before .before .before .before .before .before .before .before .before .before .before .before .args .words .now) (c .before .before .before .before .before .before .before .before .before .before .before .before .before .args .rho) (c .before .before .before .before .before .before .before .before .before .before .before .before .before .args .ceiling) (c .before .before .before .before .before .before .before .before .before .before .before .before .before .args .est .now) (c .before .before .before .before .before .before .before .before .before .before .before .before .before .args .work .now) (h .judged)), (s .estimates ∙ words-are (c .before .before .before .before .before .before .before .before .before .before .before .before .before .args .words .now) (c .before .before .before .before .before .before .before .before .before .before .before .before .before .args .rho) (c .before .before .before .before .before .before .before .before .before .before .before .before .before .args .ceiling) (c .before .before .before .before .before .before .before .before .before .before .before .before .before .args .est .now) (c .before .before .before .before .before .before .before .before .before .before .before .before .before .args .work .now) (h .judged), (s .works ∙ k .1, sound-fine (c .before .before .before .before .before .before .before .before .before .before .before .before .before .args .words .now) (c .before .before .before .before .before .before .before .before .before .before .before .before .before .args .rho) (c .before .before .before .before .before .before .before .before .before .before .before .before .before .args .ceiling) (c .before .before .before .before .before .before .before .before .before .before .before .before .before .args .est .now) (c .before .before .before .before .before .before .before .before .before .before .before .before .before .args .work .now) _ (h .judged) (s .estimates) _ (s .says))))
+    let k = after-solved (a .words .now) (a .rho) standingBound (a .est .now) (a .work .now) _ (h .judged) in
+    (s .says ∙ sym (within-is (a .words .now) (a .rho) (a .ceiling) (a .est .now) (a .work .now) (h .judged)), (s .estimates ∙ words-are (a .words .now) (a .rho) (a .ceiling) (a .est .now) (a .work .now) (h .judged), (s .works ∙ k .1, sound-fine (a .words .now) (a .rho) (a .ceiling) (a .est .now) (a .work .now) _ (h .judged) (s .estimates) _ (s .says))))
 
 pub analyse-within-spec : {M : Type 1} → statement M
 analyse-within-spec =
     tie.close
     (tie.spec
-    check-requires
-    enum-known-f
-    enum-told
+    (λ check-requires κs. search needs)
+    (λ enum-known-f. search needs)
+    (λ enum-told. search needs)
     bounded-requires
     returns
-    same-length
-    same-length-2
+    (λ same-length. search needs)
+    (λ same-length-2. search needs)
     returns-2)

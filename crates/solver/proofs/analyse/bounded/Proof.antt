@@ -4,35 +4,26 @@ use borrow.Author.Needs.{needs}
 use Rattle.solver.proofs.analyse.bounded.Statement.{statement}
 use Rattle.solver.proofs.analyse.bounded.Tie as tie
 
-solve-in-requires : tie.Need-solve-in-requires
-solve-in-requires c κs = search needs
-
-same-length : tie.Need-same-length
-same-length c = search needs
-
-same-length-2 : tie.Need-same-length-2
-same-length-2 c = search needs
-
 returns : tie.Need-returns
-returns c = is-over (c .before .before .before .before .before .before .before .before .before .before .before .before .args .words .now) (c .before .before .before .before .before .before .before .before .before .before .before .before .args .rho .bits) (c .before .before .before .before .before .before .before .before .before .before .before .before .args .ceiling) (c .before .before .before .before .before .before .before .before .before .before .before .before .args .est .now) (c .before .before .before .before .before .before .before .before .before .before .before .before .args .work .now) _ _ _ (c .before .before .before .before .before .before .solve-in .ensures) (c .if1 .taken)
-
-same-length-3 : tie.Need-same-length-3
-same-length-3 c = search needs
-
-same-length-4 : tie.Need-same-length-4
-same-length-4 c = search needs
+returns c =
+    let s = c .before .before .before .before .before .before .before .before .before .before .before .before in
+    let a = s .args in
+    is-over (a .words .now) (a .rho .bits) (a .ceiling) (a .est .now) (a .work .now) _ _ _ (c .before .before .before .before .before .before .solve-in .ensures) (c .if1 .taken)
 
 returns-2 : tie.Need-returns-2
-returns-2 c = is-within (c .before .before .before .before .before .before .before .before .before .before .before .before .args .words .now) (c .before .before .before .before .before .before .before .before .before .before .before .before .args .rho .bits) (c .before .before .before .before .before .before .before .before .before .before .before .before .args .ceiling) (c .before .before .before .before .before .before .before .before .before .before .before .before .args .est .now) (c .before .before .before .before .before .before .before .before .before .before .before .before .args .work .now) _ _ _ (c .before .before .before .before .before .before .solve-in .ensures) (c .if1 .left)
+returns-2 c =
+    let s = c .before .before .before .before .before .before .before .before .before .before .before .before in
+    let a = s .args in
+    is-within (a .words .now) (a .rho .bits) (a .ceiling) (a .est .now) (a .work .now) _ _ _ (c .before .before .before .before .before .before .solve-in .ensures) (c .if1 .left)
 
 pub bounded-spec : {M : Type 1} → statement M
 bounded-spec =
     tie.close
     (tie.spec
-    solve-in-requires
-    same-length
-    same-length-2
+    (λ solve-in-requires κs. search needs)
+    (λ same-length. search needs)
+    (λ same-length-2. search needs)
     returns
-    same-length-3
-    same-length-4
+    (λ same-length-3. search needs)
+    (λ same-length-4. search needs)
     returns-2)

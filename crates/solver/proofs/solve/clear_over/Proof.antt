@@ -8,14 +8,11 @@ use borrow.Author.Needs.{needs}
 use Rattle.solver.proofs.solve.clear_over.Statement.{statement}
 use Rattle.solver.proofs.solve.clear_over.Tie as tie
 
-clear-requires : tie.Need-clear-requires
-clear-requires c κs = search needs
-
-same-length : tie.Need-same-length
-same-length c = search needs
-
 returns : tie.Need-returns
-returns c = c .before .before .clear .ensures ∙ clear-all (c .before .before .before .before .before .before .args .est .now) ∙ sym (over-cleared (c .before .before .before .before .before .before .args .facts) (c .before .before .before .before .before .before .args .ceiling) (c .before .before .before .before .before .before .args .est .now) (c .before .before .before .before .if1 .taken))
+returns c =
+    let s = c .before .before .before .before .before .before in
+    let a = s .args in
+    c .before .before .clear .ensures ∙ clear-all (a .est .now) ∙ sym (over-cleared (a .facts) (a .ceiling) (a .est .now) (c .before .before .before .before .if1 .taken))
 
 returns-2 : tie.Need-returns-2
 returns-2 c = sym (within-kept (c .before .before .args .facts) (c .before .before .args .ceiling) (c .before .before .args .est .now) (c .if1 .left))
@@ -24,7 +21,7 @@ pub clear-over-spec : {M : Type 1} → statement M
 clear-over-spec =
     tie.close
     (tie.spec
-    clear-requires
-    same-length
+    (λ clear-requires κs. search needs)
+    (λ same-length. search needs)
     returns
     returns-2)

@@ -9,35 +9,27 @@ use borrow.Author.Needs.{needs}
 use Rattle.solver.proofs.solve.solve.Statement.{statement}
 use Rattle.solver.proofs.solve.solve.Tie as tie
 
-of-requires : tie.Need-of-requires
-of-requires c κs = search needs
-
 least-requires : tie.Need-least-requires
-least-requires c κs = ((c .before .before .before .before .before .before .pre .0, c .before .before .of .ensures), (c .before .before .before .before .before .before .pre .1 .0, omega (arith, c .before .before .before .before .before .before .pre .1 .1)))
+least-requires c κs =
+    let s = c .before .before .before .before .before .before in
+    ((s .pre .0, c .before .before .of .ensures), (s .pre .1 .0, omega (arith, s .pre .1 .1)))
 
 leak-requires : tie.Need-leak-requires
 leak-requires c κs = record { readable = c .before .before .before .before .before .before .before .before .before .before .before .before .before .pre .0; laid = c .before .before .before .before .before .before .before .before .before .of .ensures; linked = c .before .before .before .before .before .before .least .ensures .1; long = c .before .before .before .before .before .before .least .kept .1 .1 .0 ∙ c .before .before .before .before .before .before .before .before .before .before .before .before .before .pre .1 .0 }
 
-clear-requires : tie.Need-clear-requires
-clear-requires c κs = search needs
-
-same-length : tie.Need-same-length
-same-length c = search needs
-
-same-length-2 : tie.Need-same-length-2
-same-length-2 c = search needs
-
 returns : tie.Need-returns
-returns c = (c .before .before .before .before .before .before .before .before .before .before .before .least .ensures .0, (c .before .before .clear .ensures ∙ clear-all (c .before .before .before .before .before .before .before .before .before .before .before .least .last .1 .0) ∙ ap (λ (n : ℕ). replicate n 0) (c .before .before .before .before .before .before .before .before .before .before .before .least .kept .1 .0 ∙ c .before .before .before .before .before .before .before .before .before .before .before .before .before .before .before .before .before .before .pre .1 .1), c .before .before .before .before .leak .ensures))
+returns c =
+    let s = c .before .before .before .before .before .before .before .before .before .before .before in
+    (s .least .ensures .0, (c .before .before .clear .ensures ∙ clear-all (s .least .last .1 .0) ∙ ap (λ (n : ℕ). replicate n 0) (s .least .kept .1 .0 ∙ c .before .before .before .before .before .before .before .before .before .before .before .before .before .before .before .before .before .before .pre .1 .1), c .before .before .before .before .leak .ensures))
 
 pub solve-spec : {M : Type 1} → statement M
 solve-spec =
     tie.close
     (tie.spec
-    of-requires
+    (λ of-requires κs. search needs)
     least-requires
     leak-requires
-    clear-requires
-    same-length
-    same-length-2
+    (λ clear-requires κs. search needs)
+    (λ same-length. search needs)
+    (λ same-length-2. search needs)
     returns)

@@ -20,11 +20,5 @@ set-words-requires c κs =
       plain-allowed (code (s .args .words .now)) (s .args .h) (s .args .l) (s .pre .0 .1) _ (c .before .before .before .set-plain .ensures),
     )
 
-same-length : tie.Need-same-length
-same-length c = search needs
-
-returns : tie.Need-returns
-returns c = search needs
-
 pub allow-spec : {M : Type 1} → statement M
-allow-spec = tie.close (tie.spec set-plain-requires set-words-requires same-length returns)
+allow-spec = tie.close (tie.spec set-plain-requires set-words-requires (λ same-length. search needs) (λ returns. search needs))

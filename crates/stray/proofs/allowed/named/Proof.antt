@@ -10,18 +10,6 @@ use borrow.Author.Needs.{needs}
 use Rattle.stray.proofs.allowed.named.Statement.{statement}
 use Rattle.stray.proofs.allowed.named.Tie as tie
 
-enum-told : tie.Need-enum-told
-enum-told c = search needs
-
-word-makes-requires : tie.Need-word-makes-requires
-word-makes-requires c κs = search needs
-
-enum-told-2 : tie.Need-enum-told-2
-enum-told-2 c = search needs
-
-kind-of-requires : tie.Need-kind-of-requires
-kind-of-requires c κs = search needs
-
 returns : tie.Need-returns
 unfolding wordNamed
 returns c = ap (λ (n : ℕ). not (eqb n 0)) (c .word-makes .ensures) ∙ sym (ap (λ (s : Holding). wordNamed s (c .before .before .before .args .w)) (c .before .enum-told .given .1))
@@ -33,4 +21,4 @@ returns-2 c = ap (λ (n : ℕ). eqb n 2) (c .kind-of .ensures) ∙ sym (ap (λ (
 pub named-spec : {M : Type 1} → statement M
 named-spec =
     tie.close
-    (tie.spec enum-told word-makes-requires enum-told-2 kind-of-requires returns returns-2)
+    (tie.spec (λ enum-told. search needs) (λ word-makes-requires κs. search needs) (λ enum-told-2. search needs) (λ kind-of-requires κs. search needs) returns returns-2)

@@ -40,7 +40,10 @@ abbrev μ-loop : tie.MeasureT-loop
 μ-loop words row₀ h first p₀ row p = length words - p
 
 mul-first : tie.Need-mul-first Inv-loop μ-loop
-mul-first c = omega (arith, row-small (c .before .before .before .args .words .now) (c .before .before .before .pre .0 .0) (c .before .before .before .args .l) (c .before .before .before .pre .0 .1), lead-low (c .before .before .before .args .words .now) (c .before .before .before .args .l) (c .before .before .before .pre .0 .1))
+mul-first c =
+    let s = c .before .before .before in
+    let a = s .args in
+    omega (arith, row-small (a .words .now) (s .pre .0 .0) (a .l) (s .pre .0 .1), lead-low (a .words .now) (a .l) (s .pre .0 .1))
 
 loop-holds : tie.Need-loop-holds Inv-loop μ-loop
 loop-holds c =
@@ -53,26 +56,11 @@ add-set-if c =
     let s = c .before .before .before .before .before .before in
     omega (arith, row-small (s .args .words .now) (s .pre .0 .0) (s .args .l) (s .pre .0 .1), lead-low (s .args .words .now) (s .args .l) (s .pre .0 .1), size-le (s .args .words .now) (s .pre .0 .0))
 
-mul-named : tie.Need-mul-named Inv-loop μ-loop
-mul-named c = search needs
-
-shared-slice-read-named : tie.Need-shared-slice-read-named Inv-loop μ-loop
-shared-slice-read-named c = search needs
-
-named-requires : tie.Need-named-requires Inv-loop μ-loop
-named-requires c κs = search needs
-
 set-if-requires : tie.Need-set-if-requires Inv-loop μ-loop
 set-if-requires c κs =
     let s = c .before .before .before .before .before .before .before .before in
     let l = c .before .before .before .before .loop in
     omega (arith, fits (s .args .words .now) (s .args .l) (s .pre .0 .1) (length (l .row)) (omega (arith, s .pre .0 .2, l .inv .0)) (l .p) (c .before .before .before .loop-test .taken))
-
-add-p : tie.Need-add-p Inv-loop μ-loop
-add-p c = search needs
-
-loop-less : tie.Need-loop-less Inv-loop μ-loop
-loop-less c = search needs
 
 loop-again : tie.Need-loop-again Inv-loop μ-loop
 loop-again c =
@@ -91,9 +79,6 @@ loop-again c =
           (c .before .before .before .named .ensures ∙ word-named ws (s .pre .0 .0) (l .p) t (s .args .h)) (l .inv .2))),
     )
 
-same-length : tie.Need-same-length Inv-loop μ-loop
-same-length c = search needs
-
 returns : tie.Need-returns Inv-loop μ-loop
 returns c =
     let s = c .before .before .before .before .before in
@@ -110,12 +95,12 @@ set-words-spec =
     mul-first
     loop-holds
     add-set-if
-    mul-named
-    shared-slice-read-named
-    named-requires
+    (λ mul-named. search needs)
+    (λ shared-slice-read-named. search needs)
+    (λ named-requires κs. search needs)
     set-if-requires
-    add-p
-    loop-less
+    (λ add-p. search needs)
+    (λ loop-less. search needs)
     loop-again
-    same-length
+    (λ same-length. search needs)
     returns)

@@ -6,25 +6,13 @@ use borrow.Author.Needs.{needs}
 use Rattle.stray.proofs.search.first_stray.Statement.{statement}
 use Rattle.stray.proofs.search.first_stray.Tie as tie
 
-slice-aggregate-allow : tie.Need-slice-aggregate-allow
-slice-aggregate-allow c = search needs
-
 allow-requires : tie.Need-allow-requires
 allow-requires c κs =
     let s = c .before .before .before in ((s .pre .readable, s .pre .laid, omega (arith, s .pre .laid .row, row-bound (s .args .words .now) (s .pre .readable)), omega arith), zeros-at 36)
 
-slice-aggregate-allow-2 : tie.Need-slice-aggregate-allow-2
-slice-aggregate-allow-2 c = search needs
-
 allow-requires-2 : tie.Need-allow-requires-2
 allow-requires-2 c κs =
     let s = c .before .before .before .before .before .before in ((s .pre .readable, s .pre .laid, omega (arith, s .pre .laid .row, row-bound (s .args .words .now) (s .pre .readable)), omega arith), zeros-at 36)
-
-slice-aggregate-search : tie.Need-slice-aggregate-search
-slice-aggregate-search c = search needs
-
-slice-aggregate-search-2 : tie.Need-slice-aggregate-search-2
-slice-aggregate-search-2 c = search needs
 
 search-requires : tie.Need-search-requires
 search-requires c κs =
@@ -39,18 +27,15 @@ search-requires c κs =
       },
     )
 
-returns : tie.Need-returns
-returns c = search needs
-
 pub first-stray-spec : {M : Type 1} → statement M
 first-stray-spec =
     tie.close
     (tie.spec
-    slice-aggregate-allow
+    (λ slice-aggregate-allow. search needs)
     allow-requires
-    slice-aggregate-allow-2
+    (λ slice-aggregate-allow-2. search needs)
     allow-requires-2
-    slice-aggregate-search
-    slice-aggregate-search-2
+    (λ slice-aggregate-search. search needs)
+    (λ slice-aggregate-search-2. search needs)
     search-requires
-    returns)
+    (λ returns. search needs))

@@ -39,12 +39,6 @@ loop-holds c =
     let a = s .args in
     (omega arith, omega (arith, words-long (a .words .now) (a .est .now) (a .l) (s .pre), c .flags .ensures), λ i h j. absurd (omega arith))
 
-mul-if1 : tie.Need-mul-if1 Inv-loop μ-loop
-mul-if1 c = search needs
-
-shared-slice-read-if1 : tie.Need-shared-slice-read-if1 Inv-loop μ-loop
-shared-slice-read-if1 c = search needs
-
 returns : tie.Need-returns Inv-loop μ-loop
 returns c =
     let s = c .before .before .before .before .before .before .before in
@@ -57,12 +51,6 @@ returns c =
       before = λ i h j. l .inv .2 i (omega (arith, f)) j;
       fails = λ h. flags-fail (a .words .now) (a .est .now) (a .l) (s .pre) (λ k. omega (arith, c .before .before .before .before .before .shared-slice-known2 .given k)) (l .k) (omega (arith, f, l .inv .0)) (c .if1 .taken);
     }
-
-add-k : tie.Need-add-k Inv-loop μ-loop
-add-k c = search needs
-
-loop-less : tie.Need-loop-less Inv-loop μ-loop
-loop-less c = search needs
 
 loop-again : tie.Need-loop-again Inv-loop μ-loop
 loop-again c =
@@ -95,10 +83,10 @@ in-flags-spec =
     μ-loop
     flags-requires
     loop-holds
-    mul-if1
-    shared-slice-read-if1
+    (λ mul-if1. search needs)
+    (λ shared-slice-read-if1. search needs)
     returns
-    add-k
-    loop-less
+    (λ add-k. search needs)
+    (λ loop-less. search needs)
     loop-again
     returns-2)

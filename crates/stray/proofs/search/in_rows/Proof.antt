@@ -55,9 +55,6 @@ add-r c =
     let a = s .args in
     omega (arith, most-words (a .words .now) (a .est .now) (a .l) (s .pre .0), c .before .before .before .if1 .taken)
 
-loop-less : tie.Need-loop-less Inv-loop μ-loop
-loop-less c = search needs
-
 loop-again : tie.Need-loop-again Inv-loop μ-loop
 loop-again c =
     let l = c .before .before .before .before .before .loop in (
@@ -86,6 +83,6 @@ in-rows-spec =
     add-end
     returns
     add-r
-    loop-less
+    (λ loop-less. search needs)
     loop-again
     returns-2)

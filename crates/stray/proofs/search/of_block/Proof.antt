@@ -27,15 +27,6 @@ odd : (ws : List ℕ) (r : ℕ) → (r % 2 ≡ 0 → ⊥) → false ≡ ofBlock 
 unfolding ofBlock
 odd ws r n = ap (λ (b : Bool). b && isBlock (code ws .node (r / 2))) (sym (ne-eqb (r % 2) 0 n))
 
-mul-kind-of : tie.Need-mul-kind-of
-mul-kind-of c = search needs
-
-shared-slice-read-kind-of : tie.Need-shared-slice-read-kind-of
-shared-slice-read-kind-of c = search needs
-
-kind-of-requires : tie.Need-kind-of-requires
-kind-of-requires c κs = search needs
-
 returns : tie.Need-returns
 returns c =
     let a = c .before .before .before .before .args in
@@ -47,4 +38,4 @@ returns-2 c =
 
 pub of-block-spec : {M : Type 1} → statement M
 of-block-spec =
-    tie.close (tie.spec mul-kind-of shared-slice-read-kind-of kind-of-requires returns returns-2)
+    tie.close (tie.spec (λ mul-kind-of. search needs) (λ shared-slice-read-kind-of. search needs) (λ kind-of-requires κs. search needs) returns returns-2)

@@ -48,24 +48,6 @@ abbrev μ-loop : tie.MeasureT-loop
 loop-holds : tie.Need-loop-holds Inv-loop μ-loop
 loop-holds c = (omega arith, λ k h l. absurd (omega arith))
 
-add-x : tie.Need-add-x Inv-loop μ-loop
-add-x c = search needs
-
-mul-x : tie.Need-mul-x Inv-loop μ-loop
-mul-x c = search needs
-
-shared-slice-read-x : tie.Need-shared-slice-read-x Inv-loop μ-loop
-shared-slice-read-x c = search needs
-
-mul-if1 : tie.Need-mul-if1 Inv-loop μ-loop
-mul-if1 c = search needs
-
-shared-slice-read-if1 : tie.Need-shared-slice-read-if1 Inv-loop μ-loop
-shared-slice-read-if1 c = search needs
-
-add-result : tie.Need-add-result Inv-loop μ-loop
-add-result c = search needs
-
 returns : tie.Need-returns Inv-loop μ-loop
 returns c =
     let l = c .before .before .before .before .loop in
@@ -77,20 +59,11 @@ returns c =
       fails = λ h. outer (a .est .now) (a .row .now) (a .at) (l .i) (c .if1 .taken);
     }
 
-add-i : tie.Need-add-i Inv-loop μ-loop
-add-i c = search needs
-
-loop-less : tie.Need-loop-less Inv-loop μ-loop
-loop-less c = search needs
-
 loop-again : tie.Need-loop-again Inv-loop μ-loop
 loop-again c =
     let l = c .before .before .before .before .loop in
     let a = c .before .before .before .before .before .args in
     (omega arith, more (a .est .now) (a .row .now) (a .at) (l .i) (l .inv .1) (inner (a .est .now) (a .row .now) (a .at) (l .i) (c .if1 .left)))
-
-add-result-2 : tie.Need-add-result-2 Inv-loop μ-loop
-add-result-2 c = search needs
 
 returns-2 : tie.Need-returns-2 Inv-loop μ-loop
 returns-2 c =
@@ -110,15 +83,15 @@ outside-spec =
     Inv-loop
     μ-loop
     loop-holds
-    add-x
-    mul-x
-    shared-slice-read-x
-    mul-if1
-    shared-slice-read-if1
-    add-result
+    (λ add-x. search needs)
+    (λ mul-x. search needs)
+    (λ shared-slice-read-x. search needs)
+    (λ mul-if1. search needs)
+    (λ shared-slice-read-if1. search needs)
+    (λ add-result. search needs)
     returns
-    add-i
-    loop-less
+    (λ add-i. search needs)
+    (λ loop-less. search needs)
     loop-again
-    add-result-2
+    (λ add-result-2. search needs)
     returns-2)

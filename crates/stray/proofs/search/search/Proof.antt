@@ -12,9 +12,6 @@ use borrow.Author.Needs.{needs}
 use Rattle.stray.proofs.search.search.Statement.{statement}
 use Rattle.stray.proofs.search.search.Tie as tie
 
-in-rows-requires : tie.Need-in-rows-requires
-in-rows-requires c κs = search needs
-
 flags-requires : tie.Need-flags-requires
 flags-requires c κs =
     let s = c .before .before .before .before .before in
@@ -28,9 +25,6 @@ returns c =
     first-is (code (a .words .now)) (a .est .now) _
     (first-longer (c .before .before .in-rows .ensures) (omega (arith, c .before .flags .ensures, c .if1 .taken)) (omega (arith, words-long (a .words .now) (a .est .now) (a .l) (s .pre .0))))
 
-in-flags-requires : tie.Need-in-flags-requires
-in-flags-requires c κs = search needs
-
 returns-2 : tie.Need-returns-2
 returns-2 c =
     let s = c .before .before .before .before .before .before .before .before in
@@ -40,4 +34,4 @@ returns-2 c =
 
 pub search-spec : {M : Type 1} → statement M
 search-spec =
-    tie.close (tie.spec in-rows-requires flags-requires returns in-flags-requires returns-2)
+    tie.close (tie.spec (λ in-rows-requires κs. search needs) flags-requires returns (λ in-flags-requires κs. search needs) returns-2)

@@ -4,25 +4,10 @@ use borrow.Author.Needs.{needs}
 use Rattle.table.proofs.Link.pack.Statement.{statement}
 use Rattle.table.proofs.Link.pack.Tie as tie
 
-mul-result : tie.Need-mul-result
-mul-result c = search needs
-
-add-result : tie.Need-add-result
-add-result c = search needs
-
-mul-result-2 : tie.Need-mul-result-2
-mul-result-2 c = search needs
-
-add-result-2 : tie.Need-add-result-2
-add-result-2 c = search needs
-
-cast-result : tie.Need-cast-result
-cast-result c = search needs
-
 returns : tie.Need-returns
 unfolding pack
 returns c = refl
 
 pub pack-spec : {M : Type 1} → statement M
 pack-spec =
-    tie.close (tie.spec mul-result add-result mul-result-2 add-result-2 cast-result returns)
+    tie.close (tie.spec (λ mul-result. search needs) (λ add-result. search needs) (λ mul-result-2. search needs) (λ add-result-2. search needs) (λ cast-result. search needs) returns)

@@ -5,42 +5,6 @@ use borrow.Author.Needs.{needs}
 use Rattle.table.proofs.numbers.refusal_number.Statement.{statement}
 use Rattle.table.proofs.numbers.refusal_number.Tie as tie
 
-enum-told : tie.Need-enum-told
-enum-told c = search needs
-
-enum-told-2 : tie.Need-enum-told-2
-enum-told-2 c = search needs
-
-enum-told-3 : tie.Need-enum-told-3
-enum-told-3 c = search needs
-
-enum-told-4 : tie.Need-enum-told-4
-enum-told-4 c = search needs
-
-enum-told-5 : tie.Need-enum-told-5
-enum-told-5 c = search needs
-
-enum-told-6 : tie.Need-enum-told-6
-enum-told-6 c = search needs
-
-enum-told-7 : tie.Need-enum-told-7
-enum-told-7 c = search needs
-
-enum-told-8 : tie.Need-enum-told-8
-enum-told-8 c = search needs
-
-enum-told-9 : tie.Need-enum-told-9
-enum-told-9 c = search needs
-
-enum-told-10 : tie.Need-enum-told-10
-enum-told-10 c = search needs
-
-enum-told-11 : tie.Need-enum-told-11
-enum-told-11 c = search needs
-
-enum-told-12 : tie.Need-enum-told-12
-enum-told-12 c = search needs
-
 returns : tie.Need-returns
 unfolding number
 returns c = sym (ap number (c .enum-told .given .1))
@@ -93,18 +57,18 @@ pub refusal-number-spec : {M : Type 1} → statement M
 refusal-number-spec =
     tie.close
     (tie.spec
-    enum-told
-    enum-told-2
-    enum-told-3
-    enum-told-4
-    enum-told-5
-    enum-told-6
-    enum-told-7
-    enum-told-8
-    enum-told-9
-    enum-told-10
-    enum-told-11
-    enum-told-12
+    (λ enum-told. search needs)
+    (λ enum-told-2. search needs)
+    (λ enum-told-3. search needs)
+    (λ enum-told-4. search needs)
+    (λ enum-told-5. search needs)
+    (λ enum-told-6. search needs)
+    (λ enum-told-7. search needs)
+    (λ enum-told-8. search needs)
+    (λ enum-told-9. search needs)
+    (λ enum-told-10. search needs)
+    (λ enum-told-11. search needs)
+    (λ enum-told-12. search needs)
     returns
     returns-2
     returns-3

@@ -5,42 +5,6 @@ use borrow.Author.Needs.{needs}
 use Rattle.table.proofs.numbers.refusal_place.Statement.{statement}
 use Rattle.table.proofs.numbers.refusal_place.Tie as tie
 
-enum-told : tie.Need-enum-told
-enum-told c = search needs
-
-enum-told-2 : tie.Need-enum-told-2
-enum-told-2 c = search needs
-
-enum-told-3 : tie.Need-enum-told-3
-enum-told-3 c = search needs
-
-enum-known-r : tie.Need-enum-known-r
-enum-known-r c = search needs
-
-enum-known-r-2 : tie.Need-enum-known-r-2
-enum-known-r-2 c = search needs
-
-enum-known-r-3 : tie.Need-enum-known-r-3
-enum-known-r-3 c = search needs
-
-enum-known-r-4 : tie.Need-enum-known-r-4
-enum-known-r-4 c = search needs
-
-enum-known-r-5 : tie.Need-enum-known-r-5
-enum-known-r-5 c = search needs
-
-enum-known-r-6 : tie.Need-enum-known-r-6
-enum-known-r-6 c = search needs
-
-enum-known-r-7 : tie.Need-enum-known-r-7
-enum-known-r-7 c = search needs
-
-enum-known-r-8 : tie.Need-enum-known-r-8
-enum-known-r-8 c = search needs
-
-enum-known-r-9 : tie.Need-enum-known-r-9
-enum-known-r-9 c = search needs
-
 returns : tie.Need-returns
 unfolding place
 returns c = sym (ap place (c .enum-told .given .1))
@@ -93,18 +57,18 @@ pub refusal-place-spec : {M : Type 1} → statement M
 refusal-place-spec =
     tie.close
     (tie.spec
-    enum-told
-    enum-told-2
-    enum-told-3
-    enum-known-r
-    enum-known-r-2
-    enum-known-r-3
-    enum-known-r-4
-    enum-known-r-5
-    enum-known-r-6
-    enum-known-r-7
-    enum-known-r-8
-    enum-known-r-9
+    (λ enum-told. search needs)
+    (λ enum-told-2. search needs)
+    (λ enum-told-3. search needs)
+    (λ enum-known-r. search needs)
+    (λ enum-known-r-2. search needs)
+    (λ enum-known-r-3. search needs)
+    (λ enum-known-r-4. search needs)
+    (λ enum-known-r-5. search needs)
+    (λ enum-known-r-6. search needs)
+    (λ enum-known-r-7. search needs)
+    (λ enum-known-r-8. search needs)
+    (λ enum-known-r-9. search needs)
     returns
     returns-2
     returns-3

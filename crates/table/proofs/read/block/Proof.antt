@@ -111,15 +111,6 @@ after-body c r e ts =
     ∙ c .term .ensures keys (at s) (at s ∷ []) ts refl
     ∙ ap (λ (x : Step). afterStep x (ns s) (ws s) keys ts) e
 
-block-word-requires : tie.Need-block-word-requires
-block-word-requires c κs = search needs
-
-enum-known-name : tie.Need-enum-known-name
-enum-known-name c = search needs
-
-enum-told : tie.Need-enum-told
-enum-told c = search needs
-
 returns : tie.Need-returns
 unfolding afterBlock number place
 returns c = λ ts.
@@ -136,15 +127,6 @@ returns-2 c = λ ts.
 add-block-word : tie.Need-add-block-word
 add-block-word c = let f = name-found (c .before) in omega arith
 
-block-word-requires-2 : tie.Need-block-word-requires-2
-block-word-requires-2 c κs = search needs
-
-enum-known-perms : tie.Need-enum-known-perms
-enum-known-perms c = search needs
-
-enum-told-2 : tie.Need-enum-told-2
-enum-told-2 c = search needs
-
 add-t17 : tie.Need-add-t17
 add-t17 c = let f = name-found (c .before .before .before .before) in omega arith
 
@@ -155,14 +137,8 @@ returns-3 c = λ ts.
     after-first (c .before .before .before) ts
     ∙ no-perms (ns s) (ws s) (ks s) (at s + 1) (body s ts) _ (subst (FoundAt (ws s) (at s + 1) 3) (c .enum-told2 .given .1) (c .before .before .block-word2 .ensures))
 
-mul-key : tie.Need-mul-key
-mul-key c = search needs
-
 add-key : tie.Need-add-key
 add-key c = let f = perms-found c in omega arith
-
-used-requires : tie.Need-used-requires
-used-requires c κs = search needs
 
 add-t21 : tie.Need-add-t21
 add-t21 c = let f = name-found (c .before .before .before .before .before .before .before) in omega arith
@@ -180,15 +156,6 @@ returns-4 c = λ ts.
 add-block-word-2 : tie.Need-add-block-word-2
 add-block-word-2 c = let f = perms-found (c .before .before) in omega arith
 
-block-word-requires-3 : tie.Need-block-word-requires-3
-block-word-requires-3 c κs = search needs
-
-enum-told-3 : tie.Need-enum-told-3
-enum-told-3 c = search needs
-
-enum-told-4 : tie.Need-enum-told-4
-enum-told-4 c = search needs
-
 add-t24 : tie.Need-add-t24
 add-t24 c = let f = perms-found (c .before .before .before .before .before) in omega arith
 
@@ -202,15 +169,6 @@ returns-5 c = λ ts.
 add-term : tie.Need-add-term
 add-term c = let f = guard-found c in omega arith
 
-term-requires : tie.Need-term-requires
-term-requires c κs = search needs
-
-enum-known-next : tie.Need-enum-known-next
-enum-known-next c = search needs
-
-enum-known-r : tie.Need-enum-known-r
-enum-known-r c = search needs
-
 returns-6 : tie.Need-returns-6
 unfolding afterStep afterBlock
 returns-6 c = after-body (c .before .before .before) _ (c .before .next .given .1)
@@ -223,31 +181,31 @@ pub block-spec : {M : Type 1} → statement M
 block-spec =
     tie.close
     (tie.spec
-    block-word-requires
-    enum-known-name
-    enum-told
+    (λ block-word-requires κs. search needs)
+    (λ enum-known-name. search needs)
+    (λ enum-told. search needs)
     returns
     returns-2
     add-block-word
-    block-word-requires-2
-    enum-known-perms
-    enum-told-2
+    (λ block-word-requires-2 κs. search needs)
+    (λ enum-known-perms. search needs)
+    (λ enum-told-2. search needs)
     add-t17
     returns-3
-    mul-key
+    (λ mul-key. search needs)
     add-key
-    used-requires
+    (λ used-requires κs. search needs)
     add-t21
     returns-4
     add-block-word-2
-    block-word-requires-3
-    enum-told-3
-    enum-told-4
+    (λ block-word-requires-3 κs. search needs)
+    (λ enum-told-3. search needs)
+    (λ enum-told-4. search needs)
     add-t24
     returns-5
     add-term
-    term-requires
-    enum-known-next
-    enum-known-r
+    (λ term-requires κs. search needs)
+    (λ enum-known-next. search needs)
+    (λ enum-known-r. search needs)
     returns-6
     returns-7)

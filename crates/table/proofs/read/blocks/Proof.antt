@@ -59,38 +59,11 @@ abbrev μ-loop : tie.MeasureT-loop
 loop-holds : tie.Need-loop-holds Inv-loop μ-loop
 loop-holds c = (refl, c .before .pre .0, search needs, refl)
 
-slice-aggregate-block : tie.Need-slice-aggregate-block Inv-loop μ-loop
-slice-aggregate-block c = search needs
-
-block-requires : tie.Need-block-requires Inv-loop μ-loop
-block-requires c κs = search needs
-
-enum-known-r : tie.Need-enum-known-r Inv-loop μ-loop
-enum-known-r c = search needs
-
 returns : tie.Need-returns Inv-loop μ-loop
 unfolding outcome afterBlock
 returns c =
     let l = c .before .before .before .before .before .before .loop in
     sym (l .inv .3 ∙ after-block _ _ (drop (l .start) (l .keys)) (l .at) (l .left) _ _ (c .before .r .given .1) (search needs) (c .before .before .before .block .ensures))
-
-enum-known-next : tie.Need-enum-known-next Inv-loop μ-loop
-enum-known-next c = search needs
-
-sub-start : tie.Need-sub-start Inv-loop μ-loop
-sub-start c = search needs
-
-mul-keys : tie.Need-mul-keys Inv-loop μ-loop
-mul-keys c = search needs
-
-array-write-keys : tie.Need-array-write-keys Inv-loop μ-loop
-array-write-keys c = search needs
-
-sub-left : tie.Need-sub-left Inv-loop μ-loop
-sub-left c = search needs
-
-loop-less : tie.Need-loop-less Inv-loop μ-loop
-loop-less c = search needs
 
 loop-again : tie.Need-loop-again Inv-loop μ-loop
 unfolding afterBlock
@@ -126,16 +99,16 @@ blocks-spec =
     Inv-loop
     μ-loop
     loop-holds
-    slice-aggregate-block
-    block-requires
-    enum-known-r
+    (λ slice-aggregate-block. search needs)
+    (λ block-requires κs. search needs)
+    (λ enum-known-r. search needs)
     returns
-    enum-known-next
-    sub-start
-    mul-keys
-    array-write-keys
-    sub-left
-    loop-less
+    (λ enum-known-next. search needs)
+    (λ sub-start. search needs)
+    (λ mul-keys. search needs)
+    (λ array-write-keys. search needs)
+    (λ sub-left. search needs)
+    (λ loop-less. search needs)
     loop-again
     returns-2
     returns-3)

@@ -18,14 +18,8 @@ none ws e = sym (ap (λ (w : ℕ). eqb (kind w) 5) (List·getD-eq-default ws 0 {
 returns : tie.Need-returns
 returns c = none (c .before .before .args .words .now) (c .if1 .taken)
 
-shared-slice-read-kind-of : tie.Need-shared-slice-read-kind-of
-shared-slice-read-kind-of c = search needs
-
-kind-of-requires : tie.Need-kind-of-requires
-kind-of-requires c κs = search needs
-
 returns-2 : tie.Need-returns-2
 returns-2 c = ap (λ (k : ℕ). eqb k 5) (c .kind-of .ensures)
 
 pub is-wide-spec : {M : Type 1} → statement M
-is-wide-spec = tie.close (tie.spec returns shared-slice-read-kind-of kind-of-requires returns-2)
+is-wide-spec = tie.close (tie.spec returns (λ shared-slice-read-kind-of. search needs) (λ kind-of-requires κs. search needs) returns-2)

@@ -53,15 +53,6 @@ returns : tie.Need-returns
 unfolding outcome number place
 returns c = sym (no-words _ (c .if1 .taken))
 
-shared-slice-read-w : tie.Need-shared-slice-read-w
-shared-slice-read-w c = search needs
-
-kind-of-requires : tie.Need-kind-of-requires
-kind-of-requires c κs = search needs
-
-starts-table-requires : tie.Need-starts-table-requires
-starts-table-requires c κs = search needs
-
 -- the test of the kind of word 0
 told : (c : tie.After-starts-table)
     → (eqb (kind (getD (c .before .before .before .before .before .args .words .now) 0 0)) 1 || eqb (kind (getD (c .before .before .before .before .before .args .words .now) 0 0)) 5) ≡ c .starts-table .result
@@ -75,20 +66,11 @@ returns-3 : tie.Need-returns-3
 unfolding outcome number place
 returns-3 c = sym (too-long _ (omega arith) (told (c .before .before) ∙ not-false _ (c .before .if2 .left)) (omega arith))
 
-argument-of-requires : tie.Need-argument-of-requires
-argument-of-requires c κs = search needs
-
-names-of-requires : tie.Need-names-of-requires
-names-of-requires c κs = search needs
-
 returns-4 : tie.Need-returns-4
 unfolding outcome number place
 returns-4 c =
     sym (too-many _ (omega arith) (told (c .before .before .before .before .before) ∙ not-false _ (c .before .before .before .before .if2 .left))
     (omega arith) (omega (arith, c .before .names-of .ensures, c .before .before .argument-of .ensures, c .if4 .taken)))
-
-cast-blocks : tie.Need-cast-blocks
-cast-blocks c = search needs
 
 blocks-requires : tie.Need-blocks-requires
 blocks-requires c κs =
@@ -110,14 +92,14 @@ read-spec =
     tie.close
     (tie.spec
     returns
-    shared-slice-read-w
-    kind-of-requires
-    starts-table-requires
+    (λ shared-slice-read-w. search needs)
+    (λ kind-of-requires κs. search needs)
+    (λ starts-table-requires κs. search needs)
     returns-2
     returns-3
-    argument-of-requires
-    names-of-requires
+    (λ argument-of-requires κs. search needs)
+    (λ names-of-requires κs. search needs)
     returns-4
-    cast-blocks
+    (λ cast-blocks. search needs)
     blocks-requires
     returns-5)

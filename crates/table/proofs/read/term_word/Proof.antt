@@ -73,12 +73,6 @@ naming n w p q t u =
     let p′ = sym p in
     let q′ = sym q in (λ i. eqb (p′ i) 19 && leb n (q′ i)) ∙ sym t ∙ u
 
-kind-of-requires : tie.Need-kind-of-requires
-kind-of-requires c κs = search needs
-
-argument-of-requires : tie.Need-argument-of-requires
-argument-of-requires c κs = search needs
-
 returns : tie.Need-returns
 unfolding outcome number place judged
 returns c = λ keys h s e. said _ 7 _ (low _ keys _ _ h s (omega arith))
@@ -87,22 +81,13 @@ returns-2 : tie.Need-returns-2
 unfolding outcome number place judged
 returns-2 c = λ keys h s e. said _ 7 _ (high _ keys _ _ h s (omega arith) (omega arith))
 
-limit-of-requires : tie.Need-limit-of-requires
-limit-of-requires c κs = search needs
-
 returns-3 : tie.Need-returns-3
 unfolding outcome number place judged
 returns-3 c = λ keys h s e. said _ 9 _ (range _ keys _ _ h s (omega arith) (omega arith) (omega arith))
 
-unnamed-requires : tie.Need-unnamed-requires
-unnamed-requires c κs = search needs
-
 returns-4 : tie.Need-returns-4
 unfolding outcome number place judged
 returns-4 c = λ keys h s e. said _ 9 _ (unknown _ keys _ _ h s (omega arith) (omega arith) (omega arith) (naming _ _ (c .before .before .before .before .before .before .before .kind-of .ensures) (c .before .before .before .before .before .before .argument-of .ensures) (c .before .unnamed .ensures) (c .if4 .taken)))
-
-unbound-requires : tie.Need-unbound-requires
-unbound-requires c κs = search needs
 
 returns-5 : tie.Need-returns-5
 unfolding outcome number place judged
@@ -120,15 +105,15 @@ pub term-word-spec : {M : Type 1} → statement M
 term-word-spec =
     tie.close
     (tie.spec
-    kind-of-requires
-    argument-of-requires
+    (λ kind-of-requires κs. search needs)
+    (λ argument-of-requires κs. search needs)
     returns
     returns-2
-    limit-of-requires
+    (λ limit-of-requires κs. search needs)
     returns-3
-    unnamed-requires
+    (λ unnamed-requires κs. search needs)
     returns-4
-    unbound-requires
+    (λ unbound-requires κs. search needs)
     returns-5
     returns-6
     returns-7)

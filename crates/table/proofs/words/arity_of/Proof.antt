@@ -9,21 +9,6 @@ use Rattle.table.proofs.ByKind.{partsAt, parts-past, arity-packed}
 use Rattle.table.proofs.words.arity_of.Statement.{statement}
 use Rattle.table.proofs.words.arity_of.Tie as tie
 
-place-of-requires : tie.Need-place-of-requires
-place-of-requires c κs = search needs
-
-mul-result : tie.Need-mul-result
-mul-result c = search needs
-
-cast-result : tie.Need-cast-result
-cast-result c = search needs
-
-cast-result-2 : tie.Need-cast-result-2
-cast-result-2 c = search needs
-
-shr-result : tie.Need-shr-result
-shr-result c = search needs
-
 returns : tie.Need-returns
 unfolding arity parts partsAt
 returns c = arity-packed (c .before .place-of .result) (c .if1 .taken) ∙ ap (λ (k : ℕ). length (partsAt k)) (c .before .place-of .ensures)
@@ -35,4 +20,4 @@ returns-2 c =
     ∙ ap (λ (k : ℕ). length (partsAt k)) (c .before .place-of .ensures)
 
 pub arity-of-spec : {M : Type 1} → statement M
-arity-of-spec = tie.close (tie.spec place-of-requires mul-result cast-result cast-result-2 shr-result returns returns-2)
+arity-of-spec = tie.close (tie.spec (λ place-of-requires κs. search needs) (λ mul-result. search needs) (λ cast-result. search needs) (λ cast-result-2. search needs) (λ shr-result. search needs) returns returns-2)

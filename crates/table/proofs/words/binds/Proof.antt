@@ -17,24 +17,6 @@ use Rattle.table.proofs.words.binds.Tie as tie
 markOf : ℕ → ℕ → ℕ
 markOf i k = mark (getD (partsAt k) i false)
 
-place-of-requires : tie.Need-place-of-requires
-place-of-requires c κs = search needs
-
-mul-result : tie.Need-mul-result
-mul-result c = search needs
-
-add-result : tie.Need-add-result
-add-result c = search needs
-
-cast-result : tie.Need-cast-result
-cast-result c = search needs
-
-cast-result-2 : tie.Need-cast-result-2
-cast-result-2 c = search needs
-
-shr-result : tie.Need-shr-result
-shr-result c = search needs
-
 returns : tie.Need-returns
 unfolding parts partsAt markOf
 returns c =
@@ -58,4 +40,4 @@ returns-3 c =
 
 pub binds-spec : {M : Type 1} → statement M
 binds-spec =
-    tie.close (tie.spec place-of-requires mul-result add-result cast-result cast-result-2 shr-result returns returns-2 returns-3)
+    tie.close (tie.spec (λ place-of-requires κs. search needs) (λ mul-result. search needs) (λ add-result. search needs) (λ cast-result. search needs) (λ cast-result-2. search needs) (λ shr-result. search needs) returns returns-2 returns-3)

@@ -17,14 +17,5 @@ none ws e = sym (ap namesOf (List·getD-eq-default ws 0 {n = 0} (omega arith)))
 returns : tie.Need-returns
 returns c = none (c .before .before .args .words .now) (c .if1 .taken)
 
-shared-slice-read-names-of : tie.Need-shared-slice-read-names-of
-shared-slice-read-names-of c = search needs
-
-names-of-requires : tie.Need-names-of-requires
-names-of-requires c κs = search needs
-
-returns-2 : tie.Need-returns-2
-returns-2 c = search needs
-
 pub names-in-spec : {M : Type 1} → statement M
-names-in-spec = tie.close (tie.spec returns shared-slice-read-names-of names-of-requires returns-2)
+names-in-spec = tie.close (tie.spec returns (λ shared-slice-read-names-of. search needs) (λ names-of-requires κs. search needs) (λ returns-2. search needs))

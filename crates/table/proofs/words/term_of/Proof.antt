@@ -20,18 +20,6 @@ arm : (c : tie.After-place-of) (n : ℕ) → c .place-of .result ≡ n → termA
 unfolding termAt termOf
 arm c n e = ap₂ termAt (c .before .argument-of .ensures) (sym e ∙ c .place-of .ensures)
 
-argument-of-requires : tie.Need-argument-of-requires
-argument-of-requires c κs = search needs
-
-place-of-requires : tie.Need-place-of-requires
-place-of-requires c κs = search needs
-
-constant-of-requires : tie.Need-constant-of-requires
-constant-of-requires c κs = search needs
-
-operation-of-requires : tie.Need-operation-of-requires
-operation-of-requires c κs = search needs
-
 returns : tie.Need-returns
 unfolding termAt termsByKind
 returns c = ap terms.Constant (c .constant-of .ensures) ∙ arm (c .before .before) 0 (c .before .match .keys1)
@@ -123,4 +111,4 @@ returns-22 c =
     ∙ arm (c .before) (c .before .place-of .result) refl
 
 pub term-of-spec : {M : Type 1} → statement M
-term-of-spec = tie.close (tie.spec argument-of-requires place-of-requires constant-of-requires operation-of-requires returns returns-2 returns-3 returns-4 returns-5 returns-6 returns-7 returns-8 returns-9 returns-10 returns-11 returns-12 returns-13 returns-14 returns-15 returns-16 returns-17 returns-18 returns-19 returns-20 returns-21 returns-22)
+term-of-spec = tie.close (tie.spec (λ argument-of-requires κs. search needs) (λ place-of-requires κs. search needs) (λ constant-of-requires κs. search needs) (λ operation-of-requires κs. search needs) returns returns-2 returns-3 returns-4 returns-5 returns-6 returns-7 returns-8 returns-9 returns-10 returns-11 returns-12 returns-13 returns-14 returns-15 returns-16 returns-17 returns-18 returns-19 returns-20 returns-21 returns-22)

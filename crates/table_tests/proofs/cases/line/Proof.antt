@@ -11,49 +11,19 @@ Inv-loop label words start n i₀ t6 i = Unit {0}
 abbrev μ-loop : tie.MeasureT-loop
 μ-loop label words start n i₀ t6 i = n - i
 
-text-requires : tie.Need-text-requires Inv-loop μ-loop
-text-requires c κs = search needs
-
-loop-holds : tie.Need-loop-holds Inv-loop μ-loop
-loop-holds c = search needs
-
-word-at-requires : tie.Need-word-at-requires Inv-loop μ-loop
-word-at-requires c κs = search needs
-
-add-i : tie.Need-add-i Inv-loop μ-loop
-add-i c = search needs
-
-loop-less : tie.Need-loop-less Inv-loop μ-loop
-loop-less c = search needs
-
-loop-again : tie.Need-loop-again Inv-loop μ-loop
-loop-again c = search needs
-
-slice-aggregate-first : tie.Need-slice-aggregate-first Inv-loop μ-loop
-slice-aggregate-first c = search needs
-
-first-requires : tie.Need-first-requires Inv-loop μ-loop
-first-requires c κs = search needs
-
-end-requires : tie.Need-end-requires Inv-loop μ-loop
-end-requires c κs = search needs
-
-returns : tie.Need-returns Inv-loop μ-loop
-returns c = search needs
-
 pub line-spec : {M : Type 1} → statement M
 line-spec =
     tie.close
     (tie.spec
     Inv-loop
     μ-loop
-    text-requires
-    loop-holds
-    word-at-requires
-    add-i
-    loop-less
-    loop-again
-    slice-aggregate-first
-    first-requires
-    end-requires
-    returns)
+    (λ text-requires κs. search needs)
+    (λ loop-holds. search needs)
+    (λ word-at-requires κs. search needs)
+    (λ add-i. search needs)
+    (λ loop-less. search needs)
+    (λ loop-again. search needs)
+    (λ slice-aggregate-first. search needs)
+    (λ first-requires κs. search needs)
+    (λ end-requires κs. search needs)
+    (λ returns. search needs))

@@ -13,41 +13,17 @@ Inv-loop words₀ at from i₀ words i = (at ≤ i) × (length words ≡ length 
 abbrev μ-loop : tie.MeasureT-loop
 μ-loop words₀ at from i₀ words i = length words₀ - i
 
-loop-holds : tie.Need-loop-holds Inv-loop μ-loop
-loop-holds c = search needs
-
-sub-put-from : tie.Need-sub-put-from Inv-loop μ-loop
-sub-put-from c = search needs
-
-put-from-requires : tie.Need-put-from-requires Inv-loop μ-loop
-put-from-requires c κs = search needs
-
-add-i : tie.Need-add-i Inv-loop μ-loop
-add-i c = search needs
-
-loop-less : tie.Need-loop-less Inv-loop μ-loop
-loop-less c = search needs
-
-loop-again : tie.Need-loop-again Inv-loop μ-loop
-loop-again c = search needs
-
-same-length : tie.Need-same-length Inv-loop μ-loop
-same-length c = search needs
-
-returns : tie.Need-returns Inv-loop μ-loop
-returns c = search needs
-
 pub copy-spec : {M : Type 1} → statement M
 copy-spec =
     tie.close
     (tie.spec
     Inv-loop
     μ-loop
-    loop-holds
-    sub-put-from
-    put-from-requires
-    add-i
-    loop-less
-    loop-again
-    same-length
-    returns)
+    (λ loop-holds. search needs)
+    (λ sub-put-from. search needs)
+    (λ put-from-requires κs. search needs)
+    (λ add-i. search needs)
+    (λ loop-less. search needs)
+    (λ loop-again. search needs)
+    (λ same-length. search needs)
+    (λ returns. search needs))

@@ -9,14 +9,5 @@ use Rattle.test_tables.proofs.tables.first.Tie as tie
 slice-aggregate-reading : tie.Need-slice-aggregate-reading
 slice-aggregate-reading c = sym (length-take-le _ _ (search needs))
 
-reading-requires : tie.Need-reading-requires
-reading-requires c κs = search needs
-
-returns : tie.Need-returns
-returns c = search needs
-
-returns-2 : tie.Need-returns-2
-returns-2 c = search needs
-
 pub first-spec : {M : Type 1} → statement M
-first-spec = tie.close (tie.spec slice-aggregate-reading reading-requires returns returns-2)
+first-spec = tie.close (tie.spec slice-aggregate-reading (λ reading-requires κs. search needs) (λ returns. search needs) (λ returns-2. search needs))

@@ -4,21 +4,6 @@ use borrow.Author.Needs.{needs}
 use Rattle.verdict.proofs.judge.judged.Statement.{statement}
 use Rattle.verdict.proofs.judge.judged.Tie as tie
 
-find-requires : tie.Need-find-requires
-find-requires c κs = search needs
-
-bound-used-requires : tie.Need-bound-used-requires
-bound-used-requires c κs = search needs
-
-compared-requires : tie.Need-compared-requires
-compared-requires c κs = search needs
-
-same-length : tie.Need-same-length
-same-length c = search needs
-
-same-length-2 : tie.Need-same-length-2
-same-length-2 c = search needs
-
 returns : tie.Need-returns
 returns c =
     let a = c .before .before .before .before .before .before .before .before .before .before .before .before .args in
@@ -29,9 +14,9 @@ pub judged-spec : {M : Type 1} → statement M
 judged-spec =
     tie.close
     (tie.spec
-    find-requires
-    bound-used-requires
-    compared-requires
-    same-length
-    same-length-2
+    (λ find-requires κs. search needs)
+    (λ bound-used-requires κs. search needs)
+    (λ compared-requires κs. search needs)
+    (λ same-length. search needs)
+    (λ same-length-2. search needs)
     returns)

@@ -9,15 +9,6 @@ use borrow.Author.Needs.{needs}
 use Rattle.verdict.proofs.judge.verdict.Statement.{statement}
 use Rattle.verdict.proofs.judge.verdict.Tie as tie
 
-check-requires : tie.Need-check-requires
-check-requires c κs = search needs
-
-enum-known-f : tie.Need-enum-known-f
-enum-known-f c = search needs
-
-enum-told : tie.Need-enum-told
-enum-told c = search needs
-
 judged-requires : tie.Need-judged-requires
 judged-requires c κs =
     let a = c .before .before .before .before .before .before .before .before .args in
@@ -34,12 +25,6 @@ returns c =
     promised (a .words .now) (a .rho) (a .bound) (a .est .now) (a .work .now) r _ _
     (rejected (a .words .now) (a .rho) (a .bound) (a .est .now) (a .work .now) r _ _ e refl)
 
-same-length : tie.Need-same-length
-same-length c = search needs
-
-same-length-2 : tie.Need-same-length-2
-same-length-2 c = search needs
-
 returns-2 : tie.Need-returns-2
 returns-2 c =
     let a = c .before .before .before .before .before .before .before .before .before .before .before .before .before .args in
@@ -49,11 +34,11 @@ pub verdict-spec : {M : Type 1} → statement M
 verdict-spec =
     tie.close
     (tie.spec
-    check-requires
-    enum-known-f
-    enum-told
+    (λ check-requires κs. search needs)
+    (λ enum-known-f. search needs)
+    (λ enum-told. search needs)
     judged-requires
     returns
-    same-length
-    same-length-2
+    (λ same-length. search needs)
+    (λ same-length-2. search needs)
     returns-2)

@@ -4,32 +4,11 @@ use borrow.Author.Needs.{needs}
 use Rattle.verdict.proofs.limit.judged_within.Statement.{statement}
 use Rattle.verdict.proofs.limit.judged_within.Tie as tie
 
-solve-in-requires : tie.Need-solve-in-requires
-solve-in-requires c κs = search needs
-
-same-length : tie.Need-same-length
-same-length c = search needs
-
-same-length-2 : tie.Need-same-length-2
-same-length-2 c = search needs
-
 returns : tie.Need-returns
 returns c =
     let s = c .before .before .before .before .before .before .before .before .before .before .before .before in
     let a = s .args in
     exceeded (a .words .now) (a .rho) (a .bound) (a .ceiling) (a .est .now) (a .work .now) _ _ _ (s .pre) (c .before .before .before .before .before .before .solve-in .ensures) (c .if1 .taken)
-
-bound-used-requires : tie.Need-bound-used-requires
-bound-used-requires c κs = search needs
-
-compared-requires : tie.Need-compared-requires
-compared-requires c κs = search needs
-
-same-length-3 : tie.Need-same-length-3
-same-length-3 c = search needs
-
-same-length-4 : tie.Need-same-length-4
-same-length-4 c = search needs
 
 returns-2 : tie.Need-returns-2
 returns-2 c =
@@ -41,12 +20,12 @@ pub judged-within-spec : {M : Type 1} → statement M
 judged-within-spec =
     tie.close
     (tie.spec
-    solve-in-requires
-    same-length
-    same-length-2
+    (λ solve-in-requires κs. search needs)
+    (λ same-length. search needs)
+    (λ same-length-2. search needs)
     returns
-    bound-used-requires
-    compared-requires
-    same-length-3
-    same-length-4
+    (λ bound-used-requires κs. search needs)
+    (λ compared-requires κs. search needs)
+    (λ same-length-3. search needs)
+    (λ same-length-4. search needs)
     returns-2)

@@ -9,15 +9,6 @@ use borrow.Author.Needs.{needs}
 use Rattle.verdict.proofs.limit.verdict_within.Statement.{statement}
 use Rattle.verdict.proofs.limit.verdict_within.Tie as tie
 
-check-requires : tie.Need-check-requires
-check-requires c κs = search needs
-
-enum-known-f : tie.Need-enum-known-f
-enum-known-f c = search needs
-
-enum-told : tie.Need-enum-told
-enum-told c = search needs
-
 judged-within-requires : tie.Need-judged-within-requires
 judged-within-requires c κs =
     let a = c .before .before .before .before .before .before .before .before .args in
@@ -33,24 +24,15 @@ returns c =
     let l = turned-away (a .words .now) (a .rho) (a .bound) (a .ceiling) (a .est .now) (a .work .now) (Refused (f .0 .0)) _ _ e refl in
     (l .answers, (l .estimates, l .works))
 
-same-length : tie.Need-same-length
-same-length c = search needs
-
-same-length-2 : tie.Need-same-length-2
-same-length-2 c = search needs
-
-returns-2 : tie.Need-returns-2
-returns-2 c = search needs
-
 pub verdict-within-spec : {M : Type 1} → statement M
 verdict-within-spec =
     tie.close
     (tie.spec
-    check-requires
-    enum-known-f
-    enum-told
+    (λ check-requires κs. search needs)
+    (λ enum-known-f. search needs)
+    (λ enum-told. search needs)
     judged-within-requires
     returns
-    same-length
-    same-length-2
-    returns-2)
+    (λ same-length. search needs)
+    (λ same-length-2. search needs)
+    (λ returns-2. search needs))

@@ -23,12 +23,6 @@ abbrev μ-loop : tie.MeasureT-loop
 loop-holds : tie.Need-loop-holds Inv-loop μ-loop
 loop-holds c = (search needs, sym (paste-zero (c .before .before .args .out .now) 0 (rekinded (c .before .before .args .kind) (c .before .before .args .words .now))))
 
-word-as-requires : tie.Need-word-as-requires Inv-loop μ-loop
-word-as-requires c κs = search needs
-
-mul-out : tie.Need-mul-out Inv-loop μ-loop
-mul-out c = search needs
-
 -- the output is as long as it was
 kept : (c : tie.At-loop Inv-loop μ-loop) → length (c .loop .out) ≡ length (c .before .before .before .args .out .now)
 kept c =
@@ -38,12 +32,6 @@ kept c =
 
 slice-write-out : tie.Need-slice-write-out Inv-loop μ-loop
 slice-write-out c = let k = kept (c .before .before) in omega arith
-
-add-i : tie.Need-add-i Inv-loop μ-loop
-add-i c = search needs
-
-loop-less : tie.Need-loop-less Inv-loop μ-loop
-loop-less c = search needs
 
 loop-again : tie.Need-loop-again Inv-loop μ-loop
 loop-again c =
@@ -78,11 +66,11 @@ copy-as-spec =
     Inv-loop
     μ-loop
     loop-holds
-    word-as-requires
-    mul-out
+    (λ word-as-requires κs. search needs)
+    (λ mul-out. search needs)
     slice-write-out
-    add-i
-    loop-less
+    (λ add-i. search needs)
+    (λ loop-less. search needs)
     loop-again
     same-length
     returns)

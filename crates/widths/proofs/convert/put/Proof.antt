@@ -8,29 +8,17 @@ use borrow.Author.Needs.{needs}
 use Rattle.widths.proofs.convert.put.Statement.{statement}
 use Rattle.widths.proofs.convert.put.Tie as tie
 
-enum-known-checked : tie.Need-enum-known-checked
-enum-known-checked c = search needs
-
 returns : tie.Need-returns
 unfolding convertedAs checkedAs
 returns c =
     let q = stopped _ _ _ _ _ _ (ap checkedAs (c .before .checked .given .1)) in
     (sym (q .0), sym (q .1))
 
-enum-told : tie.Need-enum-told
-enum-told c = search needs
-
 returns-2 : tie.Need-returns-2
 unfolding convertedAs checkedAs faultNumber faultPlace
 returns-2 c =
     let q = no-room _ _ _ _ (ap checkedAs (c .before .enum-told .given .1)) (c .if1 .taken) in
     (sym (q .0), sym (q .1))
-
-copy-as-requires : tie.Need-copy-as-requires
-copy-as-requires c κs = search needs
-
-same-length : tie.Need-same-length
-same-length c = search needs
 
 returns-3 : tie.Need-returns-3
 unfolding convertedAs checkedAs
@@ -43,10 +31,10 @@ pub put-spec : {M : Type 1} → statement M
 put-spec =
     tie.close
     (tie.spec
-    enum-known-checked
+    (λ enum-known-checked. search needs)
     returns
-    enum-told
+    (λ enum-told. search needs)
     returns-2
-    copy-as-requires
-    same-length
+    (λ copy-as-requires κs. search needs)
+    (λ same-length. search needs)
     returns-3)

@@ -8,21 +8,6 @@ use borrow.Author.Needs.{needs}
 use Rattle.widths.proofs.convert.word_as.Statement.{statement}
 use Rattle.widths.proofs.convert.word_as.Tie as tie
 
-mul-w : tie.Need-mul-w
-mul-w c = search needs
-
-shared-slice-read-w : tie.Need-shared-slice-read-w
-shared-slice-read-w c = search needs
-
-mul-result : tie.Need-mul-result
-mul-result c = search needs
-
-argument-of-requires : tie.Need-argument-of-requires
-argument-of-requires c κs = search needs
-
-add-result : tie.Need-add-result
-add-result c = search needs
-
 returns : tie.Need-returns
 returns c =
     let a = c .before .before .before .before .args in
@@ -35,10 +20,10 @@ pub word-as-spec : {M : Type 1} → statement M
 word-as-spec =
     tie.close
     (tie.spec
-    mul-w
-    shared-slice-read-w
-    mul-result
-    argument-of-requires
-    add-result
+    (λ mul-w. search needs)
+    (λ shared-slice-read-w. search needs)
+    (λ mul-result. search needs)
+    (λ argument-of-requires κs. search needs)
+    (λ add-result. search needs)
     returns
     returns-2)

@@ -11,18 +11,9 @@ use borrow.Author.Needs.{needs}
 use Rattle.widths.proofs.fit.check_narrow.Statement.{statement}
 use Rattle.widths.proofs.fit.check_narrow.Tie as tie
 
-read-as-requires : tie.Need-read-as-requires
-read-as-requires c κs = search needs
-
-enum-known-f : tie.Need-enum-known-f
-enum-known-f c = search needs
-
 returns : tie.Need-returns
 unfolding checkedAs
 returns c = sym (not-wide _ _ _ (sym (c .before .before .before .read-as .ensures) ∙ ap checkedAs (c .before .f .given .1)))
-
-enum-told : tie.Need-enum-told
-enum-told c = search needs
 
 -- a wide table is accepted
 wide : (c : tie.After-enum-told) → readAs 5 (c .before .before .before .before .args .words .now) ≡ accepted
@@ -32,15 +23,9 @@ wide c = sym (c .before .before .read-as .ensures) ∙ ap checkedAs (c .enum-tol
 shared-slice-read-argument-of : tie.Need-shared-slice-read-argument-of
 shared-slice-read-argument-of c = let h = some-words _ (accepted-kind 5 _ (wide (c .before)) .1) in omega arith
 
-argument-of-requires : tie.Need-argument-of-requires
-argument-of-requires c κs = search needs
-
 returns-2 : tie.Need-returns-2
 unfolding checkedAs faultNumber faultPlace
 returns-2 c = sym (many-handlers _ (wide (c .before .before .before)) (omega (arith, c .before .argument-of .ensures)))
-
-names-fit-requires : tie.Need-names-fit-requires
-names-fit-requires c κs = search needs
 
 returns-3 : tie.Need-returns-3
 returns-3 c = c .names-fit .ensures ∙ sym (few-handlers _ (wide (c .before .before .before .before)) (omega (arith, c .before .before .argument-of .ensures)))
@@ -49,12 +34,12 @@ pub check-narrow-spec : {M : Type 1} → statement M
 check-narrow-spec =
     tie.close
     (tie.spec
-    read-as-requires
-    enum-known-f
+    (λ read-as-requires κs. search needs)
+    (λ enum-known-f. search needs)
     returns
-    enum-told
+    (λ enum-told. search needs)
     shared-slice-read-argument-of
-    argument-of-requires
+    (λ argument-of-requires κs. search needs)
     returns-2
-    names-fit-requires
+    (λ names-fit-requires κs. search needs)
     returns-3)

@@ -20,26 +20,11 @@ abbrev μ-loop : tie.MeasureT-loop
 loop-holds : tie.Need-loop-holds Inv-loop μ-loop
 loop-holds c = refl
 
-mul-wide-name : tie.Need-mul-wide-name Inv-loop μ-loop
-mul-wide-name c = search needs
-
-shared-slice-read-wide-name : tie.Need-shared-slice-read-wide-name Inv-loop μ-loop
-shared-slice-read-wide-name c = search needs
-
-wide-name-requires : tie.Need-wide-name-requires Inv-loop μ-loop
-wide-name-requires c κs = search needs
-
 returns : tie.Need-returns Inv-loop μ-loop
 unfolding checkedAs faultNumber faultPlace
 returns c =
     let l = c .before .before .before .before .loop in
     sym (l .inv ∙ wide-here (c .before .before .before .before .before .before .args .words .now) (l .i) (omega arith) (sym (c .before .wide-name .ensures) ∙ c .if1 .taken))
-
-add-i : tie.Need-add-i Inv-loop μ-loop
-add-i c = search needs
-
-loop-less : tie.Need-loop-less Inv-loop μ-loop
-loop-less c = search needs
 
 loop-again : tie.Need-loop-again Inv-loop μ-loop
 loop-again c =
@@ -57,11 +42,11 @@ names-fit-spec =
     Inv-loop
     μ-loop
     loop-holds
-    mul-wide-name
-    shared-slice-read-wide-name
-    wide-name-requires
+    (λ mul-wide-name. search needs)
+    (λ shared-slice-read-wide-name. search needs)
+    (λ wide-name-requires κs. search needs)
     returns
-    add-i
-    loop-less
+    (λ add-i. search needs)
+    (λ loop-less. search needs)
     loop-again
     returns-2)

@@ -14,12 +14,6 @@ returns : tie.Need-returns
 unfolding checkedAs faultNumber faultPlace number place
 returns c = sym (no-word _ _ (c .if1 .taken))
 
-shared-slice-read-kind-of : tie.Need-shared-slice-read-kind-of
-shared-slice-read-kind-of c = search needs
-
-kind-of-requires : tie.Need-kind-of-requires
-kind-of-requires c κs = search needs
-
 returns-2 : tie.Need-returns-2
 unfolding checkedAs faultNumber faultPlace number place
 returns-2 c =
@@ -28,15 +22,6 @@ returns-2 c =
 -- word 0 has the kind
 kind-is : (c : tie.Else2) → kind (getD (c .before .before .before .before .before .args .words .now) 0 0) ≡ c .before .before .before .before .before .args .kind
 kind-is c = sym (c .before .kind-of .ensures) ∙ c .if2 .left
-
-read-requires : tie.Need-read-requires
-read-requires c κs = search needs
-
-enum-known-r : tie.Need-enum-known-r
-enum-known-r c = search needs
-
-enum-told : tie.Need-enum-told
-enum-told c = search needs
 
 returns-3 : tie.Need-returns-3
 unfolding checkedAs faultNumber faultPlace outcome
@@ -53,11 +38,11 @@ read-as-spec =
     tie.close
     (tie.spec
     returns
-    shared-slice-read-kind-of
-    kind-of-requires
+    (λ shared-slice-read-kind-of. search needs)
+    (λ kind-of-requires κs. search needs)
     returns-2
-    read-requires
-    enum-known-r
-    enum-told
+    (λ read-requires κs. search needs)
+    (λ enum-known-r. search needs)
+    (λ enum-told. search needs)
     returns-3
     returns-4)

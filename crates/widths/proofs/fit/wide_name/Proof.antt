@@ -13,14 +13,8 @@ use borrow.Author.Needs.{needs}
 use Rattle.widths.proofs.fit.wide_name.Statement.{statement}
 use Rattle.widths.proofs.fit.wide_name.Tie as tie
 
-argument-of-requires : tie.Need-argument-of-requires
-argument-of-requires c κs = search needs
-
 returns : tie.Need-returns
 returns c = sym (low-name _ (omega (arith, c .before .argument-of .ensures)))
-
-kind-of-requires : tie.Need-kind-of-requires
-kind-of-requires c κs = search needs
 
 -- the kind alone is left to test
 named : (c : tie.Else1) (k : ℕ) → k ≡ kind (c .before .before .args .w) → wideName (c .before .before .args .w) ≡ (eqb k 2 || eqb k 19)
@@ -45,4 +39,4 @@ returns-3 c =
 
 pub wide-name-spec : {M : Type 1} → statement M
 wide-name-spec =
-    tie.close (tie.spec argument-of-requires returns kind-of-requires returns-2 returns-3)
+    tie.close (tie.spec (λ argument-of-requires κs. search needs) returns (λ kind-of-requires κs. search needs) returns-2 returns-3)

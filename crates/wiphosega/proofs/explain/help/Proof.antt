@@ -7,31 +7,19 @@ use borrow.Author.Needs.{needs}
 use Rattle.wiphosega.proofs.explain.help.Statement.{statement}
 use Rattle.wiphosega.proofs.explain.help.Tie as tie
 
-slice-aggregate-help : tie.Need-slice-aggregate-help
-slice-aggregate-help c = search needs
-
-help-requires : tie.Need-help-requires
-help-requires c κs = search needs
-
 array-share-prefix-text : tie.Need-array-share-prefix-text
 array-share-prefix-text c = let p = c .before .help .ensures in omega (arith, p .fits, wrote-length p)
 
 slice-aggregate-text : tie.Need-slice-aggregate-text
 slice-aggregate-text c = let p = c .before .before .help .ensures in sym (length-take-le _ _ (omega (arith, p .fits, wrote-length p)))
 
-text-requires : tie.Need-text-requires
-text-requires c κs = search needs
-
-returns : tie.Need-returns
-returns c = search needs
-
 pub help-spec : {M : Type 1} → statement M
 help-spec =
     tie.close
     (tie.spec
-    slice-aggregate-help
-    help-requires
+    (λ slice-aggregate-help. search needs)
+    (λ help-requires κs. search needs)
     array-share-prefix-text
     slice-aggregate-text
-    text-requires
-    returns)
+    (λ text-requires κs. search needs)
+    (λ returns. search needs))

@@ -12,53 +12,20 @@ Inv-loop words links h out₀ q e p₀ out p = length out ≡ length out₀
 abbrev μ-loop : tie.MeasureT-loop
 μ-loop words links h out₀ q e p₀ out p = e - p
 
-returns : tie.Need-returns Inv-loop μ-loop
-returns c = search needs
-
-close-requires : tie.Need-close-requires Inv-loop μ-loop
-close-requires c κs = search needs
-
-lower-requires : tie.Need-lower-requires Inv-loop μ-loop
-lower-requires c κs = search needs
-
-start-requires : tie.Need-start-requires Inv-loop μ-loop
-start-requires c κs = search needs
-
-after-requires : tie.Need-after-requires Inv-loop μ-loop
-after-requires c κs = search needs
-
-loop-holds : tie.Need-loop-holds Inv-loop μ-loop
-loop-holds c = search needs
-
-visit-requires : tie.Need-visit-requires Inv-loop μ-loop
-visit-requires c κs = search needs
-
-loop-less : tie.Need-loop-less Inv-loop μ-loop
-loop-less c = search needs
-
-loop-again : tie.Need-loop-again Inv-loop μ-loop
-loop-again c = search needs
-
-same-length : tie.Need-same-length Inv-loop μ-loop
-same-length c = search needs
-
-returns-2 : tie.Need-returns-2 Inv-loop μ-loop
-returns-2 c = search needs
-
 pub woke-spec : {M : Type 1} → statement M
 woke-spec =
     tie.close
     (tie.spec
     Inv-loop
     μ-loop
-    returns
-    close-requires
-    lower-requires
-    start-requires
-    after-requires
-    loop-holds
-    visit-requires
-    loop-less
-    loop-again
-    same-length
-    returns-2)
+    (λ returns. search needs)
+    (λ close-requires κs. search needs)
+    (λ lower-requires κs. search needs)
+    (λ start-requires κs. search needs)
+    (λ after-requires κs. search needs)
+    (λ loop-holds. search needs)
+    (λ visit-requires κs. search needs)
+    (λ loop-less. search needs)
+    (λ loop-again. search needs)
+    (λ same-length. search needs)
+    (λ returns-2. search needs))

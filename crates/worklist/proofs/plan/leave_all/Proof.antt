@@ -12,49 +12,19 @@ Inv-loop words links h₀ p turn₀ q₀ h turn q = (length h ≡ length h₀) �
 abbrev μ-loop : tie.MeasureT-loop
 μ-loop words links h₀ p turn₀ q₀ h turn q = q
 
-loop-holds : tie.Need-loop-holds Inv-loop μ-loop
-loop-holds c = search needs
-
-close-requires : tie.Need-close-requires Inv-loop μ-loop
-close-requires c κs = search needs
-
-same-length : tie.Need-same-length Inv-loop μ-loop
-same-length c = search needs
-
-returns : tie.Need-returns Inv-loop μ-loop
-returns c = search needs
-
-leave-requires : tie.Need-leave-requires Inv-loop μ-loop
-leave-requires c κs = search needs
-
-outer-requires : tie.Need-outer-requires Inv-loop μ-loop
-outer-requires c κs = search needs
-
-loop-less : tie.Need-loop-less Inv-loop μ-loop
-loop-less c = search needs
-
-loop-again : tie.Need-loop-again Inv-loop μ-loop
-loop-again c = search needs
-
-same-length-2 : tie.Need-same-length-2 Inv-loop μ-loop
-same-length-2 c = search needs
-
-returns-2 : tie.Need-returns-2 Inv-loop μ-loop
-returns-2 c = search needs
-
 pub leave-all-spec : {M : Type 1} → statement M
 leave-all-spec =
     tie.close
     (tie.spec
     Inv-loop
     μ-loop
-    loop-holds
-    close-requires
-    same-length
-    returns
-    leave-requires
-    outer-requires
-    loop-less
-    loop-again
-    same-length-2
-    returns-2)
+    (λ loop-holds. search needs)
+    (λ close-requires κs. search needs)
+    (λ same-length. search needs)
+    (λ returns. search needs)
+    (λ leave-requires κs. search needs)
+    (λ outer-requires κs. search needs)
+    (λ loop-less. search needs)
+    (λ loop-again. search needs)
+    (λ same-length-2. search needs)
+    (λ returns-2. search needs))

@@ -14,35 +14,8 @@ Inv-loop h₀ out₀ n kind d p f members bits₀ h out bits = (length h ≡ len
 abbrev μ-loop : tie.MeasureT-loop
 μ-loop h₀ out₀ n kind d p f members bits₀ h out bits = bits
 
-loop-holds : tie.Need-loop-holds Inv-loop μ-loop
-loop-holds c = search needs
-
-lowest-requires : tie.Need-lowest-requires Inv-loop μ-loop
-lowest-requires c κs = search needs
-
-add-g : tie.Need-add-g Inv-loop μ-loop
-add-g c = search needs
-
-meet-once-requires : tie.Need-meet-once-requires Inv-loop μ-loop
-meet-once-requires c κs = search needs
-
-sub-bits : tie.Need-sub-bits Inv-loop μ-loop
-sub-bits c = search needs
-
 loop-less : tie.Need-loop-less Inv-loop μ-loop
 loop-less c = let b = c .before .before .before .before .before .before .before .before .before .loop .bits in omega (arith, and-le-r b (b - 1))
-
-loop-again : tie.Need-loop-again Inv-loop μ-loop
-loop-again c = search needs
-
-same-length : tie.Need-same-length Inv-loop μ-loop
-same-length c = search needs
-
-same-length-2 : tie.Need-same-length-2 Inv-loop μ-loop
-same-length-2 c = search needs
-
-returns : tie.Need-returns Inv-loop μ-loop
-returns c = search needs
 
 pub meet-word-spec : {M : Type 1} → statement M
 meet-word-spec =
@@ -50,13 +23,13 @@ meet-word-spec =
     (tie.spec
     Inv-loop
     μ-loop
-    loop-holds
-    lowest-requires
-    add-g
-    meet-once-requires
-    sub-bits
+    (λ loop-holds. search needs)
+    (λ lowest-requires κs. search needs)
+    (λ add-g. search needs)
+    (λ meet-once-requires κs. search needs)
+    (λ sub-bits. search needs)
     loop-less
-    loop-again
-    same-length
-    same-length-2
-    returns)
+    (λ loop-again. search needs)
+    (λ same-length. search needs)
+    (λ same-length-2. search needs)
+    (λ returns. search needs))

@@ -4,11 +4,8 @@ use Rattle.worklist.proofs.Bounds.{binder-small}
 use Rattle.worklist.proofs.view.binder.Statement.{statement}
 use Rattle.worklist.proofs.view.binder.Tie as tie
 
-link-at-requires : tie.Need-link-at-requires
-link-at-requires c κs = search needs
-
 returns : tie.Need-returns
 returns c = binder-small _ _ _ (c .link-at .ensures)
 
 pub binder-spec : {M : Type 1} → statement M
-binder-spec = tie.close (tie.spec link-at-requires returns)
+binder-spec = tie.close (tie.spec (λ link-at-requires κs. search needs) returns)

@@ -4,11 +4,8 @@ use Rattle.worklist.proofs.Bounds.{end-small}
 use Rattle.worklist.proofs.view.end.Statement.{statement}
 use Rattle.worklist.proofs.view.end.Tie as tie
 
-link-at-requires : tie.Need-link-at-requires
-link-at-requires c κs = search needs
-
 returns : tie.Need-returns
 returns c = end-small _ _ _ (c .link-at .ensures)
 
 pub end-spec : {M : Type 1} → statement M
-end-spec = tie.close (tie.spec link-at-requires returns)
+end-spec = tie.close (tie.spec (λ link-at-requires κs. search needs) returns)

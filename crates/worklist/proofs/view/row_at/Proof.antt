@@ -5,9 +5,6 @@ use Rattle.worklist.proofs.Bounds.{rows}
 use Rattle.worklist.proofs.view.row_at.Statement.{statement}
 use Rattle.worklist.proofs.view.row_at.Tie as tie
 
-width-requires : tie.Need-width-requires
-width-requires c κs = search needs
-
 mul-result : tie.Need-mul-result
 mul-result c = omega (arith, rows _ _ (c .before .pre) (c .width .ensures))
 
@@ -15,4 +12,4 @@ returns : tie.Need-returns
 returns c = omega (arith, rows _ _ (c .before .pre) (c .width .ensures))
 
 pub row-at-spec : {M : Type 1} → statement M
-row-at-spec = tie.close (tie.spec width-requires mul-result returns)
+row-at-spec = tie.close (tie.spec (λ width-requires κs. search needs) mul-result returns)

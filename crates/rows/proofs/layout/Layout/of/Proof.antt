@@ -26,26 +26,8 @@ laid ws l n e s d r =
     let h = whole-words (getD ws 0 0) n e in
     record { size = omega arith; row = omega arith; lead = omega arith }
 
-names-in-requires : tie.Need-names-in-requires
-names-in-requires c κs = search needs
-
-add-lead : tie.Need-add-lead
-add-lead c = search needs
-
-cast-lead : tie.Need-cast-lead
-cast-lead c = search needs
-
-mul-t7 : tie.Need-mul-t7
-mul-t7 c = search needs
-
-add-t8 : tie.Need-add-t8
-add-t8 c = search needs
-
-add-t9 : tie.Need-add-t9
-add-t9 c = search needs
-
 returns : tie.Need-returns
 returns c = laid (c .before .before .args .words .now) _ _ (c .names-in .ensures) refl refl refl
 
 pub of-spec : {M : Type 1} → statement M
-of-spec = tie.close (tie.spec names-in-requires add-lead cast-lead mul-t7 add-t8 add-t9 returns)
+of-spec = tie.close (tie.spec (λ names-in-requires κs. search needs) (λ add-lead. search needs) (λ cast-lead. search needs) (λ mul-t7. search needs) (λ add-t8. search needs) (λ add-t9. search needs) returns)

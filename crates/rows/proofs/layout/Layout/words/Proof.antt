@@ -6,17 +6,11 @@ use Rattle.rows.proofs.Sizes.{rows-fit}
 use Rattle.rows.proofs.layout.Layout.words.Statement.{statement}
 use Rattle.rows.proofs.layout.Layout.words.Tie as tie
 
-mul-result : tie.Need-mul-result
-mul-result c = search needs
-
 mul-result-2 : tie.Need-mul-result-2
 mul-result-2 c = let s = c .before .before .args .self in omega (arith, rows-fit (s .size) (s .row) (omega arith) (omega arith))
 
 add-result : tie.Need-add-result
 add-result c = let s = c .before .before .before .args .self in omega (arith, rows-fit (s .size) (s .row) (omega arith) (omega arith))
 
-returns : tie.Need-returns
-returns c = search needs
-
 pub words-spec : {M : Type 1} → statement M
-words-spec = tie.close (tie.spec mul-result mul-result-2 add-result returns)
+words-spec = tie.close (tie.spec (λ mul-result. search needs) mul-result-2 add-result (λ returns. search needs))

@@ -1,0 +1,24 @@
+-- `output::refusal` meets its contract. Assumes nothing.
+use mathlib.Core.Path.{sym}
+use native.Mathlib.Omega.{arith}
+use lib.Seq.{length-take-le}
+use Rattle.text.proofs.Writing.{wrote-length}
+use borrow.Author.Needs.{needs}
+use Rattle.output.proofs.refusal.Statement.{statement}
+use Rattle.output.proofs.refusal.Tie as tie
+
+slice-aggregate-text : tie.Need-slice-aggregate-text
+slice-aggregate-text c =
+    let l = c .before .before .refusal-line .ensures in
+    sym (length-take-le _ _ (omega (arith, l .1, wrote-length (l .0))))
+
+pub refusal-spec : {M : Type 1} → statement M
+refusal-spec =
+    tie.close
+    (tie.spec
+    (λ c. search needs)
+    (λ c κs. search needs)
+    (λ c. search needs)
+    slice-aggregate-text
+    (λ c κs. search needs)
+    (λ c. search needs))
