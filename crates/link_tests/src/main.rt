@@ -2,14 +2,14 @@
 use table::Item;
 use table_links::item_at;
 use table_links::link_at;
-use test_tables::show::end;
-use test_tables::show::hex;
-use test_tables::show::item;
-use test_tables::show::link;
-use test_tables::show::number;
-use test_tables::show::text;
+use test_tables::end;
+use test_tables::hex;
+use test_tables::item;
+use test_tables::link;
+use test_tables::number;
 use test_tables::tables::RELAY;
 use test_tables::tables::blocks;
+use test_tables::text;
 
 // A let around a function and an application, with a let in a function inside.
 const NESTED: [u32; 17] = [

@@ -1,11 +1,11 @@
 // Tables that are written as text: words of eight hex digits, a blank between two words, a full stop after each table.
-use test_tables::show::end;
-use test_tables::show::hex;
-use test_tables::show::text;
+use test_tables::end;
+use test_tables::hex;
 use test_tables::tables::copy;
 use test_tables::tables::first;
 use test_tables::tables::head;
 use test_tables::tables::put;
+use test_tables::text;
 ghost use Prim.Native.Nat.{_≤_};
 
 fn digit(b: u8) -> u32

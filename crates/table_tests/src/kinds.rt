@@ -1,14 +1,14 @@
 // Every kind of term: its arguments at and past their limit, and its parts, one less and one more.
 use table_links::item_at;
-use test_tables::show::end;
-use test_tables::show::item;
-use test_tables::show::number;
-use test_tables::show::text;
+use test_tables::end;
+use test_tables::item;
+use test_tables::number;
 use test_tables::tables::fill;
 use test_tables::tables::first;
 use test_tables::tables::head;
 use test_tables::tables::put;
 use test_tables::tables::word;
+use test_tables::text;
 
 // A body of one word, with so many parts, each an empty record.
 fn with_parts(label: &[u8], w: u32, parts: usize) {

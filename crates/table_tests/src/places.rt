@@ -2,7 +2,7 @@
 use crate::cases::bodies;
 use crate::cases::second_blocks;
 use crate::cases::tables;
-use test_tables::show::answer;
+use test_tables::answer;
 
 // 1 and 3, then 4 for a word that is absent or of another kind, and 5.
 fn block_words() {

@@ -1,7 +1,7 @@
 // The tables of document 01's samples.
 use crate::cases::bodies;
 use crate::cases::tables;
-use test_tables::show::answer;
+use test_tables::answer;
 use test_tables::tables::RELAY;
 
 const TWINS: [u32; 15] = [
