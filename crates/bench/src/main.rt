@@ -58,22 +58,22 @@ fn argument(at: usize, otherwise: usize) -> usize {
 }
 
 fn refusal(f: Fault) {
-    output::refusal(fault_number(f), fault_place(f));
+    streams::refusal(fault_number(f), fault_place(f));
 }
 
 fn findings(s: Findings) {
     let leak = s.leak;
-    output::text(b"leak ");
+    streams::text(b"leak ");
     io::print_hex(STDOUT_FILENO, leak.bits as u64, 6);
-    output::text(b" facts ");
+    streams::text(b" facts ");
     io::print_decimal(STDOUT_FILENO, s.facts as u64);
-    output::text(b"\n");
+    streams::text(b"\n");
 }
 
 fn answer(a: Bounded) {
     match a {
         Bounded::Refused(f) => refusal(f),
-        Bounded::Over(n) => output::refusal(23, n),
+        Bounded::Over(n) => streams::refusal(23, n),
         Bounded::Solved(s) => findings(s),
     }
 }
@@ -118,7 +118,7 @@ fn bench_words(words: &[u32]) {
 fn bench(input: &[u8]) {
     let fault = feeder_fault(input.len());
     if fault != 0 {
-        output::refusal(fault, 0);
+        streams::refusal(fault, 0);
         return;
     }
     let mut words = [0u32; 1026];

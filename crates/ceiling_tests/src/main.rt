@@ -9,7 +9,7 @@ use solver::analyse::analyse_within;
 ghost use Prim.Native.Nat.{_≤_};
 
 fn number(label: &[u8], n: usize) {
-    output::text(label);
+    streams::text(label);
     io::print_decimal(STDOUT_FILENO, n as u64);
 }
 
@@ -60,7 +60,7 @@ fn show(rho: u32, ceiling: usize) {
     answer(analyse_within(&words, rho, ceiling, &mut est, &mut work));
     number(b" zeros ", zeros(&est));
     number(b" and ", zeros(&work));
-    output::text(b"\n");
+    streams::text(b"\n");
 }
 
 fn main() {

@@ -50,7 +50,7 @@ fn turn(w: Window, buffer: &mut [u8], out: &mut [u8; 2400]) -> Window
     let end = w.end;
     let before = w.tally;
     let s = step(before, &buffer[at..end], w.ended, out);
-    output::first(out, s.size);
+    streams::first(out, s.size);
     let tally = s.tally;
     let status = s.status;
     match status {

@@ -10,11 +10,11 @@ ghost use Prim.Native.Nat.{_≤_};
 ghost use lib.ListN.{length};
 
 fn three(label: &[u8], a: u32, b: u32, c: u32) {
-    output::text(label);
+    streams::text(label);
     io::print_decimal(STDOUT_FILENO, a as u64);
-    output::text(b" ");
+    streams::text(b" ");
     io::print_decimal(STDOUT_FILENO, b as u64);
-    output::text(b" ");
+    streams::text(b" ");
     io::print_decimal(STDOUT_FILENO, c as u64);
 }
 
@@ -22,7 +22,7 @@ fn three(label: &[u8], a: u32, b: u32, c: u32) {
 pub fn line(reply: Ordering, positions: &[u32]) {
     let mut out = [0u8; 1440];
     let n = order_text::write(reply, positions, &mut out);
-    output::first(&out, n);
+    streams::first(&out, n);
 }
 
 // The call on the first words of slices: 77 of estimate, 44 of work and 2 positions are needed.
@@ -66,7 +66,7 @@ fn show(ceiling: usize, estimate: usize, room: usize, count: usize)
     three(b"estimate ", est[0], est[76], est[77]);
     three(b" work ", work[0], work[43], work[44]);
     three(b" positions ", positions[0], positions[1], positions[2]);
-    output::text(b": ");
+    streams::text(b": ");
     line(reply, &positions);
 }
 

@@ -2,19 +2,19 @@
 fn show_refusal(number: u32, place: usize) {
     let mut line = [0u8; 96];
     let n = report::refusal_line(&mut line, 0, number, place);
-    output::first(&line, n);
+    streams::first(&line, n);
 }
 
 fn show_verdict(leak: u32, bound: u32, over: bool, first: u32, facts: usize) {
     let mut line = [0u8; 96];
     let n = report::verdict_line(&mut line, 0, leak, bound, over, first, facts);
-    output::first(&line, n);
+    streams::first(&line, n);
 }
 
 fn show_handler(position: usize, name: u32, entry: bool, live: bool, permissions: u32) {
     let mut line = [0u8; 96];
     let n = report::handler_line(&mut line, 0, position, name, entry, live, permissions);
-    output::first(&line, n);
+    streams::first(&line, n);
 }
 
 fn main() {

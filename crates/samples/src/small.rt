@@ -13,12 +13,12 @@ fn answer(words: &[u32], rho: u32) {
     let v = verdict(words, rho, 0, &mut est, &mut work);
     let mut line = [0u8; 96];
     let n = answer_line(v, &mut line, 0);
-    output::text(&line[..n]);
+    streams::text(&line[..n]);
 }
 
 pub fn sample(label: &[u8], words: &[u32], rho: u32) {
-    output::text(label);
-    output::text(b": ");
+    streams::text(label);
+    streams::text(b": ");
     answer(words, rho);
 }
 

@@ -1,7 +1,6 @@
 // The commands `estimate`, the words of a system's least estimate, and `audit`, the check of an estimate from elsewhere.
 use crate::arguments::set;
 use crate::explain::help;
-use crate::input::read_input;
 use crate::systems::Request;
 use crate::systems::run;
 use audit::Audit;
@@ -15,13 +14,14 @@ use little_endian::words_of;
 use rows::layout::Layout;
 use solver::Analysis;
 use solver::analyse::analyse;
+use streams::read_input;
 use text::put;
 use text::set_field;
 
 // So many words, as bytes.
 fn first_words(bytes: &[u8], count: usize) {
     if count <= 72704 {
-        output::first(bytes, 4 * count);
+        streams::first(bytes, 4 * count);
     }
 }
 
@@ -47,7 +47,7 @@ pub fn estimate_of(words: &[u32], rho: u32) {
     let mut est = [0u32; 72704];
     let mut work = [0u32; 4096];
     match analyse(words, rho, &mut est, &mut work) {
-        Analysis::Refused(f) => output::refusal(fault_number(f), fault_place(f)),
+        Analysis::Refused(f) => streams::refusal(fault_number(f), fault_place(f)),
         Analysis::Solved(_) => print_estimate(&est, words),
     }
 }
@@ -63,7 +63,7 @@ fn obeys(leak: u32) {
     let mut line = [0u8; 64];
     let a = set_field(&mut line, 0, b"obeys leak ", leak);
     let n = put(&mut line, a, b"\n");
-    output::first(&line, n);
+    streams::first(&line, n);
 }
 
 fn said(a: Audit) {
@@ -71,7 +71,7 @@ fn said(a: Audit) {
         obeys(s.bits);
         return;
     }
-    output::refusal(audit_number(a), audit_place(a));
+    streams::refusal(audit_number(a), audit_place(a));
 }
 
 fn size_of(w: u32) -> usize {
@@ -81,12 +81,12 @@ fn size_of(w: u32) -> usize {
 // The first word says how many the system has; the others are the system and the estimate.
 fn audit_words(words: &[u32], rho: u32) {
     if words.len() == 0 {
-        output::refusal(30, 0);
+        streams::refusal(30, 0);
         return;
     }
     let size = size_of(words[0]);
     if words.len() <= size {
-        output::refusal(30, 0);
+        streams::refusal(30, 0);
         return;
     }
     let end = size + 1;
@@ -101,7 +101,7 @@ fn audit_room(input: &[u8], rho: u32, room: &mut [u32]) {
 
 fn audit_in(input: &[u8], rho: u32) {
     if input.len() % 4 != 0 {
-        output::refusal(30, 0);
+        streams::refusal(30, 0);
         return;
     }
     let mut words = [0u32; 73730];

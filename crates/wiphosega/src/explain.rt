@@ -2,5 +2,5 @@
 pub fn help() {
     let mut text = [0u8; 4096];
     let size = commands::help(&mut text);
-    output::text(&text[..size]);
+    streams::text(&text[..size]);
 }

@@ -2,7 +2,6 @@
 mod arguments;
 mod estimates;
 mod explain;
-mod input;
 mod ordering;
 mod printing;
 mod receivers;

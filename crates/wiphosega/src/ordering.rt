@@ -16,7 +16,7 @@ pub fn order_of(words: &[u32], rho: u32) {
     let mut out = [0u8; 1440];
     let reply = reading_order::order(words, rho, NO_CEILING, &mut est, &mut work, &mut positions);
     let n = order_text::write(reply, &positions, &mut out);
-    output::first(&out, n);
+    streams::first(&out, n);
 }
 
 pub fn order() {

@@ -1,6 +1,6 @@
 // The commands whose text a proved function writes: arguments and input are read, the text is written. The output has room for 81,920 bytes more than
 // the input.
-use crate::input::read_input;
+use streams::read_input;
 
 fn print(input: &[u8]) {
     let mut command = [0u8; 16];
@@ -11,7 +11,7 @@ fn print(input: &[u8]) {
     let s = os::arg(3, &mut second);
     let mut out = [0u8; 212996];
     let n = commands::run(&command[..c], &first[..f], &second[..s], input, &mut out);
-    output::first(&out, n);
+    streams::first(&out, n);
 }
 
 // Of a longer input 131,076 bytes are kept: two listings of the most bytes, and a word more, which decide.
@@ -33,7 +33,7 @@ fn print_leak(rho: &[u8], input: &[u8]) {
     let c = os::arg(4, &mut ceiling);
     let mut out = [0u8; 147457];
     let n = leaks::run(rho, &bound[..b], &ceiling[..c], input, &mut out);
-    output::first(&out, n);
+    streams::first(&out, n);
 }
 
 fn leak_of(rho: &[u8]) {

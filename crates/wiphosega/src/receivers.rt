@@ -15,7 +15,7 @@ use solver::analyse::analyse;
 fn senders_by(words: &[u32], est: &[u32]) {
     let mut out = [0u8; 4096];
     match senders::write(words, est, &mut out) {
-        Answer::Done(n) => output::first(&out, n),
+        Answer::Done(n) => streams::first(&out, n),
         Answer::Refused(r) => refusal(r),
     }
 }
@@ -24,7 +24,7 @@ pub fn senders_of(words: &[u32], rho: u32) {
     let mut est = [0u32; 72704];
     let mut work = [0u32; 4096];
     match analyse(words, rho, &mut est, &mut work) {
-        Analysis::Refused(f) => output::refusal(fault_number(f), fault_place(f)),
+        Analysis::Refused(f) => streams::refusal(fault_number(f), fault_place(f)),
         Analysis::Solved(_) => senders_by(words, &est),
     }
 }

@@ -8,7 +8,7 @@ use listing::Answer;
 pub fn deliveries_of(words: &[u32]) {
     let mut out = [0u8; 532480];
     match deliveries::write(words, &mut out) {
-        Answer::Done(n) => output::first(&out, n),
+        Answer::Done(n) => streams::first(&out, n),
         Answer::Refused(r) => refusal(r),
     }
 }

@@ -1,6 +1,5 @@
 // What the commands ask of a listing's system: the listing is read, and the answer or a refusal is printed.
 use crate::estimates::estimate_of;
-use crate::input::read_input;
 use crate::ordering::order_of;
 use crate::receivers::senders_of;
 use crate::sends::deliveries_of;
@@ -9,6 +8,7 @@ use listing::Refusal;
 use listing::numbers::refusal_number;
 use listing::numbers::refusal_place;
 use listing::read::read;
+use streams::read_input;
 
 pub enum Request {
     Deliveries,
@@ -19,7 +19,7 @@ pub enum Request {
 }
 
 pub fn refusal(r: Refusal) {
-    output::refusal(refusal_number(r), refusal_place(r));
+    streams::refusal(refusal_number(r), refusal_place(r));
 }
 
 fn answer(words: &[u32], request: Request) {

@@ -6,8 +6,8 @@ use borrow.Author.Needs.{needs}
 use Rattle.analyse.proofs.answer.Statement.{statement}
 use Rattle.analyse.proofs.answer.Tie as tie
 
-slice-aggregate-write-all : tie.Need-slice-aggregate-write-all
-slice-aggregate-write-all c =
+slice-aggregate-text : tie.Need-slice-aggregate-text
+slice-aggregate-text c =
     let p = c .before .before .print in
     sym (length-take-le _ _ (omega (arith, p .ensures .1 .1, p .kept .1 .0)))
 
@@ -18,6 +18,6 @@ answer-spec =
     (λ slice-aggregate-print. search needs)
     (λ print-requires κs. search needs)
     (λ array-share-prefix-out. search needs)
-    slice-aggregate-write-all
-    (λ write-all-requires κs. search needs)
+    slice-aggregate-text
+    (λ text-requires κs. search needs)
     (λ returns. search needs))

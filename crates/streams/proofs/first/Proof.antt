@@ -1,9 +1,9 @@
--- `output::first` meets its contract. Assumes nothing.
+-- `streams::first` meets its contract. Assumes nothing.
 use mathlib.Core.Path.{sym}
 use lib.Seq.{length-take-le}
 use borrow.Author.Needs.{needs}
-use Rattle.output.proofs.first.Statement.{statement}
-use Rattle.output.proofs.first.Tie as tie
+use Rattle.streams.proofs.first.Statement.{statement}
+use Rattle.streams.proofs.first.Tie as tie
 
 slice-aggregate-text : tie.Need-slice-aggregate-text
 slice-aggregate-text c = sym (length-take-le _ _ (c .before .if1 .taken))

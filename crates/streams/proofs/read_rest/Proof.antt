@@ -1,9 +1,9 @@
--- `analyse::read_rest` meets its contract: the turns run out. Assumes nothing.
+-- `streams::read_rest` meets its contract: the turns run out. Assumes nothing.
 use mathlib.Core.Path.{_≡_}
 use lib.ListN.{length}
 use borrow.Author.Needs.{needs}
-use Rattle.analyse.proofs.read_rest.Statement.{statement}
-use Rattle.analyse.proofs.read_rest.Tie as tie
+use Rattle.streams.proofs.read_rest.Statement.{statement}
+use Rattle.streams.proofs.read_rest.Tie as tie
 
 abbrev Inv-loop : tie.InvT-loop
 Inv-loop buffer₀ turns₀ buffer turns = length buffer ≡ length buffer₀

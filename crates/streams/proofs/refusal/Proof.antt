@@ -1,11 +1,11 @@
--- `output::refusal` meets its contract. Assumes nothing.
+-- `streams::refusal` meets its contract. Assumes nothing.
 use mathlib.Core.Path.{sym}
 use native.Mathlib.Omega.{arith}
 use lib.Seq.{length-take-le}
 use Rattle.text.proofs.Writing.{wrote-length}
 use borrow.Author.Needs.{needs}
-use Rattle.output.proofs.refusal.Statement.{statement}
-use Rattle.output.proofs.refusal.Tie as tie
+use Rattle.streams.proofs.refusal.Statement.{statement}
+use Rattle.streams.proofs.refusal.Tie as tie
 
 slice-aggregate-text : tie.Need-slice-aggregate-text
 slice-aggregate-text c =
