@@ -135,8 +135,8 @@ pub fn lacked_masked(
     let mut bits = 0u32;
     let mut i = 0;
     while i < row {
-        let x = mask[i] & est[from + i];
-        let y = x ^ (x & est[to + i]);
+        let kept = mask[i] & est[from + i];
+        let y = kept ^ (kept & est[to + i]);
         new[i] = y;
         bits |= y;
         i += 1;

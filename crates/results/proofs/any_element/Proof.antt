@@ -13,4 +13,4 @@ returns-2 : tie.Need-returns-2
 returns-2 c = c .some .ensures ∙ sym (nonzero-rest _ _ (c .before .if1 .left))
 
 pub any-element-spec : {M : Type 1} → statement M
-any-element-spec = tie.close (tie.spec (λ c κs. search needs) returns returns-2)
+any-element-spec = tie.close (tie.spec (λ some-requires κs. search needs) returns returns-2)

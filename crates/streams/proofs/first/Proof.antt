@@ -9,4 +9,4 @@ slice-aggregate-text : tie.Need-slice-aggregate-text
 slice-aggregate-text c = sym (length-take-le _ _ (c .before .if1 .taken))
 
 pub first-spec : {M : Type 1} → statement M
-first-spec = tie.close (tie.spec slice-aggregate-text (λ c κs. search needs) (λ c. search needs) (λ c. search needs))
+first-spec = tie.close (tie.spec slice-aggregate-text (λ text-requires κs. search needs) (λ returns. search needs) (λ returns-2. search needs))

@@ -16,9 +16,9 @@ pub refusal-spec : {M : Type 1} → statement M
 refusal-spec =
     tie.close
     (tie.spec
-    (λ c. search needs)
-    (λ c κs. search needs)
-    (λ c. search needs)
+    (λ slice-aggregate-refusal-line. search needs)
+    (λ refusal-line-requires κs. search needs)
+    (λ array-share-prefix-line. search needs)
     slice-aggregate-text
-    (λ c κs. search needs)
-    (λ c. search needs))
+    (λ text-requires κs. search needs)
+    (λ returns. search needs))

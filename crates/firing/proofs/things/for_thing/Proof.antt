@@ -85,37 +85,37 @@ pub for-thing-spec : {M : Type 1} → statement M
 for-thing-spec =
     tie.close
     (tie.spec
-    (λ c. search needs)
-    (λ c. search needs)
+    (λ enum-told. search needs)
+    (λ add-wake. search needs)
     wake-requires
-    (λ c. search needs)
-    (λ c. search needs)
+    (λ enum-told-2. search needs)
+    (λ add-lift. search needs)
     lift-requires
-    (λ c. search needs)
-    (λ c. search needs)
-    (λ c. search needs)
+    (λ enum-told-3. search needs)
+    (λ mul-flow. search needs)
+    (λ add-flow. search needs)
     flow-requires
-    (λ c. search needs)
-    (λ c. search needs)
-    (λ c. search needs)
+    (λ enum-told-4. search needs)
+    (λ mul-flow-2. search needs)
+    (λ add-flow-2. search needs)
     flow-requires-2
-    (λ c. search needs)
-    (λ c. search needs)
-    (λ c. search needs)
+    (λ enum-told-5. search needs)
+    (λ add-flow-3. search needs)
+    (λ mul-flow-3. search needs)
     flow-requires-3
-    (λ c. search needs)
-    (λ c. search needs)
+    (λ same-length. search needs)
+    (λ same-length-2. search needs)
     returns
-    (λ c. search needs)
-    (λ c. search needs)
+    (λ same-length-3. search needs)
+    (λ same-length-4. search needs)
     returns-2
-    (λ c. search needs)
-    (λ c. search needs)
+    (λ same-length-5. search needs)
+    (λ same-length-6. search needs)
     returns-3
-    (λ c. search needs)
-    (λ c. search needs)
+    (λ same-length-7. search needs)
+    (λ same-length-8. search needs)
     returns-4
-    (λ c. search needs)
-    (λ c. search needs)
+    (λ same-length-9. search needs)
+    (λ same-length-10. search needs)
     returns-5
     returns-6)

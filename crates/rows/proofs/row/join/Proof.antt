@@ -57,15 +57,15 @@ join-spec =
     Inv-loop
     μ-loop
     (λ c. (search needs, refl, record { words = sym (pour-nil (c .before .before .args .row .now) 0); count = omega arith }))
-    (λ c. search needs)
-    (λ c. search needs)
-    (λ c κs. search needs)
+    (λ add-loop. search needs)
+    (λ add-pour-some. search needs)
+    (λ pour-some-requires κs. search needs)
     add-added
-    (λ c. search needs)
-    (λ c. search needs)
+    (λ add-i. search needs)
+    (λ loop-less. search needs)
     loop-again
     cast-result
-    (λ c κs. search needs)
+    (λ pour-rest-requires κs. search needs)
     add-result
-    (λ c. search needs)
+    (λ same-length. search needs)
     whole)

@@ -57,15 +57,15 @@ pour-spec =
     Inv-loop
     μ-loop
     (λ c. (search needs, refl, record { words = sym (pour-nil (c .args .row .now) 0); count = omega arith }))
-    (λ c. search needs)
-    (λ c. search needs)
-    (λ c. search needs)
-    (λ c. search needs)
-    (λ c. search needs)
-    (λ c. search needs)
+    (λ mul-old. search needs)
+    (λ slice-read-old. search needs)
+    (λ mul-new. search needs)
+    (λ shared-slice-read-new. search needs)
+    (λ mul-row. search needs)
+    (λ slice-write-row. search needs)
     add-added
-    (λ c. search needs)
-    (λ c. search needs)
+    (λ add-i. search needs)
+    (λ loop-less. search needs)
     loop-again
-    (λ c. search needs)
+    (λ same-length. search needs)
     returns)

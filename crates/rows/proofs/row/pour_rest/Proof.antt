@@ -58,12 +58,12 @@ pour-rest-spec =
     Inv-loop
     μ-loop
     loop-holds
-    (λ c. search needs)
-    (λ c. search needs)
-    (λ c κs. search needs)
+    (λ mul-set. search needs)
+    (λ shared-slice-read-set. search needs)
+    (λ set-requires κs. search needs)
     add-added
-    (λ c. search needs)
-    (λ c. search needs)
+    (λ add-i. search needs)
+    (λ loop-less. search needs)
     loop-again
-    (λ c. search needs)
+    (λ same-length. search needs)
     returns)

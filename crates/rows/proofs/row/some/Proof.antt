@@ -34,9 +34,9 @@ some-spec =
     Inv-loop
     μ-loop
     (λ c. (search needs, refl))
-    (λ c. search needs)
-    (λ c. search needs)
-    (λ c. search needs)
-    (λ c. search needs)
+    (λ mul-bits. search needs)
+    (λ shared-slice-read-bits. search needs)
+    (λ add-i. search needs)
+    (λ loop-less. search needs)
     loop-again
     returns)
