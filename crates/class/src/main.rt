@@ -2,7 +2,7 @@
 // into one buffer.
 use class_report::Status;
 use class_report::Tally;
-use class_report::new;
+use class_report::empty_tally;
 use class_report::steps::step;
 use class_report::window::keep;
 use libc::STDIN_FILENO;
@@ -75,7 +75,7 @@ fn turn(w: Window, buffer: &mut [u8], out: &mut [u8; 2400]) -> Window
 // Every turn writes a line or fills the buffer: a stream of the most systems takes less than 10,200 of them.
 fn report(buffer: &mut [u8], out: &mut [u8; 2400]) {
     let mut w = Window {
-        tally: new(),
+        tally: empty_tally(),
         at: 0,
         end: 0,
         ended: false,

@@ -7,7 +7,7 @@ ghost use Rattle.class_report.specs.Tally.{fresh, position as Tally·pos
 ghost use Rattle.class_report.specs.Tally.{raised as Tally·raised, counted as Tally·counted, tallied as Tally·tallied};
 
 // Before the first system.
-pub fn new() -> Tally
+pub fn empty_tally() -> Tally
     ensures { λ r. ⌜ r ≡ fresh ⌝ }
 {
     Tally {

@@ -6,7 +6,7 @@ pub mod steps;
 mod stream;
 pub mod window;
 
-pub use crate::counts::new;
+pub use crate::counts::empty_tally;
 use permset::PermSet;
 
 // What an analysis says of a system. `outcomeOf` of specs/Report.antt gives each its number, place or leak.
