@@ -26,6 +26,7 @@ use Rattle.rows.specs.Laid.{LaidOut, Sized}
 use Rattle.rows.specs.Mask.{Mask, madeAs}
 use Rattle.clauses.specs.declared.What.{What}
 use Rattle.clauses.specs.Asks.{sortAt, thingAt, forThing, atThing}
+use Rattle.clauses.proofs.Asked.{gap-thing}
 use Rattle.queries.specs.Passes.{maskAt, Masked}
 use Rattle.queries.specs.Things.{both, Next, Searched}
 use Rattle.queries.proofs.Laws.{row-in, mask-in}
@@ -150,6 +151,16 @@ module _ (l : Layout) (masks : List ℕ) (z : ℕ) (hz : z < 3) (c : Code) (o : 
 
       pub made-end : (est : List ℕ) (f : ℕ) → l .size ≤ f → fire c (from f) est ≡ est
       made-end est f h = loop-end c one (c .size) f est (omega (arith, o .size))
+
+-- past the table there is no thing
+pub past-table : (c : Code) → Linked c → (w : What) (x y z f : ℕ) → c .size ≤ f → (est : List ℕ) → fire c (atThing c w x y z f) est ≡ est
+past-table c k w x y z f h est =
+    fire-only-not c (thingAt z (makes (c .node f))) (given (C (x + 1)) (made c f) (forThing w x y f)) est
+    (false-is (thingAt z (makes (c .node f))) (gap-thing c k (λ r v. true) z f h))
+  where
+    false-is : (t : Bool) → (T t → ⊥) → t ≡ false
+    false-is true n = absurd (n tt)
+    false-is false n = refl
 
 -- ---- what the loop keeps
 

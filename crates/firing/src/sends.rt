@@ -139,9 +139,12 @@ pub fn send_one(
     own: Sender,
     b: usize,
 ) -> usize
-    requires { ⌜ Sends (now words) (now masks) (now est) l e own × (b < length (now words)) × (e .z < 4294967296) ⌝ }
+    requires { ⌜ Sends (now words) (now masks) (now est) l e own × (e .z < 4294967296) ⌝ }
     ensures { λ r. ⌜ Fired (code (now (words .entry))) (atBlock (code (now (words .entry))) (e .x) (e .y) (e .z) b) (now (est .entry)) (now (est .exit)) r ⌝ }
 {
+    if words.len() <= b {
+        return 0;
+    }
     if kind_of(words[b]) == 2 {
         send_to(words, est, masks, h, l, e, own, b)
     } else {

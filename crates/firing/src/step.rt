@@ -25,7 +25,7 @@ pub fn step(
     k: usize,
     f: usize,
 ) -> usize
-    requires { ⌜ Ready (now words) (now links) (now masks) l × WellFormed (code (now words)) (now est) × (p < l .size) × (f < l .size) ⌝ }
+    requires { ⌜ Ready (now words) (now links) (now masks) l × WellFormed (code (now words)) (now est) × (p < l .size) ⌝ }
     ensures { λ r. ⌜ Fired (code (now (words .entry))) (stepAt (now (words .entry)) (now (links .entry)) p k f) (now (est .entry)) (now (est .exit)) r ⌝ }
     ensures { λ _. ⌜ Kept (now (h .entry)) (now (h .exit)) ⌝ }
 {

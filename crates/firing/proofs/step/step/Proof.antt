@@ -30,7 +30,7 @@ so false e = sym e
 is-live-requires : tie.Need-is-live-requires
 is-live-requires c κs =
     let s = c .before .before .before .before .before .before in let a = s .args in
-    (sized (a .words .now) (a .links .now) (a .masks .now) (a .l) (s .pre .0) (a .est .now) (s .pre .1), s .pre .2)
+    (sized (a .words .now) (a .links .now) (a .masks .now) (a .l) (s .pre .0) (a .est .now) (s .pre .1), omega (arith, s .pre .2))
 
 returns : tie.Need-returns
 returns c =
@@ -65,7 +65,6 @@ fire-requires c κs =
       s .pre .1,
       subst (Suits (a .l) (a .masks .now) (a .words .now)) (sym (c .before .before .clause .ensures))
           (made-suits (a .words .now) (a .links .now) (a .masks .now) (a .l) (s .pre .0) (a .p) (a .k) (s .pre .2)),
-      s .pre .3,
     )
 
 returns-2 : tie.Need-returns-2
