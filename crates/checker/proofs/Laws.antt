@@ -93,10 +93,6 @@ module _ (e : Sets) where
 
   -- ---- under a test
 
-  pub only-decides : {k : Rule} {r : Bool} (t : Bool) → Decides e k r → Decides e (only t k) (not t || r)
-  only-decides true d = record { yes = λ h t. d .yes h; no = λ o. d .no (o tt) }
-  only-decides false d = record { yes = λ h t. absurd t; no = λ o. tt }
-
   pub given-decides : {k : Rule} {r : Bool} (s : Row) (v : ℕ) (t : Bool) → t ≡ e s v → Decides e k r → Decides e (given s v k) (not t || r)
   given-decides s v true q d =
       record { yes = λ h t. d .yes h; no = λ o. d .no (o (subst T q tt)) }

@@ -1,29 +1,26 @@
 -- The loop over the things of a value set: what is left to do at the thing f is the rule at each number from f on.
 use Prim.Native.Nat.{ℕ, zero, suc, _+_, _-_, _*_, _/_, _%_, _≤_, _<_}
-use mathlib.Core.Path.{_≡_, refl, sym, ap, ap₂, _∙_, subst}
+use mathlib.Core.Path.{_≡_, refl, sym, ap, ap₂, _∙_}
 use mathlib.Core.Bool.{Bool, true, false, _&&_, _||_, true≢false, false≢true}
 use mathlib.Core.List.{List}
 use native.Mathlib.Decide.{decLt}
 use native.Mathlib.Omega.{arith}
-use lib.Bits.{bitAnd}
-use lib.Dec.{T, leb, eqb}
-use lib.ListN.{length, getD, take, drop}
+use lib.Dec.{T, leb}
+use lib.ListN.{length, getD, drop}
 use lib.Seq.{getD-take, getD-drop}
 use borrow.Author.Tests.{le-leb, ne-eqb}
 use Rattle.permset.specs.Sets.{member}
 use Rattle.permset.proofs.Laws.{member-and}
 use Rattle.table.specs.Code.{Code, Linked}
-use Rattle.calculus.specs.Elements.{plain, made, elements, Making, makes, making, isFunction, isRecord, isCell, anyRecord}
-use Rattle.calculus.specs.Constraint.{C, Rule, given, only, each, every, range}
+use Rattle.calculus.specs.Elements.{plain, made, Making, makes, making, isFunction, isRecord, isCell, anyRecord}
+use Rattle.calculus.specs.Constraint.{C, Rule, given, each, every, range}
 use Rattle.calculus.specs.Layout.{bit, base, rowWords, sets}
 use Rattle.calculus.specs.Estimate.{fire}
-use Rattle.calculus.proofs.Digits.{T-true}
-use Rattle.calculus.proofs.Fitting.{body-lt}
 use Rattle.calculus.proofs.Folds.{fire-only-not, fire-present, fire-absent, loop-start, loop-step, loop-skip, loop-end}
 use Rattle.calculus.proofs.RowOperations.{sets-C}
 use Rattle.rows.specs.declared.layout.Layout.{Layout}
 use Rattle.rows.specs.Laid.{LaidOut, Sized}
-use Rattle.rows.specs.Mask.{Mask, madeAs}
+use Rattle.rows.specs.Mask.{madeAs}
 use Rattle.clauses.specs.declared.What.{What}
 use Rattle.clauses.specs.Asks.{sortAt, thingAt, forThing, atThing}
 use Rattle.clauses.proofs.Asked.{gap-thing}

@@ -1,5 +1,5 @@
 -- What a clause must be for it to be fired: what it looks at and writes are words and rows of the table.
-use Prim.Native.Nat.{ℕ, _+_, _*_, _^_, _<_, _≤_}
+use Prim.Native.Nat.{ℕ, _+_, _*_, _^_, _<_}
 use mathlib.Core.Path.{_≡_}
 use mathlib.Core.List.{List}
 use Rattle.permset.specs.Sets.{width}

@@ -19,10 +19,7 @@ use clauses::Effect;
 use clauses::What;
 use queries::holds;
 use rows::layout::Layout;
-ghost use mathlib.Core.Path.{_≡_};
-ghost use lib.ListN.{length};
 ghost use Rattle.table.specs.declared.Item.the-variants as items;
-ghost use Rattle.table.specs.Item.{itemAt};
 ghost use Rattle.table.specs.Code.{Linked, code};
 ghost use Rattle.calculus.specs.Layout.{WellFormed};
 ghost use Rattle.clauses.specs.Asks.{things, blocks, effect, asks};
@@ -87,7 +84,8 @@ fn add(
     e: Effect,
     f: usize,
 ) -> usize
-    requires { ⌜ Ready (now words) (now links) (now masks) l × WellFormed (code (now words)) (now est) × Fitting l (now masks) (now words) (e .what) (e .x) (e .y) (e .z) ⌝ }
+    requires { ⌜ Ready (now words) (now links) (now masks) l × WellFormed (code (now words)) (now est)
+        × Fitting l (now masks) (now words) (e .what) (e .x) (e .y) (e .z) ⌝ }
     ensures { λ r. ⌜ Fired (code (now (words .entry))) (effect (code (now (words .entry))) (e .what) (e .x) (e .y) (e .z) f) (now (est .entry))
         (now (est .exit)) r ⌝ }
 {

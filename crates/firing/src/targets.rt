@@ -14,7 +14,7 @@ ghost use Rattle.permset.specs.Sets.{width, member};
 ghost use Rattle.calculus.specs.Constraint.{P, L, put as Put, sub as Sub, only as Only, every};
 ghost use Rattle.calculus.specs.Rules.{fill as Fill, pass as Pass, part as Part};
 ghost use Rattle.calculus.specs.Layout.{masked, WellFormed};
-ghost use Rattle.rows.specs.Laid.{LaidOut, Sized};
+ghost use Rattle.rows.specs.Laid.{Sized};
 ghost use Rattle.rows.specs.Rows.{Poured};
 ghost use Rattle.clauses.specs.Asks.{rowAt, sortAt};
 ghost use Rattle.queries.specs.Passes.{Masked};

@@ -10,19 +10,18 @@ use native.Mathlib.Numerals.{add-one, one-add}
 use native.Mathlib.Omega.{arith}
 use borrow.Author.Tests.{eq-eqb, ne-eqb, eqb-true, not-false, lt-ltb, le-ltb}
 use lib.Arith.{lt-one}
-use lib.Dec.{T, eqb, ltb}
+use lib.Dec.{eqb, ltb}
 use lib.Count.{onesIn, ones, ones-step, ones-cat}
 use lib.Pow.{pow-pos, pow-lt, split}
 use lib.Bits.{bitAnd, bitOr, bitXor, and-le-l, and-le-r, or-lt, xor-lt, or-add-and, xor-add-and, xor-self, and-comm, and-mod, or-mod, xor-mod, and-shr, or-shr, xor-shr, and-zero-l, and-zero-r, or-zero-r, or-disjoint, and-high}
 use lib.ListN.{length, getD, set, take, drop, take-append-drop, length-drop, drop-of-length-le}
 use lib.Seq.{take-suc, take-all, take-add, take-at, drop-cons, length-take-le, take-nil, drop-nil, set-getD, getD-take, getD-drop}
-use Rattle.calculus.specs.Layout.{bit, pour, Words}
+use Rattle.calculus.specs.Layout.{pour}
 use Rattle.calculus.specs.Estimate.{facts}
-use Rattle.calculus.proofs.Digits.{T-true, T-and, T-fst, T-snd}
 use Rattle.calculus.proofs.Slices.{length-pour, pour-adds}
 use Rattle.calculus.proofs.Facts.{facts-le, facts-set, facts-append, pour-one}
 use Rattle.calculus.specs.Layout.{masked}
-use Rattle.calculus.proofs.Masks.{bit-masked, masked-words, nonzero, digit-nonzero, nonzero-digit}
+use Rattle.calculus.proofs.Masks.{nonzero}
 use Rattle.rows.specs.Rows.{NextCommon, meets, lacking, missing, Poured}
 
 -- ---- the digits of one word
@@ -421,18 +420,6 @@ next-meets ms xs r n = go (decLt r (length ms))
     go : Dec (r < length ms) → ltb r (length ms) ≡ meets ms xs
     go (yes h) = lt-ltb r (length ms) h ∙ sym (meets-word ms xs r (n .found h))
     go (no h) = le-ltb r (length ms) (omega arith) ∙ sym (meets-none ms xs (λ k l. n .none k (omega arith) (omega arith)))
-
--- a digit in common
-pub meets-digit : (ms xs : List ℕ) → Words xs → meets ms xs ≡ true → (n : ℕ) × T (bit ms n) × T (bit xs n)
-meets-digit ms xs w h =
-    let d : (n : ℕ) × T (bit (masked ms xs) n) = nonzero-digit (masked ms xs) (masked-words ms xs w) (subst T (sym h ∙ meets-nonzero ms xs) tt) in
-    let t : T (bit ms (d .0) && bit xs (d .0)) = subst T (bit-masked ms xs (d .0)) (d .1) in
-    (d .0, T-fst (bit ms (d .0)) (bit xs (d .0)) t, T-snd (bit ms (d .0)) (bit xs (d .0)) t)
-
-pub digit-meets : (ms xs : List ℕ) (n : ℕ) → T (bit ms n) → T (bit xs n) → meets ms xs ≡ true
-digit-meets ms xs n h k =
-    T-true (meets ms xs)
-    (subst T (sym (meets-nonzero ms xs)) (digit-nonzero (masked ms xs) n (subst T (sym (bit-masked ms xs n)) (T-and (bit ms n) (bit xs n) h k))))
 
 -- ---- words of which some are not 0
 

@@ -21,7 +21,7 @@ use crate::view::width;
 use rows::layout::Layout;
 use rows::row::next_common;
 use table::argument_of;
-ghost use Prim.Native.Nat.{_<_, _≤_};
+ghost use Prim.Native.Nat.{_<_};
 ghost use lib.ListN.{length};
 
 // The masks, by their numbers.

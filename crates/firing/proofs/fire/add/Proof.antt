@@ -1,6 +1,6 @@
 -- `firing::fire::add` meets its contract: an arm for each effect. Assumes nothing.
-use Prim.Native.Nat.{_+_, _*_}
-use mathlib.Core.Path.{_≡_, refl}
+use Prim.Native.Nat.{_+_}
+use mathlib.Core.Path.{refl}
 use mathlib.Core.Bool.{not}
 use native.Mathlib.Omega.{arith}
 use lib.Dec.{eqb}

@@ -1,7 +1,6 @@
 -- `firing::step::step` meets its contract: the clause is fired where its word is live. Assumes nothing.
-use Prim.Native.Nat.{_*_}
 use mathlib.Core.Path.{_≡_, refl, sym, ap, _∙_, subst}
-use mathlib.Core.Bool.{Bool, true, false, not, true≢false, false≢true}
+use mathlib.Core.Bool.{Bool, true, false, not}
 use native.Mathlib.Omega.{arith}
 use Rattle.table.specs.Code.{code}
 use Rattle.table.proofs.Blocks.{head-word}
