@@ -1,17 +1,16 @@
 -- The answer says yes exactly where an estimate passes, and then its leak is sound.
-use Prim.Native.Nat.{ℕ, _^_, _≤_, _<_}
-use mathlib.Core.Path.{_≡_, refl, sym, ap, _∙_, subst}
+use Prim.Native.Nat.{ℕ, _^_, _<_}
+use mathlib.Core.Path.{_≡_, refl, sym, _∙_}
 use mathlib.Core.Bool.{Bool, true, false}
 use mathlib.Core.List.{List}
-use native.Mathlib.Decide.{decLt, ℕ-discrete}
 use native.Mathlib.Omega.{arith}
 use borrow.Author.Tests.{eqb-true, eqb-false, ltb-true, ltb-false, leb-true, leb-false}
-use lib.Dec.{T, eqb, leb, ltb}
+use lib.Dec.{eqb, leb, ltb}
 use lib.ListN.{length}
 use Rattle.permset.specs.Sets.{width}
 use Rattle.table.specs.Scan.{Outcome, accepted, reading}
 use Rattle.table.specs.Scan.{refused as unreadable}
-use Rattle.table.specs.Code.{Code, Linked, code}
+use Rattle.table.specs.Code.{Code, code}
 use Rattle.table.proofs.Linked.{linked}
 use Rattle.calculus.specs.Layout.{estimateWords, sets, Words, WellFormed}
 use Rattle.calculus.specs.Estimate.{leak}
@@ -21,7 +20,7 @@ use Rattle.checker.specs.Obeyed.{firstBroken}
 use Rattle.checker.proofs.Laws.{unbroken, estimate-unbroken, broken-most}
 use Rattle.stray.specs.Stray.{firstStray}
 use Rattle.stray.proofs.Clean.{stray-most, unstray-proper, proper-unstray, proper-used}
-use Rattle.audit.specs.Audited.{Answer, refused, obeys, ruled, swept, sized, judged, audited}
+use Rattle.audit.specs.Audited.{refused, obeys, ruled, swept, sized, judged, audited}
 use Rattle.audit.specs.Passes.{Passes, Sound, Exact}
 
 -- words without a stray bit are those of an estimate

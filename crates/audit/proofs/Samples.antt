@@ -20,7 +20,7 @@ use Rattle.calculus.specs.Estimate.{anyFrom, estimate, leak}
 use Rattle.calculus.specs.Samples.{single, relay}
 use Rattle.stray.specs.Stray.{names, ofBlock, holding, holds, proper, stray, strayFrom, firstStray}
 use Rattle.checker.specs.Obeyed.{allOf, firstFrom, obeys as obeysRule, firstBroken}
-use Rattle.audit.specs.Audited.{Answer, refused, obeys, ruled, swept, sized, judged, audited}
+use Rattle.audit.specs.Audited.{refused, obeys, ruled, swept, sized, judged, audited}
 
 abbrev direct : List ℕ
 direct = single 0 (0x24000002 ∷ [])

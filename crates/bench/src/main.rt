@@ -10,7 +10,6 @@ use little_endian::words_of;
 use solver::Bounded;
 use solver::analyse::analyse_within;
 ghost use Prim.Native.Nat.{_≤_};
-ghost use lib.ListN.{length};
 
 // More than any estimate has.
 const NO_CEILING: usize = 1000000000;

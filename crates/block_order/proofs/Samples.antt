@@ -6,7 +6,7 @@ use native.Mathlib.Omega.{arith}
 use lib.ListN.{getD}
 use Rattle.table.specs.Words.{partsByKind, limitsByKind, parts, arity, limit, namesOf}
 use Rattle.table.specs.Code.{skip}
-use Rattle.table.specs.Scan.{accepted, firstOf, has, tests, fault, missing, keep, under, next, scan, reading}
+use Rattle.table.specs.Scan.{firstOf, has, tests, fault, missing, keep, under, next, scan, reading}
 use Rattle.blocks.specs.Blocks.{blocks, cut, blockLength, tableOf}
 use Rattle.block_order.specs.Order.{rearranged, Independent}
 use Rattle.block_order.proofs.Theorem.{order-free}

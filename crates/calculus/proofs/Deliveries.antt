@@ -5,7 +5,7 @@ use mathlib.Core.Bool.{Bool, true, false, _&&_}
 use lib.Dec.{T, eqb, eqb→eq}
 use Rattle.permset.specs.Sets.{within}
 use Rattle.delivery.specs.Delivery.{delivered}
-use Rattle.delivery.proofs.Laws.{delivered-is, delivered-named}
+use Rattle.delivery.proofs.Laws.{delivered-is}
 use Rattle.table.specs.Code.{Node, gap, block, leaf, one, two, bind, while, branch, update}
 use Rattle.calculus.specs.Rules.{nameOf, permsOf, guarded, deliveryTo}
 use Rattle.calculus.proofs.Digits.{T-fst, T-snd}
@@ -32,8 +32,3 @@ unguarded n r s m e = go (delivered (deliveryTo n r s m)) (delivered-parts n r s
     go : (b : Bool) → (T b → (nameOf m ≡ n) × T (within r (permsOf m)) × T (guarded m s)) → b ≡ false
     go true k = absurd (subst T e (k tt .2))
     go false k = refl
-
--- a send to the block's own name
-pub delivered-block : (m t g r s : ℕ) → delivered (deliveryTo m r s (block m t g)) ≡ within r t && within g s
-unfolding deliveryTo
-delivered-block m t g r s = delivered-named r s (record { name = m; perms = record { bits = t }; guard = record { bits = g } })

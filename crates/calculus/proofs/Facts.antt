@@ -69,13 +69,6 @@ pour-parts (w ∷ ws) zero xs n e h = rw (zero-add n, ← e) (pour-start (w ∷ 
 pour-parts (w ∷ ws) (suc at) xs n e h =
     rw (suc-add at n) (ap (λ (ys : List ℕ). w ∷ ys) (pour-parts ws at xs n e (omega arith)))
 
--- the same, as a part of a slice is put back
-pub pour-back : (ws : List ℕ) (at : ℕ) (xs : List ℕ) (n : ℕ) → length xs ≡ n → at + n ≤ length ws
-    → take at ws ++ (pour (take n (drop at ws)) 0 xs ++ drop n (drop at ws)) ≡ pour ws at xs
-pour-back ws at xs n e h =
-    sym (append-assoc (take at ws) (pour (take n (drop at ws)) 0 xs) (drop n (drop at ws)))
-    ∙ ap (λ (ys : List ℕ). take at ws ++ pour (take n (drop at ws)) 0 xs ++ ys) (drop-drop n at ws) ∙ sym (pour-parts ws at xs n e h)
-
 -- one word or-ed in
 pub pour-one : (ws : List ℕ) (at x : ℕ) → pour ws at (x ∷ []) ≡ set ws at (bitOr (getD ws at 0) x)
 unfolding pour
@@ -106,18 +99,6 @@ three-parts ws at n =
 
 facts-three : (xs ys zs : List ℕ) → facts (xs ++ ys ++ zs) ≡ facts xs + facts ys + facts zs
 facts-three xs ys zs = facts-append (xs ++ ys) zs ∙ ap (λ (n : ℕ). n + facts zs) (facts-append xs ys)
-
-pub facts-parts : (ws : List ℕ) (at n : ℕ) → facts ws ≡ facts (take at ws) + facts (take n (drop at ws)) + facts (drop (at + n) ws)
-facts-parts ws at n = ap facts (three-parts ws at n) ∙ facts-three (take at ws) (take n (drop at ws)) (drop (at + n) ws)
-
--- the facts added are those that the part has gained
-pub facts-pour : (ws : List ℕ) (at : ℕ) (xs : List ℕ) (n : ℕ) → length xs ≡ n → at + n ≤ length ws
-    → facts (pour ws at xs) + facts (take n (drop at ws)) ≡ facts ws + facts (pour (take n (drop at ws)) 0 xs)
-facts-pour ws at xs n e h =
-    let a : facts (pour ws at xs) ≡ facts (take at ws) + facts (pour (take n (drop at ws)) 0 xs) + facts (drop (at + n) ws) =
-    ap facts (pour-parts ws at xs n e h) ∙ facts-three (take at ws) (pour (take n (drop at ws)) 0 xs) (drop (at + n) ws)
-    in
-    omega (arith, facts-parts ws at n)
 
 -- a word changed
 pub facts-set : (ws : List ℕ) (at x : ℕ) → at < length ws → facts (set ws at x) + onesIn 32 (getD ws at 0) ≡ facts ws + onesIn 32 x

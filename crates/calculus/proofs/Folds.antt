@@ -1,13 +1,11 @@
 -- Equations of `fire` for the forms of rules that hold other rules: both in turn, under a test, and at each of a list of numbers, as
 -- the loop invariants of the code want them.
 use Prim.Native.Nat.{ℕ, zero, suc, _+_, _-_, _≤_, _<_}
-use mathlib.Core.Path.{_≡_, refl, sym, ap, _∙_}
+use mathlib.Core.Path.{_≡_, refl, ap, _∙_}
 use mathlib.Core.List.{List, [], _∷_}
 use mathlib.Core.Bool.{Bool, true, false, _&&_}
 use native.Mathlib.Omega.{arith}
 use native.Mathlib.Nat.{sub-zero}
-use lib.ListN.{length, getD, drop, drop-of-length-le}
-use lib.Seq.{drop-cons}
 use Rattle.table.specs.Code.{Code}
 use Rattle.calculus.specs.Constraint.{Row, Rule, none, given, some, only, each, range, every, _and_}
 use Rattle.calculus.specs.Layout.{span, sets}
@@ -66,10 +64,6 @@ module _ (c : Code) where
   pub fire-only-same : (t : Bool) (k : Rule) (ws : List ℕ) → fire c k ws ≡ ws → fire c (only t k) ws ≡ ws
   unfolding fire
   fire-only-same t k ws e = both-same t (fire c k ws) ws e
-
-  pub fire-given-same : (r : Row) (v : ℕ) (k : Rule) (ws : List ℕ) → fire c k ws ≡ ws → fire c (given r v k) ws ≡ ws
-  unfolding fire
-  fire-given-same r v k ws e = both-same (sets c ws r v) (fire c k ws) ws e
 
   -- the rule of `eachMade` and `pass` at an element that is there and of the right sort, and at one that is not there
   pub fire-present : (t : Bool) (r : Row) (v : ℕ) (k : Rule) (ws : List ℕ) → t ≡ true → sets c ws r v ≡ true
@@ -133,19 +127,4 @@ module _ (c : Code) where
         let e : n - i - (j - i) ≡ n - j = omega arith in
         let f : i + (j - i) ≡ j = omega arith in
         range-skip (j - i) (n - i) i ws (omega arith) (λ l a b. s l a (omega arith)) ∙ rw (e, f)
-
-    -- a rule that does nothing at any of the numbers does nothing at all
-    pub every-same : (n : ℕ) (ws : List ℕ) → ((l : ℕ) → l < n → fire c (k l) ws ≡ ws) → fire c (every n k) ws ≡ ws
-    every-same n ws s =
-        sym (loop-start n ws) ∙ loop-skip n 0 n ws (omega arith) (omega arith) (λ l a b. s l b) ∙ loop-end n n ws (omega arith)
-
     -- ---- in a loop over a list: what is left to do at place i is `each (drop i xs) k`
-
-    pub list-step : (xs : List ℕ) (i : ℕ) (ws : List ℕ) → i < length xs
-        → fire c (each (drop i xs) k) ws ≡ fire c (each (drop (i + 1) xs) k) (fire c (k (getD xs i 0)) ws)
-    list-step xs i ws h =
-        let f : i + 1 ≡ suc i = omega arith in
-        rw (drop-cons xs i 0 h, f) (each-cons (getD xs i 0) (drop (suc i) xs) k ws)
-
-    pub list-end : (xs : List ℕ) (i : ℕ) (ws : List ℕ) → length xs ≤ i → fire c (each (drop i xs) k) ws ≡ ws
-    list-end xs i ws h = rw (drop-of-length-le xs h) (each-nil k ws)

@@ -1,6 +1,6 @@
 -- The rule of an operation as one word or-ed into a row: the word has a digit for each result of the operation on elements of the two
 -- rows. The plain elements of a row are the digits of its first `lead` words: its side.
-use Prim.Native.Nat.{ℕ, zero, suc, _+_, _*_, _/_, _%_, _^_, _<_}
+use Prim.Native.Nat.{ℕ, zero, suc, _*_, _/_, _%_, _^_, _<_}
 use mathlib.Core.Path.{_≡_, refl, sym, ap, _∙_, subst}
 use mathlib.Core.List.{List, [], _∷_, List·Memᴰ, List·Memᴰ·head, List·Memᴰ·tail, List·Memᴰ·cases-cons, List·Memᴰ·not-nil}
 use mathlib.Core.Logic.{⊎-elim}
@@ -11,13 +11,13 @@ use native.Mathlib.Omega.{arith}
 use lib.Dec.{T, lit<}
 use lib.Bits.{bitOr}
 use lib.Pow.{pow-pos}
-use lib.ListN.{getD, length, take, drop, length-take, length-drop}
+use lib.ListN.{length, take, drop, length-take, length-drop}
 use lib.Seq.{getD-take, getD-drop}
 use Rattle.permset.specs.Sets.{member}
 use Rattle.permset.proofs.Laws.{member-empty, member-beyond, same-members}
 use Rattle.table.specs.declared.Operation.{Operation}
 use Rattle.table.specs.Code.{Code, operation}
-use Rattle.calculus.specs.Elements.{plain, elements, results}
+use Rattle.calculus.specs.Elements.{plain, results}
 use Rattle.calculus.specs.Constraint.{C, Rule, put, given, each, range, every}
 use Rattle.calculus.specs.Rules.{twoRule}
 use Rattle.calculus.specs.Layout.{bit, pour, owner, rowWords, base, shift, span, sets, Words, WellFormed}

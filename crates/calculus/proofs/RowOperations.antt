@@ -6,7 +6,7 @@ use mathlib.Core.Bool.{Bool, true, false, _&&_}
 use native.Mathlib.Omega.{arith}
 use borrow.Author.Tests.{lt-ltb}
 use lib.Dec.{ltb, lit<}
-use lib.ListN.{length, getD, take, drop}
+use lib.ListN.{length, getD}
 use Rattle.permset.specs.Sets.{width, member}
 use Rattle.permset.proofs.Laws.{member-empty}
 use Rattle.table.specs.Code.{Code}
@@ -25,14 +25,6 @@ module _ (c : Code) where
   unfolding owner span place shift rowWords
   C-inside ws w i h = omega (arith, place-lt c (C i) (elements c - 1) (is-allowed c (C i) (elements c - 1) h (omega arith)), w .long)
 
-  pub B-inside : (ws : List ℕ) → WellFormed c ws → (i : ℕ) → i < c .size → base c (B i) + rowWords c ≤ length ws
-  unfolding owner span place shift rowWords
-  B-inside ws w i h = omega (arith, place-lt c (B i) (elements c - 1) (is-allowed c (B i) (elements c - 1) h (omega arith)), w .long)
-
-  pub P-inside : (ws : List ℕ) → WellFormed c ws → (i : ℕ) → i < c .size → base c (P i) < length ws
-  unfolding owner span place shift
-  P-inside ws w i h = omega (arith, place-lt c (P i) 0 (is-allowed c (P i) 0 h (lit< tt)), w .long)
-
   -- ---- an element put
 
   put-at : (r : Row) (v : ℕ) (ws : List ℕ) (k j : ℕ) → j < 32 → place c r v ≡ 32 * k + j → fire c (put r v) ws ≡ pour ws k (2 ^ j ∷ [])
@@ -50,10 +42,6 @@ module _ (c : Code) where
   unfolding place shift
   fire-put-B i v ws = put-at (B i) v ws (base c (B i) + v / 32) (v % 32) (omega arith) (omega arith)
 
-  pub fire-put-P : (i v : ℕ) (ws : List ℕ) → v < width → fire c (put (P i) v) ws ≡ pour ws (base c (P i)) (2 ^ v ∷ [])
-  unfolding place shift
-  fire-put-P i v ws h = put-at (P i) v ws (base c (P i)) v (omega arith) (omega arith)
-
   pub fire-live : (i : ℕ) (ws : List ℕ) → fire c (put (L i) 0) ws ≡ pour ws (base c (L i)) (2 ^ width ∷ [])
   unfolding place shift
   fire-live i ws = put-at (L i) 0 ws (base c (L i)) width (omega arith) (omega arith)
@@ -63,14 +51,6 @@ module _ (c : Code) where
   pub fire-sub : (a b : Row) (ws : List ℕ) → fire c (sub a b) ws ≡ pour ws (base c b) (content c ws a)
   unfolding fire
   fire-sub a b ws = refl
-
-  pub fire-sub-C : (i : ℕ) (b : Row) (ws : List ℕ) → fire c (sub (C i) b) ws ≡ pour ws (base c b) (take (rowWords c) (drop (base c (C i)) ws))
-  unfolding fire content
-  fire-sub-C i b ws = refl
-
-  pub fire-sub-B : (i : ℕ) (b : Row) (ws : List ℕ) → fire c (sub (B i) b) ws ≡ pour ws (base c b) (take (rowWords c) (drop (base c (B i)) ws))
-  unfolding fire content
-  fire-sub-B i b ws = refl
 
   pub fire-sub-P : (i : ℕ) (b : Row) (ws : List ℕ) → fire c (sub (P i) b) ws ≡ pour ws (base c b) (getD ws (base c (P i)) 0 % 2 ^ width ∷ [])
   unfolding fire content
@@ -122,10 +102,3 @@ module _ (c : Code) where
       and-false (allowed c (C i) v) (sets c ws (C i) v) (member (getD ws (base c (C i) + v / 32) 0) (v % 32))
       (ap (λ (x : ℕ). member x (v % 32)) z ∙ member-empty (v % 32))
       (sets-at (C i) v ws (base c (C i) + v / 32) (v % 32) (omega arith) (omega arith))
-
-  pub empty-B : (i v : ℕ) (ws : List ℕ) → getD ws (base c (B i) + v / 32) 0 ≡ 0 → sets c ws (B i) v ≡ false
-  unfolding place shift
-  empty-B i v ws z =
-      and-false (allowed c (B i) v) (sets c ws (B i) v) (member (getD ws (base c (B i) + v / 32) 0) (v % 32))
-      (ap (λ (x : ℕ). member x (v % 32)) z ∙ member-empty (v % 32))
-      (sets-at (B i) v ws (base c (B i) + v / 32) (v % 32) (omega arith) (omega arith))

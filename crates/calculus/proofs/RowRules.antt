@@ -13,8 +13,8 @@ use lib.ListN.{getD, drop}
 use lib.Seq.{getD-take, getD-drop}
 use Rattle.permset.specs.Sets.{width, member}
 use Rattle.table.specs.Code.{Code}
-use Rattle.calculus.specs.Elements.{plain, made, elements, isString, Making, makes}
-use Rattle.calculus.specs.Constraint.{Row, C, B, P, L, Rule, Obeys, put, given, only, each, range, every}
+use Rattle.calculus.specs.Elements.{plain, elements, isString}
+use Rattle.calculus.specs.Constraint.{Row, C, B, P, L, Rule, Obeys, put, only, every}
 use Rattle.calculus.specs.Rules.{fill, pass}
 use Rattle.calculus.specs.Layout.{bit, pour, owner, rowWords, base, shift, span, place, allowed, used, sets, content, Words, WellFormed}
 use Rattle.calculus.specs.Estimate.{fire}
@@ -26,8 +26,7 @@ use Rattle.calculus.proofs.Firing.{Fits, any-found}
 use Rattle.calculus.proofs.Ranges.{below-in, in-below}
 use Rattle.calculus.specs.Layout.{masked}
 use Rattle.calculus.proofs.Masks.{T-false, bool-ext, getD-masked, bit-masked, masked-words, nonzero, digit-word, word-digit, digit-nonzero, nonzero-digit, string-mask}
-use Rattle.calculus.proofs.Folds.{found, fire-absent, loop-skip}
-use Rattle.calculus.proofs.RowOperations.{empty-C}
+use Rattle.calculus.proofs.Folds.{found}
 use Rattle.calculus.proofs.Demands.{Demands, found-has, fire-makes}
 
 -- ---- words or-ed into one row
@@ -263,12 +262,3 @@ module _ (c : Code) (ws : List ℕ) (w : WellFormed c ws) where
       is v b = subst T (bit-word r v (bit-short (r ∷ []) v b)) b
 
 -- ---- a rule at each word that makes a thing which is in a row
-
--- words of the row that are 0 are skipped
-pub made-skip : (c : Code) (q : Making → Bool) (a : ℕ) (k : ℕ → Rule) (ws : List ℕ) (i j : ℕ) → i ≤ j → j ≤ c .size
-    → ((l : ℕ) → i ≤ l → l < j → getD ws (base c (C a) + made c l / 32) 0 ≡ 0)
-    → fire c (each (range (c .size - i) i) (λ f. only (q (makes (c .node f))) (given (C a) (made c f) (k f)))) ws
-    ≡ fire c (each (range (c .size - j) j) (λ f. only (q (makes (c .node f))) (given (C a) (made c f) (k f)))) ws
-made-skip c q a k ws i j h g z =
-    loop-skip c (λ f. only (q (makes (c .node f))) (given (C a) (made c f) (k f))) (c .size) i j ws h g
-    (λ l m n. fire-absent c (q (makes (c .node l))) (C a) (made c l) (k l) ws (empty-C c a (made c l) ws (z l m n)))

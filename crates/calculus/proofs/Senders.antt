@@ -1,6 +1,6 @@
 -- Who may have sent: the senders' rules of all receivers ask what the sends ask of all their receivers; and the sets of some systems, computed.
 use Prim.Native.Nat.{ℕ, zero, suc, _<_}
-use mathlib.Core.Path.{_≡_, refl, subst}
+use mathlib.Core.Path.{_≡_, refl}
 use mathlib.Core.Bool.{Bool, true, false}
 use mathlib.Core.List.{List, [], _∷_, map, List·Memᴰ}
 use lib.Dec.{T}
@@ -21,7 +21,7 @@ use Rattle.calculus.specs.Layout.{rowWords, estimateWords, sets}
 use Rattle.calculus.specs.Estimate.{whole, estimate}
 use Rattle.calculus.specs.Samples.{single, relay, twins}
 use Rattle.calculus.proofs.Ranges.{below-in, in-below}
-use Rattle.calculus.proofs.Makers.{is-block, block-is}
+use Rattle.calculus.proofs.Makers.{is-block}
 
 -- what the word p asks of its receivers
 abbrev pub sentFrom : Code → ℕ → Rule

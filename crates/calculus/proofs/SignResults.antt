@@ -1,13 +1,12 @@
 -- The results of add and less: the or over the nine pairs of signs of an entry in a table of masks.
 use Prim.Native.Nat.{ℕ, zero, suc, _+_, _*_, _/_, _%_, _≤_, _<_}
 use mathlib.Core.Path.{_≡_, refl, sym, ap, _∙_, subst}
-use mathlib.Core.List.{List, [], _∷_, map, List·Memᴰ, List·Memᴰ·not-nil}
+use mathlib.Core.List.{List, [], map, List·Memᴰ, List·Memᴰ·not-nil}
 use mathlib.Core.Logic.{⊎-elim}
 use mathlib.Core.Bool.{Bool, true, false, _&&_, _||_}
 use native.Mathlib.Decide.{ℕ-discrete}
 use native.Mathlib.Omega.{arith}
 use lib.Dec.{T, leb, leb→le, le→leb}
-use lib.Bits.{bitOr}
 use lib.ListN.{getD, List·getD-map}
 use Rattle.permset.specs.Sets.{member}
 use Rattle.permset.proofs.Laws.{member-empty}

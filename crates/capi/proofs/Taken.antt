@@ -2,17 +2,17 @@
 use Prim.Native.Nat.{ℕ, zero, suc, _+_, _*_, _/_, _%_, _^_, _≤_, _<_}
 use mathlib.Core.Path.{_≡_, refl, sym, ap, _∙_, subst}
 use mathlib.Core.Bool.{Bool, true, false, not}
-use mathlib.Core.List.{List, [], _∷_, _++_}
+use mathlib.Core.List.{List, [], _∷_}
 use native.Mathlib.Decide.{decLt}
 use native.Mathlib.Omega.{arith}
-use borrow.Author.Tests.{eqb-true, eqb-false, eq-eqb, ne-eqb, ltb-false, le-ltb, leb-false, le-leb, lt-leb}
+use borrow.Author.Tests.{eqb-true, eq-eqb, ne-eqb, ltb-false, le-ltb, leb-false, le-leb, lt-leb}
 use lib.Dec.{eqb, leb, ltb, lit<}
-use lib.ListN.{length, getD, take, drop}
+use lib.ListN.{length, take}
 use Rattle.permset.specs.Sets.{width}
 use Rattle.little_endian.specs.LittleEndian.{wordsOf}
-use Rattle.little_endian.proofs.Laws.{Below, length-wordsOf, wordsOf-below, words-read}
-use Rattle.table.specs.Scan.{Outcome, accepted, refused as unreadable, head, firstOf, scan, reading}
-use Rattle.table.specs.Code.{Code, code}
+use Rattle.little_endian.proofs.Laws.{Below, length-wordsOf, wordsOf-below}
+use Rattle.table.specs.Scan.{Outcome, accepted, refused as unreadable, firstOf, scan, reading}
+use Rattle.table.specs.Code.{code}
 use Rattle.calculus.specs.Layout.{estimateWords, Words}
 use Rattle.verdict.proofs.Room.{estimate-room}
 use Rattle.interface.specs.Numbers.{systemTests}
@@ -20,7 +20,7 @@ use Rattle.audit.specs.Audited.{Answer, refused, obeys, numberOf, placeOf, judg
 use Rattle.audit.specs.Passes.{Passes, Sound, Exact}
 use Rattle.audit.proofs.Exact.{exact}
 use Rattle.audit.proofs.Steps.{other-length, high-rho, low-rho, table-refused, table-accepted}
-use Rattle.capi.specs.Check.{checkNumber, estimateFrom, bytesAudited, PassesAsBytes, ExactNumber, taken, TakenIn}
+use Rattle.capi.specs.Check.{checkNumber, estimateFrom, bytesAudited, ExactNumber, taken, TakenIn}
 
 -- ---- slices of another length than an estimate has
 

@@ -1,16 +1,15 @@
 -- Words that are read from a slice of bytes, handed to a call and written back: the slice is what its definition says.
-use Prim.Native.Nat.{ℕ, zero, suc, _+_, _*_, _/_, _≤_, min}
+use Prim.Native.Nat.{ℕ, _+_, _*_, _/_, _≤_, min}
 use mathlib.Core.Path.{_≡_, refl, sym, ap, ap₂, _∙_, subst}
 use mathlib.Core.List.{List, _++_}
 use native.Mathlib.Omega.{arith}
 use lib.ListN.{length, take, drop, replicate, length-replicate}
 use lib.Seq.{take-at, take-all, length-take-le}
-use Rattle.table.specs.Scan.{accepted, reading}
 use Rattle.table.specs.Code.{code}
 use Rattle.table.proofs.Linked.{linked}
 use Rattle.calculus.specs.Layout.{estimateWords}
 use Rattle.calculus.specs.Estimate.{estimate}
-use Rattle.calculus.specs.Answer.{Verdict, Answer, refused, verdict, answer, workWords, estimateAfter, workAfter}
+use Rattle.calculus.specs.Answer.{Answer, refused, verdict, answer, workWords, estimateAfter, workAfter}
 use Rattle.calculus.proofs.Least.{estimate-well}
 use Rattle.little_endian.specs.LittleEndian.{wordsOf, bytesOf}
 use Rattle.little_endian.proofs.Laws.{Below, length-wordsOf, written-back, replaced-words}

@@ -1,26 +1,21 @@
 -- The two calls over words, told over bytes.
-use Prim.Native.Nat.{ℕ, zero, suc, _+_, _*_, _/_, _%_, _<_, _≤_, min}
+use Prim.Native.Nat.{ℕ, zero, suc, _+_, _*_, _/_, _%_, _<_, _≤_}
 use mathlib.Core.Path.{_≡_, refl, sym, ap, _∙_, subst}
 use mathlib.Core.Bool.{Bool, true, false}
 use mathlib.Core.List.{List, [], _∷_, _++_}
-use native.Mathlib.Decide.{decLt}
 use native.Mathlib.Omega.{arith}
 use lib.Dec.{ltb}
-use lib.ListN.{length, take, drop, length-take}
-use lib.Seq.{take-at, take-all, length-take-le}
+use lib.ListN.{length, take, drop}
 use borrow.Author.Tests.{lt-ltb, le-ltb}
 use Rattle.table.specs.Scan.{firstOf}
 use Rattle.little_endian.specs.LittleEndian.{wordsOf, bytesOf, wholeWords}
 use Rattle.little_endian.proofs.First.{words-first}
 use Rattle.listing.specs.declared.Answer.{Answer}
-use Rattle.listing.specs.declared.Answer.the-variants.{Done, Refused}
+use Rattle.listing.specs.declared.Answer.the-variants.{Refused}
 use Rattle.listing.specs.declared.Refusal.{Refusal}
-use Rattle.listing.specs.Listing.{Answered, done, refusal, left, tested, most, listing, written, readAs}
-use Rattle.listing.specs.Listing.{wordsOf as Listing·wordsOf}
+use Rattle.listing.specs.Listing.{Answered, done, refusal, left, tested, listing, written, readAs}
 use Rattle.listing.specs.Answer.{number, place, answered}
-use Rattle.listing.proofs.Places.{Within, write-within, write-first, write-first-left, inRoom, read-room, read-within}
-use Rattle.listing.proofs.Theorems.{read-count, read-accepted}
-use Rattle.listing.proofs.Depths.{narrow-size}
+use Rattle.listing.proofs.Places.{Within, write-first, write-first-left, inRoom, read-room}
 use Rattle.capi_text.specs.Interface.{answerNumber, writeAnswer, inBytes, readAnswer, placed, PutAs}
 
 -- the place of a refusal, as the answer has it

@@ -6,7 +6,6 @@ use comparison::Findings;
 use libc::STDOUT_FILENO;
 use solver::Bounded;
 use solver::analyse::analyse_within;
-ghost use Prim.Native.Nat.{_≤_};
 
 fn number(label: &[u8], n: usize) {
     streams::text(label);

@@ -1,6 +1,6 @@
 -- What the terms ask, put together from what their tests decide.
 use Prim.Native.Nat.{ℕ, suc, _+_, _*_, _≤_, _<_}
-use mathlib.Core.Path.{_≡_, refl, sym, ap, _∙_, subst}
+use mathlib.Core.Path.{_≡_, sym, ap, _∙_, subst}
 use mathlib.Core.Logic.{⊎-elim}
 use mathlib.Core.Bool.{Bool, true, false, not, _&&_}
 use mathlib.Core.List.{List}
@@ -8,25 +8,27 @@ use native.Mathlib.Omega.{arith}
 use lib.Dec.{T}
 use lib.ListN.{length}
 use Rattle.permset.specs.Sets.{width, member, within}
-use Rattle.table.specs.Code.{Code, Linked, exercise, two, send}
+use Rattle.table.specs.Code.{Code, Linked, exercise}
 use Rattle.delivery.specs.Delivery.{delivered}
-use Rattle.calculus.specs.Elements.{plain, made, nameElement, sendable, undefined, unit, opponentRecord, Making, isFunction, isRecord, isCell, makes, anyRecord}
-use Rattle.calculus.specs.Constraint.{Row, C, B, P, L, Sets, Rule, Obeys, put, sub, given, some, only, each, every, _and_}
-use Rattle.calculus.specs.Rules.{nameOf, deliveryTo, live, part, fill, pass, eachMade, permissions, leafRule, twoRule, flow}
-use Rattle.calculus.specs.Layout.{sets, WellFormed}
+use Rattle.calculus.specs.Elements.{made, nameElement, sendable, undefined, unit, opponentRecord, Making, isRecord, isCell, anyRecord}
+use Rattle.calculus.specs.Constraint.{Row, C, B, P, Sets, Rule, Obeys, put, sub, given, some, only, each, every, _and_}
+use Rattle.calculus.specs.Rules.{nameOf, deliveryTo, live, part, fill, eachMade, permissions, leafRule, twoRule, flow}
+use Rattle.calculus.specs.Layout.{sets}
 use Rattle.calculus.proofs.Ranges.{below-in}
 use Rattle.rows.specs.declared.layout.Layout.{Layout}
 use Rattle.rows.specs.Laid.{LaidOut}
 use Rattle.rows.specs.Mask.{madeAs}
-use Rattle.clauses.specs.Asks.{rowAt, thingAt}
+use Rattle.clauses.specs.Asks.{rowAt}
 use Rattle.clauses.proofs.Sorts.{row-C, row-B, record-by, cell-by, is-made, is-record}
 use Rattle.checker.specs.declared.things.Action.the-variants as actions
 use Rattle.queries.proofs.Laws.{value-in}
 use Rattle.checker.specs.declared.sends.Sending.{Sending}
 use Rattle.checker.specs.Decides.{Decides, Term}
-use Rattle.checker.specs.Sends.{delivery, sent}
+use Rattle.checker.specs.Lowered.{Lowered}
+use Rattle.checker.specs.Sends.{delivery, AskedToSend, AskedBySend}
 use Rattle.checker.specs.Things.{asked}
-use Rattle.checker.proofs.Laws.{both, and-parts, put-is, same-rule, only-so, only-not, negated-true, negated-false}
+use Rattle.checker.proofs.Lowered.{lowered-same, lowered-then}
+use Rattle.checker.proofs.Laws.{both, put-is, same-rule, only-so, only-not, negated-true, negated-false}
 
 module _ (c : Code) (e : Sets) where
   -- ---- rows by their words
@@ -124,13 +126,20 @@ side-in l est p t a h = omega (arith, value-in l est (t .sized) a h, t .sized .w
 -- ---- send
 
 -- with the permissions of its block
-pub send-is : (c : Code) (e : Sets) (s : Sending) → s .own .bits ≡ permissions c (s .p) → {x y z : Bool}
-    → Decides e (part (s .p) (s .p + 1) and part (s .p) (s .d)) x → y ≡ e (C (s .p)) unit → Decides e (sent c s) z
-    → Decides e (flow c (s .p) (two (send (s .required .bits)) (s .p + 1) (s .d))) (x && (y && z))
-unfolding flow twoRule
-send-is c e s q {x} {y} {z} d u v =
-    and-parts e d (both e (put-is e (C (s .p)) unit u) (subst (λ (n : ℕ). Decides e
-    (some (C (s .d)) (sendable c)
-    (each (c .blocks)
-    (λ h. only (delivered (deliveryTo (nameOf (c .node h)) (s .required .bits) n (c .node h)))
-    (given (C (s .p + 1)) (nameElement (nameOf (c .node h))) (delivery c (s .p) (s .d) h))))) z) q v))
+module _ (c : Code) (e : Sets) (s : Sending) (q : s .own .bits ≡ permissions c (s .p)) where
+  abbrev rest : ℕ → Rule
+  rest n =
+      some (C (s .d)) (sendable c)
+      (each (c .blocks)
+      (λ h. only (delivered (deliveryTo (nameOf (c .node h)) (s .required .bits) n (c .node h)))
+      (given (C (s .p + 1)) (nameElement (nameOf (c .node h))) (delivery c (s .p) (s .d) h))))
+
+  pub send-is : {below m r : ℕ} → Lowered (AskedToSend c e s) below m
+      → Lowered (λ w. w ≡ s .p → Obeys e ((part (s .p) (s .p + 1) and part (s .p) (s .d)) and put (C (s .p)) unit)) m r
+      → Lowered (AskedBySend c e s) below r
+  unfolding flow twoRule
+  send-is x y =
+      lowered-same
+      (λ w a. (λ z. let o = a .1 z in (o .0 .0, (o .0 .1, (o .1, subst (λ (n : ℕ). Obeys e (rest n)) q (a .0 .0 z)))), a .0 .1))
+      (λ w a. ((λ z. subst (λ (n : ℕ). Obeys e (rest n)) (sym q) (a .0 z .1 .1 .1), a .1), λ z. let o = a .0 z in ((o .0, o .1 .0), o .1 .1 .0)))
+      (lowered-then x y)

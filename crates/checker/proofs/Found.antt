@@ -1,19 +1,19 @@
 -- The loop over the things of a value set: what it has found so far, and what that says of the rule for each of them.
 use Prim.Native.Nat.{ℕ, zero, suc, _+_, _-_, _*_, _/_, _%_, _≤_, _<_}
-use mathlib.Core.Path.{_≡_, refl, sym, ap, ap₂, _∙_, subst}
+use mathlib.Core.Path.{_≡_, sym, ap, ap₂, _∙_, subst}
 use mathlib.Core.Bool.{Bool, true, false, _&&_, _||_, true≢false}
 use mathlib.Core.List.{List}
 use native.Mathlib.Decide.{decLt, ℕ-discrete}
 use native.Mathlib.Numerals.{add-one}
 use native.Mathlib.Omega.{arith}
 use borrow.Author.Tests.{ne-eqb}
-use lib.Dec.{T, eqb, leb, le→leb}
-use lib.ListN.{length, getD}
+use lib.Dec.{T, leb, le→leb}
+use lib.ListN.{getD}
 use Rattle.permset.specs.Sets.{member}
 use Rattle.permset.proofs.Laws.{member-and}
-use Rattle.table.specs.Code.{Code, Linked}
-use Rattle.calculus.specs.Elements.{plain, made, elements, opponentRecord, Making, isFunction, isRecord, isCell, makes, making, anyRecord}
-use Rattle.calculus.specs.Constraint.{Row, C, B, P, L, Sets, Rule, Obeys, sub, _and_}
+use Rattle.table.specs.Code.{Code}
+use Rattle.calculus.specs.Elements.{plain, made, opponentRecord, Making, isFunction, isRecord, isCell, makes, making, anyRecord}
+use Rattle.calculus.specs.Constraint.{C, B, P, L, Sets, Rule, Obeys, sub, _and_}
 use Rattle.calculus.specs.Rules.{live, eachMade}
 use Rattle.calculus.specs.Layout.{bit, sets, WellFormed}
 use Rattle.calculus.proofs.Digits.{T-and, T-fst, T-snd, T-true}
@@ -25,7 +25,7 @@ use Rattle.rows.specs.Mask.{madeAs}
 use Rattle.rows.proofs.Laws.{getD-row}
 use Rattle.clauses.specs.Asks.{rowAt, sortAt, thingAt}
 use Rattle.clauses.proofs.Sorts.{row-B}
-use Rattle.queries.specs.Passes.{maskAt, Masked}
+use Rattle.queries.specs.Passes.{Masked}
 use Rattle.queries.specs.Things.{both, Next, Searched}
 use Rattle.queries.proofs.Laws.{row-in, mask-in, has-is, C-sets}
 use Rattle.checker.specs.declared.things.Action.{Action}

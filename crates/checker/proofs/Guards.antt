@@ -4,15 +4,14 @@ use mathlib.Core.Path.{_≡_, refl, sym, ap, _∙_, subst}
 use mathlib.Core.Bool.{Bool, true, false, not, _&&_}
 use mathlib.Core.List.{List, List·Memᴰ}
 use native.Mathlib.Omega.{arith}
-use lib.Dec.{T, eqb}
-use borrow.Author.Tests.{eq-eqb}
+use lib.Dec.{T}
 use lib.ListN.{length, getD}
 use Rattle.permset.specs.Sets.{within}
 use Rattle.table.specs.declared.Item.{Item}
 use Rattle.table.specs.Words.{kind, argument}
-use Rattle.table.specs.Item.{handlerAt, itemAt}
-use Rattle.table.specs.Scan.{namesAt, Task, name, accepted, reading}
-use Rattle.table.specs.Code.{Code, Node, NodeLinked, Linked, block, code, taskAt}
+use Rattle.table.specs.Item.{handlerAt}
+use Rattle.table.specs.Scan.{namesAt, Task, accepted, reading}
+use Rattle.table.specs.Code.{Code, Node, NodeLinked, block, code}
 use Rattle.table.proofs.Linked.{linked as code-linked}
 use Rattle.table.proofs.Faults.{Stands}
 use Rattle.table.proofs.Stack.{reach}
@@ -21,9 +20,8 @@ use Rattle.table.proofs.Items.{item-block}
 use Rattle.table.proofs.Nodes.{itemNode, nodeAt, node-item}
 use Rattle.table.proofs.Blocks.{head-word, listed-block}
 use Rattle.calculus.specs.Elements.{opponentRecord}
-use Rattle.calculus.specs.Constraint.{Row, C, B, L, Sets, Rule, put, only, _and_}
-use Rattle.calculus.specs.Rules.{guarded, live, fill, entry}
-use Rattle.calculus.specs.Layout.{sets}
+use Rattle.calculus.specs.Constraint.{Row, C, L, Sets}
+use Rattle.calculus.specs.Rules.{guarded, fill, entry}
 use Rattle.calculus.proofs.Masks.{T-false}
 use Rattle.rows.specs.declared.layout.Layout.{Layout}
 use Rattle.clauses.specs.Asks.{rowAt}

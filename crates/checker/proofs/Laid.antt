@@ -1,6 +1,6 @@
 -- The tests on words of a layout decide their rules.
-use Prim.Native.Nat.{ℕ, _+_, _-_, _*_, _%_, _^_, _≤_, _<_}
-use mathlib.Core.Path.{_≡_, refl, sym, ap, ap₂, _∙_, subst}
+use Prim.Native.Nat.{ℕ, _+_, _-_, _*_, _%_, _^_, _<_}
+use mathlib.Core.Path.{_≡_, sym, ap, ap₂, _∙_, subst}
 use mathlib.Core.Bool.{Bool, true, false, not}
 use mathlib.Core.List.{List}
 use native.Mathlib.Nat.{le-of-eq}
@@ -9,12 +9,10 @@ use lib.ListN.{length, getD, take, drop}
 use Rattle.permset.specs.Sets.{width, member, within}
 use Rattle.table.specs.declared.Operation.{Operation}
 use Rattle.table.specs.Code.{Code, operation}
-use Rattle.calculus.specs.Elements.{plain, elements}
-use Rattle.calculus.specs.Constraint.{Row, C, B, P, L, Sets, Rule, Obeys, put, sub, only, every}
+use Rattle.calculus.specs.Constraint.{C, B, P, Sets, put, sub, only, every}
 use Rattle.calculus.specs.Rules.{fill, pass, twoRule}
 use Rattle.calculus.specs.Layout.{masked, base, sets, content, WellFormed}
 use Rattle.calculus.proofs.OperationResults.{operationMask}
-use Rattle.calculus.proofs.RowOperations.{sets-C, sets-B}
 use Rattle.rows.specs.declared.layout.Layout.{Layout}
 use Rattle.rows.specs.Laid.{LaidOut, Sized}
 use Rattle.rows.specs.Mask.{Mask}
@@ -24,7 +22,7 @@ use Rattle.clauses.specs.Asks.{rowAt}
 use Rattle.clauses.proofs.Sorts.{row-C, row-B}
 use Rattle.clauses.proofs.Numbered.{base-row, content-row, value-row}
 use Rattle.queries.proofs.Laws.{row-in}
-use Rattle.checker.specs.Decides.{Decides, Checked}
+use Rattle.checker.specs.Decides.{Decides}
 use Rattle.checker.proofs.Rows.{sub-decides, pass-decides, members-decide, lift-decides, fill-yes, fill-no, operation-decides}
 
 -- a row of an estimate of this layout

@@ -1,8 +1,8 @@
 -- Answers that decide rules: how they are put together.
-use Prim.Native.Nat.{ℕ, zero, suc, _+_, _-_, _*_, _/_, _%_, _^_, _≤_, _<_}
+use Prim.Native.Nat.{ℕ, zero, suc, _+_, _-_, _≤_, _<_}
 use mathlib.Core.Path.{_≡_, refl, sym, ap, _∙_, subst}
 use mathlib.Core.Bool.{Bool, true, false, not, _&&_, _||_, true≢false}
-use mathlib.Core.List.{List, [], _∷_, List·Memᴰ, List·Memᴰ·head, List·Memᴰ·tail, List·Memᴰ·cases-cons, List·Memᴰ·not-nil}
+use mathlib.Core.List.{List, [], _∷_, List·Memᴰ·head, List·Memᴰ·tail, List·Memᴰ·cases-cons, List·Memᴰ·not-nil}
 use mathlib.Core.Logic.{⊎-elim}
 use native.Mathlib.Decide.{ℕ-discrete}
 use native.Mathlib.Omega.{arith}
@@ -92,10 +92,6 @@ module _ (e : Sets) where
   and-parts d f = same-rule (λ o. (o .0 .0, (o .0 .1, o .1))) (λ o. ((o .0, o .1 .0), o .1 .1)) (both d f)
 
   -- ---- under a test
-
-  pub only-decides : {k : Rule} {r : Bool} (t : Bool) → Decides e k r → Decides e (only t k) (not t || r)
-  only-decides true d = record { yes = λ h t. d .yes h; no = λ o. d .no (o tt) }
-  only-decides false d = record { yes = λ h t. absurd t; no = λ o. tt }
 
   pub given-decides : {k : Rule} {r : Bool} (s : Row) (v : ℕ) (t : Bool) → t ≡ e s v → Decides e k r → Decides e (given s v k) (not t || r)
   given-decides s v true q d =

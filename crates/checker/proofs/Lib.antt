@@ -1,11 +1,12 @@
+pub mod Asked
 pub mod Asking
 pub mod Blocks
 pub mod Found
 pub mod Guards
 pub mod Laid
 pub mod Laws
+pub mod Lowered
 pub mod Placed
-pub mod Receivers
 pub mod Rows
 pub mod Samples
 pub mod Sent

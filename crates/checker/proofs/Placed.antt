@@ -1,31 +1,28 @@
 -- The word at p of an accepted table: what stands there, and where its parts are.
-use Prim.Native.Nat.{ℕ, zero, suc, _+_, _-_, _*_, _^_, _≤_, _<_}
-use mathlib.Core.Path.{_≡_, refl, sym, ap, _∙_, subst, subst₂}
-use mathlib.Core.Bool.{Bool, true, false}
+use Prim.Native.Nat.{ℕ, zero, suc, _+_, _-_, _*_, _≤_, _<_}
+use mathlib.Core.Path.{_≡_, refl, sym, ap, _∙_, subst}
+use mathlib.Core.Bool.{Bool}
 use mathlib.Core.List.{List}
 use native.Mathlib.Decide.{decLt}
 use native.Mathlib.Omega.{arith}
 use lib.ListN.{length, getD, List·getD-eq-default}
-use Rattle.permset.specs.Sets.{within}
 use Rattle.table.specs.declared.Item.{Item}
 use Rattle.table.specs.declared.Item.the-variants as items
 use Rattle.table.specs.declared.Term.{Term as TableTerm}
 use Rattle.table.specs.declared.Term.the-variants as terms
 use Rattle.table.specs.Words.{kind, argument, termOf, termsByKind}
-use Rattle.table.specs.Item.{handlerAt, itemAt, itemPerms}
+use Rattle.table.specs.Item.{itemAt, itemPerms}
 use Rattle.table.specs.Links.{linkAt, linked, LinksOf}
-use Rattle.table.specs.Code.{Code, Node, NodeLinked, Linked, gap, block, two, send, code, termNode}
-use Rattle.table.proofs.Items.{item-block, item-gap, item-term}
+use Rattle.table.specs.Code.{Code, Node, NodeLinked, code, termNode}
+use Rattle.table.proofs.Items.{item-gap, item-term}
 use Rattle.table.proofs.Nodes.{itemNode, nodeAt, node-item, binder-link}
-use Rattle.calculus.specs.Elements.{plain}
-use Rattle.calculus.specs.Constraint.{C, B, Sets, Rule, L, put, sub, only, none, _and_, given}
-use Rattle.calculus.specs.Rules.{guarded, permissions, flow, entry, rule, leafRule, live, fill, part}
+use Rattle.calculus.specs.Constraint.{C, B, Sets, sub}
+use Rattle.calculus.specs.Rules.{permissions, flow, leafRule, part}
 use Rattle.calculus.specs.Layout.{sets, WellFormed}
 use Rattle.rows.specs.declared.layout.Layout.{Layout}
-use Rattle.rows.specs.Laid.{LaidOut, Sized}
+use Rattle.rows.specs.Laid.{Sized}
 use Rattle.clauses.specs.Asks.{rowAt}
 use Rattle.clauses.proofs.OfWord.{sited}
-use Rattle.clauses.proofs.ByKind.{byKind, item-by}
 use Rattle.queries.specs.Ready.{Ready}
 use Rattle.queries.proofs.Given.{linked-code, size-is, sized}
 use Rattle.queries.proofs.Home.{sender}
@@ -134,8 +131,8 @@ module _ (ws links masks : List ℕ) (l : Layout) (y : Ready ws links masks l) w
     -- ---- a send
 
     module _ (d a : ℕ) (s : Sending) (x : SendingAt ws links p d a s) where
-      pub sent-at : Term l est p → d < l .size → Sent ws masks est l s
-      sent-at t i =
+      pub sent-at : Term l est p → d < l .size → linkAt links p .home < l .size → Sent ws masks est l s
+      sent-at t i o =
           record {
             readable = y .readable;
             laid = y .laid;
@@ -144,17 +141,11 @@ module _ (ws links masks : List ℕ) (l : Layout) (y : Ready ws links masks l) w
             well = w;
             target = omega (arith, x .place, t .first);
             message = omega (arith, x .message);
+            homed = omega (arith, x .home, o);
           }
 
       pub own-at : (t : TableTerm) → itemAt ws p ≡ items.Term t → s .own .bits ≡ permissions c (s .p)
       own-at t i = own-perms t i (s .own .bits) (x .own) ∙ ap (permissions c) (sym (x .place))
-
-      pub send-at : (v : ℕ) → a ≡ v → {r : Bool} → Decides e (flow c (s .p) (two (send (s .required .bits)) (s .p + 1) (s .d))) r
-          → Decides e (flow c p (two (send v) (p + 1) d)) r
-      send-at v q {r} z =
-          subst (λ (n : ℕ). Decides e (flow c p (two (send n) (p + 1) d)) r) (x .required ∙ q)
-          (subst (λ (n : ℕ). Decides e (flow c p (two (send (s .required .bits)) (p + 1) n)) r) (x .message)
-          (subst (λ (n : ℕ). Decides e (flow c n (two (send (s .required .bits)) (n + 1) (s .d))) r) (x .place) z))
 
     -- the first part is a word of the code, and others are
     pub term-at : p + 1 < c .size → Term l est p

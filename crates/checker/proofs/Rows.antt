@@ -1,22 +1,22 @@
 -- The tests on words decide their rules: a row in a row, what a row has of a mask, all plain elements, permissions, operations.
 use Prim.Native.Nat.{ℕ, zero, suc, _+_, _-_, _*_, _/_, _%_, _^_, _≤_, _<_}
 use mathlib.Core.Path.{_≡_, refl, sym, ap, ap₂, _∙_, subst}
-use mathlib.Core.Bool.{Bool, true, false, not, _&&_, _||_}
-use mathlib.Core.List.{List, [], _∷_, List·Memᴰ}
+use mathlib.Core.Bool.{Bool, true, false, not, _||_}
+use mathlib.Core.List.{List, [], _∷_}
 use native.Mathlib.Nat.{mod-lt}
 use native.Mathlib.Omega.{arith}
-use lib.Dec.{T, eqb, lit<}
-use lib.ListN.{length, getD, take, drop}
+use lib.Dec.{T, lit<}
+use lib.ListN.{length, getD}
 use lib.Pow.{pow-pos}
 use Rattle.permset.specs.Sets.{width, member, within}
 use Rattle.permset.proofs.Laws.{within-member, member-within-below, same-below}
 use Rattle.table.specs.declared.Operation.{Operation}
 use Rattle.table.specs.Code.{Code, operation}
 use Rattle.calculus.specs.Elements.{plain, elements}
-use Rattle.calculus.specs.Constraint.{Row, C, B, P, L, Sets, Rule, Obeys, put, sub, given, only, each, every}
+use Rattle.calculus.specs.Constraint.{Row, C, B, P, L, Sets, Obeys, put, sub, only, every}
 use Rattle.calculus.specs.Rules.{fill, pass, twoRule}
-use Rattle.calculus.specs.Layout.{bit, masked, owner, rowWords, base, shift, span, sets, content, Words, WellFormed}
-use Rattle.calculus.proofs.Digits.{T-and, T-fst, T-snd, T-true, member-low, member-lt}
+use Rattle.calculus.specs.Layout.{bit, masked, owner, base, shift, span, sets, content, Words, WellFormed}
+use Rattle.calculus.proofs.Digits.{T-and, T-fst, T-snd, T-true, member-low}
 use Rattle.calculus.proofs.Slices.{_≼_, bit-at}
 use Rattle.calculus.proofs.Masks.{bit-masked, masked-words}
 use Rattle.calculus.proofs.Places.{span-lt}
@@ -30,9 +30,7 @@ use Rattle.calculus.proofs.Fitting.{results-lt}
 use Rattle.rows.specs.Mask.{Mask}
 use Rattle.rows.specs.Rows.{lacking}
 use Rattle.rows.proofs.Full.{full-digit}
-use Rattle.rows.proofs.Laws.{length-row, length-masked-row}
 use Rattle.checker.specs.Decides.{Decides}
-use Rattle.checker.proofs.Laws.{is-not, not-true}
 
 -- ---- words that lack nothing
 

@@ -1,6 +1,6 @@
 pub mod Decides
+pub mod Lowered
 pub mod Obeyed
-pub mod Senders
 pub mod Sends
 pub mod Things
 pub mod Words

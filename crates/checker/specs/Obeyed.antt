@@ -1,6 +1,6 @@
 -- Whether the words of an estimate obey a rule, as a yes or no, and the lowest word whose rule they do not obey.
 use Prim.Native.Nat.{ℕ, zero, suc}
-use mathlib.Core.Bool.{Bool, true, false, not, _&&_, _||_}
+use mathlib.Core.Bool.{Bool, true, false, not, _&&_}
 use mathlib.Core.List.{List, [], _∷_}
 use Rattle.table.specs.Code.{Code}
 use Rattle.calculus.specs.Constraint.{Rule, none, put, sub, given, some, only, each, _and_}

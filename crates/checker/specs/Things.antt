@@ -1,14 +1,10 @@
 -- What a term asks for a thing in the value set of its first part.
 use Prim.Native.Nat.{ℕ, suc, _+_, _<_}
 use mathlib.Core.Path.{_≡_}
-use mathlib.Core.List.{List}
-use lib.ListN.{getD}
-use Rattle.table.specs.declared.Operation.{Operation}
 use Rattle.table.specs.Code.{Code}
 use Rattle.calculus.specs.Elements.{made, undefined, isString, anyRecord, isRecord, opponentRecord}
-use Rattle.calculus.specs.Constraint.{Row, C, B, P, Rule, put, sub, given, some, _and_}
+use Rattle.calculus.specs.Constraint.{C, B, P, Rule, put, sub, given, some, _and_}
 use Rattle.calculus.specs.Rules.{live, fill, eachMade}
-use Rattle.calculus.specs.ResultWords.{operationMask}
 use Rattle.clauses.specs.Asks.{rowAt}
 use Rattle.checker.specs.declared.things.Action.{Action}
 use Rattle.checker.specs.declared.things.Action.the-variants as actions

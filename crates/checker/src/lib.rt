@@ -1,12 +1,11 @@
 // Whether an estimate obeys the flow rules: a test for each kind of word, in the order of the clauses. Nothing is written.
-mod senders;
 mod sends;
 mod terms;
 mod tests;
 mod things;
 
-use crate::senders::unaware_of;
 use crate::sends::Sending;
+use crate::sends::send;
 use crate::terms::apply;
 use crate::terms::assign;
 use crate::terms::bind;
@@ -18,11 +17,11 @@ use crate::terms::get;
 use crate::terms::operation;
 use crate::terms::read;
 use crate::terms::repeat;
-use crate::terms::send;
 use crate::terms::sequence;
 use crate::terms::set;
 use crate::tests::full;
 use crate::tests::in_value;
+use crate::tests::lowered;
 use crate::tests::part;
 use crate::tests::passed;
 use clauses::make::constant_element;
@@ -35,16 +34,16 @@ use table::argument_of;
 use table::kind_of;
 use table_links::link_at;
 ghost use mathlib.Core.Path.{_≡_};
-ghost use Prim.Native.Nat.{_+_, _<_, _≤_};
-ghost use lib.ListN.{length};
+ghost use Prim.Native.Nat.{ℕ, _+_, _<_};
+ghost use lib.ListN.{getD};
+ghost use Rattle.table.specs.Words.{kind as Kind};
 ghost use Rattle.table.specs.Code.{code};
 ghost use Rattle.table.specs.Links.{linkAt};
-ghost use Rattle.calculus.specs.Rules.{guarded, flow as Flow, entry as Entry, sender as Sender};
-ghost use Rattle.calculus.specs.Layout.{sets, WellFormed};
+ghost use Rattle.calculus.specs.Rules.{guarded, flow as Flow, entry as Entry};
+ghost use Rattle.calculus.specs.Layout.{WellFormed};
 ghost use Rattle.queries.specs.Ready.{Ready};
 ghost use Rattle.checker.specs.Obeyed.{firstBroken};
-ghost use Rattle.checker.specs.Senders.{First, Unsent, ownRule};
-ghost use Rattle.checker.specs.Words.{Accepted, Obeyed, SendingAt, Unknown};
+ghost use Rattle.checker.specs.Words.{Accepted, Obeyed, SendingAt, Unknown, WordLowered, ownRule};
 ghost use Rattle.rows.specs.Laid.{Sized};
 
 // The word after the term at q.
@@ -58,11 +57,13 @@ fn end(links: &[u32], q: usize) -> usize
 fn sending(words: &[u32], links: &[u32], p: usize, d: usize, a: u32) -> Sending
     ensures { λ r. ⌜ SendingAt (now (words .entry)) (now (links .entry)) p d a r ⌝ }
 {
+    let home = link_at(links, p).home;
     let required = PermSet { bits: a };
     let own = permissions_of(words, links, p);
     Sending {
         p,
         d,
+        home,
         required,
         own,
     }
@@ -79,9 +80,10 @@ fn other(est: &[u32], l: Layout, kind: u32, p: usize) -> bool
     in_value(est, l, p, 32 * l.lead + p)
 }
 
-// Whether what the word p asks where it is live is obeyed.
+// Whether what the word p, which is no send, asks where it is live is obeyed.
 fn flow(words: &[u32], links: &[u32], masks: &[u32], est: &[u32], l: Layout, p: usize) -> bool
-    requires { ⌜ Ready (now words) (now links) (now masks) l × WellFormed (code (now words)) (now est) × (p < l .size) ⌝ }
+    requires { ⌜ Ready (now words) (now links) (now masks) l × WellFormed (code (now words)) (now est) × (p < l .size)
+        × (Kind (getD (now words) p 0) ≡ 35 → ⊥) ⌝ }
     ensures { λ r. ⌜ Obeyed (now (words .entry)) (now (est .entry)) (λ c. Flow c p (c .node p)) r ⌝ }
 {
     let w = words[p];
@@ -115,14 +117,6 @@ fn flow(words: &[u32], links: &[u32], masks: &[u32], est: &[u32], l: Layout, p: 
         32 => cell(est, l, p),
         33 => read(est, masks, l, p),
         34 => assign(est, masks, l, p, end(links, p + 1)),
-        35 => send(
-            words,
-            links,
-            masks,
-            est,
-            l,
-            sending(words, links, p, end(links, p + 1), a),
-        ),
         36 => exercise(
             est,
             l,
@@ -157,8 +151,8 @@ fn entry(words: &[u32], est: &[u32], l: Layout, rho: PermSet, p: usize) -> bool
     is_live(est, l, p) & (full(est, l, 2 * p + 1) & in_value(est, l, p, 7))
 }
 
-// Whether the rule of the word p is obeyed, but for its senders.
-fn word(
+// Whether the rule of the word p, which is no send, is obeyed but for its senders.
+fn own(
     words: &[u32],
     links: &[u32],
     masks: &[u32],
@@ -167,7 +161,8 @@ fn word(
     rho: PermSet,
     p: usize,
 ) -> bool
-    requires { ⌜ Ready (now words) (now links) (now masks) l × WellFormed (code (now words)) (now est) × (p < l .size) ⌝ }
+    requires { ⌜ Ready (now words) (now links) (now masks) l × WellFormed (code (now words)) (now est) × (p < l .size)
+        × (Kind (getD (now words) p 0) ≡ 35 → ⊥) ⌝ }
     ensures { λ r. ⌜ Obeyed (now (words .entry)) (now (est .entry)) (λ c. ownRule c (rho .bits) p) r ⌝ }
 {
     if !entry(words, est, l, rho, p) {
@@ -179,8 +174,8 @@ fn word(
     flow(words, links, masks, est, l, p)
 }
 
-// The first block below `below` that lacks the block of the word p as a sender; `below` where there is none.
-fn lacking(
+// `below`, or the lowest word that does not obey what the send at p asks of it.
+fn send_at(
     words: &[u32],
     links: &[u32],
     masks: &[u32],
@@ -189,35 +184,36 @@ fn lacking(
     p: usize,
     below: usize,
 ) -> usize
-    requires { ⌜ Ready (now words) (now links) (now masks) l × WellFormed (code (now words)) (now est) × (p < l .size) × (below ≤ l .size) ⌝ }
-    ensures { λ r. ⌜ First (code (now (words .entry))) (sets (code (now (words .entry))) (now (est .entry)))
-        (λ b. Sender (code (now (words .entry))) b p (code (now (words .entry)) .node p)) below r ⌝ }
+    requires { ⌜ Ready (now words) (now links) (now masks) l × WellFormed (code (now words)) (now est) × (p < l .size)
+        × (Kind (getD (now words) p 0) ≡ 35) ⌝ }
+    ensures { λ r. ⌜ ((ρ : ℕ) → WordLowered (now (words .entry)) (now (est .entry)) ρ p below r) ⌝ }
 {
-    let w = words[p];
-    if kind_of(w) != 35 {
-        return below;
-    }
     if !is_live(est, l, p) {
         return below;
     }
-    let d = end(links, p + 1);
-    let s = sending(words, links, p, d, argument_of(w));
-    let home = link_at(links, p).home;
-    unaware_of(words, links, masks, est, l, s, home, below)
+    let a = argument_of(words[p]);
+    let s = sending(words, links, p, end(links, p + 1), a);
+    send(words, links, masks, est, l, s, below)
 }
 
-// The lowest block whose senders' rule the estimate does not obey; the size of the table where there is none. One pass over the sends.
-fn unsent(words: &[u32], links: &[u32], masks: &[u32], est: &[u32], l: Layout) -> usize
-    requires { ⌜ Ready (now words) (now links) (now masks) l × WellFormed (code (now words)) (now est) ⌝ }
-    ensures { λ r. ⌜ Unsent (code (now (words .entry))) (sets (code (now (words .entry))) (now (est .entry))) r ⌝ }
+// `below`, or the lowest word that does not obey what the word p asks: of itself its own rule, of a block to know its sender.
+fn word(
+    words: &[u32],
+    links: &[u32],
+    masks: &[u32],
+    est: &[u32],
+    l: Layout,
+    rho: PermSet,
+    p: usize,
+    below: usize,
+) -> usize
+    requires { ⌜ Ready (now words) (now links) (now masks) l × WellFormed (code (now words)) (now est) × (p < l .size) ⌝ }
+    ensures { λ r. ⌜ WordLowered (now (words .entry)) (now (est .entry)) (rho .bits) p below r ⌝ }
 {
-    let mut below = l.size;
-    let mut p = 0;
-    while p < l.size {
-        below = lacking(words, links, masks, est, l, p, below);
-        p += 1;
+    if kind_of(words[p]) == 35 {
+        return send_at(words, links, masks, est, l, p, below);
     }
-    below
+    lowered(below, p, own(words, links, masks, est, l, rho, p))
 }
 
 // The lowest word whose rule the estimate does not obey; the size of the table where it obeys all.
@@ -232,13 +228,11 @@ pub fn broken(
     requires { ⌜ Ready (now words) (now links) (now masks) l × WellFormed (code (now words)) (now est) ⌝ }
     ensures { λ r. ⌜ r ≡ firstBroken (code (now (words .entry))) (rho .bits) (now (est .entry)) ⌝ }
 {
-    let limit = unsent(words, links, masks, est, l);
+    let mut lowest = l.size;
     let mut p = 0;
-    while p < limit {
-        if !word(words, links, masks, est, l, rho, p) {
-            return p;
-        }
+    while p < l.size {
+        lowest = word(words, links, masks, est, l, rho, p, lowest);
         p += 1;
     }
-    p
+    lowest
 }

@@ -1,7 +1,11 @@
-// What a send asks for each block that it may start.
+// What a send asks: of its own word, and of each block that it may start.
+use crate::terms::parts;
+use crate::tests::in_value;
 use crate::tests::lifted;
+use crate::tests::lowered;
 use crate::tests::passed_by;
 use permset::PermSet;
+use queries::has_some;
 use queries::is_live;
 use queries::starts;
 use rows::layout::Layout;
@@ -10,21 +14,23 @@ ghost use mathlib.Core.Path.{_≡_};
 ghost use Prim.Native.Nat.{_+_, _*_, _<_, _≤_};
 ghost use lib.ListN.{length};
 ghost use Rattle.table.specs.Scan.{name};
-ghost use Rattle.table.specs.Code.{taskAt};
+ghost use Rattle.table.specs.Code.{code, taskAt};
 ghost use Rattle.table.specs.Links.{LinksOf};
-ghost use Rattle.calculus.specs.Constraint.{each};
+ghost use Rattle.calculus.specs.Layout.{sets};
 ghost use Rattle.rows.specs.Laid.{Sized};
 ghost use Rattle.checker.specs.Decides.{CheckedBy};
-ghost use Rattle.checker.specs.Sends.{delivery, toBlock, Sent};
-ghost use Rattle.checker.specs.Words.{Obeyed};
+ghost use Rattle.checker.specs.Lowered.{Lowered};
+ghost use Rattle.checker.specs.Sends.{delivery, AskedFor, AskedForEach, AskedToSend, Sent};
+ghost use Rattle.checker.specs.Words.{SendLowered};
 
 // The mask of what may be sent.
 const MESSAGES: usize = 3;
 
-// The send at p with its message at d: what it requires of a receiver, and the permissions of its block.
+// The send at p, in the block at `home`, with its message at d: what it requires of a receiver, and the permissions of its block.
 pub struct Sending {
     pub p: usize,
     pub d: usize,
+    pub home: usize,
     pub required: PermSet,
     pub own: PermSet,
 }
@@ -38,35 +44,84 @@ fn delivered(est: &[u32], masks: &[u32], l: Layout, p: usize, d: usize, b: usize
         & (passed_by(est, masks, l, MESSAGES, 2 * d, 2 * b + 1) & lifted(est, l, b, p))
 }
 
-// What the send asks for the block b.
-fn to_block(words: &[u32], masks: &[u32], est: &[u32], l: Layout, s: Sending, b: usize) -> bool
+// `below`, or the lowest word that does not obey what the send asks for the block b: of the send itself to deliver, of b to know its sender.
+fn to_block(
+    words: &[u32],
+    masks: &[u32],
+    est: &[u32],
+    l: Layout,
+    s: Sending,
+    b: usize,
+    below: usize,
+) -> usize
     requires { ⌜ Sent (now words) (now masks) (now est) l s × (b < length (now words)) × (taskAt (now words) b ≡ name) ⌝ }
-    ensures { λ r. ⌜ Obeyed (now (words .entry)) (now (est .entry)) (λ c. toBlock c s b) r ⌝ }
+    ensures { λ r. ⌜ Lowered (AskedFor (code (now (words .entry))) (sets (code (now (words .entry))) (now (est .entry))) s b) below r ⌝ }
 {
     if !starts(words, est, l, s.p, s.required, s.own, b) {
-        return true;
+        return below;
     }
-    delivered(est, masks, l, s.p, s.d, b)
+    let sent = lowered(below, s.p, delivered(est, masks, l, s.p, s.d, b));
+    lowered(sent, b, in_value(est, l, b, 32 * l.lead + s.home))
 }
 
-// What the send asks for each block.
-pub fn to_blocks(
+// The same for all blocks.
+fn to_blocks(
     words: &[u32],
     links: &[u32],
     masks: &[u32],
     est: &[u32],
     l: Layout,
     s: Sending,
-) -> bool
+    below: usize,
+) -> usize
     requires { ⌜ Sent (now words) (now masks) (now est) l s × LinksOf (now words) (now links) ⌝ }
-    ensures { λ r. ⌜ Obeyed (now (words .entry)) (now (est .entry)) (λ c. each (c .blocks) (toBlock c s)) r ⌝ }
+    ensures { λ r. ⌜ Lowered (AskedForEach (code (now (words .entry))) (sets (code (now (words .entry))) (now (est .entry))) s) below r ⌝ }
 {
+    let mut lowest = below;
     let mut b = 1;
     while b < words.len() {
-        if !to_block(words, masks, est, l, s, b) {
-            return false;
-        }
+        lowest = to_block(words, masks, est, l, s, b, lowest);
         b = link_at(links, b + 3).end;
     }
-    true
+    lowest
+}
+
+// The same, where there is something to send.
+fn messages(
+    words: &[u32],
+    links: &[u32],
+    masks: &[u32],
+    est: &[u32],
+    l: Layout,
+    s: Sending,
+    below: usize,
+) -> usize
+    requires { ⌜ Sent (now words) (now masks) (now est) l s × LinksOf (now words) (now links) ⌝ }
+    ensures { λ r. ⌜ Lowered (AskedToSend (code (now (words .entry))) (sets (code (now (words .entry))) (now (est .entry))) s) below r ⌝ }
+{
+    if !has_some(est, masks, l, 2 * s.d, MESSAGES) {
+        return below;
+    }
+    to_blocks(words, links, masks, est, l, s, below)
+}
+
+// `below`, or the lowest word that does not obey what the send asks of it.
+pub fn send(
+    words: &[u32],
+    links: &[u32],
+    masks: &[u32],
+    est: &[u32],
+    l: Layout,
+    s: Sending,
+    below: usize,
+) -> usize
+    requires { ⌜ Sent (now words) (now masks) (now est) l s × LinksOf (now words) (now links) ⌝ }
+    ensures { λ r. ⌜ SendLowered (now (words .entry)) (now (est .entry)) s below r ⌝ }
+{
+    let lowest = messages(words, links, masks, est, l, s, below);
+    lowered(
+        lowest,
+        s.p,
+        parts(est, l, s.p, s.d) & in_value(est, l, s.p, 1),
+    )
 }

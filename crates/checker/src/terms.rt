@@ -1,6 +1,4 @@
 // What a term at p asks where it is live, by its kind: its first part is at p + 1, its second at d, its third at e.
-use crate::sends::Sending;
-use crate::sends::to_blocks;
 use crate::tests::fills;
 use crate::tests::in_value;
 use crate::tests::lifted;
@@ -18,20 +16,17 @@ use results::operate_at;
 use rows::layout::Layout;
 use table::Operation;
 ghost use mathlib.Core.Path.{_≡_};
-ghost use Prim.Native.Nat.{_+_, _*_, _^_, _<_, _≤_};
+ghost use Prim.Native.Nat.{_+_, _*_, _^_, _<_};
 ghost use Rattle.permset.specs.Sets.{width};
 ghost use Rattle.table.specs.Words.{operationOf};
 ghost use Rattle.table.specs.Code.{cell as Cell, read as Read, exercise as Exercise, one, two, bind as Bind, while, branch as Branch, update as Update};
 ghost use Rattle.table.specs.Code.{apply as Apply, sequence as Sequence, get as Get, delete as Delete, assign as Assign, operation as Op};
-ghost use Rattle.table.specs.Links.{LinksOf};
 ghost use Rattle.calculus.specs.Elements.{falsehood, undefined};
 ghost use Rattle.calculus.specs.Constraint.{C, put, given, _and_};
 ghost use Rattle.calculus.specs.Rules.{part as Part, permissions, leafRule, twoRule, flow};
 ghost use Rattle.rows.specs.Laid.{Sized};
 ghost use Rattle.checker.specs.Decides.{Checked, CheckedIf, CheckedBy, MasksOf, Term};
-ghost use Rattle.checker.specs.Sends.{Sent, sent};
 ghost use Rattle.checker.specs.Things.{taking, making, store};
-ghost use Rattle.checker.specs.Words.{Obeyed, SendObeyed};
 
 // The masks, by their numbers.
 const FUNCTIONS: usize = 0;
@@ -40,10 +35,8 @@ const RECORDS: usize = 1;
 
 const CELLS: usize = 2;
 
-const MESSAGES: usize = 3;
-
 // Both parts are live, and their permissions are in P(p).
-fn parts(est: &[u32], l: Layout, p: usize, d: usize) -> bool
+pub fn parts(est: &[u32], l: Layout, p: usize, d: usize) -> bool
     requires { ⌜ Term l (now est) p × (d < l .size) ⌝ }
     ensures { λ r. ⌜ Checked l (now (est .entry)) (λ c. Part p (p + 1) and Part p d) r ⌝ }
 {
@@ -250,22 +243,4 @@ pub fn assign(est: &[u32], masks: &[u32], l: Layout, p: usize, d: usize) -> bool
     ensures { λ r. ⌜ CheckedBy l (now (est .entry)) (now (masks .entry)) (λ c. flow c p (two Assign (p + 1) d)) r ⌝ }
 {
     parts(est, l, p, d) & assigned(est, masks, l, p, d)
-}
-
-// Where C(d) has something that may be sent: what is asked for each block.
-fn messages(words: &[u32], links: &[u32], masks: &[u32], est: &[u32], l: Layout, s: Sending) -> bool
-    requires { ⌜ Sent (now words) (now masks) (now est) l s × LinksOf (now words) (now links) ⌝ }
-    ensures { λ r. ⌜ Obeyed (now (words .entry)) (now (est .entry)) (λ c. sent c s) r ⌝ }
-{
-    if !has_some(est, masks, l, 2 * s.d, MESSAGES) {
-        return true;
-    }
-    to_blocks(words, links, masks, est, l, s)
-}
-
-pub fn send(words: &[u32], links: &[u32], masks: &[u32], est: &[u32], l: Layout, s: Sending) -> bool
-    requires { ⌜ Sent (now words) (now masks) (now est) l s × LinksOf (now words) (now links) ⌝ }
-    ensures { λ r. ⌜ SendObeyed (now (words .entry)) (now (est .entry)) s r ⌝ }
-{
-    parts(est, l, s.p, s.d) & (in_value(est, l, s.p, 1) & messages(words, links, masks, est, l, s))
 }

@@ -10,12 +10,13 @@ ghost use Prim.Native.Nat.{_+_, _*_, _^_, _<_, _≤_};
 ghost use lib.ListN.{length};
 ghost use Rattle.permset.specs.Sets.{width, member};
 ghost use Rattle.table.specs.Code.{Code};
-ghost use Rattle.calculus.specs.Constraint.{C, P, put, sub, given, only, every};
+ghost use Rattle.calculus.specs.Constraint.{C, P, Sets, Rule, Obeys, put, sub, given, only, every};
 ghost use Rattle.calculus.specs.Rules.{live, fill, pass, part as Part};
 ghost use Rattle.calculus.specs.Layout.{sets};
 ghost use Rattle.rows.specs.Laid.{LaidOut, Sized};
 ghost use Rattle.clauses.specs.Asks.{rowAt, sortAt};
-ghost use Rattle.checker.specs.Decides.{Checked, CheckedBy};
+ghost use Rattle.checker.specs.Decides.{Decides, Checked, CheckedBy};
+ghost use Rattle.checker.specs.Lowered.{Lowered};
 
 // C(p) has the element v.
 pub fn in_value(est: &[u32], l: Layout, p: usize, v: usize) -> bool
@@ -101,4 +102,14 @@ pub fn fills(est: &[u32], l: Layout, a: usize, v: usize, r: usize) -> bool
     ensures { λ x. ⌜ Checked l (now (est .entry)) (λ c. given (C a) v (fill c (rowAt r))) x ⌝ }
 {
     !in_value(est, l, a, v) | full(est, l, r)
+}
+
+// `below`, or p where it is lower and its rule is not obeyed.
+pub fn lowered(below: usize, p: usize, obeyed: bool) -> usize
+    ensures { λ r. ⌜ ((e : Sets) (k : Rule) → Decides e k obeyed → Lowered (λ q. q ≡ p → Obeys e k) below r) ⌝ }
+{
+    if obeyed {
+        return below;
+    }
+    if p < below { p } else { below }
 }

@@ -1,10 +1,9 @@
 -- However a stream is cut into pieces, a caller who steps through it prints the report.
 use Prim.Native.Nat.{ℕ, zero, suc, _+_, _-_, _≤_, _<_}
-use mathlib.Core.Path.{_≡_, refl, sym, ap, ap₂, subst, _∙_}
+use mathlib.Core.Path.{_≡_, refl, sym, ap, ap₂, _∙_}
 use mathlib.Core.Bool.{Bool, true, false}
 use mathlib.Core.List.{List, [], _∷_, _++_, map, append-nil, append-assoc}
 use native.Mathlib.Nat.{zero-add, add-zero}
-use native.Mathlib.Numerals.{add-one}
 use native.Mathlib.Omega.{arith}
 use lib.Dec.{eqb, ltb}
 use lib.ListN.{length, drop, length-append}
@@ -14,7 +13,6 @@ use Rattle.fingerprint.specs.Fnv.{fnv1a}
 use Rattle.report.specs.Lines.{refusalLine}
 use Rattle.class_report.specs.declared.Fault.{Fault}
 use Rattle.class_report.specs.declared.Fault.the-variants.{TooMany, TooLong, CutShort}
-use Rattle.class_report.specs.declared.Front.{Front}
 use Rattle.class_report.specs.declared.Front.the-variants.{Nothing, Broken, Whole}
 use Rattle.class_report.specs.declared.Outcome.{Outcome}
 use Rattle.class_report.specs.declared.Tally.{Tally}
@@ -22,11 +20,10 @@ use Rattle.class_report.specs.declared.Task.{Task}
 use Rattle.class_report.specs.declared.Task.the-variants as tasks
 use Rattle.class_report.specs.declared.Status.the-variants as statuses
 use Rattle.class_report.specs.Stream.{System, Ending, whole, broken, Cut, further, mostSystems, number, span, front, systemAt, after, full, cut}
-use Rattle.class_report.specs.Report.{outcome, line, lines, totals, totalsOf, conclusion, report}
+use Rattle.class_report.specs.Report.{outcome, line, lines, totalsOf, conclusion, report}
 use Rattle.class_report.specs.Tally.{fresh, position, tallied}
-use Rattle.class_report.specs.Writing.{countIn}
 use Rattle.class_report.specs.Steps.{atEnd, brokenTask, frontTask, fullTask, taskFor, textFor, stepFor, text, step, last, run, printed, joined}
-use Rattle.class_report.proofs.Prefixes.{Sized, Lengthy, by-tests, whole-kept, long-kept, system-kept, after-kept}
+use Rattle.class_report.proofs.Prefixes.{Sized, by-tests, whole-kept, long-kept, system-kept, after-kept}
 use Rattle.class_report.proofs.Tallies.{Counts, counts-fresh, counts-position, counts-more, counts-totals}
 use Rattle.class_report.proofs.Tasks.{full-nothing, full-more, task-front, task-full}
 

@@ -12,7 +12,7 @@ use Rattle.little_endian.specs.LittleEndian.{number as numberOf}
 use Rattle.class_report.specs.declared.Fault.the-variants.{TooLong, CutShort}
 use Rattle.class_report.specs.declared.Front.{Front}
 use Rattle.class_report.specs.declared.Front.the-variants.{Nothing, Broken, Whole}
-use Rattle.class_report.specs.Stream.{System, mostWords, wordAt, span, sized, front, systemAt, after}
+use Rattle.class_report.specs.Stream.{mostWords, wordAt, span, sized, front, systemAt, after}
 use Rattle.class_report.proofs.Fronts.{front-nothing, front-short, front-sized, sized-long, sized-short, sized-whole}
 
 -- ---- what a front says of the stream

@@ -12,12 +12,10 @@ use Rattle.text.specs.Writing.{Wrote}
 use Rattle.report.specs.Lines.{refusalLine}
 use Rattle.class_report.specs.declared.Fault.{Fault}
 use Rattle.class_report.specs.declared.Fault.the-variants.{TooMany, TooLong, CutShort}
-use Rattle.class_report.specs.declared.Front.{Front}
 use Rattle.class_report.specs.declared.Outcome.{Outcome}
 use Rattle.class_report.specs.declared.Tally.{Tally}
 use Rattle.class_report.specs.declared.Task.{Task}
 use Rattle.class_report.specs.declared.Task.the-variants as tasks
-use Rattle.class_report.specs.declared.Status.{Status}
 use Rattle.class_report.specs.declared.Status.the-variants as statuses
 use Rattle.class_report.specs.declared.Step.{Step}
 use Rattle.class_report.specs.Stream.{System, mostSystems, number, wordAt, span, front, systemAt}

@@ -3,7 +3,6 @@ use Prim.Native.Nat.{ℕ, zero, suc, _+_, _≤_, _<_}
 use mathlib.Core.Path.{_≡_, refl, sym, ap, ap₂, _∙_}
 use mathlib.Core.Bool.{Bool, true, false}
 use mathlib.Core.List.{List, [], _∷_, _++_}
-use native.Mathlib.Numerals.{add-one}
 use native.Mathlib.Nat.{zero-add, add-zero}
 use native.Mathlib.Omega.{arith}
 use lib.ListN.{length, getD, getD-replicate}
@@ -13,7 +12,7 @@ use Rattle.class_report.specs.declared.Outcome.the-variants.{Leak, Refus
 use Rattle.class_report.specs.declared.Tally.{Tally}
 use Rattle.class_report.specs.Stream.{mostSystems}
 use Rattle.class_report.specs.Report.{isAccepted, isRefused, leaksIt, howMany, permissionLine, permissionLines, countLine, totals, totalsOf}
-use Rattle.class_report.specs.Tally.{fresh, position, raised, counted, tallied}
+use Rattle.class_report.specs.Tally.{fresh, position, raised, tallied}
 use Rattle.class_report.specs.Writing.{countIn}
 use Rattle.class_report.proofs.Counting.{raised-more, length-counted, counted-at}
 

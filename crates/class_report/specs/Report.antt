@@ -13,7 +13,7 @@ use Rattle.text.specs.Text.{bytes, decimal, set, hexWord}
 use Rattle.report.specs.Lines.{refusalLine}
 use Rattle.class_report.specs.declared.Outcome.{Outcome}
 use Rattle.class_report.specs.declared.Outcome.the-variants.{Leak, Refused}
-use Rattle.class_report.specs.Stream.{System, Ending, whole, broken, Cut, number, mostSystems, cut}
+use Rattle.class_report.specs.Stream.{System, Ending, whole, broken, number, mostSystems, cut}
 
 -- ---- the outcome of a system
 

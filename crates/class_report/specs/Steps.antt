@@ -21,7 +21,6 @@ use Rattle.class_report.specs.declared.Outcome.the-variants.{Leak, Refus
 use Rattle.class_report.specs.declared.Tally.{Tally}
 use Rattle.class_report.specs.declared.Task.{Task}
 use Rattle.class_report.specs.declared.Task.the-variants as tasks
-use Rattle.class_report.specs.declared.Status.{Status}
 use Rattle.class_report.specs.declared.Status.the-variants as statuses
 use Rattle.class_report.specs.declared.Step.{Step}
 use Rattle.class_report.specs.Stream.{System, mostSystems, number, span, front, systemAt}

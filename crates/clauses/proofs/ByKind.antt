@@ -15,7 +15,7 @@ use Rattle.table.specs.declared.Term.the-variants as terms
 use Rattle.table.specs.Words.{kind, argument, termOf, termsByKind}
 use Rattle.table.specs.Item.{handlerAt, itemAt}
 use Rattle.clauses.specs.declared.Clause.{Clause}
-use Rattle.clauses.specs.Clauses.{never, ofOther, ofValue, ofTerm, siteAt, ofItem, clausesAt, clauseAt}
+use Rattle.clauses.specs.Clauses.{never, ofOther, ofValue, ofTerm, ofItem, clausesAt, clauseAt}
 
 -- what stands at p, where its word is of the kind k
 unfoldable pub byKind : List ℕ → ℕ → ℕ → Item

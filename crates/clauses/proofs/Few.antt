@@ -4,7 +4,7 @@ use mathlib.Core.Path.{_≡_}
 use mathlib.Core.Bool.{Bool, true, false}
 use mathlib.Core.List.{List, []}
 use native.Mathlib.Omega.{arith}
-use lib.Dec.{lit≤, ltb}
+use lib.Dec.{lit≤}
 use lib.ListN.{length, List·getD-eq-default}
 use Rattle.permset.specs.Sets.{within}
 use Rattle.table.specs.declared.Item.{Item}

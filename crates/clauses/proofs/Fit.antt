@@ -1,26 +1,26 @@
 -- What the clauses of a word ask fits the code: they write into its rows alone.
-use Prim.Native.Nat.{ℕ, zero, suc, _+_, _*_, _≤_, _<_}
-use mathlib.Core.Path.{_≡_, refl, sym, ap, _∙_, subst}
+use Prim.Native.Nat.{ℕ, zero, suc, _+_, _≤_, _<_}
+use mathlib.Core.Path.{_≡_, refl, ap, _∙_, subst}
 use mathlib.Core.Bool.{Bool, true, false}
-use mathlib.Core.List.{List, [], _∷_, List·Memᴰ}
+use mathlib.Core.List.{List, [], List·Memᴰ}
 use native.Mathlib.Decide.{decLt}
 use native.Mathlib.Omega.{arith}
 use lib.Dec.{T}
-use lib.ListN.{length, getD}
+use lib.ListN.{length}
 use Rattle.permset.specs.Sets.{within}
 use Rattle.table.specs.declared.Item.{Item}
 use Rattle.table.specs.declared.Item.the-variants as items
 use Rattle.table.specs.declared.Term.{Term}
 use Rattle.table.specs.declared.Term.the-variants as terms
-use Rattle.table.specs.Words.{operationOf, operationNumber}
+use Rattle.table.specs.Words.{operationOf}
 use Rattle.table.specs.Scan.{accepted, reading}
-use Rattle.table.specs.Code.{Code, Node, code, termNode, NodeLinked, Linked}
+use Rattle.table.specs.Code.{Code, code, termNode, NodeLinked, Linked}
 use Rattle.table.specs.Item.{itemAt}
 use Rattle.table.specs.Links.{linked}
 use Rattle.table.proofs.Linked.{linked as code-linked}
 use Rattle.table.proofs.Nodes.{itemNode, nodeAt, node-item}
-use Rattle.calculus.specs.Elements.{plain, made, makes, isFunction}
-use Rattle.calculus.specs.Constraint.{C, B, Rule, put, sub}
+use Rattle.calculus.specs.Elements.{plain, made, makes}
+use Rattle.calculus.specs.Constraint.{Rule}
 use Rattle.calculus.specs.Rules.{nameOf, permissions, part}
 use Rattle.calculus.proofs.Ranges.{below-in, in-below, range-bound}
 use Rattle.calculus.proofs.Firing.{Fits}
@@ -30,7 +30,7 @@ use Rattle.clauses.specs.declared.Test.the-variants as tests
 use Rattle.clauses.specs.declared.What.{What}
 use Rattle.clauses.specs.declared.What.the-variants as whats
 use Rattle.clauses.specs.declared.Clause.{Clause}
-use Rattle.clauses.specs.Asks.{rowAt, thingAt, under, forThing, things, blocks, effect, asks}
+use Rattle.clauses.specs.Asks.{thingAt, under, forThing, things, blocks, effect, asks}
 use Rattle.clauses.specs.Clauses.{Site, never, ofTerm, siteAt, ofItem, clausesAt, clauseAt}
 use Rattle.clauses.specs.Clauses.{ofValue, ofVariable, ofPermitted, ofExercise, ofApply, ofLet, ofSequence, ofIf, ofWhile, ofOperation}
 use Rattle.clauses.specs.Clauses.{ofGet, ofSet, ofDelete, ofCell, ofRead, ofAssign, ofSend, ofBlock}

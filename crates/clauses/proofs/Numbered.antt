@@ -1,15 +1,14 @@
 -- Rows by their numbers: where they stand in the words of an estimate.
 use Prim.Native.Nat.{ℕ, _+_, _*_, _/_, _%_, _≤_, _<_}
-use mathlib.Core.Path.{_≡_, refl, sym, ap, _∙_, subst}
+use mathlib.Core.Path.{_≡_, sym, ap, _∙_, subst}
 use mathlib.Core.List.{List}
 use native.Mathlib.Decide.{ℕ-discrete}
 use native.Mathlib.Nat.{mul-le-mul-right}
 use native.Mathlib.Omega.{arith}
 use lib.ListN.{take, drop}
 use Rattle.table.specs.Code.{Code}
-use Rattle.calculus.specs.Elements.{elements}
 use Rattle.calculus.specs.Constraint.{Row, C, B}
-use Rattle.calculus.specs.Layout.{owner, rowWords, base, shift, span, content}
+use Rattle.calculus.specs.Layout.{rowWords, base, content}
 use Rattle.calculus.proofs.RowRules.{ValueRow, C-row, B-row}
 use Rattle.clauses.specs.Asks.{rowAt}
 use Rattle.clauses.proofs.Sorts.{row-C, row-B}

@@ -1,26 +1,25 @@
 -- The clauses of a word of an accepted table: sets obey the rule of a live word, and what it asks of its receivers, exactly if they obey
 -- each of its clauses; and what the clauses ask fits the code.
-use Prim.Native.Nat.{ℕ, zero, suc, _+_, _*_, _≤_, _<_}
+use Prim.Native.Nat.{ℕ, suc, _+_, _≤_, _<_}
 use mathlib.Core.Path.{_≡_, refl, sym, ap, _∙_, subst}
-use mathlib.Core.List.{List, [], _∷_}
+use mathlib.Core.List.{List}
 use native.Mathlib.Omega.{arith}
 use lib.Dec.{T}
 use lib.ListN.{length, getD}
-use Rattle.table.specs.declared.Handler.{Handler}
 use Rattle.table.specs.declared.Item.{Item}
 use Rattle.table.specs.declared.Item.the-variants as items
 use Rattle.table.specs.declared.Term.{Term}
 use Rattle.table.specs.declared.Term.the-variants as terms
 use Rattle.table.specs.Scan.{accepted, reading}
 use Rattle.table.specs.Code.{Code, Node, code, termNode, NodeLinked, Linked, endOf, part}
-use Rattle.table.specs.Item.{itemAt, itemPerms}
+use Rattle.table.specs.Item.{itemAt}
 use Rattle.table.specs.Links.{linkAt, linked}
 use Rattle.table.proofs.Linked.{linked as code-linked}
 use Rattle.table.proofs.LinkMeaning.{link-end}
-use Rattle.table.proofs.Nodes.{itemNode, nodeAt, node-item, home-link, binder-link}
+use Rattle.table.proofs.Nodes.{itemNode, nodeAt, node-item, binder-link}
 use Rattle.calculus.specs.Elements.{plain, made}
 use Rattle.calculus.specs.Constraint.{Sets, Obeys, L, each}
-use Rattle.calculus.specs.Rules.{permsOf, permissions, flow, leafRule, twoSender, sender}
+use Rattle.calculus.specs.Rules.{permissions, flow, leafRule, twoSender, sender}
 use Rattle.clauses.specs.declared.Clause.{Clause}
 use Rattle.clauses.specs.Clauses.{Site, never, ofBlock, ofTerm, siteAt, ofItem, clausesAt, clauseAt}
 use Rattle.clauses.specs.Asks.{under, effect, asks}

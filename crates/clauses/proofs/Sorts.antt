@@ -1,19 +1,18 @@
 -- Rows by their numbers, and the elements of masks: what is made by a word, and back.
-use Prim.Native.Nat.{ℕ, zero, suc, _+_, _-_, _*_, _/_, _%_, _≤_, _<_}
-use mathlib.Core.Path.{_≡_, refl, sym, ap, _∙_, subst}
-use mathlib.Core.Bool.{Bool, true, false, _&&_, _||_}
+use Prim.Native.Nat.{ℕ, _+_, _-_, _*_, _/_, _%_, _≤_, _<_}
+use mathlib.Core.Path.{_≡_, sym, ap, subst}
+use mathlib.Core.Bool.{Bool, _&&_}
 use mathlib.Core.Logic.{_⊎_, inl, inr, ⊎-elim}
-use mathlib.Core.List.{List}
 use native.Mathlib.Decide.{decLt}
 use native.Mathlib.Omega.{arith}
 use borrow.Author.Tests.{eq-eqb, ne-eqb}
 use lib.Dec.{T, eqb, leb, eqb→eq, leb→le, le→leb}
-use Rattle.table.specs.Code.{Code, gap, Linked}
-use Rattle.calculus.specs.Elements.{plain, made, opponentRecord, Making, nothing, isFunction, isRecord, isCell, makes, making, anyRecord}
-use Rattle.calculus.specs.Constraint.{Row, C, B}
-use Rattle.calculus.proofs.Digits.{T-or, T-or-left, T-or-right, T-and, T-fst, T-snd}
+use Rattle.table.specs.Code.{Code, Linked}
+use Rattle.calculus.specs.Elements.{plain, made, opponentRecord, Making, nothing, isRecord, isCell, makes, making, anyRecord}
+use Rattle.calculus.specs.Constraint.{C, B}
+use Rattle.calculus.proofs.Digits.{T-or, T-or-right, T-and, T-fst, T-snd}
 use Rattle.rows.specs.Mask.{madeAs}
-use Rattle.clauses.specs.Asks.{rowAt, sortAt, thingAt}
+use Rattle.clauses.specs.Asks.{rowAt}
 
 pub row-C : (i : ℕ) → rowAt (2 * i) ≡ C i
 unfolding rowAt
@@ -49,10 +48,6 @@ module _ (c : Code) (k : Linked c) where
       go low here (yes i) = record { word = v - plain c; inside = i; makes-it = here; element = omega arith }
       go low here (no i) =
           absurd (z (subst (λ n. T (m (makes n))) (k .outside (v - plain c) (omega arith)) here))
-
-  pub function-by : (v : ℕ) → T (madeAs c isFunction v) → MadeBy isFunction v
-  unfolding isFunction
-  function-by = made-by isFunction (λ t. t)
 
   pub cell-by : (v : ℕ) → T (madeAs c isCell v) → MadeBy isCell v
   unfolding isCell

@@ -5,16 +5,14 @@ use lib.Dec.{eqb}
 use Rattle.permset.specs.Sets.{width, member}
 use Rattle.table.specs.Words.{operationOf}
 use Rattle.table.specs.Code.{Code}
-use Rattle.calculus.specs.Elements.{plain, made, nameElement, isString, Making, isFunction, isRecord, isCell, makes, sendable, anyRecord, results}
+use Rattle.calculus.specs.Elements.{plain, made, isString, Making, isFunction, isRecord, isCell, makes, sendable, anyRecord, results}
 use Rattle.calculus.specs.Constraint.{Row, C, B, P, Rule, none, put, sub, given, some, only, each, every, _and_}
-use Rattle.calculus.specs.Rules.{delivering, live, fill, pass, eachMade, part, waiting}
+use Rattle.calculus.specs.Rules.{delivering, live, fill, pass, part, waiting}
 use Rattle.rows.specs.Mask.{madeAs}
 use Rattle.clauses.specs.declared.Test.{Test}
 use Rattle.clauses.specs.declared.Test.the-variants as tests
-use Rattle.clauses.specs.declared.Guard.{Guard}
 use Rattle.clauses.specs.declared.What.{What}
 use Rattle.clauses.specs.declared.What.the-variants as whats
-use Rattle.clauses.specs.declared.Effect.{Effect}
 use Rattle.clauses.specs.declared.Clause.{Clause}
 
 -- the row with a number: 2i is C(i), 2i + 1 is B(i)

@@ -1,6 +1,6 @@
 -- The clauses of each word, in the order and the words of document 01, "Flow rules": what the words and links of a table make of them.
-use Prim.Native.Nat.{ℕ, suc, _+_, _*_}
-use mathlib.Core.Bool.{Bool, true, false}
+use Prim.Native.Nat.{ℕ, _+_, _*_}
+use mathlib.Core.Bool.{true, false}
 use mathlib.Core.List.{List, [], _∷_}
 use lib.Dec.{ltb}
 use lib.ListN.{getD}
@@ -15,7 +15,6 @@ use Rattle.table.specs.Links.{linkAt}
 use Rattle.calculus.specs.Elements.{constantElement, literalElement, nameElement, undefined, unit, truth, falsehood, opponentRecord, sign}
 use Rattle.clauses.specs.declared.Test.{Test}
 use Rattle.clauses.specs.declared.Test.the-variants as tests
-use Rattle.clauses.specs.declared.Guard.{Guard}
 use Rattle.clauses.specs.declared.What.{What}
 use Rattle.clauses.specs.declared.What.the-variants as whats
 use Rattle.clauses.specs.declared.Effect.{Effect}

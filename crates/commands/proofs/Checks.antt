@@ -8,7 +8,7 @@ use native.Mathlib.Omega.{arith}
 use borrow.Author.Tests.{eqb-true, eqb-false, lt-ltb, le-ltb}
 use lib.Dec.{eqb}
 use lib.ListN.{length, getD, take, drop, set, length-drop, drop-of-length-le}
-use lib.Seq.{take-all, take-add, take-at, drop-drop}
+use lib.Seq.{take-add, take-at, drop-drop}
 use Rattle.text.specs.Text.{bytes, decimal}
 use Rattle.text.specs.Writing.{Wrote}
 use Rattle.text.proofs.Writing.{reworded, then, wrote-byte}

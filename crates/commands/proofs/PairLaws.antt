@@ -7,7 +7,7 @@ use native.Mathlib.Numerals.{add-one}
 use native.Mathlib.Omega.{arith}
 use lib.Dec.{eqb}
 use lib.ListN.{length, getD, take, drop, drop-of-length-le}
-use lib.Seq.{drop-cons, getD-drop}
+use lib.Seq.{drop-cons}
 use Rattle.listing.specs.Spelling.{feed}
 use Rattle.listing.specs.Answer.{number}
 use Rattle.listing.specs.declared.Refusal.{Refusal}

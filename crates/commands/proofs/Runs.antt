@@ -1,6 +1,6 @@
 -- Laws of the program: the test of a command, and the room.
 use Prim.Native.Nat.{ℕ, _+_, _<_, _≤_}
-use mathlib.Core.Path.{_≡_, refl, sym, ap, ap₂, _∙_, subst}
+use mathlib.Core.Path.{_≡_, refl, ap, ap₂, _∙_, subst}
 use mathlib.Core.Bool.{Bool, true, false, _&&_, false≢true}
 use mathlib.Core.List.{List, [], _∷_, _++_}
 use native.Mathlib.Omega.{arith}
@@ -10,7 +10,6 @@ use lib.ListN.{length, drop}
 use Rattle.text.specs.Text.{bytes}
 use Rattle.text.specs.Writing.{Wrote}
 use Rattle.commands.specs.Printed.{textText, wordsText, joinText, blockText, manifestText, explainText, otherText, room, same, printed, fits, printedSize, outAfter}
-use Rattle.commands.specs.Meanings.{help}
 use Rattle.commands.specs.Checked.{checkText}
 
 same-refl : (l : List ℕ) → same l l ≡ true

@@ -2,7 +2,6 @@
 use Prim.Native.Nat.{ℕ}
 use mathlib.Core.Path.{_≡_, refl}
 use mathlib.Core.List.{List, [], _∷_, _++_, map}
-use lib.ListN.{length, take, drop}
 use Rattle.table.specs.Words.{parts, partsByKind, limit, limitsByKind, namesOf}
 use Rattle.table.specs.Scan.{next, firstOf, has, tests, fault, missing, keep, under, scan, reading, narrowReading}
 use Rattle.table.specs.Code.{tasks, trace}

@@ -1,9 +1,8 @@
 -- The arguments of the program: a command, names and numbers in decimal digits, sets in hexadecimal ones.
-use Prim.Native.Nat.{ℕ, zero, suc, _+_, _-_, _*_, _%_, _^_}
-use Prim.Native.Char.{code}
+use Prim.Native.Nat.{ℕ, _+_, _-_, _*_, _%_, _^_}
 use mathlib.Core.Bool.{true, false}
 use mathlib.Core.List.{List, [], _∷_}
-use lib.Dec.{leb, ltb}
+use lib.Dec.{ltb}
 use lib.ListN.{length}
 use Rattle.commands.specs.declared.arguments.Value.{Value}
 use Rattle.commands.specs.declared.arguments.Value.the-variants.{Number, Other}

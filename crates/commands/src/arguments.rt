@@ -1,7 +1,6 @@
 // The arguments: numbers in decimal and in hexadecimal digits.
 ghost use mathlib.Core.Path.{_≡_};
 ghost use Prim.Native.Nat.{_+_, _*_, _%_, _^_, _<_, _≤_};
-ghost use lib.ListN.{length};
 ghost use Rattle.commands.specs.Arguments.{digit as Arguments·digit, valueOf};
 
 // What an argument says: a number, or anything else.

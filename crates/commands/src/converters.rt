@@ -6,7 +6,6 @@ use widths::Converted;
 use widths::convert::convert;
 use widths::numbers::fault_number;
 use widths::numbers::fault_place;
-ghost use mathlib.Core.Path.{_≡_};
 ghost use Prim.Native.Nat.{_≤_};
 ghost use lib.ListN.{length};
 ghost use Rattle.text.specs.Writing.{Wrote};

@@ -1,11 +1,10 @@
 // The lines of a text, counted from 0.
 use listing::read::line_end;
 use text::put;
-ghost use mathlib.Core.Path.{_≡_};
 ghost use Prim.Native.Nat.{_+_, _≤_};
-ghost use lib.ListN.{length, drop};
+ghost use lib.ListN.{length};
 ghost use Rattle.text.specs.Writing.{Wrote};
-ghost use Rattle.commands.specs.Meanings.{fromLine, lineAt, linesAt, Behind};
+ghost use Rattle.commands.specs.Meanings.{lineAt, linesAt, Behind};
 
 // The place behind k lines from a place on.
 pub fn behind(text: &[u8], start: usize, k: usize) -> usize

@@ -15,10 +15,10 @@ use report::refusal_line;
 ghost use mathlib.Core.Path.{_≡_};
 ghost use mathlib.Core.Bool.{false};
 ghost use Prim.Native.Nat.{_+_, _≤_};
-ghost use lib.ListN.{length, getD, take, drop};
+ghost use lib.ListN.{length, getD, drop};
 ghost use Rattle.text.specs.Writing.{Wrote};
 ghost use Rattle.overlay.specs.Lookup.{placeOf};
-ghost use Rattle.commands.specs.Printed.{startsSystem, before as Printed·before, joinedText, joinText, placeText, foundText};
+ghost use Rattle.commands.specs.Printed.{startsSystem, before as Printed·before, joinedText, joinText, foundText};
 ghost use Rattle.commands.specs.Pairs.{PairAs, PlacedAs};
 
 // How many words each of two listings has, or the refusal.

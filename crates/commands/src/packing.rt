@@ -5,7 +5,6 @@ use listing::numbers::refusal_place;
 use listing::read::read;
 use little_endian::bytes_of;
 use report::refusal_line;
-ghost use mathlib.Core.Path.{_≡_};
 ghost use Prim.Native.Nat.{_≤_};
 ghost use lib.ListN.{length};
 ghost use Rattle.text.specs.Writing.{Wrote};

@@ -4,7 +4,6 @@ use mathlib.Core.Bool.{true, false, not}
 use Rattle.permset.specs.Sets.{difference, within, lowest}
 use Rattle.calculus.specs.Answer.{Answer, refused, verdict}
 use Rattle.calls.specs.Faults.{faultNumber, faultPlace}
-use Rattle.comparison.specs.declared.Report.{Report}
 use Rattle.comparison.specs.declared.Verdict.{Verdict}
 use Rattle.comparison.specs.declared.Verdict.the-variants.{Refused, Within, Over}
 

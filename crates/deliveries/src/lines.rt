@@ -4,7 +4,6 @@ use text::number_field;
 use text::put;
 use text::room::put_room;
 use text::set_field;
-ghost use mathlib.Core.Path.{_≡_};
 ghost use Prim.Native.Nat.{_+_, _≤_};
 ghost use lib.ListN.{length};
 ghost use Rattle.text.specs.Writing.{Wrote, Line};

@@ -1,6 +1,6 @@
 -- A send is delivered where the name is the receiver's, the required set is within its permissions, and its guard within the sender's.
 use Prim.Native.Nat.{ℕ}
-use mathlib.Core.Path.{_≡_, refl, sym, ap, _∙_}
+use mathlib.Core.Path.{_≡_, refl, ap, _∙_}
 use mathlib.Core.Bool.{Bool, true, false, _&&_}
 use borrow.Author.Tests.{eq-eqb}
 use lib.Dec.{eqb}

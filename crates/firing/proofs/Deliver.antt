@@ -1,14 +1,13 @@
 -- The blocks of an accepted table in the rule of a send: what the test of one says of the code, and the loop over all.
-use Prim.Native.Nat.{ℕ, suc, _+_, _-_, _*_, _/_, _%_, _≤_, _<_}
+use Prim.Native.Nat.{ℕ, _+_, _-_, _*_, _≤_, _<_}
 use mathlib.Core.Path.{_≡_, refl, sym, ap, ap₂, _∙_, subst}
-use mathlib.Core.Logic.{⊎-elim}
 use mathlib.Core.Bool.{Bool, true, false}
-use mathlib.Core.List.{List, List·Memᴰ}
+use mathlib.Core.List.{List}
 use native.Mathlib.Decide.{decLt, ℕ-discrete}
 use native.Mathlib.Omega.{arith}
 use borrow.Author.Tests.{eq-eqb}
-use lib.Dec.{T, lit<}
-use lib.ListN.{length, getD, drop}
+use lib.Dec.{lit<}
+use lib.ListN.{length, getD}
 use Rattle.delivery.specs.Delivery.{delivered}
 use Rattle.table.specs.declared.Item.{Item}
 use Rattle.table.specs.declared.Item.the-variants as items
@@ -18,27 +17,25 @@ use Rattle.table.specs.declared.Term.the-variants as terms
 use Rattle.table.specs.Words.{kind, argument}
 use Rattle.table.specs.Scan.{namesAt, Task, name, accepted, reading}
 use Rattle.table.specs.Item.{handlerAt, itemAt}
-use Rattle.table.specs.Code.{Code, Node, gap, block, leaf, one, two, bind, while, branch, update, code, taskAt, tasks, nodeFor, blocksFrom, endOf, part, termNode, NodeLinked, Linked}
-use Rattle.table.specs.Links.{linkAt, linked}
+use Rattle.table.specs.Code.{Code, Node, gap, block, leaf, one, two, bind, while, branch, update, code, taskAt, termNode, NodeLinked, Linked}
 use Rattle.table.proofs.Items.{item-gap, item-term}
 use Rattle.table.proofs.Faults.{Stands}
 use Rattle.table.proofs.Stack.{reach}
 use Rattle.table.proofs.Parts.{place-stands}
-use Rattle.table.proofs.Blocks.{Follows, Block, block as block-words, head-word, blocks-first, blocks-next, blocks-end}
+use Rattle.table.proofs.Blocks.{Block}
 use Rattle.table.proofs.Linked.{linked as code-linked}
-use Rattle.table.proofs.LinkMeaning.{link-end}
 use Rattle.table.proofs.Nodes.{itemNode, nodeAt, node-item}
-use Rattle.calculus.specs.Elements.{made, nameElement, sendable, elements}
-use Rattle.calculus.specs.Constraint.{Row, C, B, P, L, Rule, put, sub, given, each, _and_}
+use Rattle.calculus.specs.Elements.{made, nameElement, sendable}
+use Rattle.calculus.specs.Constraint.{Row, C, B, P, L, Rule, put, sub, _and_}
 use Rattle.calculus.specs.Rules.{nameOf, guarded, deliveryTo, permissions, pass, live}
-use Rattle.calculus.specs.Layout.{owner, span, shift, base, rowWords, sets, WellFormed}
+use Rattle.calculus.specs.Layout.{owner, span, WellFormed}
 use Rattle.calculus.specs.Estimate.{fire}
 use Rattle.calculus.proofs.Deliveries.{unguarded}
 use Rattle.calculus.proofs.Fitting.{may-C, may-L, may-B, PP}
 use Rattle.calculus.proofs.Places.{is-allowed}
 use Rattle.calculus.proofs.Ranges.{in-below}
 use Rattle.calculus.proofs.Firing.{Fits, fire-well}
-use Rattle.calculus.proofs.Folds.{fire-only-not, fire-present, fire-absent, each-nil, each-cons}
+use Rattle.calculus.proofs.Folds.{fire-only-not, fire-present, fire-absent}
 use Rattle.rows.specs.declared.layout.Layout.{Layout}
 use Rattle.firing.specs.declared.sends.Sender.{Sender}
 use Rattle.clauses.specs.declared.Effect.{Effect}

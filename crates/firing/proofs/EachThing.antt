@@ -1,31 +1,29 @@
 -- The loop over the things of a value set: what is left to do at the thing f is the rule at each number from f on.
 use Prim.Native.Nat.{ℕ, zero, suc, _+_, _-_, _*_, _/_, _%_, _≤_, _<_}
-use mathlib.Core.Path.{_≡_, refl, sym, ap, ap₂, _∙_, subst}
+use mathlib.Core.Path.{_≡_, refl, sym, ap, ap₂, _∙_}
 use mathlib.Core.Bool.{Bool, true, false, _&&_, _||_, true≢false, false≢true}
 use mathlib.Core.List.{List}
 use native.Mathlib.Decide.{decLt}
 use native.Mathlib.Omega.{arith}
-use lib.Bits.{bitAnd}
-use lib.Dec.{T, leb, eqb}
-use lib.ListN.{length, getD, take, drop}
+use lib.Dec.{T, leb}
+use lib.ListN.{length, getD, drop}
 use lib.Seq.{getD-take, getD-drop}
 use borrow.Author.Tests.{le-leb, ne-eqb}
 use Rattle.permset.specs.Sets.{member}
 use Rattle.permset.proofs.Laws.{member-and}
 use Rattle.table.specs.Code.{Code, Linked}
-use Rattle.calculus.specs.Elements.{plain, made, elements, Making, makes, making, isFunction, isRecord, isCell, anyRecord}
-use Rattle.calculus.specs.Constraint.{C, Rule, given, only, each, every, range}
+use Rattle.calculus.specs.Elements.{plain, made, Making, makes, making, isFunction, isRecord, isCell, anyRecord}
+use Rattle.calculus.specs.Constraint.{C, Rule, given, each, every, range}
 use Rattle.calculus.specs.Layout.{bit, base, rowWords, sets}
 use Rattle.calculus.specs.Estimate.{fire}
-use Rattle.calculus.proofs.Digits.{T-true}
-use Rattle.calculus.proofs.Fitting.{body-lt}
 use Rattle.calculus.proofs.Folds.{fire-only-not, fire-present, fire-absent, loop-start, loop-step, loop-skip, loop-end}
 use Rattle.calculus.proofs.RowOperations.{sets-C}
 use Rattle.rows.specs.declared.layout.Layout.{Layout}
 use Rattle.rows.specs.Laid.{LaidOut, Sized}
-use Rattle.rows.specs.Mask.{Mask, madeAs}
+use Rattle.rows.specs.Mask.{madeAs}
 use Rattle.clauses.specs.declared.What.{What}
 use Rattle.clauses.specs.Asks.{sortAt, thingAt, forThing, atThing}
+use Rattle.clauses.proofs.Asked.{gap-thing}
 use Rattle.queries.specs.Passes.{maskAt, Masked}
 use Rattle.queries.specs.Things.{both, Next, Searched}
 use Rattle.queries.proofs.Laws.{row-in, mask-in}
@@ -150,6 +148,16 @@ module _ (l : Layout) (masks : List ℕ) (z : ℕ) (hz : z < 3) (c : Code) (o : 
 
       pub made-end : (est : List ℕ) (f : ℕ) → l .size ≤ f → fire c (from f) est ≡ est
       made-end est f h = loop-end c one (c .size) f est (omega (arith, o .size))
+
+-- past the table there is no thing
+pub past-table : (c : Code) → Linked c → (w : What) (x y z f : ℕ) → c .size ≤ f → (est : List ℕ) → fire c (atThing c w x y z f) est ≡ est
+past-table c k w x y z f h est =
+    fire-only-not c (thingAt z (makes (c .node f))) (given (C (x + 1)) (made c f) (forThing w x y f)) est
+    (false-is (thingAt z (makes (c .node f))) (gap-thing c k (λ r v. true) z f h))
+  where
+    false-is : (t : Bool) → (T t → ⊥) → t ≡ false
+    false-is true n = absurd (n tt)
+    false-is false n = refl
 
 -- ---- what the loop keeps
 

@@ -1,18 +1,15 @@
 -- Effects and guards of a clause, as the firing of what it asks.
-use Prim.Native.Nat.{ℕ, zero, suc, _+_, _*_, _^_, _≤_, _<_}
+use Prim.Native.Nat.{ℕ, zero, suc}
 use mathlib.Core.Path.{_≡_, refl, sym, ap, _∙_, subst}
 use mathlib.Core.Bool.{Bool, true, false, _&&_, true≢false, false≢true}
 use mathlib.Core.List.{List, [], _∷_}
-use native.Mathlib.Omega.{arith}
 use types.Run.{OneOf, miss}
 use denote.Enum.Declared.{tagOf}
-use Rattle.table.specs.Words.{operationOf}
-use Rattle.table.specs.Code.{Code, operation}
+use Rattle.table.specs.Code.{Code}
 use Rattle.calculus.specs.Elements.{isString}
 use Rattle.calculus.specs.Constraint.{C, Rule, given, some}
-use Rattle.calculus.specs.Rules.{twoRule}
-use Rattle.calculus.specs.Layout.{sets, WellFormed}
-use Rattle.calculus.specs.Estimate.{fire, facts}
+use Rattle.calculus.specs.Layout.{sets}
+use Rattle.calculus.specs.Estimate.{fire}
 use Rattle.calculus.proofs.Folds.{found, fire-none, fire-given, fire-given-not, fire-some, fire-some-not}
 use Rattle.rows.specs.declared.layout.Layout.{Layout}
 use Rattle.rows.specs.Laid.{LaidOut}

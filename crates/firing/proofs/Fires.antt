@@ -1,23 +1,21 @@
 -- What the functions on rows and words do to an estimate, as the firing of a rule.
-use Prim.Native.Nat.{ℕ, zero, suc, _+_, _*_, _/_, _%_, _^_, _≤_, _<_}
-use mathlib.Core.Path.{_≡_, refl, sym, ap, ap₂, _∙_, subst}
+use Prim.Native.Nat.{ℕ, _+_, _*_, _/_, _%_, _^_, _≤_, _<_}
+use mathlib.Core.Path.{_≡_, sym, ap, ap₂, _∙_, subst}
 use mathlib.Core.Bool.{Bool, true, false, not}
 use mathlib.Core.List.{List, [], _∷_}
 use native.Mathlib.Omega.{arith}
 use borrow.Author.Tests.{eq-eqb, ne-eqb}
-use lib.Dec.{T, eqb}
-use lib.ListN.{length, getD, take, drop, replicate, length-replicate}
+use lib.Dec.{eqb}
+use lib.ListN.{length, getD, take, drop}
 use Rattle.permset.specs.Sets.{width, member}
 use Rattle.table.specs.Code.{Code}
-use Rattle.calculus.specs.Elements.{plain, elements}
-use Rattle.calculus.specs.Constraint.{Row, C, B, P, L, Rule, none, put, sub, only, every, _and_}
-use Rattle.calculus.specs.Rules.{fill, pass, part}
-use Rattle.calculus.specs.Layout.{bit, pour, masked, Words, rowWords, base, content, WellFormed}
+use Rattle.calculus.specs.Constraint.{Row, P, L, Rule, put, sub, only, every, _and_}
+use Rattle.calculus.specs.Rules.{pass}
+use Rattle.calculus.specs.Layout.{pour, masked, base, content, WellFormed}
 use Rattle.calculus.specs.Estimate.{fire, facts}
 use Rattle.calculus.proofs.Folds.{fire-and, fire-only, fire-only-not}
 use Rattle.calculus.proofs.RowOperations.{fire-put-C, fire-put-B, fire-live, fire-sub, fire-sub-P}
-use Rattle.calculus.proofs.RowRules.{fire-fill, fire-pass, fire-members}
-use Rattle.calculus.proofs.Slices.{bit-short}
+use Rattle.calculus.proofs.RowRules.{fire-pass, fire-members}
 use Rattle.rows.specs.declared.layout.Layout.{Layout}
 use Rattle.rows.specs.Laid.{LaidOut}
 use Rattle.rows.specs.Mask.{Mask}
@@ -25,7 +23,7 @@ use Rattle.rows.specs.Rows.{Poured}
 use Rattle.rows.proofs.Laws.{facts-most}
 use Rattle.clauses.specs.Asks.{rowAt}
 use Rattle.clauses.proofs.Numbered.{Numbered, in-C, in-B, numbered, base-row, content-row, value-row}
-use Rattle.firing.specs.Fired.{Fired, FiredFor, FiredIn}
+use Rattle.firing.specs.Fired.{FiredFor, FiredIn}
 
 module _ (l : Layout) (old new : List ℕ) (added : ℕ) where
   -- ---- a row
@@ -115,10 +113,6 @@ module _ (l : Layout) (old new : List ℕ) (added : ℕ) where
   lift-from q p at e g =
       lift-fired l old new added q p
       (subst (λ (k : ℕ). Poured old new (2 * l .size * l .row + p) (getD old k 0 % 16777216 ∷ []) added) e g)
-
-  pub put-digit : (r v d : ℕ) → d ≡ 2 ^ (v % 32) → Poured old new (r * l .row + v / 32) (d ∷ []) added → FiredIn l (put (rowAt r) v) old new added
-  put-digit r v d e g =
-      put-fired l old new added r v (subst (λ (x : ℕ). Poured old new (r * l .row + v / 32) (x ∷ []) added) e g)
 
 -- ---- rules under a test, and one after another
 

@@ -1,15 +1,13 @@
 -- So many full words from the start of a row: all plain elements.
 use Prim.Native.Nat.{ℕ, _*_, _<_}
-use mathlib.Core.Path.{_≡_, sym, ap, _∙_}
+use mathlib.Core.Path.{sym, ap, _∙_}
 use mathlib.Core.List.{List}
 use native.Mathlib.Omega.{arith}
 use lib.ListN.{replicate}
-use Rattle.table.specs.Code.{Code}
 use Rattle.calculus.specs.Rules.{fill}
-use Rattle.calculus.specs.Layout.{pour, base, WellFormed}
+use Rattle.calculus.specs.Layout.{pour, WellFormed}
 use Rattle.calculus.proofs.RowRules.{fire-fill}
 use Rattle.rows.specs.declared.layout.Layout.{Layout}
-use Rattle.rows.specs.Laid.{LaidOut}
 use Rattle.rows.specs.Rows.{Poured}
 use Rattle.rows.proofs.Full.{full, full-bit, full-words, full-short}
 use Rattle.clauses.specs.Asks.{rowAt}

@@ -1,18 +1,16 @@
 -- The results of an operation in the first word of a row, as the firing of its rule.
-use Prim.Native.Nat.{ℕ, _+_, _*_, _≤_, _<_}
-use mathlib.Core.Path.{_≡_, sym, ap, ap₂, _∙_, subst}
+use Prim.Native.Nat.{ℕ, _+_, _*_, _<_}
+use mathlib.Core.Path.{_≡_, sym, ap, ap₂, _∙_}
 use mathlib.Core.List.{List, [], _∷_}
 use native.Mathlib.Nat.{add-zero}
 use native.Mathlib.Omega.{arith}
 use lib.ListN.{take, drop}
 use Rattle.table.specs.declared.Operation.{Operation}
-use Rattle.table.specs.Code.{Code, operation}
-use Rattle.calculus.specs.Constraint.{C}
+use Rattle.table.specs.Code.{operation}
 use Rattle.calculus.specs.Rules.{twoRule}
-use Rattle.calculus.specs.Layout.{pour, rowWords, base, WellFormed}
+use Rattle.calculus.specs.Layout.{pour, base, WellFormed}
 use Rattle.calculus.proofs.OperationResults.{operationMask, fire-operation-mask}
 use Rattle.rows.specs.declared.layout.Layout.{Layout}
-use Rattle.rows.specs.Laid.{LaidOut}
 use Rattle.rows.specs.Rows.{Poured}
 use Rattle.firing.specs.Fired.{FiredFor}
 

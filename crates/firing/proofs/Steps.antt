@@ -8,7 +8,7 @@ use Rattle.table.specs.Code.{Code, Node, Two, gap, block, leaf, one, two, bind,
 use Rattle.table.specs.Code.{apply, sequence, get, delete, assign, operation, send}
 use Rattle.table.specs.Links.{linked}
 use Rattle.table.proofs.Linked.{linked as linked-code}
-use Rattle.calculus.specs.Constraint.{Sets, Rule, Obeys, L, given}
+use Rattle.calculus.specs.Constraint.{Sets, Obeys, L, given}
 use Rattle.calculus.specs.Rules.{flow, entry, twoSender, sender, rule, Estimate}
 use Rattle.calculus.specs.Layout.{sets, WellFormed, LiesIn}
 use Rattle.calculus.specs.Estimate.{fire}

@@ -1,12 +1,12 @@
 -- Every clause of an accepted table may be fired: what it looks at and writes are words and rows of the table.
-use Prim.Native.Nat.{ℕ, zero, suc, _+_, _*_, _/_, _%_, _^_, _≤_, _<_}
-use mathlib.Core.Path.{_≡_, refl, sym, ap, ap₂, _∙_, subst}
+use Prim.Native.Nat.{ℕ, _+_, _*_, _^_, _≤_, _<_}
+use mathlib.Core.Path.{_≡_, refl, sym, ap, _∙_, subst}
 use mathlib.Core.Bool.{Bool, true, false, false≢true}
-use mathlib.Core.List.{List, [], _∷_}
+use mathlib.Core.List.{List, []}
 use native.Mathlib.Omega.{arith}
 use lib.Dec.{T}
 use lib.ListN.{length, getD}
-use Rattle.permset.specs.Sets.{width, within, member}
+use Rattle.permset.specs.Sets.{width, within}
 use Rattle.table.specs.declared.Item.{Item}
 use Rattle.table.specs.declared.Item.the-variants as items
 use Rattle.table.specs.declared.Term.{Term}
@@ -19,7 +19,7 @@ use Rattle.table.proofs.Linked.{linked as code-linked}
 use Rattle.table.proofs.LinkMeaning.{link-end}
 use Rattle.table.proofs.Nodes.{itemNode, nodeAt, node-item}
 use Rattle.table.proofs.Widths.{names-most}
-use Rattle.calculus.specs.Elements.{plain, made, makes, isFunction}
+use Rattle.calculus.specs.Elements.{plain, made}
 use Rattle.calculus.specs.Layout.{rowWords}
 use Rattle.calculus.proofs.Fitting.{constant-lt, sign-lt, body-lt}
 use Rattle.rows.specs.declared.layout.Layout.{Layout}

@@ -6,7 +6,6 @@ use native.Mathlib.Omega.{arith}
 use types.Run.{OneOf, miss}
 use denote.Enum.Declared.{tagOf}
 use Rattle.calculus.specs.Constraint.{none}
-use Rattle.calculus.specs.Estimate.{facts}
 use Rattle.calculus.proofs.Folds.{fire-none}
 use Rattle.rows.specs.declared.layout.Layout.{Layout}
 use Rattle.clauses.specs.declared.What.{What}

@@ -28,11 +28,10 @@ pub record Sends (ws masks est : List ℕ) (l : Layout) (e : Effect) (own : Send
   pub block : own .home ≡ code ws .home (e .x)
   pub homed : own .home < l .size
 
--- a send at a term of the table, to all blocks or (f not 0) to one
-pub record Sending (ws : List ℕ) (l : Layout) (e : Effect) (f : ℕ) : Type 0 where
+-- a send at a term of the table
+pub record Sending (ws : List ℕ) (l : Layout) (e : Effect) : Type 0 where
   pub word : e .x + 1 < l .size
   pub message : e .y < l .size
   pub required : e .z < 2 ^ width
-  pub target : f < l .size
   pub term : Term
   pub there : itemAt ws (e .x) ≡ items.Term term

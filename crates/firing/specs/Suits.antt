@@ -1,5 +1,5 @@
 -- What a clause must be for it to be fired: what it looks at and writes are words and rows of the table.
-use Prim.Native.Nat.{ℕ, _+_, _*_, _^_, _<_, _≤_}
+use Prim.Native.Nat.{ℕ, _+_, _*_, _^_, _<_}
 use mathlib.Core.Path.{_≡_}
 use mathlib.Core.List.{List}
 use Rattle.permset.specs.Sets.{width}
@@ -9,7 +9,6 @@ use Rattle.table.specs.Item.{itemAt}
 use Rattle.rows.specs.declared.layout.Layout.{Layout}
 use Rattle.clauses.specs.declared.What.{What}
 use Rattle.clauses.specs.declared.What.the-variants as whats
-use Rattle.clauses.specs.declared.Effect.{Effect}
 use Rattle.clauses.specs.declared.Clause.{Clause}
 use Rattle.queries.specs.Passes.{Looks}
 use Rattle.firing.specs.Placed.{Each}
@@ -47,8 +46,3 @@ module _ (l : Layout) (masks : List ℕ) where
   pub record Suits (ws : List ℕ) (k : Clause) : Type 0 where
     pub guard : Looks l (k .guard)
     pub effect : Fitting ws (k .effect .what) (k .effect .x) (k .effect .y) (k .effect .z)
-
-  -- an effect that may be added, for all its targets or for the target f
-  pub record Addable (ws : List ℕ) (e : Effect) (f : ℕ) : Type 0 where
-    pub fitting : Fitting ws (e .what) (e .x) (e .y) (e .z)
-    pub target : f < l .size

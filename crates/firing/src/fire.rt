@@ -19,12 +19,8 @@ use clauses::Effect;
 use clauses::What;
 use queries::holds;
 use rows::layout::Layout;
-ghost use mathlib.Core.Path.{_≡_};
-ghost use Prim.Native.Nat.{_+_, _<_, _≤_};
-ghost use lib.ListN.{length};
 ghost use Rattle.table.specs.declared.Item.the-variants as items;
-ghost use Rattle.table.specs.Item.{itemAt};
-ghost use Rattle.table.specs.Code.{code};
+ghost use Rattle.table.specs.Code.{Linked, code};
 ghost use Rattle.calculus.specs.Layout.{WellFormed};
 ghost use Rattle.clauses.specs.Asks.{things, blocks, effect, asks};
 ghost use Rattle.queries.specs.Passes.{Masked};
@@ -33,7 +29,7 @@ ghost use Rattle.rows.specs.Laid.{Sized};
 ghost use Rattle.firing.specs.Fired.{Fired, FiredFor};
 ghost use Rattle.firing.specs.Placed.{Each};
 ghost use Rattle.firing.specs.Sending.{Sending};
-ghost use Rattle.firing.specs.Suits.{Addable, Suits};
+ghost use Rattle.firing.specs.Suits.{Fitting, Suits};
 
 // An effect for all things, or (f not 0) for the thing f.
 fn fire_things(
@@ -44,8 +40,8 @@ fn fire_things(
     e: Effect,
     f: usize,
 ) -> usize
-    requires { ⌜ Sized l (now est) × Each l (now masks) e × (f < l .size) ⌝ }
-    ensures { λ r. ⌜ FiredFor l (λ c. Masked c l (now (masks .entry))) (λ c. things c (e .what) (e .x) (e .y) (e .z) f) (now (est .entry))
+    requires { ⌜ Sized l (now est) × Each l (now masks) e ⌝ }
+    ensures { λ r. ⌜ FiredFor l (λ c. Linked c × Masked c l (now (masks .entry))) (λ c. things c (e .what) (e .x) (e .y) (e .z) f) (now (est .entry))
         (now (est .exit)) r ⌝ }
 {
     if f == 0 {
@@ -66,7 +62,7 @@ fn fire_send(
     e: Effect,
     f: usize,
 ) -> usize
-    requires { ⌜ Ready (now words) (now links) (now masks) l × WellFormed (code (now words)) (now est) × Sending (now words) l e f ⌝ }
+    requires { ⌜ Ready (now words) (now links) (now masks) l × WellFormed (code (now words)) (now est) × Sending (now words) l e ⌝ }
     ensures { λ r. ⌜ Fired (code (now (words .entry))) (blocks (code (now (words .entry))) (e .x) (e .y) (e .z) f) (now (est .entry)) (now (est .exit)) r ⌝ }
 {
     let own = sender_of(words, links, e.x);
@@ -88,7 +84,8 @@ fn add(
     e: Effect,
     f: usize,
 ) -> usize
-    requires { ⌜ Ready (now words) (now links) (now masks) l × WellFormed (code (now words)) (now est) × Addable l (now masks) (now words) e f ⌝ }
+    requires { ⌜ Ready (now words) (now links) (now masks) l × WellFormed (code (now words)) (now est)
+        × Fitting l (now masks) (now words) (e .what) (e .x) (e .y) (e .z) ⌝ }
     ensures { λ r. ⌜ Fired (code (now (words .entry))) (effect (code (now (words .entry))) (e .what) (e .x) (e .y) (e .z) f) (now (est .entry))
         (now (est .exit)) r ⌝ }
 {
@@ -123,7 +120,7 @@ pub fn fire(
     k: Clause,
     f: usize,
 ) -> usize
-    requires { ⌜ Ready (now words) (now links) (now masks) l × WellFormed (code (now words)) (now est) × Suits l (now masks) (now words) k × (f < l .size) ⌝ }
+    requires { ⌜ Ready (now words) (now links) (now masks) l × WellFormed (code (now words)) (now est) × Suits l (now masks) (now words) k ⌝ }
     ensures { λ r. ⌜ Fired (code (now (words .entry))) (asks (code (now (words .entry))) k f) (now (est .entry)) (now (est .exit)) r ⌝ }
 {
     let guard = k.guard;

@@ -11,12 +11,12 @@ use rows::layout::Layout;
 use table::kind_of;
 use table_links::link_at;
 ghost use mathlib.Core.Path.{_≡_};
-ghost use Prim.Native.Nat.{_+_, _*_, _^_, _<_, _≤_};
+ghost use Prim.Native.Nat.{_+_, _*_, _<_, _≤_};
 ghost use lib.ListN.{length};
 ghost use Rattle.table.specs.Item.{handlerAt, itemAt, itemPerms};
 ghost use Rattle.table.specs.Links.{linkAt};
 ghost use Rattle.table.specs.Code.{code};
-ghost use Rattle.calculus.specs.Constraint.{C, B, P, L, put as Put, sub, each, _and_};
+ghost use Rattle.calculus.specs.Constraint.{P, L, put as Put, sub, each, _and_};
 ghost use Rattle.calculus.specs.Rules.{pass as Pass};
 ghost use Rattle.calculus.specs.Layout.{WellFormed};
 ghost use Rattle.rows.specs.Laid.{Sized};
@@ -139,9 +139,12 @@ pub fn send_one(
     own: Sender,
     b: usize,
 ) -> usize
-    requires { ⌜ Sends (now words) (now masks) (now est) l e own × (b < length (now words)) × (e .z < 4294967296) ⌝ }
+    requires { ⌜ Sends (now words) (now masks) (now est) l e own × (e .z < 4294967296) ⌝ }
     ensures { λ r. ⌜ Fired (code (now (words .entry))) (atBlock (code (now (words .entry))) (e .x) (e .y) (e .z) b) (now (est .entry)) (now (est .exit)) r ⌝ }
 {
+    if words.len() <= b {
+        return 0;
+    }
     if kind_of(words[b]) == 2 {
         send_to(words, est, masks, h, l, e, own, b)
     } else {

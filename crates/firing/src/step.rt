@@ -3,9 +3,7 @@ use crate::fire::fire;
 use clauses::make::clause;
 use queries::is_live;
 use rows::layout::Layout;
-ghost use mathlib.Core.Path.{_≡_};
 ghost use Prim.Native.Nat.{_<_};
-ghost use lib.ListN.{length};
 ghost use Rattle.table.specs.Code.{code};
 ghost use Rattle.calculus.specs.Layout.{WellFormed};
 ghost use Rattle.queries.specs.Ready.{Ready};
@@ -25,7 +23,7 @@ pub fn step(
     k: usize,
     f: usize,
 ) -> usize
-    requires { ⌜ Ready (now words) (now links) (now masks) l × WellFormed (code (now words)) (now est) × (p < l .size) × (f < l .size) ⌝ }
+    requires { ⌜ Ready (now words) (now links) (now masks) l × WellFormed (code (now words)) (now est) × (p < l .size) ⌝ }
     ensures { λ r. ⌜ Fired (code (now (words .entry))) (stepAt (now (words .entry)) (now (links .entry)) p k f) (now (est .entry)) (now (est .exit)) r ⌝ }
     ensures { λ _. ⌜ Kept (now (h .entry)) (now (h .exit)) ⌝ }
 {

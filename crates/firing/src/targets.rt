@@ -1,5 +1,4 @@
 // One row, or one word of permissions and flag, that grows. A row is lent from its own start, as a middle part of the estimate.
-use results::digit;
 use rows::layout::Layout;
 use rows::row;
 use worklist::notes::note_live;
@@ -15,7 +14,7 @@ ghost use Rattle.permset.specs.Sets.{width, member};
 ghost use Rattle.calculus.specs.Constraint.{P, L, put as Put, sub as Sub, only as Only, every};
 ghost use Rattle.calculus.specs.Rules.{fill as Fill, pass as Pass, part as Part};
 ghost use Rattle.calculus.specs.Layout.{masked, WellFormed};
-ghost use Rattle.rows.specs.Laid.{LaidOut, Sized};
+ghost use Rattle.rows.specs.Laid.{Sized};
 ghost use Rattle.rows.specs.Rows.{Poured};
 ghost use Rattle.clauses.specs.Asks.{rowAt, sortAt};
 ghost use Rattle.queries.specs.Passes.{Masked};
@@ -93,7 +92,9 @@ pub fn mark(est: &mut [u32], l: Layout, r: usize, v: usize) -> usize
     requires { ⌜ (r * l .row + l .row ≤ length (now est)) × (v < 32 * l .row) ⌝ }
     ensures { λ x. ⌜ FiredIn l (Put (rowAt r) v) (now (est .entry)) (now (est .exit)) x ⌝ }
 {
-    put_bits(est, l.row, r, v / 32, digit((v % 32) as u32))
+    let row = l.row;
+    let at = r * row;
+    row::put(&mut est[at..at + row], v)
 }
 
 // Element v in the row r, and the row is noted.
@@ -193,7 +194,8 @@ fn start(est: &mut [u32], l: Layout, q: usize) -> usize
     requires { ⌜ Sized l (now est) × (q < l .size) ⌝ }
     ensures { λ x. ⌜ FiredIn l (Put (L q) 0) (now (est .entry)) (now (est .exit)) x ⌝ }
 {
-    gain(est, l, q, 16777216)
+    let at = l.flags(q);
+    row::put(&mut est[at..at + 1], 24)
 }
 
 // q is live, and is noted.

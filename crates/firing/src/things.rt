@@ -7,9 +7,8 @@ use clauses::What;
 use queries::has_thing;
 use queries::next_thing;
 use rows::layout::Layout;
-ghost use mathlib.Core.Path.{_≡_};
-ghost use Prim.Native.Nat.{suc, _+_, _*_, _<_, _≤_};
-ghost use lib.ListN.{length};
+ghost use Prim.Native.Nat.{_+_, _*_};
+ghost use Rattle.table.specs.Code.{Linked};
 ghost use Rattle.rows.specs.Laid.{Sized};
 ghost use Rattle.calculus.specs.Constraint.{every};
 ghost use Rattle.clauses.specs.Asks.{forThing, atThing};
@@ -60,7 +59,7 @@ pub fn each_thing(est: &mut [u32], masks: &[u32], h: &mut [u32], l: Layout, e: E
     added
 }
 
-// The effect for the thing f, where C(x + 1) and the mask z have it.
+// The effect for the thing f, where C(x + 1) and the mask z have it. Past the table there is none.
 pub fn one_thing(
     est: &mut [u32],
     masks: &[u32],
@@ -69,10 +68,13 @@ pub fn one_thing(
     e: Effect,
     f: usize,
 ) -> usize
-    requires { ⌜ Sized l (now est) × Each l (now masks) e × (f < l .size) ⌝ }
-    ensures { λ r. ⌜ FiredFor l (λ c. Masked c l (now (masks .entry))) (λ c. atThing c (e .what) (e .x) (e .y) (e .z) f) (now (est .entry))
+    requires { ⌜ Sized l (now est) × Each l (now masks) e ⌝ }
+    ensures { λ r. ⌜ FiredFor l (λ c. Linked c × Masked c l (now (masks .entry))) (λ c. atThing c (e .what) (e .x) (e .y) (e .z) f) (now (est .entry))
         (now (est .exit)) r ⌝ }
 {
+    if l.size <= f {
+        return 0;
+    }
     let what = e.what;
     let x = e.x;
     let y = e.y;

@@ -6,9 +6,9 @@ use mathlib.Core.List.{List}
 use native.Mathlib.Omega.{arith}
 use lib.ListN.{length}
 use Rattle.table.specs.Code.{Code, code, Linked}
-use Rattle.calculus.specs.Constraint.{Sets, Rule, Obeys, B, C, put, only, _and_}
+use Rattle.calculus.specs.Constraint.{Rule, Obeys, B, C, put, _and_}
 use Rattle.calculus.specs.Elements.{opponentRecord}
-use Rattle.calculus.specs.Rules.{live, fill, guarded, entry, rule, Estimate}
+use Rattle.calculus.specs.Rules.{live, fill, guarded, entry, rule}
 use Rattle.calculus.specs.Layout.{sets, WellFormed, LiesIn}
 use Rattle.calculus.specs.Estimate.{fire, facts}
 use Rattle.calculus.proofs.Slices.{_≼_}

@@ -8,14 +8,14 @@ use native.Mathlib.Nat.{zero-add, add-zero}
 use native.Mathlib.Omega.{arith}
 use borrow.Author.Count.{below-more}
 use Rattle.table.specs.Code.{Code, code}
-use Rattle.calculus.specs.Constraint.{L, Rule, Obeys, given}
+use Rattle.calculus.specs.Constraint.{L, Obeys, given}
 use Rattle.calculus.specs.Elements.{plain}
 use Rattle.calculus.specs.Rules.{entry, rule}
 use Rattle.calculus.specs.Layout.{sets, WellFormed}
 use Rattle.calculus.specs.Estimate.{fire}
 use Rattle.clauses.specs.declared.Clause.{Clause}
-use Rattle.clauses.specs.Asks.{asks, under, effect}
-use Rattle.clauses.specs.Clauses.{never, clauseAt}
+use Rattle.clauses.specs.Asks.{asks, under}
+use Rattle.clauses.specs.Clauses.{never}
 use Rattle.clauses.proofs.Few.{few-clauses}
 use Rattle.rows.specs.declared.layout.Layout.{Layout}
 use Rattle.queries.specs.Ready.{Ready}

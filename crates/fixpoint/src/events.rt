@@ -58,7 +58,7 @@ fn pick(out: &[u32], p: usize, i: usize) -> Choice
     }
 }
 
-// One choice. A word or a target past the table is none.
+// One choice. A word past the table has none.
 fn take(
     words: &[u32],
     links: &[u32],
@@ -72,14 +72,10 @@ fn take(
     ensures { λ r. ⌜ Taken (now (words .entry)) (now (links .entry)) (l .size) c (now (est .entry)) (now (est .exit)) r ⌝ }
 {
     let p = c.place;
-    let f = c.target;
     if l.size <= p {
         return 0;
     }
-    if l.size <= f {
-        return 0;
-    }
-    step(words, links, masks, est, h, l, p, c.clause, f)
+    step(words, links, masks, est, h, l, p, c.clause, c.target)
 }
 
 // All clauses of the word p, or all choices of the list, until more than `room` facts are added.

@@ -31,10 +31,6 @@ module _ (v : Verdict) (h : v .leak < 2 ^ 24) where
   unfolding answerNumber
   verdict-leak = parts (v .leak) (v .over) h .0
 
-  pub verdict-small : answerNumber (verdict v) < 2 ^ 25
-  unfolding answerNumber
-  verdict-small = parts (v .leak) (v .over) h .1
-
   pub verdict-within : ltb (answerNumber (verdict v)) (2 ^ 24) ≡ not (v .over)
   unfolding answerNumber
   verdict-within = parts (v .leak) (v .over) h .2

@@ -1,5 +1,5 @@
 -- The place of a refusal, which has 16 digits in the number of an answer.
-use Prim.Native.Nat.{ℕ, _<_}
+use Prim.Native.Nat.{_<_}
 use Rattle.comparison.specs.declared.Verdict.{Verdict}
 use Rattle.comparison.specs.declared.Verdict.the-variants.{Refused, Within, Over}
 use Rattle.calls.specs.Faults.{faultPlace}

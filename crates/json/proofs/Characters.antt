@@ -1,18 +1,18 @@
 -- The productions of strings, by their first byte, and what the answers of the reader make of them.
 -- Assumes nothing.
-use Prim.Native.Nat.{ℕ, zero, suc, _+_, _-_, _*_, _/_, _%_, _<_, _≤_}
+use Prim.Native.Nat.{ℕ, _+_, _-_, _*_, _/_, _%_, _<_, _≤_}
 use native.Mathlib.Omega.{arith}
 use native.Mathlib.Decide.{decLt}
 use mathlib.Core.Path.{_≡_, refl, sym, ap, ap₂, _∙_}
 use mathlib.Core.Bool.{Bool, true, false, _&&_}
 use mathlib.Core.List.{List, [], _∷_}
 use lib.Dec.{eqb, leb, ltb}
-use lib.ListN.{length, drop}
+use lib.ListN.{drop}
 use borrow.Author.Tests.{lt-ltb, le-ltb, lt-leb, ne-eqb}
 use Rattle.json.specs.declared.strings.Scalar.{Scalar}
 use Rattle.json.specs.declared.strings.Scalar.the-variants.{Bad, Code}
-use Rattle.json.specs.Bytes.{head, tail, within, Step, fails, goes, ends}
-use Rattle.json.specs.Strings.{hexOf, Point, bad, point, hexed, unitsOf, pointed, hexUnit, escapeOf, escaped, continued, low, high, second, pointOf, character}
+use Rattle.json.specs.Bytes.{head, tail, within, fails, goes, ends}
+use Rattle.json.specs.Strings.{hexOf, bad, point, hexed, unitsOf, pointed, hexUnit, escapeOf, escaped, continued, low, high, second, pointOf, character}
 use Rattle.json.specs.Answers.{placed}
 use Rattle.json.proofs.Places.{tail-drop}
 

@@ -3,7 +3,7 @@
 use Prim.Native.Nat.{ℕ, zero, suc, _<_, _≤_}
 use native.Mathlib.Nat.{le-refl, le-trans}
 use native.Mathlib.Omega.{arith}
-use mathlib.Core.Path.{_≡_, refl, sym, subst}
+use mathlib.Core.Path.{subst}
 use mathlib.Core.Bool.{Bool, true, false, _||_}
 use mathlib.Core.List.{List, [], _∷_}
 use lib.Dec.{eqb, ltb}
@@ -11,7 +11,7 @@ use lib.ListN.{length}
 use borrow.Author.Needs.{zero≤}
 use Rattle.json.specs.Bytes.{head, tail, within, Rest, nothing, rest, then, Step, fails, goes, ends, afterBy, after, isSpace, space}
 use Rattle.json.specs.Numbers.{isDigit, digits, someDigits, minus, int, frac, sign, exp, number}
-use Rattle.json.specs.Strings.{Point, bad, point, hexOf, hexed, hexUnit, unitsOf, pointed, escapeOf, escaped, continued, low, high, second, pointOf, character, string}
+use Rattle.json.specs.Strings.{Point, bad, point, hexOf, hexed, hexUnit, pointed, escapeOf, escaped, continued, low, high, second, pointOf, character, string}
 use Rattle.json.specs.Values.{literal, Start, plain, opens, start, closing, mark, name, separated, separatedAfter, item, items, value}
 use Rattle.json.proofs.Repetition.{Narrow}
 

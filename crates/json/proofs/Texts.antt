@@ -4,17 +4,17 @@ use Prim.Native.Nat.{ℕ, zero, suc, _+_, _<_, _≤_}
 use native.Mathlib.Numerals.{add-one}
 use native.Mathlib.Decide.{decLt}
 use native.Mathlib.Omega.{arith}
-use mathlib.Core.Path.{_≡_, refl, sym, ap, ap₂, _∙_}
+use mathlib.Core.Path.{_≡_, sym, ap, ap₂, _∙_}
 use mathlib.Core.Bool.{Bool, true, false}
 use mathlib.Core.List.{List, [], _∷_}
 use lib.Dec.{eqb, leb}
 use lib.ListN.{length, getD, drop, drop-of-length-le}
 use lib.Seq.{drop-cons}
 use borrow.Author.Tests.{eq-eqb, ne-eqb, le-leb, lt-leb}
-use Rattle.json.specs.Bytes.{head, tail, Rest, nothing, rest, then, Step, fails, goes, ends, after, space}
+use Rattle.json.specs.Bytes.{head, tail, Rest, nothing, rest, then, fails, goes, ends, after, space}
 use Rattle.json.specs.Numbers.{number}
 use Rattle.json.specs.Strings.{string}
-use Rattle.json.specs.Values.{literal, Start, plain, opens, start, closing, mark, name, separated, item, items, first, value, over, isText}
+use Rattle.json.specs.Values.{literal, plain, opens, start, closing, mark, name, separated, item, items, first, value, over, isText}
 use Rattle.json.proofs.Places.{tail-drop}
 
 -- ---- a word, byte by byte

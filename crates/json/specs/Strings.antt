@@ -1,7 +1,7 @@
 -- Strings (RFC 8259, sections 7 and 8) as UTF-16 code units: an escape `\u` is one unit, so a surrogate that stands alone is itself,
 -- and two that make a pair are the pair of the character that UTF-8 would have spelled.
-use Prim.Native.Nat.{ℕ, zero, suc, _+_, _-_, _*_, _/_, _%_, _^_}
-use mathlib.Core.Bool.{Bool, true, false, _&&_}
+use Prim.Native.Nat.{ℕ, suc, _+_, _-_, _*_, _/_, _%_, _^_}
+use mathlib.Core.Bool.{true, false}
 use mathlib.Core.List.{List, [], _∷_}
 use lib.Dec.{eqb, ltb}
 use lib.ListN.{length}

@@ -1,7 +1,7 @@
 // A byte of a text, and white space.
 ghost use mathlib.Core.Path.{_≡_};
 ghost use mathlib.Core.Bool.{_&&_, _||_};
-ghost use lib.Dec.{eqb, leb};
+ghost use lib.Dec.{eqb};
 ghost use lib.ListN.{drop};
 ghost use Rattle.json.specs.Bytes.{head, within, isSpace, space};
 

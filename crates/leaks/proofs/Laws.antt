@@ -1,12 +1,10 @@
 -- Laws of the text of `leak`: a system's under a ceiling, a listing's, and numbers that may be left out.
-use Prim.Native.Nat.{ℕ, zero, suc, _+_, _*_, _-_, _^_, _<_, _≤_}
+use Prim.Native.Nat.{ℕ, _-_, _≤_}
 use mathlib.Core.Path.{_≡_, refl, sym, ap, ap₂, _∙_}
 use mathlib.Core.List.{List, [], _∷_}
-use native.Mathlib.Nat.{mul-le-mul}
 use native.Mathlib.Omega.{arith}
 use lib.ListN.{length}
-use Rattle.table.specs.Code.{code}
-use Rattle.calculus.specs.Answer.{Answer, refused, answer}
+use Rattle.calculus.specs.Answer.{Answer, refused}
 use Rattle.verdict.specs.Limits.{answerUnder}
 use Rattle.verdict.proofs.Room.{answer-largest}
 use Rattle.solver.specs.Ceiling.{under}

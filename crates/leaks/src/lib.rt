@@ -11,10 +11,10 @@ use listing::numbers::refusal_place;
 use listing::read::read;
 use report::refusal_line;
 ghost use mathlib.Core.Path.{_≡_};
-ghost use Prim.Native.Nat.{_+_, _≤_};
+ghost use Prim.Native.Nat.{_≤_};
 ghost use lib.ListN.{length};
 ghost use Rattle.text.specs.Writing.{Wrote};
-ghost use Rattle.commands.specs.Printed.{room, printedSize, outAfter};
+ghost use Rattle.commands.specs.Printed.{printedSize, outAfter};
 ghost use Rattle.leaks.specs.Leak.{listingLeak, valueOr, valuesText, leakText};
 
 // The text of a listing's system, or its refusal.

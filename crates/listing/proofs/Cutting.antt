@@ -1,6 +1,6 @@
 -- A text cut into lines, one line after the other.
 use Prim.Native.Nat.{ℕ, zero, suc, _+_, _-_, _<_, _≤_}
-use mathlib.Core.Path.{_≡_, refl, sym, ap, ap₂, _∙_, subst}
+use mathlib.Core.Path.{_≡_, refl, sym, ap, _∙_}
 use mathlib.Core.Bool.{Bool, true, false}
 use mathlib.Core.List.{List, [], _∷_, map}
 use native.Mathlib.Nat.{add-zero}
@@ -10,7 +10,7 @@ use lib.Dec.{eqb}
 use lib.ListN.{length, getD, take, drop, set, length-drop, length-map, drop-of-length-le}
 use lib.Seq.{take-all, drop-cons, drop-drop, getD-drop, getD-take}
 use borrow.Author.Tests.{eq-eqb, ne-eqb}
-use Rattle.listing.specs.Spelling.{space, feed}
+use Rattle.listing.specs.Spelling.{feed}
 use Rattle.listing.specs.Listing.{onto, cut, indent, wordIn, wordsOf, indents, misspelled}
 use Rattle.listing.specs.Decoding.{lineSize, Taken}
 use Rattle.listing.proofs.Taken.{taken-more}

@@ -2,7 +2,7 @@
 use Prim.Native.Nat.{ℕ, zero, suc, _+_, _<_, _≤_}
 use mathlib.Core.Path.{_≡_, refl, sym, ap, _∙_, subst}
 use mathlib.Core.Logic.{⊎-elim}
-use mathlib.Core.Bool.{Bool, true, false}
+use mathlib.Core.Bool.{Bool}
 use mathlib.Core.List.{List, [], _∷_, _++_, map, map-append}
 use native.Mathlib.Nat.{add-zero}
 use native.Mathlib.Numerals.{add-one}
@@ -11,7 +11,7 @@ use lib.ListN.{length, getD, drop, replicate, length-append, length-drop, length
 use lib.Seq.{getD-drop, drop-drop}
 use borrow.Author.Tests.{eq-eqb, ne-eqb, lt-ltb, le-ltb}
 use Rattle.table.specs.Words.{kind, argument, size, parts, arity}
-use Rattle.table.specs.Scan.{Task, head, name, perms, guard, term, accepted, refused, next, under, keep, scan, namesAt, narrowReading}
+use Rattle.table.specs.Scan.{Task, head, name, perms, guard, term, accepted, next, under, keep, scan, namesAt, narrowReading}
 use Rattle.table.specs.Code.{tasks, taskAt}
 use Rattle.table.proofs.Faults.{Stands, stands}
 use Rattle.table.proofs.Stack.{At, at-start, at-step, at-end, refused-not-accepted, scan-step, scan-missing}

@@ -3,14 +3,13 @@ use Prim.Native.Nat.{ℕ, zero, suc, _+_, _-_, _*_, _%_, _^_, _<_, _≤_}
 use mathlib.Core.Path.{_≡_, refl, sym, ap, ap₂, _∙_}
 use mathlib.Core.Bool.{Bool, true, false, not, _&&_, false≢true}
 use mathlib.Core.List.{List, [], _∷_}
-use native.Mathlib.Nat.{add-zero}
 use native.Mathlib.Numerals.{add-one}
 use native.Mathlib.Omega.{arith}
 use lib.Dec.{eqb, eqb·zero-suc, eqb·suc-suc}
 use lib.ListN.{length, getD, drop, drop-of-length-le, List·getD-eq-default}
 use lib.Seq.{drop-cons, drop-drop, getD-drop}
 use borrow.Author.Tests.{eq-eqb, ne-eqb, eqb-true}
-use Rattle.listing.specs.Keywords.{Style, omitted, hex, whole, signed, Entry, unused, entries, entryOf, used}
+use Rattle.listing.specs.Keywords.{hex, whole, signed, Entry, unused, entries, entryOf, used}
 use Rattle.listing.specs.Spelling.{prefix, kindFrom, guessedKind, digitOf, folded, guessedArgument, guessed, same, spelled, spells, lineWord}
 
 -- ---- prefixes

@@ -1,11 +1,11 @@
 -- The lines of an accepted table, one after the other.
-use Prim.Native.Nat.{ℕ, suc, _+_, _*_, _<_, _≤_}
-use mathlib.Core.Path.{_≡_, refl, sym, ap, ap₂, _∙_, subst}
+use Prim.Native.Nat.{ℕ, _+_, _*_, _<_, _≤_}
+use mathlib.Core.Path.{_≡_, refl, sym, ap, ap₂, _∙_}
 use mathlib.Core.Logic.{⊎-elim}
-use mathlib.Core.List.{List, [], _∷_, _++_}
+use mathlib.Core.List.{List, [], _++_}
 use native.Mathlib.Numerals.{add-one}
 use native.Mathlib.Omega.{arith}
-use lib.ListN.{length, getD, take, drop, replicate, length-append, length-replicate, length-drop, length-take, drop-of-length-le, take-append-drop}
+use lib.ListN.{length, getD, take, drop, replicate, length-append, length-replicate, length-drop, length-take, drop-of-length-le}
 use lib.Seq.{drop-cons, take-all, getD-take, take-add, take-append-seam, drop-append-seam, drop-drop}
 use Rattle.table.specs.Words.{kind}
 use Rattle.text.specs.Writing.{Wrote}

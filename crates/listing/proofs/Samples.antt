@@ -2,14 +2,13 @@
 use Prim.Native.Nat.{ℕ, _^_}
 use mathlib.Core.Path.{_≡_, refl}
 use mathlib.Core.List.{List, [], _∷_, map}
-use lib.ListN.{length}
-use Rattle.table.specs.Words.{wordOf, parts, partsByKind, limit, limitsByKind, namesOf}
-use Rattle.table.specs.Scan.{next, firstOf, has, tests, fault, missing, keep, under, scan, reading, narrowReading}
+use Rattle.table.specs.Words.{wordOf, parts, partsByKind}
+use Rattle.table.specs.Scan.{next, under}
 use Rattle.table.specs.Code.{tasks, trace}
 use Rattle.text.specs.Text.{bytes, numeral, digits, glyph, set, decimal}
 use Rattle.listing.specs.Keywords.{entries, entryOf, used}
 use Rattle.listing.specs.Spelling.{spelled, lineOf, spelledArgument, signedDecimal, lineWord, guessedKind, kindFrom, prefix, guessed, guessedArgument, folded, same, spells}
-use Rattle.listing.specs.Listing.{Answered, done, refusal, listing, depths, depthOf, lines, tested, written, readAs, cut, onto, indent, indents, wordIn, wordsOf, misspelled, misplaced, placed, tabled, spelt}
+use Rattle.listing.specs.Listing.{listing, depths, depthOf, lines}
 
 abbrev relay : List ℕ
 relay =

@@ -4,14 +4,13 @@ use mathlib.Core.Path.{_≡_, refl, sym, ap, ap₂, _∙_, subst}
 use mathlib.Core.Logic.{⊎-elim}
 use mathlib.Core.Bool.{Bool, true, false, not, _&&_, false≢true}
 use mathlib.Core.List.{List, [], _∷_, _++_, map, append-assoc}
-use native.Mathlib.Nat.{add-zero}
 use native.Mathlib.Omega.{arith}
 use lib.Dec.{eqb, leb, ltb, T, leb→le}
-use lib.ListN.{length, getD, drop, take, replicate, length-append, length-map, length-replicate, take-append-drop}
-use lib.Seq.{drop-append-seam, drop-at}
-use borrow.Author.Tests.{eq-eqb, ne-eqb, eqb-true, eqb-false, ltb-true, ltb-false, lt-ltb, le-ltb}
-use Rattle.table.specs.Words.{kind, argument, wordOf, limit, limitsByKind, firstKind}
-use Rattle.table.specs.Scan.{Task, head, name, perms, guard, term, Outcome, accepted, refused, namesAt, narrowReading}
+use lib.ListN.{length, getD, drop, replicate, length-map, length-replicate}
+use lib.Seq.{drop-at}
+use borrow.Author.Tests.{eq-eqb, ne-eqb, eqb-true, ltb-true, ltb-false}
+use Rattle.table.specs.Words.{kind, argument, limit, limitsByKind, firstKind}
+use Rattle.table.specs.Scan.{Task, head, name, perms, guard, term, accepted, namesAt, narrowReading}
 use Rattle.table.specs.Code.{taskAt}
 use Rattle.table.proofs.Faults.{Stands}
 use Rattle.table.proofs.Stack.{reach}
@@ -21,11 +20,10 @@ use Rattle.table.proofs.TermWords.{argument-lt}
 use Rattle.table.proofs.Constants.{at}
 use Rattle.text.specs.Text.{decimal, set}
 use Rattle.listing.specs.Keywords.{Style, omitted, hex, whole, signed, Entry, unused, entries, entryOf, used}
-use Rattle.listing.specs.Spelling.{space, feed, minus, signedDecimal, spelledArgument, lineOf, spelled, prefix, guessedKind, guessed, same, spells, lineWord}
-use Rattle.listing.specs.Listing.{Answered, done, refusal, most, tested, depths, indented, lines, listing, written, onto, cut, indent, wordIn, wordsOf, indents, misspelled, misplaced, placed, tabled, spelt, readAs}
+use Rattle.listing.specs.Spelling.{space, feed, signedDecimal, spelledArgument, lineOf, spelled, same, lineWord}
+use Rattle.listing.specs.Listing.{indented, lines, onto, cut, indent, wordIn, wordsOf, indents, misspelled, misplaced}
 use Rattle.listing.proofs.Styles.{signed-low, signed-high}
 use Rattle.listing.proofs.Undone.{High, decimal-high, set-high, Kept, Known, kind-some, word-undone}
-use Rattle.listing.proofs.Depths.{depths-length}
 use Rattle.listing.proofs.Cutting.{cut-feed, cut-other, onto-line, cut-none, misspelled-next}
 use Rattle.listing.proofs.Guessing.{spells-sound}
 

@@ -1,6 +1,6 @@
 -- What writer and reader are for: an accepted system has one text, reading it gives the same words, and the reader accepts no other text.
 use Prim.Native.Nat.{ℕ, zero, suc, _≤_}
-use mathlib.Core.Path.{_≡_, refl, sym, ap, ap₂, _∙_, subst}
+use mathlib.Core.Path.{_≡_, refl, sym, ap, ap₂, _∙_}
 use mathlib.Core.Bool.{Bool, true, false}
 use mathlib.Core.List.{List, [], _∷_}
 use native.Mathlib.Omega.{arith}
@@ -8,7 +8,7 @@ use lib.Dec.{ltb}
 use lib.ListN.{length}
 use borrow.Author.Tests.{ltb-false}
 use Rattle.table.specs.Scan.{Outcome, accepted, refused, firstOf, narrowReading}
-use Rattle.listing.specs.Listing.{Answered, done, refusal, most, tested, depths, lines, listing, written, wordsOf, indents, misspelled, misplaced, placed, tabled, spelt, readAs}
+use Rattle.listing.specs.Listing.{Answered, done, refusal, most, tested, depths, listing, written, wordsOf, indents, misspelled, misplaced, placed, tabled, spelt, readAs}
 use Rattle.listing.proofs.Depths.{depths-length}
 use Rattle.listing.proofs.Answers.{read-spelt, spelt-table, place-done}
 use Rattle.listing.proofs.Texts.{doubled, words-undone, spaces-undone, none-misspelled, none-misplaced, all-known, text-sound}

@@ -1,21 +1,21 @@
 -- Guessing undoes spelling: the word of a spelled word is that word.
-use Prim.Native.Nat.{ℕ, zero, suc, _+_, _-_, _*_, _/_, _%_, _^_, _<_, _≤_}
+use Prim.Native.Nat.{ℕ, zero, suc, _+_, _-_, _*_, _%_, _^_, _<_, _≤_}
 use mathlib.Core.Path.{_≡_, refl, sym, ap, ap₂, _∙_, subst}
-use mathlib.Core.Bool.{Bool, true, false, not, _&&_}
+use mathlib.Core.Bool.{Bool, true, false, _&&_}
 use mathlib.Core.List.{List, [], _∷_, _++_, map, append-assoc}
 use native.Mathlib.Nat.{mod-eq-of-lt, add-mod, mod-mod, mul-zero, mul-suc, add-zero, zero-add, add-suc, suc-add}
 use native.Mathlib.Omega.{arith}
 use lib.Dec.{eqb, leb, ltb, T, lit<, lit≤, eqb→eq, leb→le}
-use lib.ListN.{length, getD, drop, take, replicate}
+use lib.ListN.{length, getD, drop, replicate}
 use lib.Seq.{drop-append-seam}
-use borrow.Author.Tests.{eq-eqb, ne-eqb, lt-ltb, le-ltb, ltb-true, ltb-false}
-use Rattle.table.specs.Words.{kind, argument, wordOf}
-use Rattle.table.proofs.TermWords.{kind-wordOf, argument-wordOf, wordOf-parts, argument-lt}
+use borrow.Author.Tests.{eq-eqb, ne-eqb, ltb-true, ltb-false}
+use Rattle.table.specs.Words.{kind, argument}
+use Rattle.table.proofs.TermWords.{wordOf-parts}
 use Rattle.table.proofs.Constants.{at}
 use Rattle.text.specs.Text.{digits, value, glyph, numeral, decimal, set}
 use Rattle.text.proofs.Digits.{Below, digits-below, digits-value}
 use Rattle.listing.specs.Keywords.{Style, omitted, hex, whole, signed, Entry, unused, entries, entryOf, used}
-use Rattle.listing.specs.Spelling.{space, feed, minus, signedDecimal, spelledArgument, lineOf, spelled, prefix, kindFrom, guessedKind, digitOf, folded, guessedArgument, guessed, same, spells, lineWord}
+use Rattle.listing.specs.Spelling.{space, feed, minus, spelledArgument, lineOf, spelled, prefix, kindFrom, guessedKind, digitOf, folded, guessedArgument, guessed, lineWord}
 use Rattle.listing.proofs.Styles.{signed-low, signed-high}
 use Rattle.listing.proofs.Guessing.{argument-minus, argument-plus, guessed-as, spells-yes}
 

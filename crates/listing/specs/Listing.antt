@@ -4,7 +4,7 @@ use mathlib.Core.Bool.{Bool, true, false}
 use mathlib.Core.List.{List, [], _∷_, _++_, map}
 use lib.Dec.{eqb, ltb}
 use lib.ListN.{length, drop, replicate}
-use Rattle.table.specs.Scan.{Task, head, name, perms, guard, term, Outcome, accepted, refused, firstOf, narrowReading}
+use Rattle.table.specs.Scan.{Task, head, name, perms, guard, term, accepted, refused, firstOf, narrowReading}
 use Rattle.table.specs.Code.{tasks}
 use Rattle.listing.specs.Spelling.{space, feed, spelled, lineWord}
 

@@ -6,7 +6,7 @@ use crate::spell::style_at;
 ghost use mathlib.Core.Path.{_≡_};
 ghost use mathlib.Core.Bool.{_&&_};
 ghost use Prim.Native.Nat.{_<_, _≤_, _^_};
-ghost use lib.ListN.{length, drop};
+ghost use lib.ListN.{drop};
 ghost use Rattle.listing.specs.Keywords.{Style, styleLetter, entryOf, used};
 ghost use Rattle.listing.specs.Keywords.{letters as Keywords·letters};
 ghost use Rattle.listing.specs.Spelling.{prefix, guessedKind, digitOf, guessedArgument, lineWord};

@@ -11,7 +11,7 @@ ghost use Rattle.table.specs.Words.{kind};
 ghost use Rattle.text.specs.Writing.{Wrote, Line};
 ghost use Rattle.listing.specs.Keywords.{Style, styleLetter, entryOf};
 ghost use Rattle.listing.specs.Keywords.{letters as Keywords·letters};
-ghost use Rattle.listing.specs.Spelling.{signedDecimal, spelledArgument, spelled};
+ghost use Rattle.listing.specs.Spelling.{spelledArgument, spelled};
 
 // A number of 24 bits with its sign, and the space before it.
 fn signed_field(out: &mut [u8], at: usize, a: u32) -> usize

@@ -15,7 +15,7 @@ ghost use Rattle.table.specs.Words.{kind};
 ghost use Rattle.table.specs.Scan.{accepted, narrowReading};
 ghost use Rattle.text.specs.Writing.{Wrote};
 ghost use Rattle.listing.specs.Keywords.{letters as Keywords·letters};
-ghost use Rattle.listing.specs.Spelling.{space, spelled};
+ghost use Rattle.listing.specs.Spelling.{space};
 ghost use Rattle.listing.specs.Listing.{indented, listing, written, left, textAfter};
 ghost use Rattle.listing.specs.Listing.{depths as Listing·depths};
 ghost use Rattle.listing.specs.Answer.{answered};

@@ -1,9 +1,9 @@
 -- An accepted manifest has a version below 4 and a set within the 24 permissions.
 -- Assumes nothing.
 use Prim.Native.Nat.{ℕ, zero, suc, _*_, _^_, _<_, _≤_}
-use native.Mathlib.Nat.{le-refl, le-trans}
+use native.Mathlib.Nat.{le-refl}
 use native.Mathlib.Omega.{arith}
-use mathlib.Core.Path.{_≡_, refl, sym, ap, subst, _∙_}
+use mathlib.Core.Path.{_≡_, refl, sym, subst}
 use mathlib.Core.Bool.{Bool, true, false}
 use mathlib.Core.List.{List, [], _∷_}
 use lib.Dec.{eqb}
@@ -16,7 +16,7 @@ use Rattle.json.specs.Units.{matches}
 use Rattle.manifest.specs.Strings.{ascii, names, named, isHost, nameSet, hostSet, setOf}
 use Rattle.manifest.specs.Members.{members, repeated, find, Count, notStrings, strings}
 use Rattle.manifest.specs.Manifest.{Source, sources, total, goesOn, version, Outcome, refused, accepted, isObject, counts, judgedFrom, judged}
-use Rattle.manifest.proofs.Judged.{judged-not, judged-repeated, judged-unversioned, judged-versioned}
+use Rattle.manifest.proofs.Judged.{judged-repeated, judged-unversioned, judged-versioned}
 use Rattle.manifest.proofs.Unions.{unite, stringsOf, uniteAll, Sets, total-set}
 
 -- either way of a choice

@@ -1,17 +1,17 @@
 -- What a manifest says, test by test.
 -- Assumes nothing.
 use Prim.Native.Nat.{ℕ, zero, suc}
-use mathlib.Core.Path.{_≡_, refl, sym, ap, _∙_}
-use mathlib.Core.Bool.{Bool, true, false, _&&_}
-use mathlib.Core.List.{List, [], _∷_}
+use mathlib.Core.Path.{_≡_, refl}
+use mathlib.Core.Bool.{Bool, true, false}
+use mathlib.Core.List.{List, []}
 use lib.Dec.{eqb, leb}
 use lib.ListN.{length}
 use borrow.Author.Tests.{eq-eqb, ne-eqb}
 use Rattle.json.specs.Bytes.{head, tail, space}
 use Rattle.json.specs.Values.{value, first, startsFrom, parts, isText}
 use Rattle.manifest.specs.Strings.{ascii}
-use Rattle.manifest.specs.Members.{deepest, members, repeated, find, Count, notStrings, strings, listed}
-use Rattle.manifest.specs.Manifest.{Source, sources, total, version, Outcome, refused, accepted, isObject, counts, judgedFrom, judged}
+use Rattle.manifest.specs.Members.{deepest, members, repeated, find, Count, strings, listed}
+use Rattle.manifest.specs.Manifest.{sources, total, version, refused, isObject, counts, judgedFrom, judged}
 
 -- ---- the lists of a version
 

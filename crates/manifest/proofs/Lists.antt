@@ -1,13 +1,13 @@
 -- What a list of strings says, one element at a time.
 -- Assumes nothing.
 use Prim.Native.Nat.{ℕ, _+_}
-use mathlib.Core.Path.{_≡_, refl, sym, ap, ap₂, _∙_}
+use mathlib.Core.Path.{_≡_, refl, sym, ap, _∙_}
 use mathlib.Core.Bool.{Bool, true, false}
 use mathlib.Core.List.{List, [], _∷_}
 use lib.Dec.{eqb}
 use lib.ListN.{drop}
 use Rattle.permset.specs.Sets.{union}
-use Rattle.json.specs.Bytes.{head, tail, Rest, nothing, rest}
+use Rattle.json.specs.Bytes.{head, tail, nothing, rest}
 use Rattle.json.specs.Strings.{units}
 use Rattle.json.specs.Values.{value, first, startsFrom, parts}
 use Rattle.json.proofs.Places.{tail-drop}

@@ -11,7 +11,7 @@ use Rattle.json.specs.Units.{matches, contains}
 use Rattle.json.specs.Values.{literal, start, closing, mark, name, separated, item, items, first, startsFrom, parts, value, isText}
 use Rattle.manifest.specs.Strings.{ascii, named, isHost, nameSet, hostSet, setOf}
 use Rattle.manifest.specs.Members.{members, has, repeated, find, counted, listed}
-use Rattle.manifest.specs.Manifest.{sources, total, version, isObject, Outcome, refused, accepted, judgedFrom, judged}
+use Rattle.manifest.specs.Manifest.{sources, total, version, isObject, refused, accepted, judgedFrom, judged}
 
 abbrev pub texts : List (List ℕ)
 texts =

@@ -3,13 +3,13 @@
 use Prim.Native.Nat.{ℕ, zero, suc, _+_, _-_, _<_}
 use native.Mathlib.Numerals.{add-one}
 use native.Mathlib.Omega.{arith}
-use mathlib.Core.Path.{_≡_, refl, sym, ap, ap₂, _∙_}
+use mathlib.Core.Path.{_≡_, refl, ap, _∙_}
 use mathlib.Core.Bool.{Bool, true, false, _||_}
 use mathlib.Core.List.{List, [], _∷_, _++_}
 use lib.ListN.{length, take, drop}
 use Rattle.json.specs.declared.Ending.{Ending}
 use Rattle.json.specs.declared.Ending.the-variants as ending
-use Rattle.json.specs.Bytes.{Rest, nothing, rest, Step, fails, goes, ends, startsBy, starts}
+use Rattle.json.specs.Bytes.{nothing, Step, fails, goes, ends, startsBy, starts}
 use Rattle.json.specs.Answers.{ended}
 use Rattle.json.specs.Units.{matches}
 use Rattle.json.specs.Values.{name, value, item, startsFrom}

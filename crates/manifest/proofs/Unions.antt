@@ -1,15 +1,13 @@
 -- The set that a manifest gives is the union over the strings of the lists read, and lies within the 24 permissions.
 -- Assumes nothing.
-use Prim.Native.Nat.{ℕ, zero, suc, _+_, _*_, _^_, _<_, _≤_}
-use native.Mathlib.Decide.{ℕ-discrete}
-use native.Mathlib.Omega.{arith}
+use Prim.Native.Nat.{ℕ, _+_}
 use mathlib.Core.Path.{_≡_, refl, sym, ap, subst, _∙_}
 use mathlib.Core.Bool.{Bool, true, false}
-use mathlib.Core.List.{List, [], _∷_, map}
+use mathlib.Core.List.{List, [], _∷_}
 use lib.Dec.{eqb}
 use borrow.Author.Tests.{eqb-true}
 use Rattle.permset.specs.Sets.{union}
-use Rattle.permset.proofs.Laws.{union-absorbs, empty-within, union-lt}
+use Rattle.permset.proofs.Laws.{union-absorbs, empty-within}
 use Rattle.json.specs.Bytes.{head, tail, Rest, nothing, rest}
 use Rattle.json.specs.Strings.{units}
 use Rattle.json.specs.Values.{value, parts}

@@ -1,6 +1,6 @@
 -- The top members of a manifest: repeated keys, the value of a key, and what a list of strings says (document 02, wish 4).
 -- A member or a value is given by the bytes that start with it.
-use Prim.Native.Nat.{ℕ, suc, _+_}
+use Prim.Native.Nat.{ℕ, _+_}
 use mathlib.Core.Bool.{Bool, true, false, _||_}
 use mathlib.Core.List.{List, [], _∷_, _++_}
 use lib.Dec.{eqb}

@@ -2,7 +2,7 @@
 use Prim.Native.Nat.{ℕ, _+_, _-_, _*_, _%_, _/_, _≤_, _<_}
 use mathlib.Core.Path.{_≡_, refl, sym, ap, _∙_, subst}
 use mathlib.Core.Bool.{Bool, true, false, _&&_}
-use mathlib.Core.List.{List, [], _∷_}
+use mathlib.Core.List.{List}
 use mathlib.Core.Logic.{_⊎_, inl, inr, ⊎-elim}
 use native.Mathlib.Decide.{decLt, ℕ-discrete}
 use native.Mathlib.Omega.{arith}
@@ -14,7 +14,7 @@ use Rattle.permset.proofs.Laws.{member-empty}
 use Rattle.table.specs.Scan.{accepted, reading}
 use Rattle.table.specs.Code.{Code, code}
 use Rattle.calculus.specs.Elements.{plain, makes}
-use Rattle.calculus.specs.Layout.{bit, mark, pour, rowWords, Words}
+use Rattle.calculus.specs.Layout.{bit, mark, rowWords, Words}
 use Rattle.calculus.proofs.Digits.{T-and, T-fst, T-snd, T-true}
 use Rattle.calculus.proofs.Slices.{pour-words, pour-adds, pour-new, pour-has, length-mark, mark-words, mark-new, mark-has}
 use Rattle.rows.specs.declared.layout.Layout.{Layout}

@@ -1,14 +1,14 @@
 -- The sorts of elements: by what a word's item makes, and digits set in a list of words.
-use Prim.Native.Nat.{ℕ, _+_, _-_, _*_, _/_, _%_, _^_, _≤_, _<_}
-use mathlib.Core.Path.{_≡_, refl, sym, ap, ap₂, _∙_, subst}
+use Prim.Native.Nat.{ℕ, _+_, _-_, _*_, _/_, _%_, _≤_, _<_}
+use mathlib.Core.Path.{_≡_, refl, sym, ap, ap₂, _∙_}
 use mathlib.Core.Bool.{Bool, true, false, not, _&&_, _||_}
 use mathlib.Core.List.{List, map}
 use mathlib.Core.Logic.{⊎-elim}
 use native.Mathlib.Decide.{decLt, ℕ-discrete}
 use native.Mathlib.Omega.{arith}
-use borrow.Author.Tests.{eq-eqb, ne-eqb, lt-ltb, le-ltb, le-leb, lt-leb}
-use lib.Dec.{T, eqb, leb, ltb, lit<}
-use lib.ListN.{length, getD, take, drop, length-take, length-drop, List·getD-map, List·getD-eq-default}
+use borrow.Author.Tests.{ne-eqb, lt-ltb, le-ltb, le-leb, lt-leb}
+use lib.Dec.{T, eqb, leb, ltb}
+use lib.ListN.{length, getD, take, drop, length-drop, List·getD-map}
 use lib.Seq.{getD-take, getD-drop, length-take-le}
 use Rattle.permset.specs.Sets.{member}
 use Rattle.table.specs.declared.Item.{Item}
@@ -28,7 +28,7 @@ use Rattle.calculus.proofs.Digits.{T-true}
 use Rattle.calculus.proofs.Slices.{length-mark, mark-words, mark-adds, mark-new, mark-has, part-words}
 use Rattle.masks.specs.declared.Sort.{Sort}
 use Rattle.masks.specs.declared.Sort.the-variants as sorts
-use Rattle.rows.specs.Mask.{Mask, madeAs}
+use Rattle.rows.specs.Mask.{Mask}
 use Rattle.masks.specs.Masks.{property, makingNumber, makesByKind, wordMakes, sortHas, markIf}
 
 -- ---- what the item of a word makes

@@ -1,6 +1,6 @@
 -- Lines of replies, computed.
 use mathlib.Core.Path.{_≡_, refl}
-use mathlib.Core.List.{List, [], _∷_}
+use mathlib.Core.List.{[], _∷_}
 use Rattle.text.specs.Text.{bytes, decimal}
 use Rattle.report.specs.Lines.{refusalLine}
 use Rattle.reading_order.specs.Reply.{refused, ordered, looped}

@@ -1,8 +1,8 @@
 -- A handler's word of permissions and flag, and the handlers of an accepted table a word at a time.
-use Prim.Native.Nat.{ℕ, zero, suc, _+_, _*_, _/_, _%_, _^_, _≤_, _<_}
+use Prim.Native.Nat.{ℕ, suc, _+_, _*_, _/_, _%_, _^_, _≤_, _<_}
 use mathlib.Core.Path.{_≡_, refl, sym, ap, ap₂, _∙_, subst}
 use mathlib.Core.Logic.{⊎-elim}
-use mathlib.Core.Bool.{Bool, true, false, _&&_}
+use mathlib.Core.Bool.{Bool, true, _&&_}
 use mathlib.Core.List.{List, [], _∷_, _++_, append-nil, append-assoc}
 use native.Mathlib.Nat.{add-zero}
 use native.Mathlib.Numerals.{add-one}
@@ -12,12 +12,11 @@ use lib.ListN.{length, getD, drop, length-append}
 use lib.Seq.{drop-cons}
 use borrow.Author.Tests.{lt-ltb}
 use Rattle.permset.specs.Sets.{width, member, within}
-use Rattle.table.specs.declared.Item.{Item}
 use Rattle.table.specs.declared.Item.the-variants as items
 use Rattle.table.specs.declared.Handler.{Handler}
 use Rattle.table.specs.declared.Term.{Term}
 use Rattle.table.specs.Item.{handlerAt, itemAt}
-use Rattle.table.specs.Words.{kind, argument, narrow, namesOf}
+use Rattle.table.specs.Words.{narrow, namesOf}
 use Rattle.table.specs.Scan.{Task, head, name, perms, guard, term, accepted, namesAt, reading}
 use Rattle.table.specs.Code.{Code, Node, code, nodeFor, tasks, taskAt, blocksFrom}
 use Rattle.table.proofs.Faults.{Stands}

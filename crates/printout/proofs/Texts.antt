@@ -1,13 +1,13 @@
 -- The text of an answer and of an input, as the code writes it.
-use Prim.Native.Nat.{ℕ, zero, suc, _+_, _*_, _/_, _%_, _≤_, _<_}
-use mathlib.Core.Path.{_≡_, refl, sym, ap, ap₂, _∙_, subst}
-use mathlib.Core.Bool.{Bool, true, false, not}
+use Prim.Native.Nat.{ℕ, zero, suc, _+_, _≤_, _<_}
+use mathlib.Core.Path.{_≡_, refl, sym, ap, _∙_, subst}
+use mathlib.Core.Bool.{Bool, true, false}
 use mathlib.Core.List.{List, [], _∷_, _++_}
 use native.Mathlib.Omega.{arith}
 use lib.Dec.{eqb, ltb}
 use lib.ListN.{length, getD, take, drop, length-append}
 use lib.Seq.{take-at}
-use borrow.Author.Tests.{lt-ltb, le-ltb, ltb-false, eqb-true, eqb-false, not-false}
+use borrow.Author.Tests.{lt-ltb, le-ltb, ltb-false, eqb-false}
 use Rattle.little_endian.specs.LittleEndian.{wordsOf}
 use Rattle.table.specs.Words.{kind}
 use Rattle.table.specs.Scan.{accepted, reading, firstOf}
@@ -15,8 +15,8 @@ use Rattle.table.specs.Code.{code}
 use Rattle.table.proofs.Linked.{linked}
 use Rattle.table.proofs.Widths.{narrow-names}
 use Rattle.calculus.specs.Layout.{estimateWords}
-use Rattle.calculus.specs.Estimate.{whole, estimate}
-use Rattle.calculus.specs.Answer.{Verdict, Answer, refused, verdict, answer, workWords, estimateAfter}
+use Rattle.calculus.specs.Estimate.{estimate}
+use Rattle.calculus.specs.Answer.{Verdict, Answer, refused, verdict, answer, estimateAfter}
 use Rattle.calculus.proofs.Firing.{whole-is}
 use Rattle.calculus.proofs.Least.{estimate-well}
 use Rattle.calculus.proofs.Covers.{answer-judged}
@@ -25,10 +25,9 @@ use Rattle.verdict.specs.Limits.{answerUnder, estimateUnder}
 use Rattle.verdict.proofs.Limits.{under-verdict}
 use Rattle.verdict.proofs.Room.{answer-exact}
 use Rattle.text.specs.Writing.{Wrote}
-use Rattle.text.proofs.Writing.{reworded, then, wrote-length}
 use Rattle.report.specs.Lines.{refusalLine, verdictLine}
 use Rattle.printout.specs.Program.{feederTests, handlerLines, firstLine, answerText, unlessWide, systemText, printed, room, withRoom, textAfter, textSize}
-use Rattle.printout.specs.Answers.{Held, HeldFor}
+use Rattle.printout.specs.Answers.{HeldFor}
 
 -- ---- the slice that a call leaves
 

@@ -5,7 +5,6 @@ use rows::layout::Layout;
 use table::Handler;
 use table::Item;
 use table_links::item_at;
-ghost use mathlib.Core.Path.{_≡_};
 ghost use Prim.Native.Nat.{_+_, _*_, _<_, _≤_};
 ghost use lib.ListN.{length};
 ghost use Rattle.permset.specs.Sets.{within};

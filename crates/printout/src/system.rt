@@ -10,18 +10,17 @@ use report::verdict_line;
 use table::read::is_wide;
 use verdict::judge::verdict;
 ghost use mathlib.Core.Path.{_≡_};
-ghost use mathlib.Core.Bool.{Bool, false};
+ghost use mathlib.Core.Bool.{false};
 ghost use Prim.Native.Nat.{_+_, _≤_};
 ghost use lib.Dec.{eqb};
 ghost use lib.ListN.{length, getD};
 ghost use Rattle.table.specs.Words.{kind};
 ghost use Rattle.table.specs.Code.{code};
 ghost use Rattle.calculus.specs.Estimate.{estimate};
-ghost use Rattle.calculus.specs.Answer.{refused, answer, estimateAfter, workAfter};
 ghost use Rattle.comparison.specs.Values.{answerOf};
 ghost use Rattle.text.specs.Writing.{Wrote};
 ghost use Rattle.report.specs.Lines.{verdictLine};
-ghost use Rattle.printout.specs.Program.{handlerLines, firstLine, answerText, unlessWide, room};
+ghost use Rattle.printout.specs.Program.{handlerLines, firstLine, answerText, room};
 ghost use Rattle.printout.specs.Answers.{Held, HeldFor, Told};
 
 fn report_line(r: Report, over: bool, first: u32, out: &mut [u8], at: usize) -> usize

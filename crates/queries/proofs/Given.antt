@@ -1,18 +1,17 @@
 -- What follows from an accepted table with its layout, and from a well-formed estimate of it.
-use Prim.Native.Nat.{ℕ, _+_, _*_, _/_, _≤_, _<_}
-use mathlib.Core.Path.{_≡_, sym, ap, ap₂, _∙_, subst}
+use Prim.Native.Nat.{ℕ, _+_, _*_, _≤_}
+use mathlib.Core.Path.{_≡_, ap₂, _∙_}
 use mathlib.Core.List.{List}
 use native.Mathlib.Nat.{mul-le-mul}
 use native.Mathlib.Omega.{arith}
 use lib.ListN.{length, getD}
-use Rattle.table.specs.Code.{Code, code, Linked}
+use Rattle.table.specs.Code.{code, Linked}
 use Rattle.table.proofs.Linked.{linked as code-linked}
 use Rattle.table.proofs.Blocks.{head-word}
 use Rattle.table.proofs.Widths.{names-most}
-use Rattle.calculus.specs.Elements.{plain, elements}
 use Rattle.calculus.specs.Layout.{rowWords, estimateWords, WellFormed}
 use Rattle.rows.specs.declared.layout.Layout.{Layout}
-use Rattle.rows.specs.Laid.{LaidOut, Sized}
+use Rattle.rows.specs.Laid.{Sized}
 use Rattle.queries.specs.Ready.{Ready}
 
 module _ (ws links masks : List ℕ) (l : Layout) (y : Ready ws links masks l) where

@@ -1,6 +1,6 @@
 -- What the tests on words say of the sets of an estimate.
-use Prim.Native.Nat.{ℕ, _+_, _*_, _/_, _%_, _^_, _≤_, _<_}
-use mathlib.Core.Path.{_≡_, refl, sym, ap, ap₂, _∙_, subst}
+use Prim.Native.Nat.{ℕ, _+_, _*_, _/_, _%_, _≤_, _<_}
+use mathlib.Core.Path.{_≡_, refl, sym, ap, ap₂, _∙_}
 use mathlib.Core.Bool.{Bool, true, false, not, _&&_, true≢false, false≢true}
 use mathlib.Core.List.{List}
 use native.Mathlib.Nat.{mul-le-mul-right}
@@ -8,11 +8,11 @@ use native.Mathlib.Omega.{arith}
 use lib.Bits.{bitAnd}
 use lib.Dec.{eqb}
 use lib.ListN.{length, getD, take, drop}
-use Rattle.permset.specs.Sets.{width, member}
+use Rattle.permset.specs.Sets.{member}
 use Rattle.table.specs.Code.{Code}
 use Rattle.calculus.specs.Elements.{elements, isString}
-use Rattle.calculus.specs.Constraint.{Row, C, B, L}
-use Rattle.calculus.specs.Layout.{rowWords, base, sets, content, WellFormed}
+use Rattle.calculus.specs.Constraint.{Row, C, L}
+use Rattle.calculus.specs.Layout.{base, sets, content, WellFormed}
 use Rattle.calculus.proofs.Folds.{found}
 use Rattle.calculus.proofs.RowOperations.{sets-C, sets-B, sets-L}
 use Rattle.calculus.proofs.RowRules.{found-masked, found-string}
@@ -24,10 +24,10 @@ use Rattle.rows.proofs.Laws.{meets-nonzero}
 use Rattle.clauses.specs.declared.Guard.{Guard}
 use Rattle.clauses.specs.declared.Test.{Test}
 use Rattle.clauses.specs.declared.Test.the-variants as tests
-use Rattle.clauses.specs.Asks.{rowAt, sortAt}
+use Rattle.clauses.specs.Asks.{rowAt}
 use Rattle.clauses.proofs.Sorts.{row-C}
 use Rattle.clauses.proofs.Numbered.{Numbered, in-C, in-B, numbered, base-row, content-row, value-row, row-inside}
-use Rattle.queries.specs.Passes.{passes, maskAt, Masked, Looks, byMask, FoundBy, PassedBy}
+use Rattle.queries.specs.Passes.{passes, Masked, PassedBy}
 
 -- ---- where rows stand
 

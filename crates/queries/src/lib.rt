@@ -5,6 +5,7 @@ use delivery::judge;
 use permset::PermSet;
 use rows::layout::Layout;
 use rows::row::any;
+use rows::row::next_common;
 use table::argument_of;
 use table_links::handler_at;
 ghost use mathlib.Core.Path.{_≡_};
@@ -94,24 +95,37 @@ fn common_from(est: &[u32], masks: &[u32], lead: usize, at: usize, to: usize, f:
     (est[at + k] & masks[to + k]) >> (f % 32) as u32
 }
 
+// The first thing behind the word of `from` that the row r and the mask m have; the size of the table or more where there is none.
+fn later_thing(est: &[u32], masks: &[u32], l: Layout, r: usize, m: usize, from: usize) -> usize
+    requires { ⌜ Searched l (now est) (now masks) r m × (from < l .size) ⌝ }
+    requires { ⌜ common (now est) (now masks) (r * l .row) (m * l .row) (l .lead + from / 32) / 2 ^ (from % 32) ≡ 0 ⌝ }
+    ensures { λ x. ⌜ Next (now (est .entry)) (now (masks .entry)) (l .lead) (r * l .row) (m * l .row) (l .size) from x ⌝ }
+{
+    let row = l.row;
+    let lead = l.lead;
+    let at = r * row;
+    let to = m * row;
+    let next = lead + from / 32 + 1;
+    let k = next_common(&est[at..at + row], &masks[to..to + row], next);
+    if k < row {
+        return 32 * (k - lead) + u32::trailing_zeros(est[at + k] & masks[to + k]) as usize;
+    }
+    l.size
+}
+
 // The first thing from `from` on that the row r and the mask m have; the size of the table or more where there is none.
 pub fn next_thing(est: &[u32], masks: &[u32], l: Layout, r: usize, m: usize, from: usize) -> usize
     requires { ⌜ Searched l (now est) (now masks) r m × (from ≤ l .size) ⌝ }
     ensures { λ x. ⌜ Next (now (est .entry)) (now (masks .entry)) (l .lead) (r * l .row) (m * l .row) (l .size) from x ⌝ }
 {
-    let at = r * l.row;
-    let to = m * l.row;
-    let size = l.size;
-    let lead = l.lead;
-    let mut f = from;
-    while f < size {
-        let bits = common_from(est, masks, lead, at, to, f);
-        if bits != 0 {
-            return f + u32::trailing_zeros(bits) as usize;
-        }
-        f = (f / 32 + 1) * 32;
+    if l.size <= from {
+        return from;
     }
-    f
+    let bits = common_from(est, masks, l.lead, r * l.row, m * l.row, from);
+    if bits != 0 {
+        return from + u32::trailing_zeros(bits) as usize;
+    }
+    later_thing(est, masks, l, r, m, from)
 }
 
 // Whether the row r and the mask m have the thing f.

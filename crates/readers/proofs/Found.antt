@@ -4,12 +4,9 @@ use mathlib.Core.Path.{_≡_, sym, ap, _∙_, subst}
 use mathlib.Core.Logic.{⊎-elim}
 use mathlib.Core.Bool.{Bool, true, false}
 use mathlib.Core.List.{List, [], _∷_}
-use native.Mathlib.Numerals.{add-one}
 use native.Mathlib.Omega.{arith}
 use lib.Bits.{bitOr, or-zero-l, or-zero-r}
-use lib.Count.{ones}
-use lib.ListN.{length, getD, drop, drop-of-length-le}
-use lib.Seq.{drop-cons}
+use lib.ListN.{length, getD}
 use Rattle.permset.specs.Sets.{width, union}
 use Rattle.permset.proofs.Laws.{within-refl, within-trans, within-antisym, within-union-left, within-union-right, union-within, union-mono}
 use Rattle.table.specs.declared.Item.{Item}
@@ -24,8 +21,7 @@ use Rattle.table.proofs.Blocks.{Follows, blocks-first, blocks-next, blocks-end}
 use Rattle.calculus.specs.Constraint.{P}
 use Rattle.calculus.specs.Rules.{guarded}
 use Rattle.calculus.specs.Layout.{base, content}
-use Rattle.calculus.specs.Estimate.{facts, permissionsAt, leakAmong, leak}
-use Rattle.calculus.proofs.Facts.{ones-word}
+use Rattle.calculus.specs.Estimate.{permissionsAt, leakAmong, leak}
 use Rattle.table.proofs.BlockLoop.{blocksOn}
 use Rattle.readers.specs.Reading.{itemGuarded}
 

@@ -1,6 +1,6 @@
 -- What a query on a row says of a sender; that an estimate's words have the size of its layout, and that a table's blocks are words of it.
 use Prim.Native.Nat.{ℕ, zero, suc, _+_, _*_, _≤_, _<_}
-use mathlib.Core.Path.{_≡_, refl, sym, ap, ap₂, _∙_, subst}
+use mathlib.Core.Path.{_≡_, refl, ap, ap₂, _∙_, subst}
 use mathlib.Core.Bool.{Bool}
 use mathlib.Core.List.{List, [], _∷_, map, List·Memᴰ, List·Memᴰ·head, List·Memᴰ·tail}
 use native.Mathlib.Nat.{mul-le-mul}
@@ -12,7 +12,7 @@ use Rattle.table.proofs.Limits.{size-le, blocks-le}
 use Rattle.table.proofs.Widths.{names-most}
 use Rattle.table.proofs.Linked.{linked}
 use Rattle.calculus.specs.Elements.{made, elements}
-use Rattle.calculus.specs.Constraint.{Row, C}
+use Rattle.calculus.specs.Constraint.{C}
 use Rattle.calculus.specs.Layout.{sets, rowWords, estimateWords}
 use Rattle.rows.specs.declared.layout.Layout.{Layout}
 use Rattle.rows.specs.Laid.{LaidOut, Sized}

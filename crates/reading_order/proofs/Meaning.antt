@@ -1,15 +1,15 @@
 -- The rows of digits say what `LiveAt` and `MaySend` say of the blocks; so there is an order of the live blocks exactly if there is no loop of them.
 use Prim.Native.Nat.{ℕ, zero, suc, _<_}
-use mathlib.Core.Path.{_≡_, refl, sym, ap, _∙_, subst}
-use mathlib.Core.Bool.{Bool, _&&_}
+use mathlib.Core.Path.{_≡_, refl, sym, subst}
+use mathlib.Core.Bool.{Bool}
 use mathlib.Core.Logic.{_↔_}
 use mathlib.Core.List.{List, [], _∷_, map}
 use native.Mathlib.Omega.{arith}
-use borrow.Author.Tests.{lt-ltb, ltb-true}
+use borrow.Author.Tests.{lt-ltb}
 use lib.Dec.{T, ltb}
 use lib.ListN.{length, getD, length-map}
 use Rattle.permset.specs.Sets.{member}
-use Rattle.permset.proofs.Digits.{T-and, T-fst, T-snd, T-true}
+use Rattle.permset.proofs.Digits.{T-and, T-snd}
 use Rattle.table.specs.Code.{Code}
 use Rattle.calculus.specs.Elements.{made}
 use Rattle.calculus.specs.Constraint.{C, L}

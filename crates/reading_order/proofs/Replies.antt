@@ -1,6 +1,6 @@
 -- What a call that passes document 01's checks replies and leaves, by the ceiling and the room for positions.
 use Prim.Native.Nat.{ℕ, _≤_, _<_}
-use mathlib.Core.Path.{_≡_, refl, sym, ap, ap₂, _∙_, subst}
+use mathlib.Core.Path.{_≡_, refl, sym, ap, _∙_, subst}
 use mathlib.Core.Bool.{Bool, true, false}
 use mathlib.Core.List.{List, _++_}
 use native.Mathlib.Omega.{arith}
@@ -8,7 +8,6 @@ use borrow.Author.Tests.{lt-ltb, le-ltb}
 use lib.Dec.{ltb}
 use lib.ListN.{length, take, drop, length-map}
 use lib.Seq.{take-at}
-use Rattle.table.specs.Scan.{accepted, reading}
 use Rattle.table.specs.Code.{code}
 use Rattle.reading_order.proofs.Elements.{blocks-few}
 use Rattle.table.proofs.Linked.{linked}
@@ -22,7 +21,7 @@ use Rattle.calls.specs.Faults.{faultNumber, faultPlace}
 use Rattle.calls.specs.Calls.{Fits}
 use Rattle.calls.proofs.Answers.{after-solved, after-refused}
 use Rattle.comparison.specs.declared.Findings.{Findings}
-use Rattle.solver.specs.Ceiling.{under, answerWithin, wordsWithin, estimateWithin, SolvedIn}
+use Rattle.solver.specs.Ceiling.{under, answerWithin, estimateWithin, SolvedIn}
 use Rattle.solver.proofs.Least.{words-whole}
 use Rattle.solver.proofs.Bound.{words-are, words-kept}
 use Rattle.graph.specs.declared.Arrangement.{Arrangement}
@@ -32,7 +31,7 @@ use Rattle.graph.specs.Answer as graph
 use Rattle.graph.proofs.Answers.{answer-short}
 use Rattle.reading_order.specs.declared.Ordering.{Ordering}
 use Rattle.reading_order.specs.declared.Ordering.the-variants as orderings
-use Rattle.reading_order.specs.Relation.{sendersTo, senderRows, liveBlocks}
+use Rattle.reading_order.specs.Relation.{sendersTo, senderRows}
 use Rattle.reading_order.specs.Reply.{Reply, refused, replyOf, arranged, rows, live, replyWithin, reply, estimateAfterOrder, workAfterOrder, positionsAfter, ReplyMeans}
 use Rattle.reading_order.specs.Parts.{ArrangedBy, OrderedIn}
 

@@ -1,7 +1,7 @@
 -- Systems of document 01 and some more, from their words to the order or loop of the least estimate, computed.
 use Prim.Native.Nat.{ℕ, _+_}
 use mathlib.Core.Path.{_≡_, refl}
-use mathlib.Core.List.{List, [], _∷_, _++_, map}
+use mathlib.Core.List.{List, [], _∷_, _++_}
 use Rattle.permset.specs.Sets.{within, member, union, difference, lowest}
 use Rattle.table.specs.Words.{partsByKind, limitsByKind, parts, arity, limit, constantNumber, constantOf, operationOf, termsByKind, termOf, namesOf}
 use Rattle.table.specs.Scan.{under, next}
@@ -14,8 +14,6 @@ use Rattle.calculus.specs.Rules.{twoSender, sender as senderRule, senders as se
 use Rattle.calculus.specs.Layout.{rowWords, estimateWords, sets}
 use Rattle.calculus.specs.Estimate.{whole, estimate}
 use Rattle.calculus.specs.Samples.{single, relay, twins}
-use Rattle.graph.specs.declared.Arrangement.{Arrangement}
-use Rattle.graph.specs.declared.Arrangement.the-variants.{Ordered, Looped}
 use Rattle.graph.specs.Answer.{written}
 use Rattle.graph.specs.Answer as graph
 use Rattle.reading_order.specs.Reply.{Reply, ordered, looped, arranged}

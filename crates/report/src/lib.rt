@@ -3,7 +3,6 @@ use text::number_field;
 use text::put;
 use text::set_field;
 use text::word_field;
-ghost use mathlib.Core.Path.{_≡_};
 ghost use mathlib.Core.List.{_++_};
 ghost use Prim.Native.Nat.{_+_, _≤_};
 ghost use lib.ListN.{length};

@@ -1,7 +1,7 @@
 -- So many full words: poured in one after the other, and their digits.
-use Prim.Native.Nat.{ℕ, zero, suc, _+_, _*_, _/_, _%_, _^_, _≤_, _<_}
+use Prim.Native.Nat.{ℕ, zero, suc, _+_, _*_, _/_, _%_, _^_, _<_}
 use mathlib.Core.Path.{_≡_, refl, sym, ap, _∙_, subst}
-use mathlib.Core.Bool.{Bool, true}
+use mathlib.Core.Bool.{true}
 use mathlib.Core.List.{List, [], _∷_}
 use native.Mathlib.Decide.{decLt}
 use native.Mathlib.Nat.{suc-add}
@@ -9,10 +9,9 @@ use native.Mathlib.Numerals.{add-one}
 use native.Mathlib.Omega.{arith}
 use lib.Bits.{bitOr}
 use lib.Dec.{T, lit<}
-use lib.ListN.{length, getD, replicate, length-replicate, getD-replicate, List·getD-eq-default}
+use lib.ListN.{getD, replicate, length-replicate, getD-replicate, List·getD-eq-default}
 use Rattle.permset.specs.Sets.{member}
 use Rattle.calculus.specs.Layout.{bit, pour, Words}
-use Rattle.calculus.specs.Estimate.{facts}
 use Rattle.calculus.proofs.Facts.{pour-nil}
 use Rattle.calculus.proofs.Masks.{agree, agree-below}
 use Rattle.calculus.proofs.Slices.{bit-short}

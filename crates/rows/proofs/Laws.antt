@@ -1,27 +1,28 @@
 -- Laws of rows: words or-ed in one after another, how many facts that adds, a row that lacks nothing of another, what one is missing of another, and what a mask keeps.
 use Prim.Native.Nat.{ℕ, zero, suc, _+_, _-_, _*_, _/_, _%_, _^_, _≤_, _<_}
 use mathlib.Core.Path.{_≡_, refl, sym, ap, ap₂, _∙_, subst}
+use mathlib.Core.Logic.{_⊎_, inl, inr, ⊎-elim}
 use mathlib.Core.Bool.{Bool, true, false, not, _&&_, _||_, true≢false}
 use mathlib.Core.List.{List, [], _∷_, _++_}
-use native.Mathlib.Nat.{zero-add, suc-add, add-zero, pow-suc}
-use native.Mathlib.Decide.{ℕ-discrete}
-use native.Mathlib.Numerals.{add-one}
+use native.Mathlib.Nat.{zero-add, suc-add, add-zero, zero-mul, one-mul, add-mul, mod-lt, pow-suc}
+use native.Mathlib.Decide.{ℕ-discrete, decLt}
+use native.Mathlib.Numerals.{add-one, one-add}
 use native.Mathlib.Omega.{arith}
-use borrow.Author.Tests.{eq-eqb, ne-eqb, eqb-true, not-false}
+use borrow.Author.Tests.{eq-eqb, ne-eqb, eqb-true, not-false, lt-ltb, le-ltb}
 use lib.Arith.{lt-one}
-use lib.Dec.{T, eqb}
-use lib.Count.{onesIn, ones, ones-step}
-use lib.Bits.{bitAnd, bitOr, bitXor, and-le-l, and-le-r, or-lt, xor-lt, or-add-and, xor-add-and, xor-self, and-comm, and-mod, or-mod, xor-mod, and-shr, or-shr, xor-shr, or-zero-r}
+use lib.Dec.{eqb, ltb}
+use lib.Count.{onesIn, ones, ones-step, ones-cat}
+use lib.Pow.{pow-pos, pow-lt, split}
+use lib.Bits.{bitAnd, bitOr, bitXor, and-le-l, and-le-r, or-lt, xor-lt, or-add-and, xor-add-and, xor-self, and-comm, and-mod, or-mod, xor-mod, and-shr, or-shr, xor-shr, and-zero-l, and-zero-r, or-zero-r, or-disjoint, and-high}
 use lib.ListN.{length, getD, set, take, drop, take-append-drop, length-drop, drop-of-length-le}
 use lib.Seq.{take-suc, take-all, take-add, take-at, drop-cons, length-take-le, take-nil, drop-nil, set-getD, getD-take, getD-drop}
-use Rattle.calculus.specs.Layout.{bit, pour, Words}
+use Rattle.calculus.specs.Layout.{pour}
 use Rattle.calculus.specs.Estimate.{facts}
-use Rattle.calculus.proofs.Digits.{T-true, T-and, T-fst, T-snd}
 use Rattle.calculus.proofs.Slices.{length-pour, pour-adds}
 use Rattle.calculus.proofs.Facts.{facts-le, facts-set, facts-append, pour-one}
 use Rattle.calculus.specs.Layout.{masked}
-use Rattle.calculus.proofs.Masks.{bit-masked, masked-words, nonzero, digit-nonzero, nonzero-digit}
-use Rattle.rows.specs.Rows.{meets, lacking, missing, Poured}
+use Rattle.calculus.proofs.Masks.{nonzero}
+use Rattle.rows.specs.Rows.{NextCommon, meets, lacking, missing, Poured}
 
 -- ---- the digits of one word
 
@@ -78,6 +79,10 @@ or-right-false false b h = h
 or-false : (b : Bool) → (b || false) ≡ b
 or-false true = refl
 or-false false = refl
+
+or-true : (b : Bool) → (b || true) ≡ true
+or-true true = refl
+or-true false = refl
 
 or-assoc : (a b c : Bool) → (a || (b || c)) ≡ ((a || b) || c)
 or-assoc true b c = refl
@@ -224,6 +229,47 @@ facts-most (w ∷ ws) = omega (arith, onesIn-le 32 w, facts-most ws)
 pub poured-few : (old new : List ℕ) (at : ℕ) (xs : List ℕ) (n : ℕ) → Poured old new at xs n → length old < 4096 → n < 131072
 poured-few old new at xs n p h = omega (arith, p .count, facts-most new, length-poured old new at xs n p)
 
+-- ---- one digit set
+
+-- a word has the digit i or not
+digit-cases : (a i : ℕ) → ((a / 2 ^ i % 2 ≡ 0) × (bitAnd a (2 ^ i) ≡ 0)) ⊎ (bitAnd a (2 ^ i) ≡ 2 ^ i)
+digit-cases a i = go (a / 2 ^ i % 2) (omega arith) (ap (bitAnd a) power ∙ and-high a 1 i)
+  where
+    power : 2 ^ i ≡ 2 ^ (1 + i) - 2 ^ i
+    power = omega (arith, pow-suc 2 i, ap (λ (n : ℕ). 2 ^ n) (one-add i))
+
+    go : (d : ℕ) → d < 2 → bitAnd a (2 ^ i) ≡ d * 2 ^ i → ((d ≡ 0) × (bitAnd a (2 ^ i) ≡ 0)) ⊎ (bitAnd a (2 ^ i) ≡ 2 ^ i)
+    go zero h e = inl (refl, e ∙ zero-mul (2 ^ i))
+    go (suc zero) h e = inr (e ∙ one-mul (2 ^ i))
+    go (suc (suc d)) h e = absurd (omega arith)
+
+ones-more : (a i : ℕ) → a / 2 ^ i % 2 ≡ 0 → ones (a + 2 ^ i) ≡ ones a + 1
+ones-more a i e =
+    let h = a / 2 ^ i in
+    let r = a % 2 ^ i in
+    let below : r < 2 ^ i = mod-lt a (pow-pos i) in
+    let more : (h + 1) * 2 ^ i + r ≡ a + 2 ^ i = omega (arith, split a i, add-mul h 1 (2 ^ i), one-mul (2 ^ i)) in
+    let half : ones ((h + 1) / 2) ≡ ones (h / 2) = ap ones (omega arith) in
+    omega
+    (arith, ap ones (sym (split a i)) ∙ ones-cat i h r below, ap ones (sym more) ∙ ones-cat i (h + 1) r below, ones-step h, ones-step (h + 1), half)
+
+module _ (ws : List ℕ) (k i : ℕ) where
+  pub digit-there : (bitAnd (getD ws k 0) (2 ^ i) ≡ 0 → ⊥) → Poured ws ws k (2 ^ i ∷ []) 0
+  digit-there n =
+      let a = getD ws k 0 in
+      nothing-new ws k (2 ^ i) (⊎-elim (λ w. absurd (n (w .1))) (λ e. omega (arith, or-add-and a (2 ^ i))) (digit-cases a i))
+
+  pub digit-new : k < length ws → getD ws k 0 < 2 ^ 32 → i < 32 → bitAnd (getD ws k 0) (2 ^ i) ≡ 0
+      → Poured ws (set ws k (bitOr (getD ws k 0) (2 ^ i))) k (2 ^ i ∷ []) 1
+  digit-new inside old h z =
+      let a = getD ws k 0 in
+      let p = new-bits ws k (2 ^ i) inside old (pow-lt h) in
+      let one : ones (bitOr a (2 ^ i)) ≡ ones a + 1 =
+      ap ones (or-disjoint a (2 ^ i) z)
+      ∙ ⊎-elim (λ w. ones-more a i (w .0)) (λ e. absurd (omega (arith, pow-pos i))) (digit-cases a i)
+      in
+      record { words = p .words; count = omega (arith, p .count) }
+
 -- ---- a part of a list lent, and put back
 
 -- what is or-ed into the first words does not reach the others
@@ -308,15 +354,6 @@ module _ (xs ys : List ℕ) (i : ℕ) where
   pub missing-done : (m : ℕ) → length xs ≤ i → (not (eqb m 0) || lacking (drop i xs) (drop i ys)) ≡ not (eqb m 0)
   missing-done m h = ap (λ (b : Bool). not (eqb m 0) || b) (lacking-done h) ∙ or-false (not (eqb m 0))
 
-  pub meets-at : i < length xs → i < length ys
-      → meets (drop i xs) (drop i ys) ≡ (not (eqb (bitAnd (getD xs i 0) (getD ys i 0)) 0) || meets (drop (i + 1) xs) (drop (i + 1) ys))
-  unfolding meets
-  meets-at h l = rw (add-one, drop-cons xs i 0, drop-cons ys i 0)
-
-  pub meets-done : length xs ≤ i → meets (drop i xs) (drop i ys) ≡ false
-  unfolding meets
-  meets-done h = rw (drop-of-length-le xs h)
-
 or-absorbed : (x y : ℕ) → bitAnd x y ≡ x → bitOr y x ≡ y
 or-absorbed x y e = let f : bitAnd y x ≡ x = and-comm y x ∙ e in omega (arith, or-add-and y x)
 
@@ -363,17 +400,26 @@ meets-nonzero (m ∷ ms) (x ∷ xs) = go (eqb (bitAnd m x) 0) (meets-nonzero ms 
     go true e = e
     go false e = refl
 
--- a digit in common
-pub meets-digit : (ms xs : List ℕ) → Words xs → meets ms xs ≡ true → (n : ℕ) × T (bit ms n) × T (bit xs n)
-meets-digit ms xs w h =
-    let d : (n : ℕ) × T (bit (masked ms xs) n) = nonzero-digit (masked ms xs) (masked-words ms xs w) (subst T (sym h ∙ meets-nonzero ms xs) tt) in
-    let t : T (bit ms (d .0) && bit xs (d .0)) = subst T (bit-masked ms xs (d .0)) (d .1) in
-    (d .0, T-fst (bit ms (d .0)) (bit xs (d .0)) t, T-snd (bit ms (d .0)) (bit xs (d .0)) t)
+-- a word in common, and none
+meets-word : (ms xs : List ℕ) (k : ℕ) → (bitAnd (getD ms k 0) (getD xs k 0) ≡ 0 → ⊥) → meets ms xs ≡ true
+unfolding meets
+meets-word [] xs k n = absurd (n (and-zero-l (getD xs k 0)))
+meets-word (m ∷ ms) [] k n = absurd (n (and-zero-r (getD (m ∷ ms) k 0)))
+meets-word (m ∷ ms) (x ∷ xs) zero n = rw (ne-eqb (bitAnd m x) 0 n)
+meets-word (m ∷ ms) (x ∷ xs) (suc k) n = rw (meets-word ms xs k n) (or-true (not (eqb (bitAnd m x) 0)))
 
-pub digit-meets : (ms xs : List ℕ) (n : ℕ) → T (bit ms n) → T (bit xs n) → meets ms xs ≡ true
-digit-meets ms xs n h k =
-    T-true (meets ms xs)
-    (subst T (sym (meets-nonzero ms xs)) (digit-nonzero (masked ms xs) n (subst T (sym (bit-masked ms xs n)) (T-and (bit ms n) (bit xs n) h k))))
+meets-none : (ms xs : List ℕ) → ((k : ℕ) → k < length ms → bitAnd (getD ms k 0) (getD xs k 0) ≡ 0) → meets ms xs ≡ false
+unfolding meets
+meets-none [] xs h = refl
+meets-none (m ∷ ms) [] h = refl
+meets-none (m ∷ ms) (x ∷ xs) h = rw (eq-eqb (bitAnd m x) 0 (h zero (omega arith)), meets-none ms xs (λ k l. h (suc k) (omega arith)))
+
+pub next-meets : (ms xs : List ℕ) (r : ℕ) → NextCommon ms xs 0 r → ltb r (length ms) ≡ meets ms xs
+next-meets ms xs r n = go (decLt r (length ms))
+  where
+    go : Dec (r < length ms) → ltb r (length ms) ≡ meets ms xs
+    go (yes h) = lt-ltb r (length ms) h ∙ sym (meets-word ms xs r (n .found h))
+    go (no h) = le-ltb r (length ms) (omega arith) ∙ sym (meets-none ms xs (λ k l. n .none k (omega arith) (omega arith)))
 
 -- ---- words of which some are not 0
 

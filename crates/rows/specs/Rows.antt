@@ -1,10 +1,11 @@
--- Rows of words: what they have in common, what one lacks of another, and what it is to or words into a list and count what that added.
-use Prim.Native.Nat.{ℕ, _+_}
+-- Rows of words: what they have in common and where, what one lacks of another, and what it is to or words into a list and count what that added.
+use Prim.Native.Nat.{ℕ, _+_, _≤_, _<_, max}
 use mathlib.Core.Path.{_≡_}
-use mathlib.Core.Bool.{Bool, true, false, not, _||_}
+use mathlib.Core.Bool.{Bool, false, not, _||_}
 use mathlib.Core.List.{List, [], _∷_}
 use lib.Bits.{bitAnd, bitXor}
 use lib.Dec.{eqb}
+use lib.ListN.{length, getD}
 use Rattle.calculus.specs.Layout.{pour}
 use Rattle.calculus.specs.Estimate.{facts}
 
@@ -13,6 +14,13 @@ unfoldable pub meets : List ℕ → List ℕ → Bool
 meets [] xs = false
 meets (m ∷ ms) [] = false
 meets (m ∷ ms) (x ∷ xs) = not (eqb (bitAnd m x) 0) || meets ms xs
+
+-- r is the first word from `from` on that two rows have something in common in, and their end where there is none
+pub record NextCommon (xs ys : List ℕ) (from r : ℕ) : Type 0 where
+  pub later : from ≤ r
+  pub none : (k : ℕ) → from ≤ k → k < r → bitAnd (getD xs k 0) (getD ys k 0) ≡ 0
+  pub found : r < length xs → bitAnd (getD xs r 0) (getD ys r 0) ≡ 0 → ⊥
+  pub inside : r ≤ max from (length xs)
 
 -- xs has a digit that ys has not
 unfoldable pub lacking : List ℕ → List ℕ → Bool

@@ -1,11 +1,11 @@
 // A row by itself, lent from its own start.
 ghost use mathlib.Core.Path.{_≡_};
 ghost use mathlib.Core.List.{[], _∷_, _++_};
-ghost use Prim.Native.Nat.{_+_, _-_, _<_, _≤_};
+ghost use Prim.Native.Nat.{_+_, _-_, _*_, _/_, _%_, _^_, _<_, _≤_};
 ghost use lib.ListN.{length, drop, take};
 ghost use Rattle.calculus.specs.Layout.{masked};
 ghost use Rattle.calculus.specs.ResultWords.{nonzero};
-ghost use Rattle.rows.specs.Rows.{Poured, meets, lacking, missing};
+ghost use Rattle.rows.specs.Rows.{Poured, NextCommon, meets, lacking, missing};
 
 // Sets bits of the word k, and answers how many that added.
 pub fn set(row: &mut [u32], k: usize, bits: u32) -> usize
@@ -19,6 +19,21 @@ pub fn set(row: &mut [u32], k: usize, bits: u32) -> usize
     }
     row[k] = new;
     u32::count_ones(new ^ old) as usize
+}
+
+// Sets the bit v of a row, and answers 1 where that is new, else 0.
+pub fn put(row: &mut [u32], v: usize) -> usize
+    requires { ⌜ v < 32 * length (now row) ⌝ }
+    ensures { λ r. ⌜ Poured (now (row .entry)) (now (row .exit)) (v / 32) (2 ^ (v % 32) ∷ []) r ⌝ }
+{
+    let k = v / 32;
+    let bit = 1u32 << (v % 32) as u32;
+    let old = row[k];
+    if old & bit == 0 {
+        row[k] = old | bit;
+        return 1;
+    }
+    0
 }
 
 // How many words of a row are or-ed in or left alone together.
@@ -144,19 +159,27 @@ pub fn lacked_masked(
     bits != 0
 }
 
+// The first word from `from` on that two rows have something in common in; `from` or their length where there is none.
+pub fn next_common(row: &[u32], other: &[u32], from: usize) -> usize
+    requires { ⌜ length (now other) ≡ length (now row) ⌝ }
+    ensures { λ r. ⌜ NextCommon (now (row .entry)) (now (other .entry)) from r ⌝ }
+{
+    let mut i = from;
+    while i < row.len() {
+        if row[i] & other[i] != 0 {
+            return i;
+        }
+        i += 1;
+    }
+    i
+}
+
 // Whether a row has something in common with a mask.
 pub fn any(row: &[u32], mask: &[u32]) -> bool
     requires { ⌜ length (now mask) ≡ length (now row) ⌝ }
     ensures { λ r. ⌜ r ≡ meets (now (mask .entry)) (now (row .entry)) ⌝ }
 {
-    let mut i = 0;
-    while i < mask.len() {
-        if mask[i] & row[i] != 0 {
-            return true;
-        }
-        i += 1;
-    }
-    false
+    next_common(mask, row, 0) < mask.len()
 }
 
 // Whether the row of so many words at `to` lacks something of the one at `from`.

@@ -1,19 +1,17 @@
 -- What the words of an estimate say of a block, and the parts of its line.
 use Prim.Native.Nat.{ℕ, _+_, _*_, _/_, _%_, _≤_, _<_}
 use mathlib.Core.Path.{_≡_, refl, sym, ap, _∙_, subst}
-use mathlib.Core.Bool.{Bool, true, false, _&&_}
+use mathlib.Core.Bool.{Bool, true, false}
 use mathlib.Core.List.{List, [], _∷_, _++_}
 use native.Mathlib.Omega.{arith}
 use borrow.Author.Tests.{eq-eqb, ne-eqb}
-use lib.Dec.{eqb}
 use lib.ListN.{length, getD}
 use Rattle.permset.specs.Sets.{member}
 use Rattle.table.specs.Words.{kind, argument}
 use Rattle.table.specs.Code.{code}
 use Rattle.table.proofs.Widths.{names-most}
-use Rattle.calculus.specs.Constraint.{C}
 use Rattle.calculus.specs.Elements.{made, elements, opponentRecord}
-use Rattle.calculus.specs.Layout.{rowWords, base, sets}
+use Rattle.calculus.specs.Layout.{rowWords, base}
 use Rattle.calculus.proofs.RowOperations.{sets-C}
 use Rattle.rows.specs.declared.layout.Layout.{Layout}
 use Rattle.rows.specs.Laid.{LaidOut}

@@ -1,7 +1,7 @@
 -- The text of document 01's samples and of two systems more, computed from the definitions: the least estimate, and what is read from it.
 use Prim.Native.Nat.{ℕ}
 use mathlib.Core.Path.{_≡_, refl}
-use mathlib.Core.List.{List, [], _∷_, _++_, map}
+use mathlib.Core.List.{List, [], _∷_, _++_}
 use Rattle.permset.specs.Sets.{within, member, union, difference, lowest}
 use Rattle.table.specs.Words.{partsByKind, limitsByKind, parts, arity, limit, constantNumber, constantOf, operationOf, termsByKind, termOf, namesOf}
 use Rattle.table.specs.Scan.{under, next}

@@ -1,7 +1,6 @@
 // The parts of a line, each written into a lent slice where it has room.
 use text::number_field;
 use text::room::put_room;
-ghost use mathlib.Core.Path.{_≡_};
 ghost use mathlib.Core.List.{_++_};
 ghost use Prim.Native.Nat.{_+_, _≤_};
 ghost use lib.ListN.{length};

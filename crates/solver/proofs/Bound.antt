@@ -4,28 +4,24 @@ use Prim.Native.Nat.{ℕ, _≤_, _<_}
 use mathlib.Core.Path.{_≡_, refl, sym, ap, ap₂, _∙_, subst}
 use mathlib.Core.Bool.{Bool, true, false}
 use mathlib.Core.List.{List, _++_}
-use native.Mathlib.Decide.{decLt}
 use native.Mathlib.Omega.{arith}
 use borrow.Author.Tests.{lt-ltb, le-ltb}
 use lib.Dec.{ltb}
-use lib.ListN.{length, take, drop, replicate}
+use lib.ListN.{length, drop}
 use Rattle.table.specs.Scan.{accepted, reading}
 use Rattle.table.specs.Code.{code}
 use Rattle.table.proofs.Linked.{linked}
 use Rattle.calculus.specs.Layout.{estimateWords}
 use Rattle.calculus.specs.Estimate.{estimate, leak, facts, mostFacts}
-use Rattle.calculus.specs.Answer.{Answer, verdict, standingBound, judge, answer, estimateAfter, workAfter}
+use Rattle.calculus.specs.Answer.{Answer, verdict, standingBound, judge, answer, estimateAfter}
 use Rattle.calculus.specs.Answer as answers
-use Rattle.calculus.specs.Correct.{Correct, Guaranteed}
+use Rattle.calculus.specs.Correct.{Correct}
 use Rattle.calculus.proofs.Correct.{call-correct}
-use Rattle.calculus.proofs.Covers.{answer-guaranteed}
 use Rattle.calculus.proofs.Least.{estimate-well, facts-bound}
-use Rattle.calls.specs.Calls.{Fits}
-use Rattle.calls.proofs.Answers.{after-solved, after-refused}
+use Rattle.calls.proofs.Answers.{after-solved}
 use Rattle.comparison.specs.declared.Findings.{Findings}
-use Rattle.solver.specs.declared.Bounded.{Bounded}
 use Rattle.solver.specs.declared.Bounded.the-variants as bounded
-use Rattle.solver.specs.Analysis.{Sound, summary}
+use Rattle.solver.specs.Analysis.{summary}
 use Rattle.solver.specs.Analysis as analysis
 use Rattle.solver.specs.Ceiling.{under, answerWithin, wordsWithin, estimateWithin, Outcome, refused, solved, outcome, outcomeOf, SoundWithin, SolvedIn, BoundedIn}
 use Rattle.solver.proofs.Least.{words-whole}

@@ -1,6 +1,6 @@
 -- An analysis that says what the answer says, and leaves what the call leaves, is sound: demands 2 and 3.
 use Prim.Native.Nat.{ℕ}
-use mathlib.Core.Path.{_≡_, refl, sym, _∙_, subst}
+use mathlib.Core.Path.{_≡_, refl, sym, subst}
 use mathlib.Core.List.{List}
 use lib.ListN.{length}
 use Rattle.calculus.specs.Answer.{Answer, verdict, standingBound, answer, estimateAfter}

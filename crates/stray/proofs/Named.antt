@@ -1,7 +1,7 @@
 -- The elements that may stand in a row, by the words of an accepted table, and the rows of them.
-use Prim.Native.Nat.{ℕ, zero, suc, _+_, _-_, _*_, _/_, _%_, _^_, _≤_, _<_}
-use mathlib.Core.Path.{_≡_, refl, sym, ap, ap₂, _∙_, subst}
-use mathlib.Core.Bool.{Bool, true, false, not, _&&_, _||_}
+use Prim.Native.Nat.{ℕ, zero, suc, _+_, _-_, _*_, _/_, _%_, _^_, _<_}
+use mathlib.Core.Path.{_≡_, refl, sym, ap, _∙_, subst}
+use mathlib.Core.Bool.{Bool, true, not, _&&_, _||_}
 use mathlib.Core.List.{List, List·Memᴰ}
 use native.Mathlib.Decide.{decLt, ℕ-discrete}
 use native.Mathlib.Omega.{arith}
@@ -12,7 +12,6 @@ use Rattle.permset.specs.Sets.{member}
 use Rattle.permset.proofs.Laws.{member-empty}
 use Rattle.table.specs.declared.Item.{Item}
 use Rattle.table.specs.Words.{kind}
-use Rattle.table.specs.Item.{handlerAt}
 use Rattle.table.specs.Scan.{Task, accepted, namesAt, reading}
 use Rattle.table.specs.Code.{Code, Node, NodeLinked, gap, block, leaf, one, two, bind, while, branch, update, code}
 use Rattle.table.proofs.Linked.{linked}
@@ -24,11 +23,11 @@ use Rattle.table.proofs.Nodes.{itemNode, nodeAt, node-item}
 use Rattle.table.proofs.Blocks.{listed-block}
 use Rattle.calculus.specs.Elements.{plain, Making, nothing, aFunction, aRecord, aCell, isFunction, isRecord, isCell, makes}
 use Rattle.calculus.specs.Rules.{isBlock}
-use Rattle.calculus.specs.Layout.{bit, Words}
+use Rattle.calculus.specs.Layout.{bit}
 use Rattle.calculus.proofs.Masks.{T-false, agree, agree-below}
 use Rattle.rows.specs.declared.layout.Layout.{Layout}
 use Rattle.rows.specs.Laid.{LaidOut}
-use Rattle.masks.specs.Masks.{makingNumber, wordMakes, markIf}
+use Rattle.masks.specs.Masks.{makingNumber, markIf}
 use Rattle.masks.proofs.Sorts.{word-making, and-yes, and-no, if-at, if-other, if-words, if-length}
 use Rattle.stray.specs.declared.Holding.{Holding}
 use Rattle.stray.specs.declared.Holding.the-variants as holdings

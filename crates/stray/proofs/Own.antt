@@ -2,7 +2,6 @@
 use Prim.Native.Nat.{ℕ, suc, _+_, _-_, _*_, _/_, _%_, _≤_, _<_}
 use mathlib.Core.Path.{_≡_, refl, sym, ap, _∙_, subst}
 use mathlib.Core.Bool.{Bool, true, false, _&&_, _||_}
-use mathlib.Core.List.{List}
 use mathlib.Core.Logic.{⊎-elim}
 use native.Mathlib.Omega.{arith}
 use borrow.Author.Tests.{eq-eqb, ne-eqb, eqb-true}
@@ -16,11 +15,10 @@ use Rattle.calculus.specs.Layout.{bit, used, base, shift, span, allowed, place}
 use Rattle.calculus.specs.Estimate.{estimate}
 use Rattle.calculus.proofs.Digits.{T-and, T-or, T-or-left, T-or-right, T-snd, T-true}
 use Rattle.calculus.proofs.Slices.{bit-short}
-use Rattle.calculus.proofs.Places.{digits, low, fits-row, owner-lt, span-lt, place-C, place-B, place-P, place-used, At, used-place}
+use Rattle.calculus.proofs.Places.{digits, low, fits-row, span-lt, place-C, place-B, place-P, At, used-place}
 use Rattle.calculus.proofs.Rows.{in-sets}
 use Rattle.calculus.proofs.Least.{estimate-well}
 use Rattle.calculus.proofs.Makers.{isMade, chosen, proper as plainOrMade, sending, full, estimate-full}
-use Rattle.stray.specs.declared.Holding.{Holding}
 use Rattle.stray.specs.declared.Holding.the-variants as holdings
 use Rattle.stray.specs.Stray.{names, ofBlock, holding, holds, proper}
 use Rattle.stray.proofs.Clean.{Proper}

@@ -1,17 +1,15 @@
 -- The words of an estimate of an accepted table: how many there are, where its rows stand, and when they have no stray digit.
 use Prim.Native.Nat.{ℕ, _+_, _-_, _*_, _^_, _≤_, _<_}
-use mathlib.Core.Path.{_≡_, refl, sym, ap, ap₂, _∙_, subst}
+use mathlib.Core.Path.{_≡_, sym, ap, ap₂, _∙_, subst}
 use mathlib.Core.Bool.{Bool, true, false, not}
 use mathlib.Core.List.{List}
 use native.Mathlib.Nat.{mul-le-mul-right}
 use native.Mathlib.Omega.{arith}
 use lib.ListN.{length, getD}
-use Rattle.permset.specs.Sets.{within}
 use Rattle.table.specs.Code.{Code, code}
 use Rattle.calculus.specs.Elements.{elements}
-use Rattle.calculus.specs.Layout.{rowWords, estimateWords}
+use Rattle.calculus.specs.Layout.{rowWords}
 use Rattle.rows.specs.declared.layout.Layout.{Layout}
-use Rattle.rows.specs.Laid.{LaidOut}
 use Rattle.calls.proofs.Bounds.{size-small, row-small, words-are, words-bound}
 use Rattle.stray.specs.declared.Holding.{Holding}
 use Rattle.stray.specs.declared.Holding.the-variants as holdings

@@ -7,19 +7,18 @@ use native.Mathlib.Nat.{mul-left-comm}
 use native.Mathlib.Omega.{arith}
 use borrow.Author.Tests.{lt-ltb, le-ltb, lt-leb, le-leb}
 use lib.Arith.{digits-lt, digits-div, digits-mod}
-use lib.Dec.{T, leb, ltb, ltb→lt, lit<}
+use lib.Dec.{T, ltb, lit<}
 use lib.ListN.{length, getD}
 use Rattle.permset.specs.Sets.{width, member, within}
 use Rattle.permset.proofs.Laws.{within-member, member-within-below, within-lt}
 use Rattle.table.specs.Code.{Code}
 use Rattle.calculus.specs.Elements.{elements}
-use Rattle.calculus.specs.Layout.{bit, rowWords, used}
+use Rattle.calculus.specs.Layout.{rowWords, used}
 use Rattle.calculus.specs.Estimate.{anyFrom}
 use Rattle.calculus.proofs.Digits.{T-and, T-fst, T-snd, T-true, member-lt}
 use Rattle.calculus.proofs.Slices.{bit-at}
 use Rattle.calculus.proofs.Masks.{bool-ext, T-false, agree, agree-below}
 use Rattle.calculus.proofs.Firing.{any-has, any-found}
-use Rattle.calculus.proofs.Places.{fits-row}
 use Rattle.stray.specs.Stray.{holding, holds, rowDigits, proper, stray}
 use Rattle.stray.specs.Allowed.{Allowed}
 

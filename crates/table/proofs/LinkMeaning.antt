@@ -429,18 +429,8 @@ module _ (ws : List ℕ) (e : reading ws ≡ accepted) (l₀ : List ℕ) (room :
 
   -- ---- the links
 
-  pub links-length : length (linked ws l₀) ≡ length l₀
-  links-length = final .long
-
-  -- the words past the table's are left
-  pub links-rest : (q : ℕ) → length ws ≤ q → getD (linked ws l₀) q 0 ≡ getD l₀ q 0
-  links-rest = final .rest
-
   pub link-end : (p : ℕ) → p < length ws → linkAt (linked ws l₀) p .end ≡ endOf ws p
   link-end p i = final .right p zero-le i
-
-  pub link-block : (p : ℕ) → p < length ws → taskAt ws p ≡ name → linkAt (linked ws l₀) p .home ≡ p
-  link-block p i t = subst (DoneTask ws (linked ws l₀) p) t (final .done p i)
 
   pub link-term : (p d h : ℕ) (s : List ℕ) → p < length ws → taskAt ws p ≡ term d h s → Done ws (linked ws l₀) p h s
   link-term p d h s i t = subst (DoneTask ws (linked ws l₀) p) t (final .done p i)

@@ -148,7 +148,3 @@ module _ (ws : List ℕ) (e : reading ws ≡ accepted) where
     pub part-task : (k : ℕ) → k < arity (getD ws p 0)
         → taskAt ws (part ws p k) ≡ term (suc d) h (under (getD (parts (getD ws p 0)) k false) p s)
     part-task k m = part-step k m .task
-
-    -- the next part, or the term's end, stands where part k ends
-    pub part-next : (k : ℕ) → k < arity (getD ws p 0) → part ws p (suc k) ≡ endOf ws (part ws p k)
-    part-next k m = part-suc ws p k (part-inside k m)

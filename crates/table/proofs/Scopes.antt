@@ -6,11 +6,10 @@ use Prim.Native.Nat.{ℕ, zero, suc, _-_, _≤_, _<_}
 use native.Mathlib.Nat.{le-of-suc-le-suc, not-suc-le-zero, le-refl, le-suc, le-trans}
 use native.Mathlib.Omega.{arith}
 use lib.ListN.{length, getD, replicate}
-use Rattle.table.specs.Words.{kind, argument, parts, partsByKind, arity, depths}
+use Rattle.table.specs.Words.{kind, argument, parts, partsByKind, arity}
 use Rattle.table.specs.Scan.{Task, head, name, perms, guard, term, accepted, under, next, reading}
 use Rattle.table.specs.Code.{taskAt}
 use Rattle.table.proofs.Stack.{reach-with}
-use Rattle.table.proofs.Parts.{term-stands}
 
 -- ---- a fact of each task and the places up to its own
 
@@ -160,7 +159,3 @@ module _ (ws : List ℕ) (e : reading ws ≡ accepted) (p d h : ℕ) (s : List �
       every-term ws e (λ p d h s. Chained ws s) (λ p d h s q. q) (λ b t. (of-block t, tt))
       (λ p d h s t q b a. chained-under ws p d h s t q b a)
       p d h s l t
-
-  -- document 01's depth
-  pub depth-le : d ≤ depths
-  depth-le = term-stands ws e p d h s l t .4

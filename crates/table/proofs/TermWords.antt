@@ -33,10 +33,6 @@ pub argument-lt : (w : ℕ) → argument w < 2 ^ 24
 unfolding argument
 argument-lt w = omega arith
 
-pub kind-lt : (w : ℕ) → w < 2 ^ 32 → kind w < 2 ^ 8
-unfolding kind
-kind-lt w h = omega arith
-
 -- two words are equal only where kind and argument are
 pub wordOf-injective : (k l a b : ℕ) → a < 2 ^ 24 → b < 2 ^ 24 → wordOf k a ≡ wordOf l b → (k ≡ l) × (a ≡ b)
 wordOf-injective k l a b ha hb e = (omega arith, omega arith)

@@ -26,10 +26,6 @@ pub length-withBinder : (l : List ℕ) (p b : ℕ) → length (withBinder l p b)
 unfolding withBinder
 length-withBinder l p b = simp length-set
 
-pub length-withHome : (l : List ℕ) (p h : ℕ) → length (withHome l p h) ≡ length l
-unfolding withHome
-length-withHome l p h = simp length-set
-
 module _ (l : List ℕ) (p b w i q : ℕ) where
   pub parts-more : i < arity w
       → bindParts l p b (drop i (parts w)) q

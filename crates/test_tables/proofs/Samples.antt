@@ -1,6 +1,6 @@
 -- What the tables are filled with, computed.
 use mathlib.Core.Path.{_≡_, refl}
-use mathlib.Core.List.{List, [], _∷_}
+use mathlib.Core.List.{[], _∷_}
 use Prim.Native.Nat.{ℕ}
 use lib.Seq.{sets}
 use Rattle.test_tables.specs.Tables.{numbered, inTurn, blockWord}

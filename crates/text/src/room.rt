@@ -1,6 +1,5 @@
 // Text where it has room. Each writer answers the place after its text whether it is there or not, so that a text can be measured first.
 use crate::put;
-ghost use mathlib.Core.Path.{_≡_};
 ghost use Prim.Native.Nat.{_≤_};
 ghost use lib.ListN.{length};
 ghost use Rattle.text.specs.Added.{Added};

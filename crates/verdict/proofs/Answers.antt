@@ -1,19 +1,14 @@
 -- What a verdict says is the answer to its call, and what the call leaves.
 use Prim.Native.Nat.{ℕ}
-use mathlib.Core.Path.{_≡_, refl, sym, ap, ap₂, _∙_}
-use mathlib.Core.List.{List, _++_}
-use lib.Seq.{take-append-seam}
-use lib.ListN.{length, drop, take, replicate}
-use Rattle.table.specs.Scan.{accepted, reading}
+use mathlib.Core.Path.{_≡_, refl, sym, _∙_}
+use mathlib.Core.List.{List}
+use lib.ListN.{length}
 use Rattle.table.specs.Code.{code}
-use Rattle.table.proofs.Linked.{linked}
-use Rattle.calculus.specs.Layout.{estimateWords}
 use Rattle.calculus.specs.Estimate.{estimate, leak, facts}
 use Rattle.calculus.specs.Answer.{refused, verdict, boundUsed, judge, answer, estimateAfter, workAfter}
 use Rattle.calculus.specs.Correct.{Correct, Guaranteed}
 use Rattle.calculus.proofs.Covers.{answer-guaranteed}
 use Rattle.calculus.proofs.Correct.{call-correct}
-use Rattle.calculus.proofs.Least.{estimate-well}
 use Rattle.comparison.specs.declared.Findings.{Findings}
 use Rattle.calls.specs.Calls.{Fits}
 use Rattle.calls.proofs.Answers.{after-refused, after-solved}

@@ -1,7 +1,7 @@
 -- What a verdict under a ceiling says is the answer to its call, and what the call leaves.
 use Prim.Native.Nat.{ℕ, _<_, _≤_}
-use mathlib.Core.Path.{_≡_, refl, sym, ap, _∙_, subst}
-use mathlib.Core.Bool.{Bool, true, false}
+use mathlib.Core.Path.{_≡_, refl, sym, ap, _∙_}
+use mathlib.Core.Bool.{false}
 use mathlib.Core.List.{List, _++_}
 use native.Mathlib.Decide.{decLt}
 use native.Mathlib.Omega.{arith}
@@ -20,7 +20,6 @@ use Rattle.comparison.specs.declared.Verdict.{Verdict as Declared·Verdict}
 use Rattle.comparison.specs.Values.{answerOf, compare}
 use Rattle.solver.specs.Ceiling.{under, wordsWithin, SolvedIn}
 use Rattle.solver.proofs.Least.{words-whole}
-use Rattle.verdict.specs.declared.limit.Limited.{Limited}
 use Rattle.verdict.specs.declared.limit.Limited.the-variants.{Judged, Exceeded}
 use Rattle.verdict.specs.Limits.{limitedAnswer, answerUnder, estimateUnder, Limits}
 use Rattle.verdict.proofs.Answers.{compare-judge}

@@ -62,6 +62,3 @@ module _ (ws : List ℕ) (e : reading ws ≡ accepted) where
 
   pub code-widened : code (widened ws) ≡ withNames wide (code ws)
   code-widened = rw (code-rekinded, names-widened ws some-words)
-
-  pub code-narrowed : code (narrowed ws) ≡ withNames narrow (code ws)
-  code-narrowed = rw (code-rekinded, names-narrowed ws some-words)

@@ -19,8 +19,9 @@ use crate::view::past;
 use crate::view::row_at;
 use crate::view::width;
 use rows::layout::Layout;
+use rows::row::next_common;
 use table::argument_of;
-ghost use Prim.Native.Nat.{_<_, _≤_};
+ghost use Prim.Native.Nat.{_<_};
 ghost use lib.ListN.{length};
 
 // The masks, by their numbers.
@@ -118,11 +119,13 @@ pub fn meet_new(
     if masks.len() < mask + end {
         return;
     }
-    let mut k = first;
+    let row = &est[at..at + end];
+    let sort = &masks[mask..mask + end];
+    let mut k = next_common(row, sort, first);
     while k < end {
-        let bits = est[at + k] & masks[mask + k];
+        let bits = row[k] & sort[k];
         meet_word(h, out, l.size, kind, d, p, BITS * (k - first), bits);
-        k += 1;
+        k = next_common(row, sort, k + 1);
     }
 }
 

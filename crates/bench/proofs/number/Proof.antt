@@ -1,6 +1,5 @@
 -- `bench::number` meets its contract: the number stays small. Assumes nothing.
 use Prim.Native.Nat.{_-_, _<_}
-use native.Mathlib.Omega.{arith}
 use lib.ListN.{length}
 use borrow.Author.Needs.{needs}
 use Rattle.bench.proofs.number.Statement.{statement}

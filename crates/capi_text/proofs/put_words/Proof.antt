@@ -1,9 +1,9 @@
 -- `capi_text::put_words` meets its contract. Assumes nothing.
 use Prim.Native.Nat.{ℕ, _*_}
-use mathlib.Core.Path.{refl, sym, ap, _∙_}
+use mathlib.Core.Path.{sym, ap, _∙_}
 use mathlib.Core.List.{List, _++_}
 use native.Mathlib.Omega.{arith}
-use lib.ListN.{length, take, drop}
+use lib.ListN.{take, drop}
 use mathlib.Core.Path.{_≡_}
 use lib.Seq.{length-take-le, take-all}
 use Rattle.little_endian.specs.LittleEndian.{bytesOf}

@@ -1,9 +1,9 @@
 -- `capi_text::wiphosega_listing_read` meets its contract. Assumes nothing.
-use Prim.Native.Nat.{ℕ, _*_}
-use mathlib.Core.Path.{refl, sym, ap, _∙_}
-use mathlib.Core.List.{List, _++_}
+use Prim.Native.Nat.{ℕ}
+use mathlib.Core.Path.{sym, ap, _∙_}
+use mathlib.Core.List.{List}
 use native.Mathlib.Omega.{arith}
-use lib.ListN.{length, take, drop}
+use lib.ListN.{length}
 use mathlib.Core.Path.{ap₂}
 use Rattle.little_endian.specs.LittleEndian.{bytesOf}
 use Rattle.listing.specs.Listing.{Answered, left}

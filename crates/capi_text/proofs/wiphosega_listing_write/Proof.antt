@@ -1,9 +1,7 @@
 -- `capi_text::wiphosega_listing_write` meets its contract. Assumes nothing.
-use Prim.Native.Nat.{ℕ, _*_}
 use mathlib.Core.Path.{refl, sym, ap, _∙_}
-use mathlib.Core.List.{List, _++_}
 use native.Mathlib.Omega.{arith}
-use lib.ListN.{length, take, drop}
+use lib.ListN.{length, take}
 use lib.ListN.{replicate}
 use Rattle.little_endian.specs.LittleEndian.{wordsOf}
 use Rattle.little_endian.proofs.First.{words-size, words-few}

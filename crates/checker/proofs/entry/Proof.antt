@@ -2,7 +2,6 @@
 use native.Mathlib.Omega.{arith}
 use Rattle.table.specs.Code.{code}
 use Rattle.checker.proofs.Guards.{in-table, closed-entry, open-entry}
-use borrow.Author.Needs.{needs}
 use Rattle.checker.proofs.entry.Statement.{statement}
 use Rattle.checker.proofs.entry.Tie as tie
 

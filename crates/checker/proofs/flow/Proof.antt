@@ -1,18 +1,16 @@
 -- `checker::flow` meets its contract: an arm for each kind. Assumes nothing.
 use borrow.Author.Needs.{needs}
-use Prim.Native.Nat.{ℕ, _+_, _*_, _<_}
-use mathlib.Core.Path.{_≡_, refl, sym, ap, _∙_, subst}
-use native.Mathlib.Decide.{decLt}
+use Prim.Native.Nat.{ℕ, _+_}
+use mathlib.Core.Path.{sym, ap, _∙_, subst}
 use native.Mathlib.Omega.{arith}
-use lib.ListN.{getD}
 use Rattle.table.specs.declared.Link.{Link}
 use Rattle.table.specs.declared.Item.the-variants as items
 use Rattle.table.specs.declared.Term.the-variants as terms
-use Rattle.table.specs.Words.{argument, constantOf, operationOf, termsByKind}
+use Rattle.table.specs.Words.{constantOf, operationOf, termsByKind}
 use Rattle.table.specs.Links.{linkAt}
-use Rattle.table.specs.Code.{code, termNode, two, exercise, operation, send}
-use Rattle.calculus.specs.Elements.{constantElement, sign, plain}
-use Rattle.calculus.specs.Constraint.{C, sub, B}
+use Rattle.table.specs.Code.{code, termNode, two, exercise, operation}
+use Rattle.calculus.specs.Elements.{constantElement, sign}
+use Rattle.calculus.specs.Constraint.{C}
 use Rattle.calculus.specs.Rules.{flow, leafRule}
 use Rattle.calculus.specs.Layout.{sets}
 use Rattle.calculus.proofs.Fitting.{constant-lt, sign-lt}
@@ -20,10 +18,9 @@ use Rattle.queries.proofs.Given.{linked-code}
 use Rattle.clauses.proofs.ByKind.{byKind, item-by}
 use Rattle.checker.specs.Decides.{Decides}
 use Rattle.checker.proofs.Laws.{put-is}
-use Rattle.checker.proofs.Laid.{BC}
 use Rattle.checker.proofs.Asking.{own-is}
 use Rattle.checker.proofs.Guards.{body-in}
-use Rattle.checker.proofs.Placed.{masks-of, links-of, in-code, in-words, sizes, three-linked, three-flow, two-linked, two-flow, one-linked, one-flow, own-perms, term-at, part-at, block-flow, binder-in, variable-flow, sent-at, own-at, send-at, other-flow}
+use Rattle.checker.proofs.Placed.{masks-of, in-code, in-words, sizes, three-linked, three-flow, two-linked, two-flow, one-linked, one-flow, own-perms, term-at, part-at, block-flow, binder-in, variable-flow, other-flow}
 use Rattle.checker.proofs.flow.Statement.{statement}
 use Rattle.checker.proofs.flow.Tie as tie
 
@@ -140,13 +137,9 @@ assign-requires : tie.Need-assign-requires
 unfolding byKind termsByKind termNode
 assign-requires c κs = let s = c .before .before .before .before .before .before .before .before .before in let a = s .args in let ws = a .words .now in (term-at (a .words .now) (a .links .now) (a .masks .now) (a .l) (s .pre .0) (a .est .now) (s .pre .1) (a .p) (s .pre .2) ((two-linked (a .words .now) (a .links .now) (a .masks .now) (a .l) (s .pre .0) (a .est .now) (s .pre .1) (a .p) (s .pre .2) _ (item-by ws (a .p) 34 (sym (c .before .before .kind-of .ensures) ∙ c .before .match .keys20)) _ (c .end14 .ensures)) .1 .inside), part-at (a .words .now) (a .links .now) (a .masks .now) (a .l) (s .pre .0) (a .est .now) (s .pre .1) (a .p) (s .pre .2) ((two-linked (a .words .now) (a .links .now) (a .masks .now) (a .l) (s .pre .0) (a .est .now) (s .pre .1) (a .p) (s .pre .2) _ (item-by ws (a .p) 34 (sym (c .before .before .kind-of .ensures) ∙ c .before .match .keys20)) _ (c .end14 .ensures)) .2 .inside), masks-of (a .words .now) (a .links .now) (a .masks .now) (a .l) (s .pre .0))
 
-send-requires : tie.Need-send-requires
-unfolding byKind termsByKind termNode
-send-requires c κs = let s = c .before .before .before .before .before .before .before .before .before .before in let a = s .args in let ws = a .words .now in (sent-at (a .words .now) (a .links .now) (a .masks .now) (a .l) (s .pre .0) (a .est .now) (s .pre .1) (a .p) (s .pre .2) (c .before .end15 .result) (c .before .before .before .before .argument-of .result) (c .sending .result) (c .sending .ensures) (term-at (a .words .now) (a .links .now) (a .masks .now) (a .l) (s .pre .0) (a .est .now) (s .pre .1) (a .p) (s .pre .2) ((two-linked (a .words .now) (a .links .now) (a .masks .now) (a .l) (s .pre .0) (a .est .now) (s .pre .1) (a .p) (s .pre .2) _ (item-by ws (a .p) 35 (sym (c .before .before .before .kind-of .ensures) ∙ c .before .before .match .keys21)) _ (c .before .end15 .ensures)) .1 .inside)) (part-at (a .words .now) (a .links .now) (a .masks .now) (a .l) (s .pre .0) (a .est .now) (s .pre .1) (a .p) (s .pre .2) ((two-linked (a .words .now) (a .links .now) (a .masks .now) (a .l) (s .pre .0) (a .est .now) (s .pre .1) (a .p) (s .pre .2) _ (item-by ws (a .p) 35 (sym (c .before .before .before .kind-of .ensures) ∙ c .before .before .match .keys21)) _ (c .before .end15 .ensures)) .2 .inside)), links-of (a .words .now) (a .links .now) (a .masks .now) (a .l) (s .pre .0))
-
 exercise-requires : tie.Need-exercise-requires
 unfolding byKind termsByKind termNode
-exercise-requires c κs = let s = c .before .before .before .before .before .before .before .before .before in let a = s .args in let ws = a .words .now in (sizes (a .words .now) (a .links .now) (a .masks .now) (a .l) (s .pre .0) (a .est .now) (s .pre .1) (a .p) (s .pre .2), s .pre .2, omega (arith, one-linked (a .words .now) (a .links .now) (a .masks .now) (a .l) (s .pre .0) (a .est .now) (s .pre .1) (a .p) (s .pre .2) _ (item-by ws (a .p) 36 (sym (c .before .before .kind-of .ensures) ∙ c .before .match .keys22)), c .before .before .before .argument-of .ensures))
+exercise-requires c κs = let s = c .before .before .before .before .before .before .before .before .before in let a = s .args in let ws = a .words .now in (sizes (a .words .now) (a .links .now) (a .masks .now) (a .l) (s .pre .0) (a .est .now) (s .pre .1) (a .p) (s .pre .2), s .pre .2, omega (arith, one-linked (a .words .now) (a .links .now) (a .masks .now) (a .l) (s .pre .0) (a .est .now) (s .pre .1) (a .p) (s .pre .2) _ (item-by ws (a .p) 36 (sym (c .before .before .kind-of .ensures) ∙ c .before .match .keys21)), c .before .before .before .argument-of .ensures))
 
 other-requires : tie.Need-other-requires
 other-requires c κs = let s = c .before .before .before .before .before .before .before .before in let a = s .args in let ws = a .words .now in (sizes (a .words .now) (a .links .now) (a .masks .now) (a .l) (s .pre .0) (a .est .now) (s .pre .1) (a .p) (s .pre .2), s .pre .2)
@@ -272,26 +265,17 @@ returns-20 c =
     two-flow (a .words .now) (a .links .now) (a .masks .now) (a .l) (s .pre .0) (a .est .now) (s .pre .1) (a .p) (s .pre .2) _ (item-by ws (a .p) 34 (sym (c .before .before .before .kind-of .ensures) ∙ c .before .before .match .keys20)) _ (c .before .end14 .ensures) (c .assign .ensures (code ws) (linked-code (a .words .now) (a .links .now) (a .masks .now) (a .l) (s .pre .0)) (s .pre .0 .laid) (s .pre .1) (s .pre .0 .masked))
 
 returns-21 : tie.Need-returns-21
-unfolding byKind termsByKind termNode
+unfolding byKind termsByKind termNode flow
 returns-21 c =
-    let t = c .before .before .before .before .before in
-    let s = c .before .before .before .before .before .before .before .before .before .before .before in let a = s .args in let ws = a .words .now in
-    two-flow (a .words .now) (a .links .now) (a .masks .now) (a .l) (s .pre .0) (a .est .now) (s .pre .1) (a .p) (s .pre .2) _ (item-by ws (a .p) 35 (sym (c .before .before .before .before .kind-of .ensures) ∙ c .before .before .before .match .keys21)) _ (c .before .before .end15 .ensures)
-    (send-at (a .words .now) (a .links .now) (a .masks .now) (a .l) (s .pre .0) (a .est .now) (s .pre .1) (a .p) (s .pre .2) (c .before .before .end15 .result) (t .argument-of .result) (c .before .sending .result) (c .before .sending .ensures) _ (t .argument-of .ensures)
-    (c .send .ensures (own-at (a .words .now) (a .links .now) (a .masks .now) (a .l) (s .pre .0) (a .est .now) (s .pre .1) (a .p) (s .pre .2) (c .before .before .end15 .result) (t .argument-of .result) (c .before .sending .result) (c .before .sending .ensures) _ (item-by ws (a .p) 35 (sym (c .before .before .before .before .kind-of .ensures) ∙ c .before .before .before .match .keys21)))))
+    let s = c .before .before .before .before .before .before .before .before .before .before in let a = s .args in let ws = a .words .now in
+    one-flow (a .words .now) (a .links .now) (a .masks .now) (a .l) (s .pre .0) (a .est .now) (s .pre .1) (a .p) (s .pre .2) _ (item-by ws (a .p) 36 (sym (c .before .before .before .kind-of .ensures) ∙ c .before .before .match .keys21))
+    (subst (λ (x : ℕ). Decides (sets (code ws) (a .est .now)) (leafRule (code ws) (a .p) (exercise x)) (c .exercise .result)) (c .before .before .before .before .argument-of .ensures)
+    (c .exercise .ensures (code ws) (s .pre .0 .laid) (s .pre .1) (own-perms (a .words .now) (a .links .now) (a .masks .now) (a .l) (s .pre .0) (a .est .now) (s .pre .1) (a .p) (s .pre .2) _ (item-by ws (a .p) 36 (sym (c .before .before .before .kind-of .ensures) ∙ c .before .before .match .keys21)) (c .before .permissions-of .result .bits) (c .before .permissions-of .ensures))))
 
 returns-22 : tie.Need-returns-22
-unfolding byKind termsByKind termNode flow
 returns-22 c =
-    let s = c .before .before .before .before .before .before .before .before .before .before in let a = s .args in let ws = a .words .now in
-    one-flow (a .words .now) (a .links .now) (a .masks .now) (a .l) (s .pre .0) (a .est .now) (s .pre .1) (a .p) (s .pre .2) _ (item-by ws (a .p) 36 (sym (c .before .before .before .kind-of .ensures) ∙ c .before .before .match .keys22))
-    (subst (λ (x : ℕ). Decides (sets (code ws) (a .est .now)) (leafRule (code ws) (a .p) (exercise x)) (c .exercise .result)) (c .before .before .before .before .argument-of .ensures)
-    (c .exercise .ensures (code ws) (s .pre .0 .laid) (s .pre .1) (own-perms (a .words .now) (a .links .now) (a .masks .now) (a .l) (s .pre .0) (a .est .now) (s .pre .1) (a .p) (s .pre .2) _ (item-by ws (a .p) 36 (sym (c .before .before .before .kind-of .ensures) ∙ c .before .before .match .keys22)) (c .before .permissions-of .result .bits) (c .before .permissions-of .ensures))))
-
-returns-23 : tie.Need-returns-23
-returns-23 c =
     let s = c .before .before .before .before .before .before .before .before .before in let a = s .args in let ws = a .words .now in
-    other-flow (a .words .now) (a .links .now) (a .masks .now) (a .l) (s .pre .0) (a .est .now) (s .pre .1) (a .p) (s .pre .2) _ (sym (c .before .before .kind-of .ensures)) (c .before .match .rest) (c .other .ensures)
+    other-flow (a .words .now) (a .links .now) (a .masks .now) (a .l) (s .pre .0) (a .est .now) (s .pre .1) (a .p) (s .pre .2) _ (sym (c .before .before .kind-of .ensures)) ((c .before .match .rest .0, λ z. s .pre .3 (sym (c .before .before .kind-of .ensures) ∙ z)), c .before .match .rest .1) (c .other .ensures)
 
 pub flow-spec : {M : Type 1} → statement M
 flow-spec =
@@ -362,10 +346,6 @@ flow-spec =
     (λ add-end-12. search needs)
     (λ end-requires-14 κs. search needs)
     assign-requires
-    (λ add-end-13. search needs)
-    (λ end-requires-15 κs. search needs)
-    (λ sending-requires κs. search needs)
-    send-requires
     (λ permissions-of-requires κs. search needs)
     exercise-requires
     other-requires
@@ -390,5 +370,4 @@ flow-spec =
     returns-19
     returns-20
     returns-21
-    returns-22
-    returns-23)
+    returns-22)

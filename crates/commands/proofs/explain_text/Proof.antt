@@ -1,6 +1,5 @@
 -- `commands::explain_text` meets its contract. Assumes nothing.
-use mathlib.Core.Path.{_≡_, refl, sym, ap, ap₂, subst, _∙_}
-use native.Mathlib.Omega.{arith}
+use mathlib.Core.Path.{sym, ap, _∙_}
 use Rattle.text.proofs.Writing.{reworded}
 use Rattle.commands.specs.Printed.{valueText}
 use borrow.Author.Needs.{needs}

@@ -1,6 +1,5 @@
 -- `commands::key_text` meets its contract. Assumes nothing.
-use mathlib.Core.Path.{_≡_, refl, sym, ap, ap₂, subst, _∙_}
-use native.Mathlib.Omega.{arith}
+use mathlib.Core.Path.{sym, ap, ap₂}
 use Rattle.text.proofs.Writing.{reworded}
 use Rattle.commands.specs.declared.arguments.Value.{Value}
 use Rattle.commands.specs.Printed.{keyText}

@@ -1,6 +1,5 @@
 -- `commands::print` meets its contract. Assumes nothing.
-use mathlib.Core.Path.{_≡_, refl, sym, ap, ap₂, subst, _∙_}
-use native.Mathlib.Omega.{arith}
+use mathlib.Core.Path.{_∙_}
 use Rattle.text.proofs.Writing.{reworded}
 use Rattle.commands.proofs.Runs.{decided, printed-text, printed-words, printed-join, printed-block, printed-manifest, printed-explain, printed-check, printed-other}
 use borrow.Author.Needs.{needs}

@@ -2,7 +2,6 @@
 use mathlib.Core.Path.{sym, ap, _∙_}
 use borrow.Author.Needs.{needs}
 use borrow.Author.Tests.{eq-eqb, ne-eqb, not-true, not-false}
-use Rattle.permset.specs.declared.PermSet.{PermSet}
 use Rattle.delivery.specs.declared.Delivery.the-variants as deliveries
 use Rattle.delivery.proofs.Laws.{other-name, receiver-lacks, sender-lacks, is-delivered}
 use Rattle.delivery.proofs.judge.Statement.{statement}

@@ -5,7 +5,7 @@ use Rattle.masks.specs.declared.Sort.{Sort}
 use Rattle.masks.specs.declared.Sort.the-variants as sorts
 use Rattle.masks.specs.Masks.{sortHas}
 use mathlib.Core.Path.{_≡_, sym, ap, _∙_}
-use mathlib.Core.Bool.{Bool, not}
+use mathlib.Core.Bool.{not}
 use lib.Dec.{eqb}
 use borrow.Author.Tests.{eq-eqb, ne-eqb}
 use borrow.Author.Needs.{needs}

@@ -1,6 +1,5 @@
 -- `order_text::write` meets its contract. Assumes nothing.
 use mathlib.Core.Path.{sym, _∙_}
-use native.Mathlib.Omega.{arith}
 use borrow.Author.Needs.{needs}
 use borrow.Author.Tests.{ltb-false}
 use Rattle.order_text.proofs.Laws.{unwritten, written}

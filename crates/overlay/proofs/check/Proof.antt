@@ -2,7 +2,6 @@
 -- Assumes nothing.
 use mathlib.Core.Path.{sym, ap, _∙_}
 use borrow.Author.Needs.{needs}
-use Rattle.table.specs.Words.{narrow}
 use Rattle.table.specs.Answer.{outcome}
 use Rattle.overlay.specs.Answers.{faultNumber, faultPlace, checkedAs}
 use Rattle.overlay.proofs.Refusals.{base-refused, overlay-refused, both-accepted}

@@ -1,12 +1,10 @@
 -- `reading_order::checked` meets its contract. Assumes nothing.
 use Prim.Native.Nat.{ℕ, _≤_}
-use mathlib.Core.Path.{_≡_, sym, ap, _∙_, subst}
-use mathlib.Core.List.{List}
+use mathlib.Core.Path.{sym, ap, _∙_}
 use native.Mathlib.Omega.{arith}
 use borrow.Author.Needs.{needs}
 use lib.ListN.{length, take}
 use lib.Seq.{take-at, length-take-le}
-use Rattle.table.specs.Code.{code}
 use Rattle.reading_order.proofs.Elements.{blocks-few}
 use Rattle.reading_order.proofs.Replies.{short-in}
 use Rattle.reading_order.proofs.checked.Statement.{statement}

@@ -1,11 +1,9 @@
 -- `results::sign_bit` meets its contract: its tests are those of the definition.
 -- Assumes nothing.
 use mathlib.Core.Path.{_≡_}
-use mathlib.Core.Bool.{true, false}
 use Prim.Native.Nat.{ℕ, _^_, _≤_, _<_}
 use borrow.Author.Tests.{eq-eqb, ne-eqb, lt-ltb, le-ltb}
 use Rattle.calculus.specs.Elements.{sign}
-use borrow.Author.Needs.{needs}
 use Rattle.results.proofs.sign_bit.Statement.{statement}
 use Rattle.results.proofs.sign_bit.Tie as tie
 

@@ -2,13 +2,12 @@
 -- Assumes nothing.
 use borrow.Author.Tests.{not-true, not-false}
 use mathlib.Core.Path.{_≡_, sym, _∙_}
-use mathlib.Core.Bool.{Bool, true, false, _&&_}
+use mathlib.Core.Bool.{true, false}
 use mathlib.Core.List.{List}
 use Prim.Native.Nat.{ℕ, _+_, _/_, _%_}
 use lib.ListN.{getD}
 use Rattle.permset.specs.Sets.{member}
 use Rattle.calculus.proofs.SignResults.{signEntry}
-use Rattle.results.specs.Signs.{signTable}
 use borrow.Author.Needs.{needs}
 use Rattle.results.proofs.sign_entry.Statement.{statement}
 use Rattle.results.proofs.sign_entry.Tie as tie

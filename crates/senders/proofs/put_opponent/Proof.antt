@@ -1,5 +1,5 @@
 -- `senders::put_opponent` meets its contract. Assumes nothing.
-use mathlib.Core.Path.{sym, _∙_}
+use mathlib.Core.Path.{sym}
 use native.Mathlib.Omega.{arith}
 use Rattle.text.proofs.Adding.{added-nothing, added-as}
 use Rattle.senders.proofs.Laws.{opponent-absent, opponent-here}

@@ -21,7 +21,7 @@ fn children_time() -> Duration {
 }
 
 /// The best times of one repetition and of many are taken from this many runs each.
-const RUNS: usize = 5;
+const RUNS: usize = 9;
 /// How long the many repetitions should take.
 const ENOUGH: Duration = Duration::from_millis(40);
 

@@ -1,6 +1,5 @@
 -- `audit::judge::audit` meets its contract.
 -- Assumes nothing.
-use Prim.Native.Nat.{ℕ}
 use mathlib.Core.Path.{sym, ap, _∙_, subst}
 use native.Mathlib.Omega.{arith}
 use Rattle.table.specs.Answer.{outcome}

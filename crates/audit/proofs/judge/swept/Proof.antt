@@ -1,5 +1,5 @@
 -- `audit::judge::swept` meets its contract. Without a stray bit the words are those of an estimate. Assumes nothing.
-use mathlib.Core.Path.{sym, _∙_}
+use mathlib.Core.Path.{_∙_}
 use native.Mathlib.Omega.{arith}
 use Rattle.table.specs.Code.{code}
 use Rattle.stray.proofs.Clean.{stray-most}

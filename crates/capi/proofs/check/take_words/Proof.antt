@@ -1,6 +1,6 @@
 -- `capi::check::take_words` meets its contract: whole words that an estimate may have, or none. Assumes nothing.
-use mathlib.Core.Path.{_≡_, _∙_}
-use Prim.Native.Nat.{_/_, _≤_}
+use mathlib.Core.Path.{_≡_}
+use Prim.Native.Nat.{_≤_}
 use native.Mathlib.Omega.{arith}
 use lib.ListN.{length}
 use Rattle.little_endian.proofs.Laws.{words-read}

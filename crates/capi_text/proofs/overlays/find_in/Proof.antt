@@ -1,8 +1,8 @@
 -- `capi_text::overlays::find_in` meets its contract. Assumes nothing.
-use mathlib.Core.Path.{refl, sym, ap, ap₂, _∙_}
+use mathlib.Core.Path.{refl, sym, ap₂, _∙_}
 use mathlib.Core.List.{List}
 use Prim.Native.Nat.{ℕ}
-use lib.ListN.{replicate, length}
+use lib.ListN.{replicate}
 use Rattle.little_endian.proofs.First.{words-size, words-first}
 use Rattle.overlay.specs.Lookup.{placeOf}
 use Rattle.capi_text.proofs.TwoTables.{place-first}

@@ -1,7 +1,6 @@
 -- `capi_text::overlays::odd_number` meets its contract. Assumes nothing.
 use mathlib.Core.Path.{sym}
 use Rattle.capi_text.proofs.TwoTables.{odd-base, odd-overlay, even-both}
-use borrow.Author.Needs.{needs}
 use Rattle.capi_text.proofs.overlays.odd_number.Statement.{statement}
 use Rattle.capi_text.proofs.overlays.odd_number.Tie as tie
 

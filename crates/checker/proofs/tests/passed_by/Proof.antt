@@ -5,7 +5,6 @@ use mathlib.Core.Bool.{not}
 use mathlib.Core.List.{List}
 use Prim.Native.Nat.{ℕ, _*_}
 use native.Mathlib.Omega.{arith}
-use lib.ListN.{take, drop}
 use Rattle.calculus.specs.Layout.{masked}
 use Rattle.rows.specs.Rows.{lacking}
 use Rattle.rows.proofs.Laws.{same-part, length-part}

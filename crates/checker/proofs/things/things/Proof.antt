@@ -1,12 +1,10 @@
 -- `checker::things::things` meets its contract. The loop's invariant: what is asked for each thing passed holds, and f is the next one or none.
 -- Assumes nothing.
-use Prim.Native.Nat.{ℕ, _+_, _-_, _*_, _<_, _≤_}
-use mathlib.Core.Path.{_≡_, subst}
-use mathlib.Core.Bool.{Bool, true, false}
+use Prim.Native.Nat.{_+_, _-_, _*_, _<_}
+use mathlib.Core.Path.{_≡_}
+use mathlib.Core.Bool.{true}
 use native.Mathlib.Omega.{arith}
-use Rattle.calculus.specs.Layout.{sets}
 use Rattle.queries.specs.Things.{both}
-use Rattle.checker.specs.Decides.{Decides}
 use Rattle.checker.specs.Things.{asked}
 use Rattle.checker.proofs.Found.{Passed, passed-start, passed-more, all-passed, one-fails, suits-three, suits-call, body-in, may-search}
 use borrow.Author.Needs.{needs}

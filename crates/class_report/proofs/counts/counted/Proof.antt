@@ -3,9 +3,9 @@ use mathlib.Core.Bool.{Bool}
 use lib.ListN.{getD}
 use Rattle.class_report.specs.Tally.{raised}
 use Rattle.class_report.proofs.Counting.{counted-all}
-use mathlib.Core.Path.{ap, sym, _∙_}
+use mathlib.Core.Path.{ap, _∙_}
 use native.Mathlib.Omega.{arith}
-use Rattle.class_report.proofs.Counting.{length-counted, counted-more}
+use Rattle.class_report.proofs.Counting.{counted-more}
 use Prim.Native.Nat.{_-_, _≤_}
 use mathlib.Core.Path.{_≡_}
 use mathlib.Core.List.{_++_}

@@ -4,9 +4,8 @@ use Prim.Native.Nat.{ℕ}
 use mathlib.Core.Path.{refl, sym, ap, _∙_}
 use mathlib.Core.List.{List}
 use native.Mathlib.Omega.{arith}
-use lib.ListN.{length, replicate}
-use lib.Seq.{length-take-le}
-use Rattle.little_endian.proofs.Laws.{words-read, length-wordsOf}
+use lib.ListN.{replicate}
+use Rattle.little_endian.proofs.Laws.{words-read}
 use Rattle.class_report.specs.Report.{outcomeOf, answerOn, outcome}
 use borrow.Author.Needs.{needs}
 use Rattle.class_report.proofs.judge.judge.Statement.{statement}

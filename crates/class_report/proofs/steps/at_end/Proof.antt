@@ -2,7 +2,6 @@
 use mathlib.Core.Path.{sym, ap}
 use mathlib.Core.Bool.{Bool}
 use Rattle.class_report.specs.Steps.{atEnd}
-use borrow.Author.Needs.{needs}
 use Rattle.class_report.proofs.steps.at_end.Statement.{statement}
 use Rattle.class_report.proofs.steps.at_end.Tie as tie
 

@@ -1,10 +1,8 @@
 -- `class_report::steps::step` meets its contract. Assumes nothing.
 use Prim.Native.Nat.{ℕ}
 use mathlib.Core.Path.{_≡_, sym, ap, _∙_}
-use native.Mathlib.Omega.{arith}
 use Rattle.class_report.specs.Tally.{position}
 use Rattle.class_report.specs.Steps.{taskFor}
-use Rattle.class_report.proofs.Prefixes.{Sized}
 use Rattle.class_report.proofs.Stepped.{more-done, stepped, system-there}
 use borrow.Author.Needs.{needs}
 use Rattle.class_report.proofs.steps.step.Statement.{statement}

@@ -1,5 +1,5 @@
 -- `commands::arguments::digit` meets its contract. Assumes nothing.
-use mathlib.Core.Path.{_≡_, refl, sym, ap, _∙_}
+use mathlib.Core.Path.{sym}
 use native.Mathlib.Omega.{arith}
 use Rattle.commands.proofs.Digits.{digit-low, digit-decimal, digit-between, digit-letter, digit-high}
 use borrow.Author.Needs.{needs}

@@ -1,8 +1,8 @@
 -- `commands::arguments::value_of` meets its contract. Assumes nothing.
-use Prim.Native.Nat.{ℕ, _+_, _-_, _*_, _%_, _^_, _<_, _≤_}
-use mathlib.Core.Path.{_≡_, refl, sym, ap, _∙_}
+use Prim.Native.Nat.{ℕ, _+_, _-_, _*_, _%_, _^_, _≤_}
+use mathlib.Core.Path.{_≡_, sym, ap, _∙_}
 use native.Mathlib.Omega.{arith}
-use lib.ListN.{length, getD, drop}
+use lib.ListN.{length, drop}
 use Rattle.commands.specs.Arguments.{folded, valueOf}
 use Rattle.commands.proofs.Digits.{folded-end, folded-digit, folded-other, value-none, value-long, value-short}
 use borrow.Author.Needs.{needs}

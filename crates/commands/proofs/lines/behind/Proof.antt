@@ -1,10 +1,9 @@
 -- `commands::lines::behind` meets its contract. Assumes nothing.
-use Prim.Native.Nat.{ℕ, _+_, _-_, _*_, _%_, _^_, _<_, _≤_}
+use Prim.Native.Nat.{ℕ, _-_, _≤_}
 use mathlib.Core.Path.{_≡_, refl, sym, ap, _∙_}
-use mathlib.Core.List.{List}
 use native.Mathlib.Omega.{arith}
 use lib.ListN.{length, drop}
-use Rattle.commands.specs.Meanings.{fromLine, Behind}
+use Rattle.commands.specs.Meanings.{fromLine}
 use Rattle.commands.proofs.Meant.{from-next}
 use borrow.Author.Needs.{needs}
 use Rattle.commands.proofs.lines.behind.Statement.{statement}

@@ -1,6 +1,5 @@
 -- `commands::listings::text_text` meets its contract. Assumes nothing.
-use mathlib.Core.Path.{_≡_, refl, sym, ap, _∙_}
-use native.Mathlib.Omega.{arith}
+use mathlib.Core.Path.{refl, sym, ap, _∙_}
 use lib.ListN.{replicate}
 use Rattle.little_endian.specs.LittleEndian.{wordsOf}
 use Rattle.little_endian.proofs.First.{words-size, words-first}

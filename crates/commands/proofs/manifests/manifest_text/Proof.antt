@@ -1,6 +1,5 @@
 -- `commands::manifests::manifest_text` meets its contract. Assumes nothing.
-use mathlib.Core.Path.{_≡_, refl, sym, ap, _∙_}
-use native.Mathlib.Omega.{arith}
+use mathlib.Core.Path.{sym, ap, _∙_}
 use Prim.Native.Nat.{ℕ}
 use Rattle.report.specs.Lines.{refusalLine}
 use Rattle.text.proofs.Writing.{reworded}

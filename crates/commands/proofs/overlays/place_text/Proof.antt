@@ -1,5 +1,5 @@
 -- `commands::overlays::place_text` meets its contract. Assumes nothing.
-use mathlib.Core.Path.{_≡_, refl, sym, ap, ap₂, subst, _∙_}
+use mathlib.Core.Path.{sym, ap, ap₂, subst, _∙_}
 use native.Mathlib.Omega.{arith}
 use Rattle.overlay.specs.Answers.{foundAs}
 use Rattle.overlay.proofs.Places.{Stands, place-stands}

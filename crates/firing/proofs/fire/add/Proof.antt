@@ -1,13 +1,14 @@
 -- `firing::fire::add` meets its contract: an arm for each effect. Assumes nothing.
-use Prim.Native.Nat.{_+_, _*_}
-use mathlib.Core.Path.{_≡_, refl}
+use Prim.Native.Nat.{_+_}
+use mathlib.Core.Path.{refl}
 use mathlib.Core.Bool.{not}
 use native.Mathlib.Omega.{arith}
 use lib.Dec.{eqb}
 use Rattle.permset.specs.Sets.{width, member}
 use Rattle.table.specs.Item.{itemAt}
 use Rattle.table.specs.Words.{operationOf}
-use Rattle.table.specs.Code.{code, operation}
+use Rattle.table.specs.Code.{Linked, code, operation}
+use Rattle.table.proofs.Linked.{linked}
 use Rattle.calculus.specs.Constraint.{P, L, put, sub, only, every, _and_}
 use Rattle.calculus.specs.Rules.{fill, pass, part, waiting, twoRule}
 use Rattle.calculus.specs.Layout.{WellFormed}
@@ -17,7 +18,7 @@ use Rattle.queries.specs.Passes.{Masked}
 use Rattle.queries.proofs.Given.{sized}
 use Rattle.queries.proofs.Laws.{row-in}
 use Rattle.firing.proofs.Effects.{effect-as, for-code, things-effect}
-use Rattle.firing.proofs.Fitted.{fitted, thing-fitted, sending}
+use Rattle.firing.proofs.Fitted.{fitted, each-of, sending}
 use borrow.Author.Needs.{needs}
 use Rattle.firing.proofs.fire.add.Statement.{statement}
 use Rattle.firing.proofs.fire.add.Tie as tie
@@ -25,79 +26,79 @@ use Rattle.firing.proofs.fire.add.Tie as tie
 wake-requires : tie.Need-wake-requires
 wake-requires c κs =
     let s = c .before .before .before .before .before .before .before .before .before in let a = s .args in let e = a .e in let w = a .words .now in let l = a .l in
-    let z = (sized w (a .links .now) (a .masks .now) l (s .pre .0) (a .est .now) (s .pre .1)) in let p = fitted l (a .masks .now) w e (a .f) whats.Live (c .before .before .enum-told .given .1) (s .pre .2) in
+    let z = (sized w (a .links .now) (a .masks .now) l (s .pre .0) (a .est .now) (s .pre .1)) in let p = fitted l (a .masks .now) w e whats.Live (c .before .before .enum-told .given .1) (s .pre .2) in
     (z, p)
 
 put-requires : tie.Need-put-requires
 put-requires c κs =
     let s = c .before .before .before .before .before .before .before .before .before in let a = s .args in let e = a .e in let w = a .words .now in let l = a .l in
-    let z = (sized w (a .links .now) (a .masks .now) l (s .pre .0) (a .est .now) (s .pre .1)) in let p = fitted l (a .masks .now) w e (a .f) whats.Put (c .before .before .enum-told2 .given .1) (s .pre .2) in
+    let z = (sized w (a .links .now) (a .masks .now) l (s .pre .0) (a .est .now) (s .pre .1)) in let p = fitted l (a .masks .now) w e whats.Put (c .before .before .enum-told2 .given .1) (s .pre .2) in
     (row-in l (a .est .now) z (e .x) (p .0), p .1)
 
 fill-requires : tie.Need-fill-requires
 fill-requires c κs =
     let s = c .before .before .before .before .before .before .before .before .before in let a = s .args in let e = a .e in let w = a .words .now in let l = a .l in
-    let z = (sized w (a .links .now) (a .masks .now) l (s .pre .0) (a .est .now) (s .pre .1)) in let p = fitted l (a .masks .now) w e (a .f) whats.Fill (c .before .before .enum-told3 .given .1) (s .pre .2) in
+    let z = (sized w (a .links .now) (a .masks .now) l (s .pre .0) (a .est .now) (s .pre .1)) in let p = fitted l (a .masks .now) w e whats.Fill (c .before .before .enum-told3 .given .1) (s .pre .2) in
     (z, p)
 
 flow-requires : tie.Need-flow-requires
 flow-requires c κs =
     let s = c .before .before .before .before .before .before .before .before .before in let a = s .args in let e = a .e in let w = a .words .now in let l = a .l in
-    let z = (sized w (a .links .now) (a .masks .now) l (s .pre .0) (a .est .now) (s .pre .1)) in let p = fitted l (a .masks .now) w e (a .f) whats.Flow (c .before .before .enum-told4 .given .1) (s .pre .2) in
+    let z = (sized w (a .links .now) (a .masks .now) l (s .pre .0) (a .est .now) (s .pre .1)) in let p = fitted l (a .masks .now) w e whats.Flow (c .before .before .enum-told4 .given .1) (s .pre .2) in
     (row-in l (a .est .now) z (e .x) (p .0), row-in l (a .est .now) z (e .y) (p .1), z .most)
 
 pass-requires : tie.Need-pass-requires
 pass-requires c κs =
     let s = c .before .before .before .before .before .before .before .before .before in let a = s .args in let e = a .e in let w = a .words .now in let l = a .l in
-    let z = (sized w (a .links .now) (a .masks .now) l (s .pre .0) (a .est .now) (s .pre .1)) in let p = fitted l (a .masks .now) w e (a .f) whats.Pass (c .before .before .enum-told5 .given .1) (s .pre .2) in
+    let z = (sized w (a .links .now) (a .masks .now) l (s .pre .0) (a .est .now) (s .pre .1)) in let p = fitted l (a .masks .now) w e whats.Pass (c .before .before .enum-told5 .given .1) (s .pre .2) in
     (z, p .0, p .1, p .2, s .pre .0 .masked .long)
 
 cast-permit : tie.Need-cast-permit
 cast-permit c =
     let s = c .before .before .before .before .before .before .before .before .before in let a = s .args in let e = a .e in let w = a .words .now in let l = a .l in
-    let z = (sized w (a .links .now) (a .masks .now) l (s .pre .0) (a .est .now) (s .pre .1)) in let p = fitted l (a .masks .now) w e (a .f) whats.Permit (c .before .before .enum-told6 .given .1) (s .pre .2) in
+    let z = (sized w (a .links .now) (a .masks .now) l (s .pre .0) (a .est .now) (s .pre .1)) in let p = fitted l (a .masks .now) w e whats.Permit (c .before .before .enum-told6 .given .1) (s .pre .2) in
     omega (arith, p .1)
 
 permit-requires : tie.Need-permit-requires
 permit-requires c κs =
     let s = c .before .before .before .before .before .before .before .before .before in let a = s .args in let e = a .e in let w = a .words .now in let l = a .l in
-    let z = (sized w (a .links .now) (a .masks .now) l (s .pre .0) (a .est .now) (s .pre .1)) in let p = fitted l (a .masks .now) w e (a .f) whats.Permit (c .before .before .enum-told6 .given .1) (s .pre .2) in
+    let z = (sized w (a .links .now) (a .masks .now) l (s .pre .0) (a .est .now) (s .pre .1)) in let p = fitted l (a .masks .now) w e whats.Permit (c .before .before .enum-told6 .given .1) (s .pre .2) in
     (z, p .0, p .1)
 
 operate-at-requires : tie.Need-operate-at-requires
 operate-at-requires c κs =
     let s = c .before .before .before .before .before .before .before .before .before in let a = s .args in let e = a .e in let w = a .words .now in let l = a .l in
-    let z = (sized w (a .links .now) (a .masks .now) l (s .pre .0) (a .est .now) (s .pre .1)) in let p = fitted l (a .masks .now) w e (a .f) whats.Operate (c .before .before .enum-told7 .given .1) (s .pre .2) in
+    let z = (sized w (a .links .now) (a .masks .now) l (s .pre .0) (a .est .now) (s .pre .1)) in let p = fitted l (a .masks .now) w e whats.Operate (c .before .before .enum-told7 .given .1) (s .pre .2) in
     (z, p .0, p .1, p .2)
 
 part-requires : tie.Need-part-requires
 part-requires c κs =
     let s = c .before .before .before .before .before .before .before .before .before in let a = s .args in let e = a .e in let w = a .words .now in let l = a .l in
-    let z = (sized w (a .links .now) (a .masks .now) l (s .pre .0) (a .est .now) (s .pre .1)) in let p = fitted l (a .masks .now) w e (a .f) whats.Part (c .before .before .enum-told8 .given .1) (s .pre .2) in
+    let z = (sized w (a .links .now) (a .masks .now) l (s .pre .0) (a .est .now) (s .pre .1)) in let p = fitted l (a .masks .now) w e whats.Part (c .before .before .enum-told8 .given .1) (s .pre .2) in
     (z, p .0, p .1)
 
 parts-requires : tie.Need-parts-requires
 parts-requires c κs =
     let s = c .before .before .before .before .before .before .before .before .before in let a = s .args in let e = a .e in let w = a .words .now in let l = a .l in
-    let z = (sized w (a .links .now) (a .masks .now) l (s .pre .0) (a .est .now) (s .pre .1)) in let p = fitted l (a .masks .now) w e (a .f) whats.Parts (c .before .before .enum-told9 .given .1) (s .pre .2) in
+    let z = (sized w (a .links .now) (a .masks .now) l (s .pre .0) (a .est .now) (s .pre .1)) in let p = fitted l (a .masks .now) w e whats.Parts (c .before .before .enum-told9 .given .1) (s .pre .2) in
     (z, p .0, p .1, p .2)
 
 branches-requires : tie.Need-branches-requires
 branches-requires c κs =
     let s = c .before .before .before .before .before .before .before .before .before in let a = s .args in let e = a .e in let w = a .words .now in let l = a .l in
-    let z = (sized w (a .links .now) (a .masks .now) l (s .pre .0) (a .est .now) (s .pre .1)) in let p = fitted l (a .masks .now) w e (a .f) whats.Branches (c .before .before .enum-told10 .given .1) (s .pre .2) in
+    let z = (sized w (a .links .now) (a .masks .now) l (s .pre .0) (a .est .now) (s .pre .1)) in let p = fitted l (a .masks .now) w e whats.Branches (c .before .before .enum-told10 .given .1) (s .pre .2) in
     (z, p .0, p .1, p .2)
 
 fire-send-requires : tie.Need-fire-send-requires
 fire-send-requires c κs =
     let s = c .before .before .before .before .before .before .before .before .before in let a = s .args in let e = a .e in let w = a .words .now in let l = a .l in
-    let z = (sized w (a .links .now) (a .masks .now) l (s .pre .0) (a .est .now) (s .pre .1)) in let p = fitted l (a .masks .now) w e (a .f) whats.Send (c .before .before .enum-told11 .given .1) (s .pre .2) in
-    (s .pre .0, s .pre .1, sending w l e (a .f) (p .0) (p .1) (p .2) (s .pre .2 .target) (itemAt w (e .x)) refl (p .3))
+    let z = (sized w (a .links .now) (a .masks .now) l (s .pre .0) (a .est .now) (s .pre .1)) in let p = fitted l (a .masks .now) w e whats.Send (c .before .before .enum-told11 .given .1) (s .pre .2) in
+    (s .pre .0, s .pre .1, sending w l e (p .0) (p .1) (p .2) (itemAt w (e .x)) refl (p .3))
 
 fire-things-requires : tie.Need-fire-things-requires
 fire-things-requires c κs =
     let s = c .before .before .before .before .before .before .before .before in let a = s .args in let e = a .e in let w = a .words .now in let l = a .l in
-    ((sized w (a .links .now) (a .masks .now) l (s .pre .0) (a .est .now) (s .pre .1)), thing-fitted l (a .masks .now) w e (a .f) (c .before .before .match .keys12) (s .pre .2), s .pre .2 .target)
+    (sized w (a .links .now) (a .masks .now) l (s .pre .0) (a .est .now) (s .pre .1), each-of l (a .masks .now) w (e .what) (e .x) (e .y) (e .z) (c .before .before .match .keys12) (s .pre .2))
 
 returns : tie.Need-returns
 unfolding effect
@@ -180,7 +181,7 @@ returns-12 : tie.Need-returns-12
 returns-12 c =
     let s = c .before .before .before .before .before .before .before .before .before .before .before .before .before in let a = s .args in let e = a .e in let w = a .words .now in let l = a .l in
     things-effect (code w) (e .what) (e .x) (e .y) (e .z) (a .f) (a .est .now) _ _ (c .before .before .before .before .before .before .before .match .keys12)
-    (for-code l (λ k. Masked k l (a .masks .now)) (λ k. things k (e .what) (e .x) (e .y) (e .z) (a .f)) (a .est .now) _ _ (code w) (c .before .before .before .before .fire-things .ensures) (s .pre .0 .laid) (s .pre .0 .masked))
+    (for-code l (λ k. Linked k × Masked k l (a .masks .now)) (λ k. things k (e .what) (e .x) (e .y) (e .z) (a .f)) (a .est .now) _ _ (code w) (c .before .before .before .before .fire-things .ensures) (s .pre .0 .laid) (linked w (s .pre .0 .readable), s .pre .0 .masked))
 
 pub add-spec : {M : Type 1} → statement M
 add-spec =

@@ -30,7 +30,6 @@ send-all-requires c κs =
     )
 
 send-one-requires : tie.Need-send-one-requires
-unfolding code
 send-one-requires c κs =
     let s = c .before .before .before .before .before .before .before .before .before in let a = s .args in let e = a .e in let w = a .words .now in (
       record {
@@ -45,7 +44,6 @@ send-one-requires c κs =
         block = sender-home w (a .links .now) (a .masks .now) (a .l) (s .pre .0) (e .x) (s .pre .2 .term) (s .pre .2 .there) _ (c .before .before .before .sender-of .ensures .1);
         homed = sender-inside w (a .links .now) (a .masks .now) (a .l) (s .pre .0) (e .x) (s .pre .2 .term) (s .pre .2 .there) _ (c .before .before .before .sender-of .ensures .1);
       },
-      omega (arith, s .pre .2 .target, s .pre .0 .laid .size),
       omega (arith, s .pre .2 .required),
     )
 

@@ -10,7 +10,7 @@ returns : tie.Need-returns
 unfolding things
 returns c =
     let a = c .before .before .before .before .before .before .before .before .before .before .before .args in let e = a .e in let d = c .before .before .before .before .each-thing .ensures in
-    record { words = λ k o m. d .words k o m ∙ all-things k (e .what) (e .x) (e .y) (e .z) (a .f) (a .est .now) (c .before .before .before .before .before .before .before .if1 .taken); count = d .count }
+    record { words = λ k o m. d .words k o (m .1) ∙ all-things k (e .what) (e .x) (e .y) (e .z) (a .f) (a .est .now) (c .before .before .before .before .before .before .before .if1 .taken); count = d .count }
 
 returns-2 : tie.Need-returns-2
 returns-2 c =

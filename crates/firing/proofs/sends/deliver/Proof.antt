@@ -1,6 +1,5 @@
 -- `firing::sends::deliver` meets its contract. Assumes nothing.
 use Prim.Native.Nat.{_+_, _*_}
-use mathlib.Core.Path.{sym, subst}
 use native.Mathlib.Omega.{arith}
 use Rattle.calculus.specs.Constraint.{P, L, put, sub, _and_}
 use Rattle.calculus.specs.Rules.{pass}

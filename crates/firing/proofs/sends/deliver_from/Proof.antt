@@ -8,7 +8,7 @@ use Rattle.clauses.specs.Asks.{rowAt, sortAt}
 use Rattle.queries.specs.Passes.{Masked}
 use Rattle.queries.proofs.Laws.{value-in}
 use Rattle.rows.proofs.Laws.{facts-most}
-use Rattle.firing.proofs.Fires.{and-for, sum-fits}
+use Rattle.firing.proofs.Fires.{and-for}
 use borrow.Author.Needs.{needs}
 use Rattle.firing.proofs.sends.deliver_from.Statement.{statement}
 use Rattle.firing.proofs.sends.deliver_from.Tie as tie

@@ -1,7 +1,6 @@
 -- `firing::step::step` meets its contract: the clause is fired where its word is live. Assumes nothing.
-use Prim.Native.Nat.{_*_}
 use mathlib.Core.Path.{_≡_, refl, sym, ap, _∙_, subst}
-use mathlib.Core.Bool.{Bool, true, false, not, true≢false, false≢true}
+use mathlib.Core.Bool.{Bool, true, false, not}
 use native.Mathlib.Omega.{arith}
 use Rattle.table.specs.Code.{code}
 use Rattle.table.proofs.Blocks.{head-word}
@@ -30,7 +29,7 @@ so false e = sym e
 is-live-requires : tie.Need-is-live-requires
 is-live-requires c κs =
     let s = c .before .before .before .before .before .before in let a = s .args in
-    (sized (a .words .now) (a .links .now) (a .masks .now) (a .l) (s .pre .0) (a .est .now) (s .pre .1), s .pre .2)
+    (sized (a .words .now) (a .links .now) (a .masks .now) (a .l) (s .pre .0) (a .est .now) (s .pre .1), omega (arith, s .pre .2))
 
 returns : tie.Need-returns
 returns c =
@@ -65,7 +64,6 @@ fire-requires c κs =
       s .pre .1,
       subst (Suits (a .l) (a .masks .now) (a .words .now)) (sym (c .before .before .clause .ensures))
           (made-suits (a .words .now) (a .links .now) (a .masks .now) (a .l) (s .pre .0) (a .p) (a .k) (s .pre .2)),
-      s .pre .3,
     )
 
 returns-2 : tie.Need-returns-2

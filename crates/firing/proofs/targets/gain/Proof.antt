@@ -1,5 +1,5 @@
 -- `firing::targets::gain` meets its contract: what `set` did to the part is said of the whole. Assumes nothing.
-use Prim.Native.Nat.{_+_, _-_, _*_}
+use Prim.Native.Nat.{_+_, _-_}
 use mathlib.Core.List.{[], _∷_}
 use native.Mathlib.Omega.{arith}
 use Rattle.firing.proofs.Poured.{poured-at}

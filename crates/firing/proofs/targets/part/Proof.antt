@@ -1,5 +1,4 @@
 -- `firing::targets::part` meets its contract. Assumes nothing.
-use mathlib.Core.Path.{_∙_}
 use native.Mathlib.Omega.{arith}
 use Rattle.calculus.specs.Constraint.{P, L, put, sub}
 use Rattle.firing.proofs.Fires.{and-in, sum-fits}

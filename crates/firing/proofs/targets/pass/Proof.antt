@@ -1,10 +1,9 @@
 -- `firing::targets::pass` meets its contract. Assumes nothing.
-use Prim.Native.Nat.{ℕ, _+_, _-_, _*_}
-use mathlib.Core.Path.{_≡_, ap, subst, sym, _∙_}
+use Prim.Native.Nat.{ℕ, _-_, _*_}
+use mathlib.Core.Path.{ap}
 use mathlib.Core.List.{List}
 use native.Mathlib.Omega.{arith}
 use lib.ListN.{take, drop}
-use lib.Seq.{length-take-le}
 use Rattle.calculus.specs.Layout.{masked, WellFormed}
 use Rattle.firing.proofs.Poured.{poured-words}
 use Rattle.rows.proofs.Laws.{length-part, same-part}

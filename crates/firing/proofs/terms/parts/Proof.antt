@@ -4,7 +4,7 @@ use mathlib.Core.Bool.{not}
 use native.Mathlib.Omega.{arith}
 use lib.Dec.{eqb}
 use Rattle.calculus.specs.Constraint.{only, _and_}
-use Rattle.calculus.specs.Rules.{part, waiting}
+use Rattle.calculus.specs.Rules.{part}
 use Rattle.firing.proofs.Fires.{and-in, sum-fits}
 use borrow.Author.Needs.{needs}
 use Rattle.firing.proofs.terms.parts.Statement.{statement}

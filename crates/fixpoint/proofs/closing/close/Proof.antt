@@ -1,6 +1,6 @@
 -- `fixpoint::closing::close` meets its contract. The loop's invariant: what was done so far is sound, and not over the room. A word whose rule is broken adds a fact, so that less is left to add. Assumes nothing.
 use Prim.Native.Nat.{_-_, _*_, _≤_}
-use mathlib.Core.Path.{_≡_, refl, sym, _∙_, subst}
+use mathlib.Core.Path.{_≡_, refl, _∙_}
 use native.Mathlib.Omega.{arith}
 use lib.ListN.{length}
 use Rattle.table.specs.Code.{code}
@@ -10,7 +10,6 @@ use Rattle.checker.proofs.Laws.{unbroken, broken-most}
 use Rattle.fixpoint.specs.Grown.{Grown}
 use Rattle.fixpoint.proofs.Grows.{grown-none, grown-then, few-facts}
 use Rattle.fixpoint.proofs.Tried.{mended}
-use borrow.Author.Needs.{needs}
 use Rattle.fixpoint.proofs.closing.close.Statement.{statement}
 use Rattle.fixpoint.proofs.closing.close.Tie as tie
 

@@ -1,5 +1,4 @@
 -- `fixpoint::entry::enter` meets its contract. Assumes nothing.
-use native.Mathlib.Omega.{arith}
 use Rattle.fixpoint.proofs.Grows.{not-entered, was-entered}
 use borrow.Author.Needs.{needs}
 use Rattle.fixpoint.proofs.entry.enter.Statement.{statement}

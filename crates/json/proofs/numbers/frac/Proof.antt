@@ -4,8 +4,7 @@ use mathlib.Core.Path.{sym, ap, _∙_}
 use Prim.Native.Nat.{_<_}
 use native.Mathlib.Omega.{arith}
 use lib.ListN.{length}
-use Rattle.json.specs.Bytes.{rest}
-use Rattle.json.specs.Numbers.{someDigits, frac}
+use Rattle.json.specs.Numbers.{someDigits}
 use Rattle.json.proofs.Choice.{is, is-not}
 use Rattle.json.proofs.Numerals.{frac-yes, frac-no}
 use Rattle.json.proofs.Places.{there, tail-drop}

@@ -5,7 +5,6 @@ use Prim.Native.Nat.{_<_}
 use native.Mathlib.Omega.{arith}
 use lib.ListN.{length}
 use Rattle.json.specs.Bytes.{rest}
-use Rattle.json.specs.Numbers.{int}
 use Rattle.json.proofs.Choice.{is, is-not}
 use Rattle.json.proofs.Numerals.{int-zero, int-more}
 use Rattle.json.proofs.Places.{there, tail-drop}

@@ -1,11 +1,9 @@
 -- `json::numbers::minus` meets its contract.
 -- Assumes nothing.
-use mathlib.Core.Path.{sym, ap, _∙_}
+use mathlib.Core.Path.{sym, _∙_}
 use Prim.Native.Nat.{_<_}
 use native.Mathlib.Omega.{arith}
 use lib.ListN.{length}
-use Rattle.json.specs.Bytes.{rest}
-use Rattle.json.specs.Numbers.{minus}
 use Rattle.json.proofs.Choice.{is, is-not}
 use Rattle.json.proofs.Numerals.{minus-yes, minus-no}
 use Rattle.json.proofs.Places.{there, tail-drop}

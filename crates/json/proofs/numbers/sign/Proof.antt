@@ -6,9 +6,6 @@ use native.Mathlib.Omega.{arith}
 use mathlib.Core.Bool.{_||_}
 use lib.Dec.{eqb}
 use lib.ListN.{length}
-use Rattle.json.specs.Bytes.{rest}
-use Rattle.json.specs.Numbers.{sign}
-use Rattle.json.proofs.Choice.{is, is-not}
 use Rattle.json.proofs.Numerals.{sign-yes, sign-no}
 use Rattle.json.proofs.Places.{there, tail-drop, either-small}
 use borrow.Author.Needs.{needs}

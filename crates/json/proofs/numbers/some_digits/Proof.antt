@@ -5,8 +5,7 @@ use Prim.Native.Nat.{_<_}
 use native.Mathlib.Omega.{arith}
 use lib.ListN.{length}
 use Rattle.json.specs.Bytes.{rest}
-use Rattle.json.specs.Numbers.{isDigit, digits, someDigits}
-use Rattle.json.proofs.Choice.{is, is-not}
+use Rattle.json.specs.Numbers.{isDigit, digits}
 use Rattle.json.proofs.Numerals.{digits-yes, digits-no}
 use Rattle.json.proofs.Places.{there, tail-drop, digit-small}
 use borrow.Author.Needs.{needs}

@@ -5,7 +5,7 @@ use mathlib.Core.List.{List, [], _∷_}
 use Prim.Native.Nat.{ℕ, _<_}
 use native.Mathlib.Omega.{arith}
 use lib.ListN.{length}
-use Rattle.json.specs.Bytes.{goes, ends}
+use Rattle.json.specs.Bytes.{goes}
 use Rattle.json.specs.Strings.{hexUnit, escapeOf}
 use Rattle.json.proofs.Characters.{escape-small, escaped-hex, escaped-none, escaped-byte}
 use Rattle.json.proofs.Choice.{is, is-not}

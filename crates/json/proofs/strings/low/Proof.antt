@@ -1,6 +1,6 @@
 -- `json::strings::low` meets its contract.
 -- Assumes nothing.
-use mathlib.Core.Path.{_≡_, sym, ap, _∙_}
+use mathlib.Core.Path.{sym, ap}
 use native.Mathlib.Omega.{arith}
 use Rattle.json.specs.Strings.{low}
 use Rattle.json.proofs.Characters.{low-other}

@@ -1,10 +1,7 @@
 -- `json::strings::point_of` meets its contract.
 -- Assumes nothing.
-use mathlib.Core.Path.{sym, ap, ap₂, _∙_}
-use mathlib.Core.List.{List, [], _∷_}
-use Prim.Native.Nat.{ℕ, _<_}
+use mathlib.Core.Path.{sym, ap, _∙_}
 use native.Mathlib.Omega.{arith}
-use lib.ListN.{length}
 use Rattle.json.specs.Bytes.{within}
 use Rattle.json.specs.Strings.{continued}
 use Rattle.json.proofs.Characters.{point-two, point-three, point-four, point-none}

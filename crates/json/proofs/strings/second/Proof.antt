@@ -1,12 +1,9 @@
 -- `json::strings::second` meets its contract.
 -- Assumes nothing.
-use mathlib.Core.Path.{sym, ap, ap₂, _∙_}
-use mathlib.Core.List.{List, [], _∷_}
-use Prim.Native.Nat.{ℕ, _<_}
+use mathlib.Core.Path.{_∙_}
+use Prim.Native.Nat.{_<_}
 use native.Mathlib.Omega.{arith}
 use lib.ListN.{length}
-use Rattle.json.specs.Bytes.{head}
-use Rattle.json.specs.Answers.{codeOf}
 use Rattle.json.proofs.Characters.{second-read}
 use Rattle.json.proofs.Places.{there}
 use borrow.Author.Needs.{needs}

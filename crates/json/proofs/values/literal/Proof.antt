@@ -3,7 +3,7 @@
 use mathlib.Core.Path.{_≡_, refl, sym, _∙_}
 use Prim.Native.Nat.{_-_, _<_}
 use native.Mathlib.Omega.{arith}
-use lib.ListN.{length, getD, drop}
+use lib.ListN.{length, drop}
 use Rattle.json.specs.Values.{literal}
 use Rattle.json.proofs.Places.{there}
 use Rattle.json.proofs.Texts.{literal-over, literal-goes, literal-stops}

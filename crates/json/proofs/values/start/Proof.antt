@@ -1,11 +1,10 @@
 -- `json::values::start` meets its contract: an arm for each first byte.
 -- Assumes nothing.
-use mathlib.Core.Path.{sym, ap, ap₂, _∙_}
-use mathlib.Core.List.{List, [], _∷_}
-use Prim.Native.Nat.{ℕ, _<_}
+use mathlib.Core.Path.{sym, ap, _∙_}
+use mathlib.Core.List.{[], _∷_}
+use Prim.Native.Nat.{_<_}
 use native.Mathlib.Omega.{arith}
-use lib.ListN.{length, drop}
-use Rattle.json.specs.Bytes.{rest}
+use lib.ListN.{length}
 use Rattle.json.specs.Values.{literal, plain, opens}
 use Rattle.json.proofs.Choice.{is, is-not}
 use Rattle.json.proofs.Places.{there, tail-drop}

@@ -2,12 +2,10 @@
 -- Assumes nothing.
 use lib.Seq.{take-all}
 use Rattle.listing.proofs.Taken.{taken-more}
-use Prim.Native.Nat.{ℕ, _+_, _-_, _≤_}
+use Prim.Native.Nat.{ℕ, _-_, _≤_}
 use mathlib.Core.Path.{_≡_, refl, sym, ap, _∙_}
-use mathlib.Core.List.{List}
 use native.Mathlib.Omega.{arith}
-use native.Mathlib.Numerals.{add-one}
-use lib.ListN.{length, getD, take, drop, length-set}
+use lib.ListN.{length, take, drop, length-set}
 use borrow.Author.Needs.{needs}
 use Rattle.table.proofs.Widths.{no-wide-word}
 use Rattle.listing.specs.Listing.{depths as Listing·depths}

@@ -1,12 +1,11 @@
 -- `listing::guess::folded` meets its contract. The loop's invariant: what is left, after v, gives the number of the whole. Assumes nothing.
 use native.Mathlib.Nat.{mod-lt, mul-le-mul-left}
-use Prim.Native.Nat.{ℕ, _+_, _-_, _*_, _%_, _^_, _<_, _≤_}
+use Prim.Native.Nat.{ℕ, _+_, _-_, _*_, _%_, _^_, _<_}
 use mathlib.Core.Path.{_≡_, refl, sym, ap, _∙_}
-use mathlib.Core.List.{List}
 use native.Mathlib.Omega.{arith}
-use lib.ListN.{length, getD, drop}
+use lib.ListN.{length, drop}
 use borrow.Author.Needs.{needs}
-use Rattle.listing.specs.Spelling.{digitOf, folded as Spelling·folded}
+use Rattle.listing.specs.Spelling.{folded as Spelling·folded}
 use Rattle.listing.proofs.Guessing.{folded-end, folded-feed, folded-more}
 use Rattle.listing.proofs.guess.folded.Statement.{statement}
 use Rattle.listing.proofs.guess.folded.Tie as tie

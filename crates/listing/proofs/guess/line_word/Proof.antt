@@ -1,9 +1,9 @@
 -- `listing::guess::line_word` meets its contract. Assumes nothing.
 use Prim.Native.Nat.{ℕ, _+_, _*_, _^_}
-use mathlib.Core.Path.{_≡_, refl, sym, ap, _∙_}
+use mathlib.Core.Path.{_≡_, sym, ap, _∙_}
 use mathlib.Core.List.{List}
 use native.Mathlib.Omega.{arith}
-use lib.ListN.{length, take}
+use lib.ListN.{length}
 use Rattle.text.proofs.Writing.{line-taken}
 use Rattle.listing.specs.Keywords.{entryOf}
 use Rattle.listing.specs.Spelling.{prefix, guessedKind, guessed, spelled}

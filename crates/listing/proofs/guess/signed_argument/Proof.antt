@@ -1,12 +1,11 @@
 -- `listing::guess::signed_argument` meets its contract. Assumes nothing.
 use Rattle.listing.proofs.Guessing.{no-minus}
 use mathlib.Core.Logic.{⊎-elim}
-use Prim.Native.Nat.{_≤_}
-use Prim.Native.Nat.{ℕ, _+_, _-_, _%_, _^_, _<_}
-use mathlib.Core.Path.{_≡_, refl, sym, ap, _∙_}
+use Prim.Native.Nat.{ℕ, _+_, _-_, _%_, _^_}
+use mathlib.Core.Path.{_≡_, ap, _∙_}
 use native.Mathlib.Nat.{mod-lt}
 use native.Mathlib.Omega.{arith}
-use lib.ListN.{length, getD, List·getD-eq-default}
+use lib.ListN.{getD}
 use Rattle.listing.proofs.Guessing.{argument-minus, argument-plus}
 use borrow.Author.Needs.{needs}
 use Rattle.listing.proofs.guess.signed_argument.Statement.{statement}

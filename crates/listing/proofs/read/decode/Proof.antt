@@ -1,13 +1,11 @@
 -- `listing::read::decode` meets its contract. The loop's invariant: the first n lines are taken. Assumes nothing.
 use lib.ListN.{length-set}
-use Prim.Native.Nat.{ℕ, _+_, _-_, _<_, _≤_}
-use mathlib.Core.Path.{_≡_, refl, sym, ap, _∙_}
-use mathlib.Core.List.{List, map}
+use Prim.Native.Nat.{_-_, _≤_}
+use mathlib.Core.Path.{_≡_, refl, sym, _∙_}
 use mathlib.Core.Logic.{inl, inr}
 use native.Mathlib.Omega.{arith}
-use lib.ListN.{length, getD, drop, take}
+use lib.ListN.{length}
 use borrow.Author.Needs.{needs}
-use Rattle.listing.specs.Listing.{wordsOf, indents}
 use Rattle.listing.specs.Decoding.{Taken}
 use Rattle.listing.proofs.Cutting.{taken-start, line-bad, line-taken}
 use Rattle.listing.proofs.read.decode.Statement.{statement}

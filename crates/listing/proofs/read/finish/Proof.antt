@@ -1,10 +1,10 @@
 -- `listing::read::finish` meets its contract. Assumes nothing.
-use Prim.Native.Nat.{ℕ, _<_}
+use Prim.Native.Nat.{ℕ}
 use mathlib.Core.Path.{_≡_, refl, sym, ap, ap₂, _∙_}
 use mathlib.Core.Logic.{⊎-elim}
-use mathlib.Core.List.{List, _++_}
+use mathlib.Core.List.{List}
 use native.Mathlib.Omega.{arith}
-use lib.ListN.{length, drop, take}
+use lib.ListN.{length}
 use lib.Seq.{length-take-le}
 use Rattle.listing.specs.Listing.{left, wordsOf, indents, tabled}
 use Rattle.listing.specs.Answer.{number, place, answered}

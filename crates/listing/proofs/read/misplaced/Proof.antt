@@ -1,9 +1,8 @@
 -- `listing::read::misplaced` meets its contract. Assumes nothing.
-use Prim.Native.Nat.{ℕ, _+_, _-_, _*_, _<_, _≤_}
+use Prim.Native.Nat.{ℕ, _-_, _*_, _≤_}
 use mathlib.Core.Path.{_≡_, refl, sym, ap, _∙_}
-use mathlib.Core.List.{List, _++_}
 use native.Mathlib.Omega.{arith}
-use lib.ListN.{length, getD, drop, take}
+use lib.ListN.{length}
 use borrow.Author.Needs.{needs}
 use Rattle.listing.specs.Listing.{misplaced as Listing·misplaced}
 use Rattle.listing.proofs.Answers.{misplacedFrom, placed-end, placed-short, placed-other, placed-more}

@@ -1,11 +1,10 @@
 -- `listing::read::misspelled` meets its contract. Assumes nothing.
 use Rattle.listing.proofs.Cutting.{end-after}
-use Prim.Native.Nat.{ℕ, _+_, _-_, _<_, _≤_}
-use mathlib.Core.Path.{_≡_, refl, sym, ap, _∙_}
-use mathlib.Core.List.{List, map}
-use mathlib.Core.Logic.{inl, inr}
+use Prim.Native.Nat.{_+_, _-_, _≤_}
+use mathlib.Core.Path.{_≡_, refl, sym, _∙_}
+use mathlib.Core.List.{map}
 use native.Mathlib.Omega.{arith}
-use lib.ListN.{length, getD, drop, take}
+use lib.ListN.{length, drop}
 use borrow.Author.Needs.{needs}
 use Rattle.listing.specs.Listing.{cut, wordIn}
 use Rattle.listing.specs.Listing.{misspelled as Listing·misspelled}

@@ -1,9 +1,6 @@
 -- `listing::read::place` meets its contract. Assumes nothing.
-use Prim.Native.Nat.{ℕ}
-use mathlib.Core.Path.{refl, sym, ap, ap₂, _∙_}
-use mathlib.Core.List.{List, _++_}
-use native.Mathlib.Omega.{arith}
-use lib.ListN.{length, drop, take}
+use mathlib.Core.Path.{refl, sym, ap, _∙_}
+use lib.ListN.{length}
 use Rattle.table.specs.Answer.{outcome}
 use Rattle.listing.specs.Listing.{left}
 use Rattle.listing.specs.Answer.{number, place, answered}

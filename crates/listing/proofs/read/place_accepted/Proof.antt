@@ -1,9 +1,8 @@
 -- `listing::read::place_accepted` meets its contract. Assumes nothing.
 use Prim.Native.Nat.{ℕ}
-use mathlib.Core.Path.{refl, sym, ap, ap₂, _∙_}
-use mathlib.Core.List.{List, _++_}
+use mathlib.Core.Path.{refl, sym, ap, _∙_}
+use mathlib.Core.List.{List}
 use native.Mathlib.Omega.{arith}
-use lib.ListN.{length, drop, take}
 use lib.Seq.{length-take-le}
 use Rattle.listing.proofs.Depths.{narrow-size}
 use Rattle.listing.specs.Listing.{misplaced, left}

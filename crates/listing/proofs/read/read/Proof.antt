@@ -1,10 +1,7 @@
 -- `listing::read::read` meets its contract. Assumes nothing.
-use Prim.Native.Nat.{ℕ, _<_}
-use mathlib.Core.Path.{_≡_, refl, sym, ap, ap₂, _∙_}
-use mathlib.Core.Logic.{⊎-elim}
-use mathlib.Core.List.{List, _++_}
+use mathlib.Core.Path.{refl, sym, ap, _∙_}
 use native.Mathlib.Omega.{arith}
-use lib.ListN.{length, drop, take}
+use lib.ListN.{length}
 use mathlib.Core.Path.{subst}
 use Rattle.listing.specs.declared.read.Decoded.{Decoded}
 use Rattle.listing.specs.Keywords.{styleLetter, entries, packed, packedAll, letters}

@@ -1,10 +1,10 @@
 -- `listing::spell::keyword_field` meets its contract. Assumes nothing.
 use Rattle.text.proofs.Writing.{reworded}
 use Rattle.listing.proofs.Letters.{keyword-part}
-use mathlib.Core.Path.{sym, ap, _∙_}
+use mathlib.Core.Path.{ap, _∙_}
 use native.Mathlib.Omega.{arith}
 use lib.ListN.{length}
-use Rattle.listing.proofs.Letters.{letters-length, keyword-short, keyword-at}
+use Rattle.listing.proofs.Letters.{letters-length, keyword-short}
 use borrow.Author.Needs.{needs}
 use Rattle.listing.proofs.spell.keyword_field.Statement.{statement}
 use Rattle.listing.proofs.spell.keyword_field.Tie as tie

@@ -1,11 +1,11 @@
 -- `listing::write::put_line` meets its contract. Assumes nothing.
 use Prim.Native.Nat.{ℕ, _+_, _*_}
-use mathlib.Core.Path.{ap, ap₂, sym, _∙_}
+use mathlib.Core.Path.{ap, ap₂}
 use mathlib.Core.List.{List, _++_}
 use native.Mathlib.Omega.{arith}
 use lib.ListN.{length, replicate, length-replicate}
 use Rattle.text.proofs.Writing.{reworded, then, line-taken, wrote-length}
-use Rattle.listing.specs.Spelling.{space, spelled}
+use Rattle.listing.specs.Spelling.{space}
 use Rattle.listing.proofs.Lines.{indented-length}
 use borrow.Author.Needs.{needs}
 use Rattle.listing.proofs.write.put_line.Statement.{statement}

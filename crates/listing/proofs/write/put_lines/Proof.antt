@@ -2,13 +2,11 @@
 -- Assumes nothing.
 use mathlib.Core.List.{[]}
 use Rattle.listing.proofs.Lines.{whole-text}
-use Prim.Native.Nat.{ℕ, _+_, _-_, _*_, _≤_}
+use Prim.Native.Nat.{ℕ, _+_, _-_, _≤_}
 use mathlib.Core.Path.{_≡_, refl, ap, sym, _∙_}
-use mathlib.Core.List.{List, _++_}
 use native.Mathlib.Omega.{arith}
 use lib.ListN.{length, getD, take, drop}
 use borrow.Author.Needs.{needs}
-use Rattle.table.proofs.Limits.{size-le}
 use Rattle.text.specs.Writing.{Wrote}
 use Rattle.text.proofs.Writing.{wrote-nothing, reworded, then}
 use Rattle.listing.specs.Listing.{indented, listing}

@@ -1,14 +1,12 @@
 -- `listing::write::text_size` meets its contract. The loop's invariant: n and the length of the lines that are left make the whole.
 -- Assumes nothing.
 use Prim.Native.Nat.{ℕ, _+_, _-_, _*_, _≤_}
-use mathlib.Core.Path.{_≡_, refl, ap, sym, _∙_}
-use mathlib.Core.List.{List, _++_}
+use mathlib.Core.Path.{_≡_, ap, _∙_}
 use native.Mathlib.Nat.{zero-add}
 use native.Mathlib.Omega.{arith}
-use lib.ListN.{length, getD, take, drop}
+use lib.ListN.{length}
 use borrow.Author.Needs.{needs}
 use Rattle.listing.proofs.Depths.{narrow-size}
-use Rattle.listing.specs.Spelling.{spelled}
 use Rattle.listing.specs.Listing.{listing}
 use Rattle.listing.proofs.Lines.{rest, rest-start, rest-end, kind-small, depth-there, counted}
 use Rattle.listing.proofs.write.text_size.Statement.{statement}

@@ -1,9 +1,6 @@
 -- `listing::write::write` meets its contract. Assumes nothing.
-use Prim.Native.Nat.{ℕ}
-use mathlib.Core.Path.{refl, sym, ap, _∙_}
-use mathlib.Core.List.{_++_}
-use native.Mathlib.Omega.{arith}
-use lib.ListN.{length, drop}
+use mathlib.Core.Path.{sym, ap, _∙_}
+use lib.ListN.{length}
 use Rattle.table.specs.Answer.{outcome}
 use Rattle.listing.specs.Listing.{Answered, left, listing}
 use Rattle.listing.specs.Answer.{number, place, answered}

@@ -3,7 +3,7 @@ use Prim.Native.Nat.{ℕ}
 use mathlib.Core.Path.{refl, sym, ap, _∙_}
 use mathlib.Core.List.{_++_}
 use native.Mathlib.Omega.{arith}
-use lib.ListN.{length, drop}
+use lib.ListN.{drop}
 use Rattle.listing.proofs.Depths.{narrow-size}
 use Rattle.listing.specs.Keywords.{styleLetter, entries, packed, packedAll, letters}
 use Rattle.listing.specs.Listing.{done, left, listing}

@@ -1,8 +1,7 @@
 -- `manifest::members::behind` meets its contract.
 -- Assumes nothing.
-use mathlib.Core.Path.{sym, ap, _∙_}
+use mathlib.Core.Path.{sym}
 use native.Mathlib.Omega.{arith}
-use Rattle.json.specs.Bytes.{tail}
 use Rattle.json.proofs.Places.{tail-drop, tail-over}
 use Rattle.manifest.proofs.members.behind.Statement.{statement}
 use Rattle.manifest.proofs.members.behind.Tie as tie

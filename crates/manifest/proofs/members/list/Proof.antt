@@ -1,13 +1,12 @@
 -- `manifest::members::list` meets its contract.
 -- Assumes nothing.
-use mathlib.Core.Path.{_≡_, sym, ap, _∙_}
+use mathlib.Core.Path.{sym, ap, _∙_}
 use mathlib.Core.Bool.{false}
 use mathlib.Core.List.{List}
 use Prim.Native.Nat.{ℕ, _<_}
 use native.Mathlib.Omega.{arith}
-use lib.ListN.{length, drop}
+use lib.ListN.{length}
 use Rattle.json.specs.declared.Ending.{Ending}
-use Rattle.json.specs.Bytes.{Rest}
 use Rattle.json.specs.Values.{value, first, startsFrom}
 use Rattle.json.specs.Answers.{ended}
 use Rattle.json.proofs.Choice.{is, is-not}

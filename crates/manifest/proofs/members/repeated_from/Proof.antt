@@ -3,15 +3,15 @@
 -- Assumes nothing.
 use mathlib.Core.Path.{_≡_, refl, sym, ap, subst, _∙_}
 use mathlib.Core.Bool.{true}
-use mathlib.Core.List.{List, [], _∷_, _++_}
+use mathlib.Core.List.{List, []}
 use Prim.Native.Nat.{ℕ, _+_, _-_, _<_, _≤_}
 use native.Mathlib.Omega.{arith}
 use lib.ListN.{length, take, drop, set, length-drop, length-set}
 use Rattle.json.specs.Bytes.{starts}
 use Rattle.json.specs.Strings.{units}
 use Rattle.json.specs.Units.{spread}
-use Rattle.json.specs.Values.{value, item, startsFrom}
-use Rattle.json.specs.Answers.{ended, stepped}
+use Rattle.json.specs.Values.{value, item}
+use Rattle.json.specs.Answers.{stepped}
 use Rattle.json.proofs.Repetition.{starts-fails, starts-goes, starts-ends}
 use Rattle.manifest.specs.Members.{has, repeated}
 use Rattle.manifest.proofs.Marks.{Marked, marked-none, made, free, marked-next}

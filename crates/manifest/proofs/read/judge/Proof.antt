@@ -2,7 +2,6 @@
 -- Assumes nothing.
 use mathlib.Core.Path.{sym, ap, _∙_}
 use native.Mathlib.Omega.{arith}
-use Rattle.manifest.specs.declared.members.Tally.{Tally}
 use Rattle.manifest.specs.Manifest.{version, counts}
 use Rattle.manifest.specs.Answer.{countOf, othersOf}
 use Rattle.manifest.proofs.Judged.{judged-repeated, judged-unversioned, judged-versioned}

@@ -4,10 +4,9 @@ use mathlib.Core.Path.{sym, ap, ap₂, _∙_}
 use mathlib.Core.Bool.{true, false}
 use native.Mathlib.Omega.{arith}
 use Rattle.permset.specs.declared.PermSet.{PermSet}
-use Rattle.json.specs.Bytes.{Rest}
 use Rattle.json.specs.Values.{value, startsFrom}
 use Rattle.json.specs.Answers.{ended}
-use Rattle.manifest.specs.Members.{Count, strings, listed}
+use Rattle.manifest.specs.Members.{strings, listed}
 use Rattle.manifest.proofs.Judged.{total-two, total-three}
 use borrow.Author.Needs.{needs}
 use Rattle.manifest.proofs.read.total.Statement.{statement}

@@ -1,6 +1,6 @@
 -- `manifest::strings::set_of` meets its contract.
 -- Assumes nothing.
-use mathlib.Core.Path.{sym, ap, ap₂, _∙_}
+use mathlib.Core.Path.{ap, ap₂, _∙_}
 use Rattle.permset.specs.declared.PermSet.{PermSet}
 use Rattle.permset.specs.Sets.{union}
 use Rattle.manifest.specs.Strings.{setOf}

@@ -9,7 +9,6 @@ use borrow.Author.Needs.{needs}
 use lib.ListN.{length, getD, drop, length-set, length-map, drop-of-length-le}
 use lib.Seq.{drop-cons}
 use Rattle.table.specs.Code.{Code}
-use Rattle.rows.specs.declared.layout.Layout.{Layout}
 use Rattle.rows.specs.Laid.{LaidOut}
 use Rattle.graph.proofs.Writing.{Partly, partly-start, partly-on, partly-end}
 use Rattle.reading_order.specs.Relation.{sendersTo}

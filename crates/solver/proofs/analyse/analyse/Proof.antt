@@ -1,5 +1,5 @@
 -- `solver::analyse::analyse` meets its contract. Assumes nothing.
-use mathlib.Core.Path.{refl, sym, ap, _∙_, subst}
+use mathlib.Core.Path.{sym, ap, _∙_, subst}
 use lib.ListN.{length}
 use Rattle.calculus.specs.Answer.{standingBound, judge}
 use Rattle.calls.specs.Calls.{CheckedAs}

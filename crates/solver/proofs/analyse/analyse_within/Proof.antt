@@ -1,7 +1,7 @@
 -- `solver::analyse::analyse_within` meets its contract. Assumes nothing.
-use mathlib.Core.Path.{refl, sym, ap, _∙_, subst}
+use mathlib.Core.Path.{refl, sym, _∙_, subst}
 use lib.ListN.{length}
-use Rattle.calculus.specs.Answer.{standingBound, judge}
+use Rattle.calculus.specs.Answer.{standingBound}
 use Rattle.calls.specs.Calls.{CheckedAs}
 use Rattle.calls.proofs.Answers.{after-refused, after-solved}
 use Rattle.solver.specs.Ceiling.{outcomeOf}

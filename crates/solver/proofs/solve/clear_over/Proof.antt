@@ -1,9 +1,7 @@
 -- `solver::solve::clear_over` meets its contract. Assumes nothing.
 use mathlib.Core.Path.{sym, _∙_}
-use native.Mathlib.Omega.{arith}
 use Rattle.solver.proofs.Zeros.{clear-all}
 use Rattle.solver.proofs.Least.{over-cleared, within-kept}
-use Rattle.table.specs.Code.{code}
 use borrow.Author.Needs.{needs}
 use Rattle.solver.proofs.solve.clear_over.Statement.{statement}
 use Rattle.solver.proofs.solve.clear_over.Tie as tie

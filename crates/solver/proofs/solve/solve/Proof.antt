@@ -2,7 +2,6 @@
 use mathlib.Core.Path.{ap, _∙_}
 use Prim.Native.Nat.{ℕ}
 use lib.ListN.{replicate}
-use Rattle.table.specs.Code.{code}
 use Rattle.solver.proofs.Zeros.{clear-all}
 use native.Mathlib.Omega.{arith}
 use borrow.Author.Needs.{needs}

@@ -4,8 +4,7 @@ use mathlib.Core.Path.{_≡_, refl, sym, ap, _∙_, subst}
 use mathlib.Core.List.{List}
 use Prim.Native.Nat.{ℕ, _+_, _-_, _*_, _≤_, _<_}
 use native.Mathlib.Omega.{arith}
-use lib.ListN.{length, getD}
-use Rattle.table.specs.Scan.{accepted, reading}
+use lib.ListN.{length}
 use Rattle.table.specs.Code.{code}
 use Rattle.table.proofs.Limits.{size-le}
 use Rattle.calculus.specs.Elements.{plain, elements}
@@ -14,7 +13,7 @@ use Rattle.rows.specs.declared.layout.Layout.{Layout}
 use Rattle.rows.specs.Laid.{LaidOut}
 use Rattle.calls.proofs.Bounds.{row-small}
 use Rattle.masks.specs.Masks.{markIf}
-use Rattle.stray.specs.Allowed.{wordNamed, Allowed}
+use Rattle.stray.specs.Allowed.{Allowed}
 use Rattle.stray.proofs.Named.{word-named, one-more}
 use borrow.Author.Needs.{needs}
 use Rattle.stray.proofs.allowed.set_words.Statement.{statement}

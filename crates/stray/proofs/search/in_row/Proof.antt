@@ -1,11 +1,9 @@
 -- `stray::search::in_row` meets its contract: the row is tested against what may stand in it.
 -- Assumes nothing.
 use mathlib.Core.Path.{sym, _∙_}
-use Prim.Native.Nat.{_*_}
 use native.Mathlib.Omega.{arith}
 use Rattle.rows.proofs.Sizes.{rows-fit}
 use Rattle.stray.proofs.Sliced.{most-words, most-rows, words-long, table-long, row-in, blocks-tested, things-tested}
-use borrow.Author.Needs.{needs}
 use Rattle.stray.proofs.search.in_row.Statement.{statement}
 use Rattle.stray.proofs.search.in_row.Tie as tie
 

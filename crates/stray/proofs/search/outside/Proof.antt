@@ -1,6 +1,6 @@
 -- `stray::search::outside` meets its contract. The loop's invariant: the words passed have no digit outside the row.
 -- Assumes nothing.
-use mathlib.Core.Path.{_≡_, sym, ap, _∙_, subst}
+use mathlib.Core.Path.{_≡_, ap, _∙_}
 use mathlib.Core.Bool.{true, false}
 use mathlib.Core.List.{List}
 use Prim.Native.Nat.{ℕ, _+_, _-_, _≤_, _<_}
@@ -10,7 +10,6 @@ use borrow.Author.Tests.{eq-eqb, ne-eqb}
 use lib.Bits.{bitAnd}
 use lib.ListN.{getD}
 use Rattle.permset.specs.Sets.{within}
-use Rattle.stray.specs.First.{First}
 use Rattle.stray.specs.Allowed.{inside}
 use borrow.Author.Needs.{needs}
 use Rattle.stray.proofs.search.outside.Statement.{statement}

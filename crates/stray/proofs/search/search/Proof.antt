@@ -1,11 +1,7 @@
 -- `stray::search::search` meets its contract: the rows, then the words of permissions and flags.
 -- Assumes nothing.
-use mathlib.Core.Path.{_≡_, sym, _∙_, subst}
-use Prim.Native.Nat.{ℕ, _+_, _*_}
 use native.Mathlib.Omega.{arith}
 use Rattle.table.specs.Code.{code}
-use Rattle.stray.specs.First.{First}
-use Rattle.stray.specs.Allowed.{clean}
 use Rattle.stray.proofs.Firsts.{first-after, first-longer, first-none, first-is}
 use Rattle.stray.proofs.Sliced.{most-words, most-rows, words-long}
 use borrow.Author.Needs.{needs}

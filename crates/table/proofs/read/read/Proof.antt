@@ -1,7 +1,7 @@
 -- `table::read::read` meets its contract: the tests of word 0 in their order, then the blocks.
 -- Assumes nothing.
 use mathlib.Core.Path.{_≡_, sym, ap, ap₂, _∙_}
-use mathlib.Core.Bool.{Bool, true, false, not, _||_}
+use mathlib.Core.Bool.{true, false, not, _||_}
 use lib.Dec.{eqb}
 use mathlib.Core.List.{List, [], append-nil}
 use Prim.Native.Nat.{ℕ, _<_, _≤_}
@@ -9,7 +9,7 @@ use native.Mathlib.Omega.{arith}
 use lib.ListN.{length, getD, drop, replicate}
 use borrow.Author.Needs.{needs}
 use borrow.Author.Tests.{lt-ltb, le-ltb, not-true, not-false}
-use Rattle.table.specs.Words.{kind, argument, size, namesOf}
+use Rattle.table.specs.Words.{kind, argument, size}
 use Rattle.table.specs.Scan.{Task, head, name, refused, tests, fault, missing, keep, next, scan, namesAt, reading}
 use Rattle.table.specs.Answer.{number, place, outcome}
 use Rattle.table.proofs.Widths.{names-most}

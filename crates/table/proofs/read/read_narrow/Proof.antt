@@ -1,13 +1,6 @@
 -- `table::read::read_narrow` meets its contract.
 -- Assumes nothing.
-use mathlib.Core.Path.{_≡_, sym, _∙_}
-use mathlib.Core.Bool.{true, false}
-use mathlib.Core.List.{List}
-use Prim.Native.Nat.{ℕ}
-use lib.Dec.{eqb}
-use lib.ListN.{getD}
-use Rattle.table.specs.Words.{kind}
-use Rattle.table.specs.Scan.{refused, reading, narrowReading}
+use mathlib.Core.Path.{sym, _∙_}
 use Rattle.table.specs.Answer.{number, place, outcome}
 use Rattle.table.proofs.Widths.{narrow-read, wide-refused}
 use borrow.Author.Needs.{needs}

@@ -1,5 +1,4 @@
 -- `worklist::memory::lowest` meets its contract. Assumes nothing.
-use borrow.Author.Needs.{needs}
 use lib.Count.{trailing-le}
 use native.Mathlib.Omega.{arith}
 use Rattle.worklist.proofs.memory.lowest.Statement.{statement}

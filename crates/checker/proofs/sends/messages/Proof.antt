@@ -1,16 +1,14 @@
--- `checker::terms::messages` meets its contract. Assumes nothing.
-use borrow.Author.Needs.{needs}
-use Prim.Native.Nat.{_*_}
+-- `checker::sends::messages` meets its contract. Assumes nothing.
 use mathlib.Core.Path.{sym, _∙_}
 use native.Mathlib.Omega.{arith}
+use borrow.Author.Needs.{needs}
 use Rattle.table.specs.Code.{code}
-use Rattle.calculus.specs.Constraint.{C}
-use Rattle.calculus.specs.Elements.{sendable}
 use Rattle.clauses.specs.Asks.{sortAt}
 use Rattle.queries.proofs.Laws.{value-in, mask-in, C-found}
-use Rattle.checker.proofs.Laws.{some-so, some-not, negated-true, negated-false}
-use Rattle.checker.proofs.terms.messages.Statement.{statement}
-use Rattle.checker.proofs.terms.messages.Tie as tie
+use Rattle.checker.proofs.Laws.{negated-true, negated-false}
+use Rattle.checker.proofs.Sent.{nothing-sent, something-sent}
+use Rattle.checker.proofs.sends.messages.Statement.{statement}
+use Rattle.checker.proofs.sends.messages.Tie as tie
 
 has-some-requires : tie.Need-has-some-requires
 has-some-requires c κs = let s = c .before .before .before .before .before in let a = s .args in (value-in (a .l) (a .est .now) (s .pre .0 .sized) (a .s .d) (s .pre .0 .message), mask-in _ (a .l .row) 3 (s .pre .0 .masked .long) (omega arith))
@@ -19,14 +17,14 @@ returns : tie.Need-returns
 unfolding sortAt
 returns c =
     let s = c .before .before .before .before .before .before .before in let a = s .args in let k = code (a .words .now) in
-    some-not k (a .est .now) (C (a .s .d)) (sendable k)
+    nothing-sent k (a .est .now) (a .s)
     (sym (C-found k (a .est .now) (a .s .d) (sortAt 3 k)) ∙ sym (c .before .has-some .ensures k (sortAt 3 k) (s .pre .0 .laid) (s .pre .0 .well) (s .pre .0 .masked .mask 3 (omega arith)) (omega (arith, s .pre .0 .message))) ∙ negated-true (c .if1 .taken))
 
 returns-2 : tie.Need-returns-2
 unfolding sortAt
 returns-2 c =
     let s = c .before .before .before .before .before .before .before .before in let a = s .args in let k = code (a .words .now) in
-    some-so k (a .est .now) (C (a .s .d)) (sendable k)
+    something-sent k (a .est .now) (a .s)
     (sym (C-found k (a .est .now) (a .s .d) (sortAt 3 k)) ∙ sym (c .before .before .has-some .ensures k (sortAt 3 k) (s .pre .0 .laid) (s .pre .0 .well) (s .pre .0 .masked .mask 3 (omega arith)) (omega (arith, s .pre .0 .message))) ∙ negated-false (c .before .if1 .left))
     (c .to-blocks .ensures)
 

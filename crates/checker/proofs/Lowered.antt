@@ -1,0 +1,28 @@
+-- A number that tests lower: no test, one after the other, and what is asked in other words.
+use Prim.Native.Nat.{ℕ, _<_}
+use mathlib.Core.Path.{_≡_, subst}
+use native.Mathlib.Decide.{decLt}
+use native.Mathlib.Omega.{arith}
+use Rattle.checker.specs.Lowered.{Lowered}
+
+pub lowered-none : {asked : ℕ → Type 0} {below : ℕ} → ((q : ℕ) → asked q) → Lowered asked below below
+lowered-none a = record { most = omega arith; obeyed = λ q h. a q; broken = λ h. absurd (omega arith) }
+
+module _ {A B : ℕ → Type 0} where
+  pub lowered-same : {below r : ℕ} → ((q : ℕ) → A q → B q) → ((q : ℕ) → B q → A q) → Lowered A below r → Lowered B below r
+  lowered-same {below} {r} f g x =
+      record { most = x .most; obeyed = λ q h. f q (x .obeyed q h); broken = λ h b. x .broken h (g r b) }
+
+  pub lowered-then : {below m r : ℕ} → Lowered A below m → Lowered B m r → Lowered (λ q. A q × B q) below r
+  lowered-then {below} {m} {r} x y =
+      record {
+        most = omega (arith, x .most, y .most);
+        obeyed = λ q h. (x .obeyed q (omega (arith, y .most)), y .obeyed q h);
+        broken = λ h. go (decLt r m) h;
+      }
+    where
+      go : Dec (r < m) → r < below → A r × B r → ⊥
+      go (yes i) h a = y .broken i (a .1)
+      go (no i) h a =
+          let z : r ≡ m = omega (arith, y .most) in
+          x .broken (omega arith) (subst A z (a .0))

@@ -1,0 +1,70 @@
+-- `queries::later_thing` meets its contract: the lowest digit of the next word in common. Assumes nothing.
+use Prim.Native.Nat.{_+_, _*_, _≤_}
+use native.Mathlib.Omega.{arith}
+use lib.Count.{trailingZeros, trailing-le}
+use borrow.Author.Needs.{needs}
+use Rattle.permset.specs.Sets.{lowest}
+use Rattle.queries.specs.Things.{common}
+use Rattle.queries.proofs.Nexts.{later-found, later-none}
+use Rattle.queries.proofs.later_thing.Statement.{statement}
+use Rattle.queries.proofs.later_thing.Tie as tie
+
+few : (c : tie.After-shared-slice-known4)
+    → let a = c .before .before .before .before .before .before .before .before .args in
+    trailingZeros 32 (common (a .est .now) (a .masks .now) (a .r * a .l .row) (a .m * a .l .row) (c .before .before .before .next-common .result)) ≤ 32
+few c = trailing-le 32 _
+
+cast-result : tie.Need-cast-result
+cast-result c = omega (arith, few c)
+
+add-result-3 : tie.Need-add-result-3
+add-result-3 c = omega (arith, few c)
+
+returns : tie.Need-returns
+unfolding lowest
+returns c =
+    let s = c .before .before .before .before .before .before .before .before in
+    let a = s .args in
+    let at = a .r * a .l .row in
+    let k = c .before .before .before .next-common .result in
+    later-found (a .est .now) (a .masks .now) (a .l .lead) at (a .m * a .l .row) (a .from) (a .l .row) k (s .pre .1)
+    (c .before .before .before .next-common .ensures) (a .l .size) (omega arith) (omega arith) (c .before .shared-slice-known3 .given (at + k) .fits)
+
+returns-2 : tie.Need-returns-2
+returns-2 c =
+    let s = c .before .before .before .before .before .before in
+    let a = s .args in
+    later-none (a .est .now) (a .masks .now) (a .l .lead) (a .r * a .l .row) (a .m * a .l .row) (a .from) (a .l .row) (c .before .next-common .result)
+    (s .pre .1) (c .before .next-common .ensures) (a .l .size) (omega arith) (omega arith) (omega arith)
+
+pub later-thing-spec : {M : Type 1} → statement M
+later-thing-spec =
+    tie.close
+    (tie.spec
+    (λ mul-at. search needs)
+    (λ mul-to. search needs)
+    (λ add-next. search needs)
+    (λ add-next-2. search needs)
+    (λ add-next-common. search needs)
+    (λ mul-next-common. search needs)
+    (λ sub-next-common. search needs)
+    (λ part-next-common-start. search needs)
+    (λ part-next-common-end. search needs)
+    (λ add-next-common-2. search needs)
+    (λ mul-next-common-2. search needs)
+    (λ sub-next-common-2. search needs)
+    (λ part-next-common-start-2. search needs)
+    (λ part-next-common-end-2. search needs)
+    (λ next-common-requires κs. search needs)
+    (λ sub-result. search needs)
+    (λ mul-result. search needs)
+    (λ add-result. search needs)
+    (λ mul-result-2. search needs)
+    (λ shared-slice-read-result. search needs)
+    (λ add-result-2. search needs)
+    (λ mul-result-3. search needs)
+    (λ shared-slice-read-result-2. search needs)
+    cast-result
+    add-result-3
+    returns
+    returns-2)
