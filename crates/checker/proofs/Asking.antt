@@ -5,6 +5,7 @@ use mathlib.Core.Logic.{⊎-elim}
 use mathlib.Core.Bool.{Bool, true, false, not, _&&_}
 use mathlib.Core.List.{List}
 use native.Mathlib.Omega.{arith}
+use borrow.Author.Tests.{not-true, not-false}
 use lib.Dec.{T}
 use lib.ListN.{length}
 use Rattle.permset.specs.Sets.{width, member, within}
@@ -28,7 +29,7 @@ use Rattle.checker.specs.Lowered.{Lowered}
 use Rattle.checker.specs.Sends.{delivery, AskedToSend, AskedBySend}
 use Rattle.checker.specs.Things.{asked}
 use Rattle.checker.proofs.Lowered.{lowered-same, lowered-then}
-use Rattle.checker.proofs.Laws.{both, put-is, same-rule, only-so, only-not, negated-true, negated-false}
+use Rattle.checker.proofs.Laws.{both, put-is, same-rule, only-so, only-not}
 
 module _ (c : Code) (e : Sets) where
   -- ---- rows by their words
@@ -64,12 +65,12 @@ module _ (c : Code) (e : Sets) where
   module _ (p s : ℕ) {x : Bool} (own : ℕ) (q : own ≡ permissions c p) (z : x ≡ within s own) where
     pub unexercised : not x ≡ true → Decides e (leafRule c p (exercise s)) true
     unfolding leafRule
-    unexercised n = only-not e _ (ap (within s) (sym q) ∙ sym z ∙ negated-true n)
+    unexercised n = only-not e _ (ap (within s) (sym q) ∙ sym z ∙ not-true _ n)
 
     pub exercised : {r t : Bool} → not x ≡ false → Decides e (every width (λ i. only (member s i) (put (P p) i))) r → t ≡ e (C p) unit
         → Decides e (leafRule c p (exercise s)) (r && t)
     unfolding leafRule
-    exercised n d y = only-so e _ (ap (within s) (sym q) ∙ sym z ∙ negated-false n) (both e d (put-is e (C p) unit y))
+    exercised n d y = only-so e _ (ap (within s) (sym q) ∙ sym z ∙ not-false _ n) (both e d (put-is e (C p) unit y))
 
   -- ---- things, and what is asked once for all of them
 
@@ -121,7 +122,7 @@ own-is c l o est p q = put-is (sets c est) (C p) (made c p) (q ∙ ap (λ (x : �
 
 -- the words of a value set that plain elements fill
 pub side-in : (l : Layout) (est : List ℕ) (p : ℕ) → Term l est p → (a : ℕ) → a < l .size → 2 * a * l .row + l .lead ≤ length est
-side-in l est p t a h = omega (arith, value-in l est (t .sized) a h, t .sized .wide)
+side-in l est p t a h = omega (arith, value-in (t .sized) a h, t .sized .wide)
 
 -- ---- send
 

@@ -5,6 +5,7 @@ use mathlib.Core.Logic.{_⊎_, inl, inr, ⊎-elim}
 use mathlib.Core.Bool.{Bool, true, false, not, _&&_}
 use mathlib.Core.List.{List, [], _∷_, List·Memᴰ, List·Memᴰ·cases-cons, List·Memᴰ·not-nil}
 use native.Mathlib.Omega.{arith}
+use borrow.Author.Tests.{not-true, not-false}
 use lib.ListN.{length, getD, drop}
 use Rattle.delivery.specs.Delivery.{delivered}
 use Rattle.table.specs.Words.{argument}
@@ -26,7 +27,7 @@ use Rattle.checker.specs.Decides.{Decides}
 use Rattle.checker.specs.Lowered.{Lowered}
 use Rattle.checker.specs.Sends.{delivery, toStarted, AskedFor, Sent}
 use Rattle.checker.proofs.Lowered.{lowered-none, lowered-same, lowered-then}
-use Rattle.checker.proofs.Laws.{decided, both, put-decides, only-so, only-not, given-so, given-not, negated-true, negated-false}
+use Rattle.checker.proofs.Laws.{decided, both, put-decides, only-so, only-not, given-so, given-not}
 
 pub delivered-is : (c : Code) (e : Sets) (p d b : ℕ) {r s t : Bool} → r ≡ e (L b) 0
     → Decides e (pass c (rowAt (2 * d)) (sortAt 3 c) (rowAt (2 * b + 1))) s → Decides e (sub (P b) (P p)) t
@@ -75,12 +76,12 @@ module _ (ws masks est : List ℕ) (l : Layout) (s : Sending) (h : Sent ws masks
       go true g =
           only-so e _ g
           (given-not e (C (s .p + 1)) (nameElement (nameOf (c .node b)))
-          (named-not ws est (s .p) (s .required .bits) (s .own .bits) b node-is (sym q ∙ negated-true n) g))
+          (named-not ws est (s .p) (s .required .bits) (s .own .bits) b node-is (sym q ∙ not-true _ n) g))
       go false g = only-not e _ g
 
   pub started : {k : Rule} {r y : Bool} → r ≡ starting → not r ≡ false → Decides e k y → Decides e (toStarted c s b k) y
   started {k} {r} q n d =
-      let z : starting ≡ true = sym q ∙ negated-false n in
+      let z : starting ≡ true = sym q ∙ not-false _ n in
       only-so e _ (answer-so ws est (s .p) (s .required .bits) (s .own .bits) b node-is z)
       (given-so e (C (s .p + 1)) (nameElement (nameOf (c .node b))) (named-so ws est (s .p) (s .required .bits) (s .own .bits) b node-is z) d)
 

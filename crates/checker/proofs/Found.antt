@@ -132,7 +132,7 @@ may-search l est masks p t y m h =
       size = t .sized .size;
       wide = t .sized .wide;
       most = t .sized .most;
-      row = row-in l est (t .sized) (2 * (p + 1)) (omega (arith, t .first));
+      row = row-in (t .sized) (2 * (p + 1)) (omega (arith, t .first));
       mask = mask-in _ (l .row) m (y .masked .long) (omega arith);
     }
 

@@ -4,6 +4,7 @@ use mathlib.Core.Path.{_≡_, refl, sym, ap, _∙_, subst}
 use mathlib.Core.Bool.{Bool, true, false, not, _&&_}
 use mathlib.Core.List.{List, List·Memᴰ}
 use native.Mathlib.Omega.{arith}
+use borrow.Author.Tests.{not-true, not-false}
 use lib.Dec.{T}
 use lib.ListN.{length, getD}
 use Rattle.permset.specs.Sets.{within}
@@ -29,7 +30,7 @@ use Rattle.clauses.proofs.Sorts.{row-B}
 use Rattle.clauses.proofs.Asked.{listed-guarded}
 use Rattle.checker.specs.Decides.{Decides}
 use Rattle.checker.specs.Words.{Accepted}
-use Rattle.checker.proofs.Laws.{both, put-is, only-so, only-not, negated-true, negated-false}
+use Rattle.checker.proofs.Laws.{both, put-is, only-so, only-not}
 
 pub in-table : (ws : List ℕ) (l : Layout) → Accepted ws l → (p : ℕ) → p < l .size → (p < code ws .size) × (p < length ws) × (code ws .size ≡ length ws)
 unfolding code
@@ -69,11 +70,11 @@ module _ (ws : List ℕ) (r : reading ws ≡ accepted) (p : ℕ) (h : p < code w
   module _ (e : Sets) (ρ : ℕ) {x : Bool} (q : x ≡ guarded (c .node p) ρ) where
     pub closed-entry : not x ≡ true → Decides e (entry c ρ p) true
     unfolding entry
-    closed-entry n = only-not e (guarded (c .node p) ρ) (sym q ∙ negated-true n)
+    closed-entry n = only-not e (guarded (c .node p) ρ) (sym q ∙ not-true _ n)
 
     pub open-entry : not x ≡ false → {y z v : Bool} → y ≡ e (L p) 0 → Decides e (fill c (rowAt (2 * p + 1))) z → v ≡ e (C p) opponentRecord
         → Decides e (entry c ρ p) (y && (z && v))
     unfolding entry
     open-entry n {y} {z} u v w =
-        only-so e (guarded (c .node p) ρ) (sym q ∙ negated-false n)
+        only-so e (guarded (c .node p) ρ) (sym q ∙ not-false _ n)
         (both e (put-is e (L p) 0 u) (both e (subst (λ (s : Row). Decides e (fill c s) z) (row-B p) v) (put-is e (C p) opponentRecord w)))

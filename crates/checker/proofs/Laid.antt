@@ -43,7 +43,7 @@ module _ (l : Layout) (est : List ℕ) (s : Sized l est) (c : Code) (o : LaidOut
   row-is r = content-row c est r ∙ ap (λ (x : ℕ). take x (drop (r * x) est)) (o .row)
 
   row-long : (r : ℕ) → r < 2 * l .size → length (content c est (rowAt r)) ≡ l .row
-  row-long r h = ap length (row-is r) ∙ length-row est (r * l .row) (l .row) (row-in l est s r h)
+  row-long r h = ap length (row-is r) ∙ length-row est (r * l .row) (l .row) (row-in s r h)
 
   module _ (a b : ℕ) (ha : a < 2 * l .size) (hb : b < 2 * l .size) where
     pub passed-is : Decides e (sub (rowAt a) (rowAt b)) (not (lacking (rowOf l est a) (rowOf l est b)))
@@ -56,7 +56,7 @@ module _ (l : Layout) (est : List ℕ) (s : Sized l est) (c : Code) (o : LaidOut
     passed-by-is q m k =
         let n : length m ≡ l .row = k .long ∙ o .row in
         let i : length (masked m (content c est (rowAt a))) ≡ l .row =
-        ap (λ (x : List ℕ). length (masked m x)) (row-is a) ∙ length-masked-row m est (a * l .row) (l .row) n (row-in l est s a ha)
+        ap (λ (x : List ℕ). length (masked m x)) (row-is a) ∙ length-masked-row m est (a * l .row) (l .row) n (row-in s a ha)
         in
         subst (λ (x : Bool). Decides e (pass c (rowAt a) q (rowAt b)) (not x)) (ap₂ (λ (x y : List ℕ). lacking (masked m x) y) (row-is a) (row-is b))
         (pass-decides c est w (rowAt a) (rowAt b) (value-row c a (inside a ha)) (value-row c b (inside b hb)) q m k (le-of-eq (i ∙ sym (row-long b hb))))

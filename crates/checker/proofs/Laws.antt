@@ -6,6 +6,7 @@ use mathlib.Core.List.{List, [], _∷_, List·Memᴰ·head, List·Memᴰ·tail, 
 use mathlib.Core.Logic.{⊎-elim}
 use native.Mathlib.Decide.{ℕ-discrete}
 use native.Mathlib.Omega.{arith}
+use borrow.Author.Tests.{not-true, not-false}
 use lib.Dec.{T}
 use Rattle.table.specs.Code.{Code}
 use Rattle.calculus.specs.Constraint.{Row, Sets, Rule, Obeys, none, put, sub, given, some, only, each, _and_}
@@ -23,28 +24,13 @@ use Rattle.checker.specs.Obeyed.{allOf, firstFrom, obeys, firstBroken}
 
 -- ---- tests
 
-pub not-true : (b : Bool) → T (not b) → T b → ⊥
-not-true true h k = h
-not-true false h k = k
+pub not-both : (b : Bool) → T (not b) → T b → ⊥
+not-both true h k = h
+not-both false h k = k
 
 pub is-not : (b : Bool) → (T b → ⊥) → T (not b)
 is-not true h = h tt
 is-not false h = tt
-
--- a test that was negated
-pub negated-true : {b : Bool} → not b ≡ true → b ≡ false
-negated-true {b} q = go b q
-  where
-    go : (x : Bool) → not x ≡ true → x ≡ false
-    go true z = sym z
-    go false z = refl
-
-pub negated-false : {b : Bool} → not b ≡ false → b ≡ true
-negated-false {b} q = go b q
-  where
-    go : (x : Bool) → not x ≡ false → x ≡ true
-    go true z = refl
-    go false z = sym z
 
 module _ (e : Sets) where
   -- ---- one answer
@@ -54,10 +40,10 @@ module _ (e : Sets) where
 
   -- where a branch was taken by its negation
   pub answered-no : {k : Rule} {r : Bool} → not r ≡ true → Decides e k r → Decides e k false
-  answered-no q d = subst (Decides e _) (negated-true q) d
+  answered-no q d = subst (Decides e _) (not-true _ q) d
 
   pub answered-yes : {k : Rule} {r : Bool} → not r ≡ false → Decides e k r → Decides e k true
-  answered-yes q d = subst (Decides e _) (negated-false q) d
+  answered-yes q d = subst (Decides e _) (not-false _ q) d
 
   pub same-rule : {k l : Rule} {r : Bool} → (Obeys e k → Obeys e l) → (Obeys e l → Obeys e k) → Decides e k r → Decides e l r
   same-rule f g d = record { yes = λ t. f (d .yes t); no = λ o. d .no (g o) }
@@ -145,10 +131,10 @@ module _ (c : Code) (ws : List ℕ) where
   sub-elements : (a b : Row) → Decides e (sub a b) (not (anyFrom (span c a) 0 (λ v. sets c ws a v && not (sets c ws b v))))
   sub-elements a b =
       record {
-        yes = λ h v t. has (e b v) (λ z. not-true (anyFrom (span c a) 0 lacks) h (any-has (span c a) 0 lacks v (omega arith)
+        yes = λ h v t. has (e b v) (λ z. not-both (anyFrom (span c a) 0 lacks) h (any-has (span c a) 0 lacks v (omega arith)
             (omega (arith, span-lt c a v (sets-allowed c ws a v t))) (T-and (e a v) (not (e b v)) t z)));
         no = λ o. is-not (anyFrom (span c a) 0 lacks) (λ t. let x = any-found (span c a) 0 lacks t in
-            not-true (e b (x .0)) (T-snd (e a (x .0)) (not (e b (x .0))) (x .1)) (o (x .0) (T-fst (e a (x .0)) (not (e b (x .0))) (x .1))));
+            not-both (e b (x .0)) (T-snd (e a (x .0)) (not (e b (x .0))) (x .1)) (o (x .0) (T-fst (e a (x .0)) (not (e b (x .0))) (x .1))));
       }
     where
       lacks : ℕ → Bool

@@ -79,7 +79,7 @@ module _ (c : Code) (e : Sets) (b p : ℕ) (x y z : ℕ) where
           (sym (List·getD-eq-default (termsByKind (argument w)) terms.Record {n = kind w - 16} (omega arith))) tt
       go (no h) = by-kind Quiet w low (omega arith) (quiet (argument w)) n
 
-module _ (ws links masks : List ℕ) (l : Layout) (y : Ready ws links masks l) (e : Sets) (p : ℕ) where
+module _ {ws links masks : List ℕ} {l : Layout} (y : Ready ws links masks l) (e : Sets) (p : ℕ) where
   abbrev c : Code
   c = code ws
 

@@ -24,7 +24,10 @@ use crate::tests::in_value;
 use crate::tests::lowered;
 use crate::tests::part;
 use crate::tests::passed;
+use clauses::make::binder_of;
 use clauses::make::constant_element;
+use clauses::make::end;
+use clauses::make::next_end;
 use clauses::make::permissions_of;
 use clauses::make::sign_element;
 use permset::PermSet;
@@ -38,20 +41,12 @@ ghost use Prim.Native.Nat.{ℕ, _+_, _<_};
 ghost use lib.ListN.{getD};
 ghost use Rattle.table.specs.Words.{kind as Kind};
 ghost use Rattle.table.specs.Code.{code};
-ghost use Rattle.table.specs.Links.{linkAt};
 ghost use Rattle.calculus.specs.Rules.{guarded, flow as Flow, entry as Entry};
 ghost use Rattle.calculus.specs.Layout.{WellFormed};
-ghost use Rattle.queries.specs.Ready.{Ready};
+ghost use Rattle.queries.specs.Ready.{Ready, At};
 ghost use Rattle.checker.specs.Obeyed.{firstBroken};
 ghost use Rattle.checker.specs.Words.{Accepted, Obeyed, SendingAt, Unknown, WordLowered, ownRule};
 ghost use Rattle.rows.specs.Laid.{Sized};
-
-// The word after the term at q.
-fn end(links: &[u32], q: usize) -> usize
-    ensures { λ r. ⌜ r ≡ linkAt (now (links .entry)) q .end ⌝ }
-{
-    link_at(links, q).end
-}
 
 // What the send at p, with its message at d and this argument, sends.
 fn sending(words: &[u32], links: &[u32], p: usize, d: usize, a: u32) -> Sending
@@ -82,8 +77,7 @@ fn other(est: &[u32], l: Layout, kind: u32, p: usize) -> bool
 
 // Whether what the word p, which is no send, asks where it is live is obeyed.
 fn flow(words: &[u32], links: &[u32], masks: &[u32], est: &[u32], l: Layout, p: usize) -> bool
-    requires { ⌜ Ready (now words) (now links) (now masks) l × WellFormed (code (now words)) (now est) × (p < l .size)
-        × (Kind (getD (now words) p 0) ≡ 35 → ⊥) ⌝ }
+    requires { ⌜ At (now words) (now links) (now masks) (now est) l p × (Kind (getD (now words) p 0) ≡ 35 → ⊥) ⌝ }
     ensures { λ r. ⌜ Obeyed (now (words .entry)) (now (est .entry)) (λ c. Flow c p (c .node p)) r ⌝ }
 {
     let w = words[p];
@@ -95,24 +89,17 @@ fn flow(words: &[u32], links: &[u32], masks: &[u32], est: &[u32], l: Layout, p: 
         17 => in_value(est, l, p, sign_element(a)),
         18 => in_value(est, l, p, 9 + a as usize),
         19 => in_value(est, l, p, 32 + a as usize),
-        20 => passed(est, l, 2 * link_at(links, p).binder + 1, 2 * p),
+        20 => passed(est, l, 2 * binder_of(links, p) + 1, 2 * p),
         21 => in_value(est, l, p, 32 * l.lead + p),
         22 => apply(est, masks, l, p, end(links, p + 1)),
         23 => bind(est, l, p, end(links, p + 1)),
         24 => sequence(est, l, p, end(links, p + 1)),
-        25 => branch(est, l, p, end(links, p + 1), end(links, end(links, p + 1))),
+        25 => branch(est, l, p, end(links, p + 1), next_end(links, p + 1)),
         26 => repeat(est, l, p, end(links, p + 1)),
         27 => operation(est, l, p, end(links, p + 1), a),
         28 => in_value(est, l, p, 32 * l.lead + p),
         29 => get(est, masks, l, p, end(links, p + 1)),
-        30 => set(
-            est,
-            masks,
-            l,
-            p,
-            end(links, p + 1),
-            end(links, end(links, p + 1)),
-        ),
+        30 => set(est, masks, l, p, end(links, p + 1), next_end(links, p + 1)),
         31 => delete(est, masks, l, p, end(links, p + 1)),
         32 => cell(est, l, p),
         33 => read(est, masks, l, p),
@@ -161,8 +148,7 @@ fn own(
     rho: PermSet,
     p: usize,
 ) -> bool
-    requires { ⌜ Ready (now words) (now links) (now masks) l × WellFormed (code (now words)) (now est) × (p < l .size)
-        × (Kind (getD (now words) p 0) ≡ 35 → ⊥) ⌝ }
+    requires { ⌜ At (now words) (now links) (now masks) (now est) l p × (Kind (getD (now words) p 0) ≡ 35 → ⊥) ⌝ }
     ensures { λ r. ⌜ Obeyed (now (words .entry)) (now (est .entry)) (λ c. ownRule c (rho .bits) p) r ⌝ }
 {
     if !entry(words, est, l, rho, p) {
@@ -184,8 +170,7 @@ fn send_at(
     p: usize,
     below: usize,
 ) -> usize
-    requires { ⌜ Ready (now words) (now links) (now masks) l × WellFormed (code (now words)) (now est) × (p < l .size)
-        × (Kind (getD (now words) p 0) ≡ 35) ⌝ }
+    requires { ⌜ At (now words) (now links) (now masks) (now est) l p × (Kind (getD (now words) p 0) ≡ 35) ⌝ }
     ensures { λ r. ⌜ ((ρ : ℕ) → WordLowered (now (words .entry)) (now (est .entry)) ρ p below r) ⌝ }
 {
     if !is_live(est, l, p) {
@@ -207,7 +192,7 @@ fn word(
     p: usize,
     below: usize,
 ) -> usize
-    requires { ⌜ Ready (now words) (now links) (now masks) l × WellFormed (code (now words)) (now est) × (p < l .size) ⌝ }
+    requires { ⌜ At (now words) (now links) (now masks) (now est) l p ⌝ }
     ensures { λ r. ⌜ WordLowered (now (words .entry)) (now (est .entry)) (rho .bits) p below r ⌝ }
 {
     if kind_of(words[p]) == 35 {

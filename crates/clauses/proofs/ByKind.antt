@@ -1,6 +1,6 @@
 -- The clauses of a word by its kind.
 use Prim.Native.Nat.{ℕ, zero, suc, _+_, _-_, _≤_, _<_}
-use mathlib.Core.Path.{_≡_, sym, ap, _∙_}
+use mathlib.Core.Path.{_≡_, refl, sym, ap, ap₂, _∙_}
 use mathlib.Core.Bool.{true, false}
 use mathlib.Core.List.{List, []}
 use native.Mathlib.Decide.{decLt}
@@ -57,24 +57,31 @@ other-high p own j h = rw (le-ltb j 16 h, ofOther)
 not-lt : (j : ℕ) → (j < 16 → ⊥) → 16 ≤ j
 not-lt j h = omega arith
 
+-- none of the n kinds from 16 on
+abbrev pub NoneFrom : Type 0 → ℕ → ℕ → Type 0
+NoneFrom a zero j = a
+NoneFrom a (suc n) j = NoneFrom a n j × (j ≡ 16 + n → ⊥)
+
+pub above : (a : Type 0) (n j : ℕ) → NoneFrom a n j → 16 ≤ j → 16 + n ≤ j
+above a zero j t h = h
+above a (suc n) j t h =
+    let m : 16 + n ≤ j = above a n j (t .0) h in
+    let d : j ≡ 16 + n → ⊥ = t .1 in
+    omega arith
+
+-- clauses whose operands are what the links and words say
+pub through : (k : ℕ) (f : ℕ → List Clause) {d x : ℕ} {r s : Clause} → d ≡ x → r ≡ getD (f d) k never → getD (f x) k never ≡ s → r ≡ s
+through k f e h q = h ∙ ap (λ (n : ℕ). getD (f n) k never) e ∙ q
+
+pub through-both : (k : ℕ) (f : ℕ → ℕ → List Clause) {d x n y : ℕ} {r s : Clause} → d ≡ x → n ≡ y → r ≡ getD (f d n) k never → getD (f x y) k never ≡ s → r ≡ s
+through-both k f e g h q = h ∙ ap₂ (λ (i j : ℕ). getD (f i j) k never) e g ∙ q
+
 module _ (ws ls : List ℕ) (plain p k : ℕ) where
-  pub kinded : (r : Clause) (j : ℕ) → kind (getD ws p 0) ≡ j → r ≡ getD (ofItem ws ls plain p (byKind ws p j)) k never
-      → r ≡ clauseAt ws ls plain p k
+  pub kinded : {w : ℕ} → w ≡ kind (getD ws p 0) → (j : ℕ) → w ≡ j → getD (ofItem ws ls plain p (byKind ws p j)) k never ≡ clauseAt ws ls plain p k
   unfolding clauseAt clausesAt
-  kinded r j e h = h ∙ ap (λ (x : Item). getD (ofItem ws ls plain p x) k never) (sym (item-by ws p j e))
+  kinded e j q = ap (λ (x : Item). getD (ofItem ws ls plain p x) k never) (sym (item-by ws p j (sym e ∙ q)))
 
   -- ---- past the arms: the kind is none of 2 and 16 to 36
-
-  abbrev NoneFrom : Type 0 → ℕ → ℕ → Type 0
-  NoneFrom a zero j = a
-  NoneFrom a (suc n) j = NoneFrom a n j × (j ≡ 16 + n → ⊥)
-
-  above : (a : Type 0) (n j : ℕ) → NoneFrom a n j → 16 ≤ j → 16 + n ≤ j
-  above a zero j t h = h
-  above a (suc n) j t h =
-      let m : 16 + n ≤ j = above a n j (t .0) h in
-      let d : j ≡ 16 + n → ⊥ = t .1 in
-      omega arith
 
   module _ (j : ℕ) (two : eqb j 2 ≡ false) where
     low-item : j < 16 → getD (ofOther p (plain + p) j) k never ≡ getD (ofItem ws ls plain p (byKind ws p j)) k never
@@ -89,9 +96,9 @@ module _ (ws ls : List ℕ) (plain p k : ℕ) where
         ap (λ (xs : List Clause). getD xs k never) (other-high p (plain + p) j (omega arith))
         ∙ ap (λ (x : Item). getD (ofItem ws ls plain p x) k never) (sym (kind-high ws p j two h))
 
-  pub beyond : (r : Clause) (j : ℕ) → kind (getD ws p 0) ≡ j → NoneFrom (Unit {0} × (j ≡ 2 → ⊥)) 21 j → r ≡ getD (ofOther p (plain + p) j) k never
+  pub beyond : (r : Clause) (j : ℕ) → j ≡ kind (getD ws p 0) → NoneFrom (Unit {0} × (j ≡ 2 → ⊥)) 21 j → r ≡ getD (ofOther p (plain + p) j) k never
       → r ≡ clauseAt ws ls plain p k
-  beyond r j e t h = kinded r j e (h ∙ go (decLt j 16))
+  beyond r j e t h = h ∙ go (decLt j 16) ∙ kinded e j refl
     where
       two : eqb j 2 ≡ false
       two = ne-eqb j 2 (t .0 .0 .0 .0 .0 .0 .0 .0 .0 .0 .0 .0 .0 .0 .0 .0 .0 .0 .0 .0 .0 .1)

@@ -353,14 +353,20 @@ fn operation_number(a: u32) -> usize
     }
 }
 
-// The word after the term at p, the binder of p, and the permissions of its block.
-fn end(links: &[u32], p: usize) -> usize
+// The word after the term at p; that after the term which starts there; the binder of p; the permissions of its block.
+pub fn end(links: &[u32], p: usize) -> usize
     ensures { λ r. ⌜ (r ≡ linkAt (now (links .entry)) p .end) × (r < 2048) ⌝ }
 {
     link_at(links, p).end
 }
 
-fn binder_of(links: &[u32], p: usize) -> usize
+pub fn next_end(links: &[u32], p: usize) -> usize
+    ensures { λ r. ⌜ (r ≡ linkAt (now (links .entry)) (linkAt (now (links .entry)) p .end) .end) × (r < 2048) ⌝ }
+{
+    end(links, end(links, p))
+}
+
+pub fn binder_of(links: &[u32], p: usize) -> usize
     ensures { λ r. ⌜ (r ≡ linkAt (now (links .entry)) p .binder) × (r < 2048) ⌝ }
 {
     link_at(links, p).binder
@@ -415,18 +421,12 @@ pub fn clause(words: &[u32], links: &[u32], plain: usize, p: usize, k: usize) ->
         22 => apply(p, end(links, p + 1), k),
         23 => bind(p, end(links, p + 1), k),
         24 => sequence(p, end(links, p + 1), k),
-        25 => branch(p, end(links, p + 1), end(links, end(links, p + 1)), k),
+        25 => branch(p, end(links, p + 1), next_end(links, p + 1), k),
         26 => repeat(p, end(links, p + 1), k),
         27 => operate(p, end(links, p + 1), operation_number(a), k),
         28 => value(p, plain + p, k),
         29 => get(p, end(links, p + 1), k),
-        30 => set(
-            p,
-            end(links, p + 1),
-            end(links, end(links, p + 1)),
-            plain + p,
-            k,
-        ),
+        30 => set(p, end(links, p + 1), next_end(links, p + 1), plain + p, k),
         31 => delete(p, end(links, p + 1), k),
         32 => cell(p, plain + p, k),
         33 => read(p, k),

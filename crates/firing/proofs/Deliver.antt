@@ -16,7 +16,8 @@ use Rattle.table.specs.declared.Term.{Term}
 use Rattle.table.specs.declared.Term.the-variants as terms
 use Rattle.table.specs.Words.{kind, argument}
 use Rattle.table.specs.Scan.{namesAt, Task, name, accepted, reading}
-use Rattle.table.specs.Item.{handlerAt, itemAt}
+use Rattle.table.specs.Item.{handlerAt, itemAt, itemPerms}
+use Rattle.table.specs.Links.{linkAt}
 use Rattle.table.specs.Code.{Code, Node, gap, block, leaf, one, two, bind, while, branch, update, code, taskAt, termNode, NodeLinked, Linked}
 use Rattle.table.proofs.Items.{item-gap, item-term}
 use Rattle.table.proofs.Faults.{Stands}
@@ -39,11 +40,14 @@ use Rattle.calculus.proofs.Folds.{fire-only-not, fire-present, fire-absent}
 use Rattle.rows.specs.declared.layout.Layout.{Layout}
 use Rattle.firing.specs.declared.sends.Sender.{Sender}
 use Rattle.clauses.specs.declared.Effect.{Effect}
-use Rattle.firing.specs.Sending.{Sends}
+use Rattle.firing.specs.Sending.{Sends, Sending}
 use Rattle.firing.proofs.EachThing.{sized-again}
 use Rattle.clauses.specs.Asks.{rowAt, sortAt, atBlock}
 use Rattle.clauses.proofs.Sorts.{row-C, row-B}
+use Rattle.queries.specs.Ready.{Ready}
 use Rattle.queries.specs.Starts.{startsAt}
+use Rattle.queries.proofs.Given.{sized}
+use Rattle.queries.proofs.Home.{sender, sender-home, sender-inside}
 use Rattle.queries.proofs.Sends.{answer-so, named-so, named-not}
 
 -- a word that was made live leaves the estimate well formed
@@ -214,7 +218,7 @@ sends-again ws masks old new l e own s b i n w =
       readable = s .readable;
       laid = s .laid;
       masked = s .masked;
-      sized = sized-again l old new (s .sized) n;
+      sized = sized-again (s .sized) n;
       well =
           subst (WellFormed (code ws)) (sym w)
           (fire-well (code ws) (atBlock (code ws) (e .x) (e .y) (e .z) b)
@@ -225,4 +229,21 @@ sends-again ws masks old new l e own s b i n w =
       sender = s .sender;
       block = s .block;
       homed = s .homed;
+    }
+
+-- a send at a term, with the permissions and the place of its block as the links say
+pub sends-ready : {ws links masks est : List ℕ} {l : Layout} (y : Ready ws links masks l) → WellFormed (code ws) est → {e : Effect} → Sending ws l e → {own : Sender}
+    → own .perms .bits ≡ itemPerms (itemAt ws (linkAt links (e .x) .home)) → own .home ≡ linkAt links (e .x) .home → Sends ws masks est l e own
+sends-ready y w {e} t p h =
+    record {
+      readable = y .readable;
+      laid = y .laid;
+      masked = y .masked;
+      sized = sized y w;
+      well = w;
+      word = t .word;
+      message = t .message;
+      sender = sender y (e .x) (t .term) (t .there) _ p;
+      block = sender-home y (e .x) (t .term) (t .there) _ h;
+      homed = sender-inside y (e .x) (t .term) (t .there) _ h;
     }

@@ -27,14 +27,7 @@ use Rattle.clauses.proofs.Asked.{gap-thing}
 use Rattle.queries.specs.Passes.{maskAt, Masked}
 use Rattle.queries.specs.Things.{both, Next, Searched}
 use Rattle.queries.proofs.Laws.{row-in, mask-in}
-
-and-first : (x y : Bool) → x && y ≡ true → x ≡ true
-and-first true y e = refl
-and-first false y e = e
-
-and-second : (x y : Bool) → x && y ≡ true → y ≡ true
-and-second true y e = e
-and-second false y e = absurd (false≢true e)
+use Rattle.firing.proofs.Effects.{both-first, both-second}
 
 -- ---- the things of a mask
 
@@ -116,8 +109,8 @@ module _ (l : Layout) (masks : List ℕ) (z : ℕ) (hz : z < 3) (c : Code) (o : 
       present est f h e =
           let u : sets c est (C a) (made c f) && thingAt z (makes (c .node f)) ≡ true = sym (both-is est f h) ∙ e in
           fire-present c (thingAt z (makes (c .node f))) (C (x + 1)) (made c f) (forThing w x y f) est
-          (and-second (sets c est (C a) (made c f)) (thingAt z (makes (c .node f))) u)
-          (ap (λ r. sets c est r (made c f)) (sym at-C) ∙ and-first (sets c est (C a) (made c f)) (thingAt z (makes (c .node f))) u)
+          (both-second (sets c est (C a) (made c f)) (thingAt z (makes (c .node f))) u)
+          (ap (λ r. sets c est r (made c f)) (sym at-C) ∙ both-first (sets c est (C a) (made c f)) (thingAt z (makes (c .node f))) u)
 
       pub absent-one : (est : List ℕ) (f : ℕ) → f < c .size → both est masks (l .lead) at to f ≡ false → fire c (one f) est ≡ est
       absent-one = absent
@@ -170,15 +163,15 @@ Left l masks w x y z start est f =
 -- a thing that is in the row and in the mask is in the mask
 pub both-masked : (est masks : List ℕ) (lead at to f : ℕ) → both est masks lead at to f ≡ true → member (getD masks (to + (lead + f / 32)) 0) (f % 32) ≡ true
 both-masked est masks lead at to f e =
-    and-second (member (getD est (at + (lead + f / 32)) 0) (f % 32)) (member (getD masks (to + (lead + f / 32)) 0) (f % 32))
+    both-second (member (getD est (at + (lead + f / 32)) 0) (f % 32)) (member (getD masks (to + (lead + f / 32)) 0) (f % 32))
     (sym (member-and (getD est (at + (lead + f / 32)) 0) (getD masks (to + (lead + f / 32)) 0) (f % 32)) ∙ e)
 
 -- ---- what the search is handed
 
-pub sized-again : (l : Layout) (old new : List ℕ) → Sized l old → length new ≡ length old → Sized l new
-sized-again l old new s e =
+pub sized-again : {l : Layout} {old new : List ℕ} → Sized l old → length new ≡ length old → Sized l new
+sized-again s e =
     record { size = s .size; lead = s .lead; wide = s .wide; most = s .most; long = e ∙ s .long; short = omega (arith, s .short) }
 
 pub searched : (l : Layout) (est masks : List ℕ) → Sized l est → (r m : ℕ) → r < 2 * l .size → m < 4 → 4 * l .row ≤ length masks → Searched l est masks r m
 searched l est masks s r m h k n =
-    record { size = s .size; wide = s .wide; most = s .most; row = row-in l est s r h; mask = mask-in (length masks) (l .row) m n k }
+    record { size = s .size; wide = s .wide; most = s .most; row = row-in s r h; mask = mask-in (length masks) (l .row) m n k }

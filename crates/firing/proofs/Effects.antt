@@ -65,26 +65,26 @@ thing-effect c whats.Back x y z f h = refl
 thing-effect c whats.Send x y z f h = absurd (miss thingTags 15 tt h)
 
 -- what an effect did, by the effect that it is
-pub effect-as : (c : Code) (w v : What) (x y z f : ℕ) (old new : List ℕ) (n : ℕ) → w ≡ v → Fired c (effect c v x y z f) old new n
+pub effect-as : {c : Code} {w v : What} (x y z f : ℕ) {old new : List ℕ} {n : ℕ} → w ≡ v → Fired c (effect c v x y z f) old new n
     → Fired c (effect c w x y z f) old new n
-effect-as c w v x y z f old new n e h = subst (λ (u : What). Fired c (effect c u x y z f) old new n) (sym e) h
+effect-as {c} x y z f {old} {new} {n} e h = subst (λ (u : What). Fired c (effect c u x y z f) old new n) (sym e) h
 
-pub things-effect : (c : Code) (w : What) (x y z f : ℕ) (old new : List ℕ) (n : ℕ) → OneOf thingTags (tagOf the-type w) → Fired c (things c w x y z f) old new n
+pub things-effect : {c : Code} (w : What) (x y z f : ℕ) {old new : List ℕ} {n : ℕ} → OneOf thingTags (tagOf the-type w) → Fired c (things c w x y z f) old new n
     → Fired c (effect c w x y z f) old new n
-things-effect c w x y z f old new n h k = subst (λ (r : Rule). Fired c r old new n) (sym (thing-effect c w x y z f h)) k
+things-effect {c} w x y z f {old} {new} {n} h k = subst (λ (r : Rule). Fired c r old new n) (sym (thing-effect c w x y z f h)) k
 
 -- for one code
-pub for-code : (l : Layout) (h : Code → Type 0) (k : Code → Rule) (old new : List ℕ) (n : ℕ) (c : Code) → FiredFor l h k old new n → LaidOut c l → h c
+pub for-code : {l : Layout} {h : Code → Type 0} {k : Code → Rule} {old new : List ℕ} {n : ℕ} {c : Code} → FiredFor l h k old new n → LaidOut c l → h c
     → Fired c (k c) old new n
-for-code l h k old new n c f o x = record { words = f .words c o x; count = f .count }
+for-code {c = c} f o x = record { words = f .words c o x; count = f .count }
 
 -- ---- guards
 
-both-first : (x y : Bool) → x && y ≡ true → x ≡ true
+pub both-first : (x y : Bool) → x && y ≡ true → x ≡ true
 both-first true y e = refl
 both-first false y e = e
 
-both-second : (x y : Bool) → x && y ≡ true → y ≡ true
+pub both-second : (x y : Bool) → x && y ≡ true → y ≡ true
 both-second true y e = e
 both-second false y e = absurd (false≢true e)
 

@@ -1,6 +1,7 @@
 pub mod Deliver
 pub mod EachThing
 pub mod Effects
+pub mod Fit
 pub mod Fires
 pub mod Fitted
 pub mod Full

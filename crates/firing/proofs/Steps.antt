@@ -14,11 +14,14 @@ use Rattle.calculus.specs.Layout.{sets, WellFormed, LiesIn}
 use Rattle.calculus.specs.Estimate.{fire}
 use Rattle.calculus.proofs.Firing.{Fits, fire-well, fire-inside, fire-obeys}
 use Rattle.calculus.proofs.Senders.{sentFrom, from-senders, estimate-sent}
+use Rattle.calculus.specs.Elements.{plain}
+use Rattle.clauses.specs.Clauses.{clauseAt}
 use Rattle.clauses.proofs.OfWord.{rule-clauses, clauses-rule, clauses-sent}
-use Rattle.clauses.proofs.Fit.{clause-fits}
 use Rattle.rows.specs.declared.layout.Layout.{Layout}
 use Rattle.queries.specs.Ready.{Ready}
 use Rattle.firing.specs.Step.{stepAt}
+use Rattle.firing.proofs.Suited.{ready-suits}
+use Rattle.firing.proofs.Fit.{clause-fits}
 
 -- what a word asks of its receivers is asked where it is live
 two-live : (c : Code) (e : Sets) (p b : ℕ) (u : Two) (a d : ℕ) → (T (e (L p) 0) → Obeys e (twoSender c b p u a d)) → Obeys e (twoSender c b p u a d)
@@ -46,7 +49,7 @@ node-live c e p b (update a d x) k = tt
 sent-live : (c : Code) (e : Sets) (p : ℕ) → Obeys e (given (L p) 0 (sentFrom c p)) → Obeys e (sentFrom c p)
 sent-live c e p o = λ b m. node-live c e p b (c .node p) (λ t. o t b m)
 
-module _ (ws links masks : List ℕ) (l : Layout) (y : Ready ws links masks l) (p : ℕ) (h : p < l .size) where
+module _ {ws links masks : List ℕ} {l : Layout} (y : Ready ws links masks l) (p : ℕ) (h : p < l .size) where
   in-code : p < code ws .size
   in-code = omega (arith, y .laid .size)
 
@@ -55,7 +58,7 @@ module _ (ws links masks : List ℕ) (l : Layout) (y : Ready ws links masks l) (
 
   module _ (k f : ℕ) where
     step-fits : Fits (code ws) (stepAt ws links p k f)
-    step-fits = made-by (λ (xs : List ℕ). Fits (code ws) (stepAt ws xs p k f)) (clause-fits ws (y .readable) (y .slice) (y .room) p in-code k f)
+    step-fits = clause-fits y (clauseAt ws links (plain (code ws)) p k) (ready-suits y p k h) f
 
     -- the estimates obey it, whatever the opponent has
     step-asked : (ρ : ℕ) (e : Sets) → Estimate (code ws) ρ e → Obeys e (stepAt ws links p k f)
@@ -65,37 +68,37 @@ module _ (ws links masks : List ℕ) (l : Layout) (y : Ready ws links masks l) (
         (λ t. rule-clauses ws (y .readable) (y .slice) (y .room) e p in-code (o p in-code .1 t)
         (estimate-sent (code ws) (linked-code ws (y .readable)) e ρ o p in-code) t k f)
 
-    module _ (est : List ℕ) (w : WellFormed (code ws) est) where
+    module _ {est : List ℕ} (w : WellFormed (code ws) est) where
       pub step-well : WellFormed (code ws) (fire (code ws) (stepAt ws links p k f) est)
       step-well = fire-well (code ws) (stepAt ws links p k f) step-fits est w
 
       pub step-inside : (ρ : ℕ) (e : Sets) → Estimate (code ws) ρ e → LiesIn (code ws) est e → LiesIn (code ws) (fire (code ws) (stepAt ws links p k f) est) e
       step-inside ρ e o i = fire-inside (code ws) e (stepAt ws links p k f) step-fits (step-asked ρ e o) est w i
 
-  pub steps-rule : (est : List ℕ) → WellFormed (code ws) est → ((k : ℕ) → fire (code ws) (stepAt ws links p k 0) est ≡ est)
+  pub steps-rule : {est : List ℕ} → WellFormed (code ws) est → ((k : ℕ) → fire (code ws) (stepAt ws links p k 0) est ≡ est)
       → Obeys (sets (code ws) est) (given (L p) 0 (flow (code ws) p (code ws .node p)))
-  steps-rule est w s =
+  steps-rule {est} w s =
       λ t. clauses-rule ws (y .readable) (y .slice) (y .room) (sets (code ws) est) p in-code
       (λ k. subst (λ (xs : List ℕ). Obeys (sets (code ws) est) (stepAt ws xs p k 0)) (y .from) (fire-obeys (code ws) (stepAt ws links p k 0) (step-fits k 0) est w (s k)) t)
 
   -- and what it asks of its receivers
-  pub steps-sent : (est : List ℕ) → WellFormed (code ws) est → ((k : ℕ) → fire (code ws) (stepAt ws links p k 0) est ≡ est)
+  pub steps-sent : {est : List ℕ} → WellFormed (code ws) est → ((k : ℕ) → fire (code ws) (stepAt ws links p k 0) est ≡ est)
       → Obeys (sets (code ws) est) (given (L p) 0 (sentFrom (code ws) p))
-  steps-sent est w s =
+  steps-sent {est} w s =
       λ t. clauses-sent ws (y .readable) (y .slice) (y .room) (sets (code ws) est) p in-code
       (λ k. subst (λ (xs : List ℕ). Obeys (sets (code ws) est) (stepAt ws xs p k 0)) (y .from) (fire-obeys (code ws) (stepAt ws links p k 0) (step-fits k 0) est w (s k)) t)
 
 -- where no step of any word adds anything, a word whose entry is obeyed obeys its rule
-pub steps-rules : (ws links masks : List ℕ) (l : Layout) → Ready ws links masks l → (ρ : ℕ) (est : List ℕ) → WellFormed (code ws) est
+pub steps-rules : {ws links masks : List ℕ} {l : Layout} → Ready ws links masks l → (ρ : ℕ) {est : List ℕ} → WellFormed (code ws) est
     → ((p : ℕ) → p < l .size → (k : ℕ) → fire (code ws) (stepAt ws links p k 0) est ≡ est) → (p : ℕ) → p < l .size
     → Obeys (sets (code ws) est) (entry (code ws) ρ p) → Obeys (sets (code ws) est) (rule (code ws) ρ p)
 unfolding rule
-steps-rules ws links masks l y ρ est w s p h o =
+steps-rules {ws} {l = l} y ρ {est} w s p h o =
     let inside : (q : ℕ) → q < code ws .size → q < l .size = λ q g. omega (arith, y .laid .size) in (
       (
         o,
         from-senders (code ws) (linked-code ws (y .readable)) (sets (code ws) est)
-            (λ q g. sent-live (code ws) (sets (code ws) est) q (steps-sent ws links masks l y q (inside q g) est w (s q (inside q g)))) p (in-code ws links masks l y p h),
+            (λ q g. sent-live (code ws) (sets (code ws) est) q (steps-sent y q (inside q g) w (s q (inside q g)))) p (in-code y p h),
       ),
-      steps-rule ws links masks l y p h est w (s p h),
+      steps-rule y p h w (s p h),
     )

@@ -20,7 +20,6 @@ use Rattle.table.proofs.LinkMeaning.{link-end}
 use Rattle.table.proofs.Nodes.{itemNode, nodeAt, node-item}
 use Rattle.table.proofs.Widths.{names-most}
 use Rattle.calculus.specs.Elements.{plain, made}
-use Rattle.calculus.specs.Layout.{rowWords}
 use Rattle.calculus.proofs.Fitting.{constant-lt, sign-lt, body-lt}
 use Rattle.rows.specs.declared.layout.Layout.{Layout}
 use Rattle.rows.specs.Laid.{LaidOut}
@@ -54,9 +53,8 @@ module _ (ws : List ℕ) (r : reading ws ≡ accepted) (l : Layout) (o : LaidOut
   abbrev Fit : Effect → Type 0
   Fit e = Fitting l masks ws (e .what) (e .x) (e .y) (e .z)
 
-  element-in : (v : ℕ) → v < plain c + c .size → v < 32 * l .row
-  unfolding rowWords
-  element-in v h = omega (arith, o .row)
+  element-in : (v : ℕ) → v < plain c + c .size → v < 32 * l .lead + l .size
+  element-in v h = omega (arith, o .size, o .lead)
 
   -- ---- effects for things
 
@@ -285,7 +283,7 @@ module _ (ws : List ℕ) (r : reading ws ≡ accepted) (l : Layout) (o : LaidOut
         clause-suits n = each-clause ws r slice room Suit never-suit p (item-suit (itemAt ws p) refl) n
 
 -- the same of what a solver has, for a clause made where things start at 32 times the leading words
-module _ (ws links masks : List ℕ) (l : Layout) (y : Ready ws links masks l) where
+module _ {ws links masks : List ℕ} {l : Layout} (y : Ready ws links masks l) where
   pub plain-small : 32 * l .lead ≤ 1024
   unfolding code
   plain-small = omega (arith, y .laid .lead, names-most (getD ws 0 0))
@@ -293,7 +291,10 @@ module _ (ws links masks : List ℕ) (l : Layout) (y : Ready ws links masks l) w
   pub clause-is : (p n : ℕ) → clauseAt ws links (32 * l .lead) p n ≡ clauseAt ws links (plain (code ws)) p n
   clause-is p n = ap (λ (v : ℕ). clauseAt ws links v p n) (sym (y .laid .lead))
 
-  pub made-suits : (p n : ℕ) → p < l .size → Suits l masks ws (clauseAt ws links (32 * l .lead) p n)
-  made-suits p n h =
-      subst (Suits l masks ws) (sym (clause-is p n ∙ ap (λ (xs : List ℕ). clauseAt ws xs (plain (code ws)) p n) (y .from)))
+  pub ready-suits : (p n : ℕ) → p < l .size → Suits l masks ws (clauseAt ws links (plain (code ws)) p n)
+  ready-suits p n h =
+      subst (λ (xs : List ℕ). Suits l masks ws (clauseAt ws xs (plain (code ws)) p n)) (sym (y .from))
       (clause-suits ws (y .readable) l (y .laid) masks (y .masked) (omega arith) p h (y .slice) (y .room) n)
+
+  pub made-suits : (p n : ℕ) → p < l .size → Suits l masks ws (clauseAt ws links (32 * l .lead) p n)
+  made-suits p n h = subst (Suits l masks ws) (sym (clause-is p n)) (ready-suits p n h)

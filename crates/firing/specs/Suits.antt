@@ -26,7 +26,7 @@ module _ (l : Layout) (masks : List ℕ) where
 
   abbrev pub Fitting : List ℕ → What → (x y z : ℕ) → Type 0
   Fitting ws whats.Live x y z = x < l .size
-  Fitting ws whats.Put x y z = (x < 2 * l .size) × (y < 32 * l .row)
+  Fitting ws whats.Put x y z = (x < 2 * l .size) × (y < 32 * l .lead + l .size)
   Fitting ws whats.Fill x y z = x < 2 * l .size
   Fitting ws whats.Flow x y z = (x < 2 * l .size) × (y < 2 * l .size)
   Fitting ws whats.Pass x y z = (x < 2 * l .size) × (y < 2 * l .size) × (z < 4)

@@ -49,12 +49,13 @@ pub fn each_thing(est: &mut [u32], masks: &[u32], h: &mut [u32], l: Layout, e: E
     let x = e.x;
     let y = e.y;
     let z = e.z;
+    let r = 2 * (x + 1);
     let size = l.size;
     let mut added = 0;
-    let mut f = next_thing(est, masks, l, 2 * (x + 1), z, 0);
+    let mut f = next_thing(est, masks, l, r, z, 0);
     while f < size {
         added += for_thing(est, h, l, what, x, y, f);
-        f = next_thing(est, masks, l, 2 * (x + 1), z, f + 1);
+        f = next_thing(est, masks, l, r, z, f + 1);
     }
     added
 }

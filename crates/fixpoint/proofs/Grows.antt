@@ -4,7 +4,7 @@ use mathlib.Core.Path.{_≡_, sym, ap₂, _∙_, subst}
 use mathlib.Core.Bool.{Bool, true, false, not}
 use mathlib.Core.List.{List}
 use native.Mathlib.Omega.{arith}
-use lib.ListN.{length}
+use borrow.Author.Tests.{not-true, not-false}
 use Rattle.table.specs.Code.{Code, code, Linked}
 use Rattle.calculus.specs.Constraint.{Rule, Obeys, B, C, put, _and_}
 use Rattle.calculus.specs.Elements.{opponentRecord}
@@ -26,7 +26,6 @@ use Rattle.clauses.proofs.Sorts.{row-B, row-C}
 use Rattle.queries.specs.Ready.{Ready}
 use Rattle.queries.proofs.Given.{sized}
 use Rattle.checker.specs.Words.{Accepted}
-use Rattle.checker.proofs.Laws.{negated-true, negated-false}
 use Rattle.firing.specs.Fired.{Fired, FiredFor}
 use Rattle.firing.specs.Step.{stepAt}
 use Rattle.firing.proofs.Steps.{step-well, step-inside}
@@ -98,7 +97,7 @@ module _ (ws : List ℕ) (ρ p : ℕ) (old : List ℕ) {x : Bool} (q : x ≡ gua
   unfolding entry
   not-entered n =
       record {
-        words = sym (fire-only-not c (guarded (c .node p) ρ) (live p and fill c (B p) and put (C p) opponentRecord) old (sym q ∙ negated-true n));
+        words = sym (fire-only-not c (guarded (c .node p) ρ) (live p and fill c (B p) and put (C p) opponentRecord) old (sym q ∙ not-true _ n));
         count = omega arith;
       }
 
@@ -110,23 +109,23 @@ module _ (ws : List ℕ) (ρ p : ℕ) (old : List ℕ) {x : Bool} (q : x ≡ gua
         words =
             f .words c o w
             ∙ ap₂ (λ r s. fire c (live p and fill c r and put s 7) old) (row-B p) (row-C p)
-            ∙ sym (fire-only c (guarded (c .node p) ρ) (live p and fill c (B p) and put (C p) opponentRecord) old (sym q ∙ negated-false y));
+            ∙ sym (fire-only c (guarded (c .node p) ρ) (live p and fill c (B p) and put (C p) opponentRecord) old (sym q ∙ not-false _ y));
         count = f .count;
       }
 
 -- ---- a step
 
-module _ (ws links masks : List ℕ) (l : Layout) (y : Ready ws links masks l) where
+module _ {ws links masks : List ℕ} {l : Layout} (y : Ready ws links masks l) where
   pub stepped : (p k f : ℕ) → p < l .size → {old new : List ℕ} {n : ℕ} → Fired (code ws) (stepAt ws links p k f) old new n → Stepped ws old new n
   stepped p k f h {old} g ρ =
       record {
         sound =
             record {
-              well = λ w. subst (WellFormed (code ws)) (sym (g .words)) (step-well ws links masks l y p h k f old w);
+              well = λ w. subst (WellFormed (code ws)) (sym (g .words)) (step-well y p h k f w);
               kept = fired-keeps (code ws) (stepAt ws links p k f) g;
               inside =
                   λ w e o i. subst (λ (xs : List ℕ). LiesIn (code ws) xs e) (sym (g .words))
-                  (step-inside ws links masks l y p h k f old w ρ e o i);
+                  (step-inside y p h k f w ρ e o i);
             };
         count = g .count;
       }
@@ -135,20 +134,9 @@ module _ (ws links masks : List ℕ) (l : Layout) (y : Ready ws links masks l) w
   accepted-of = record { readable = y .readable; laid = y .laid }
 
   -- how many facts there may be
-  pub few-facts : (old new : List ℕ) (n : ℕ) → WellFormed (code ws) new → facts new ≡ facts old + n → n ≤ 2392064
-  few-facts old new n w e = omega (arith, facts-most new, sized ws links masks l y new w .short)
+  pub few-facts : (old : List ℕ) {new : List ℕ} (n : ℕ) → WellFormed (code ws) new → facts new ≡ facts old + n → n ≤ 2392064
+  few-facts old {new} n w e = omega (arith, facts-most new, sized y w .short)
 
--- slices of one length
-pub sized-again : (l : Layout) (old new : List ℕ) → Sized l old → length new ≡ length old → Sized l new
-sized-again l old new s e =
-    record {
-      size = s .size;
-      lead = s .lead;
-      wide = s .wide;
-      most = s .most;
-      long = e ∙ s .long;
-      short = omega (arith, s .short);
-    }
-
+-- how many facts there may be, by the length of a slice
 pub few-sized : (l : Layout) (old new : List ℕ) (n : ℕ) → Sized l new → facts new ≡ facts old + n → n ≤ 2392064
 few-sized l old new n s e = omega (arith, facts-most new, s .short)

@@ -42,7 +42,7 @@ pub all-targets : (ws links : List ℕ) (p k f : ℕ) (old new : List ℕ) (n : 
     → Fired (code ws) (stepAt ws links p k 0) old new n
 all-targets ws links p k f old new n z x = subst (λ (g : ℕ). Fired (code ws) (stepAt ws links p k g) old new n) z x
 
-module _ (ws links masks : List ℕ) (l : Layout) (y : Ready ws links masks l) (p : ℕ) (h : p < l .size) (old : List ℕ) (w : WellFormed (code ws) old) where
+module _ {ws links masks : List ℕ} {l : Layout} (y : Ready ws links masks l) (p : ℕ) (h : p < l .size) {old : List ℕ} (w : WellFormed (code ws) old) where
   abbrev c : Code
   c = code ws
 
@@ -54,7 +54,7 @@ module _ (ws links masks : List ℕ) (l : Layout) (y : Ready ws links masks l) (
     tried-more z =
         let a = t (omega arith) in
         let g : Fired c (stepAt ws links p k 0) old new n = subst (λ (xs : List ℕ). Fired c (stepAt ws links p k 0) xs new n) (a .same) f in
-        let v : WellFormed c new = subst (WellFormed c) (sym (g .words)) (step-well ws links masks l y p h k 0 old w) in
+        let v : WellFormed c new = subst (WellFormed c) (sym (g .words)) (step-well y p h k 0 w) in
         let e : new ≡ old = fired-same c (stepAt ws links p k 0) w v g (omega arith) in
         record { same = e; steps = below-more _ _ (a .steps) (sym (g .words) ∙ e) }
 
@@ -85,15 +85,15 @@ module _ (ws links masks : List ℕ) (l : Layout) (y : Ready ws links masks l) (
   -- the entry, and then all clauses of all words
   pub repaired : (ρ : ℕ) (mid new : List ℕ) (m n : ℕ) → Fired c (entry c ρ p) old mid m → Swept ws links mid new n → Repaired c ρ p old new (m + n)
   repaired ρ mid new m n f x =
-      let g : Grown c ρ old mid m = entered c ρ (linked-code ws links masks l y) p in-code f in
+      let g : Grown c ρ old mid m = entered c ρ (linked-code y) p in-code f in
       record {
         grown = grown-then c ρ g (x .stepped ρ);
         obeyed =
             λ z.
             let e : mid ≡ old = grown-same c ρ w g (omega arith) in
-            steps-rules ws links masks l y ρ old w
+            steps-rules y ρ w
             (λ q i k. subst (λ (xs : List ℕ). fire c (stepAt ws links q k 0) xs ≡ xs) e (x .nothing (omega arith) q (omega (arith, y .laid .size)) k)) p h
-            (entry-obeyed c ρ (linked-code ws links masks l y) p in-code old w (sym (f .words) ∙ e));
+            (entry-obeyed c ρ (linked-code y) p in-code old w (sym (f .words) ∙ e));
       }
 
 -- ---- all words in turn

@@ -14,7 +14,7 @@ use Rattle.rows.specs.declared.layout.Layout.{Layout}
 use Rattle.rows.specs.Laid.{Sized}
 use Rattle.queries.specs.Ready.{Ready}
 
-module _ (ws links masks : List ℕ) (l : Layout) (y : Ready ws links masks l) where
+module _ {ws links masks : List ℕ} {l : Layout} (y : Ready ws links masks l) where
   -- the table as a code
   pub linked-code : Linked (code ws)
   linked-code = code-linked ws (y .readable)
@@ -23,9 +23,9 @@ module _ (ws links masks : List ℕ) (l : Layout) (y : Ready ws links masks l) w
   unfolding code
   size-is = y .laid .size
 
-  pub sized : (est : List ℕ) → WellFormed (code ws) est → Sized l est
+  pub sized : {est : List ℕ} → WellFormed (code ws) est → Sized l est
   unfolding estimateWords rowWords code
-  sized est w =
+  sized {est} w =
       let small : length ws ≤ 1024 = head-word ws (y .readable) .sized in
       let long : length est ≡ 2 * l .size * l .row + l .size = w .long ∙ ap₂ (λ (x r : ℕ). 2 * x * r + x) (y .laid .size) (y .laid .row) in
       let wide : l .row ≤ 36 = omega (arith, y .laid .size, y .laid .row, names-most (getD ws 0 0)) in

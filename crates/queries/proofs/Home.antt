@@ -15,12 +15,12 @@ use Rattle.rows.specs.declared.layout.Layout.{Layout}
 use Rattle.calculus.proofs.Permissions.{permissions-are}
 use Rattle.queries.specs.Ready.{Ready}
 
-pub sender : (ws links masks : List ℕ) (l : Layout) (y : Ready ws links masks l) (x : ℕ) (t : Term) → itemAt ws x ≡ items.Term t → (own : ℕ)
+pub sender : {ws links masks : List ℕ} {l : Layout} (y : Ready ws links masks l) (x : ℕ) (t : Term) → itemAt ws x ≡ items.Term t → (own : ℕ)
     → own ≡ itemPerms (itemAt ws (linkAt links x .home)) → own ≡ permissions (code ws) x
-sender ws links masks l y x t h own e =
+sender {ws} y x t h own e =
     e ∙ ap (λ (k : List ℕ). itemPerms (itemAt ws (linkAt k x .home))) (y .from) ∙ permissions-are ws (y .readable) (y .slice) (y .room) x t h
 
-module _ (ws links masks : List ℕ) (l : Layout) (y : Ready ws links masks l) (x : ℕ) (t : Term) (h : itemAt ws x ≡ items.Term t) (home : ℕ)
+module _ {ws links masks : List ℕ} {l : Layout} (y : Ready ws links masks l) (x : ℕ) (t : Term) (h : itemAt ws x ≡ items.Term t) (home : ℕ)
     (e : home ≡ linkAt links x .home) where
   pub sender-home : home ≡ code ws .home x
   sender-home = e ∙ ap (λ (k : List ℕ). linkAt k x .home) (y .from) ∙ sym (home-link ws (y .readable) (y .slice) (y .room) x t h)

@@ -9,30 +9,6 @@ use borrow.Author.Needs.{needs}
 use Rattle.checker.proofs.opens.Statement.{statement}
 use Rattle.checker.proofs.opens.Tie as tie
 
-mul-kind-of : tie.Need-mul-kind-of
-mul-kind-of c = omega (arith, in-table (c .before .args .words .now) (c .before .args .l) (c .before .pre .0) (c .before .args .p) (c .before .pre .1) .1, table-short (c .before .args .words .now) (c .before .args .l) (c .before .pre .0))
-
-shared-slice-read-kind-of : tie.Need-shared-slice-read-kind-of
-shared-slice-read-kind-of c = omega (arith, in-table (c .before .before .args .words .now) (c .before .before .args .l) (c .before .before .pre .0) (c .before .before .args .p) (c .before .before .pre .1) .1)
-
-returns : tie.Need-returns
-returns c =
-    let s = c .before .before .before .before in
-    let a = s .args in
-    shut (a .words .now) (s .pre .0 .readable) (a .p) (in-table (a .words .now) (a .l) (s .pre .0) (a .p) (s .pre .1) .0) (a .rho .bits) (λ z. c .if1 .taken (c .before .kind-of .ensures ∙ z))
-
-add-argument-of : tie.Need-add-argument-of
-add-argument-of c =
-    let s = c .before .before .before .before in
-    let a = s .args in
-    omega (arith, in-table (a .words .now) (a .l) (s .pre .0) (a .p) (s .pre .1) .1, table-short (a .words .now) (a .l) (s .pre .0))
-
-mul-argument-of : tie.Need-mul-argument-of
-mul-argument-of c =
-    let s = c .before .before .before .before in
-    let a = s .args in
-    omega (arith, in-table (a .words .now) (a .l) (s .pre .0) (a .p) (s .pre .1) .1, table-short (a .words .now) (a .l) (s .pre .0))
-
 shared-slice-read-argument-of : tie.Need-shared-slice-read-argument-of
 shared-slice-read-argument-of c =
     let s = c .before .before .before .before .before in
@@ -50,12 +26,21 @@ pub opens-spec : {M : Type 1} → statement M
 opens-spec =
     tie.close
     (tie.spec
-    mul-kind-of
-    shared-slice-read-kind-of
+    (λ c. omega (arith, in-table (c .before .args .words .now) (c .before .args .l) (c .before .pre .0) (c .before .args .p) (c .before .pre .1) .1, table-short (c .before .args .words .now) (c .before .args .l) (c .before .pre .0)))
+    (λ c. omega (arith, in-table (c .before .before .args .words .now) (c .before .before .args .l) (c .before .before .pre .0) (c .before .before .args .p) (c .before .before .pre .1) .1))
     (λ kind-of-requires κs. search needs)
-    returns
-    add-argument-of
-    mul-argument-of
+    (λ c.
+    let s = c .before .before .before .before in
+    let a = s .args in
+    shut (a .words .now) (s .pre .0 .readable) (a .p) (in-table (a .words .now) (a .l) (s .pre .0) (a .p) (s .pre .1) .0) (a .rho .bits) (λ z. c .if1 .taken (c .before .kind-of .ensures ∙ z)))
+    (λ c.
+    let s = c .before .before .before .before in
+    let a = s .args in
+    omega (arith, in-table (a .words .now) (a .l) (s .pre .0) (a .p) (s .pre .1) .1, table-short (a .words .now) (a .l) (s .pre .0)))
+    (λ c.
+    let s = c .before .before .before .before in
+    let a = s .args in
+    omega (arith, in-table (a .words .now) (a .l) (s .pre .0) (a .p) (s .pre .1) .1, table-short (a .words .now) (a .l) (s .pre .0)))
     shared-slice-read-argument-of
     (λ argument-of-requires κs. search needs)
     (λ of-requires κs. search needs)

@@ -7,7 +7,8 @@ use Rattle.checker.proofs.other.Statement.{statement}
 use Rattle.checker.proofs.other.Tie as tie
 
 returns : tie.Need-returns
-returns c = record { low = λ h k. nothing-asked _; high = λ h. absurd (omega (arith, c .if1 .taken)) }
+returns c =
+    record { low = λ h k. nothing-asked _; high = λ h. absurd (omega (arith, c .if1 .taken)) }
 
 returns-2 : tie.Need-returns-2
 returns-2 c =

@@ -7,8 +7,7 @@ use Rattle.queries.proofs.has.Tie as tie
 
 returns : tie.Need-returns
 unfolding member
-returns c =
-    λ k o h m. let a = c .before .before .args in has-is k (a .l) o (a .est .now) (a .r) (a .v) h m
+returns c = λ k o h m. let a = c .before .before .args in has-is k (a .l) o (a .est .now) (a .r) (a .v) h m
 
 pub has-spec : {M : Type 1} → statement M
 has-spec =

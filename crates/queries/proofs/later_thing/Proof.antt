@@ -14,12 +14,6 @@ few : (c : tie.After-shared-slice-known4)
     trailingZeros 32 (common (a .est .now) (a .masks .now) (a .r * a .l .row) (a .m * a .l .row) (c .before .before .before .next-common .result)) ≤ 32
 few c = trailing-le 32 _
 
-cast-result : tie.Need-cast-result
-cast-result c = omega (arith, few c)
-
-add-result-3 : tie.Need-add-result-3
-add-result-3 c = omega (arith, few c)
-
 returns : tie.Need-returns
 unfolding lowest
 returns c =
@@ -64,7 +58,7 @@ later-thing-spec =
     (λ add-result-2. search needs)
     (λ mul-result-3. search needs)
     (λ shared-slice-read-result-2. search needs)
-    cast-result
-    add-result-3
+    (λ c. omega (arith, few c))
+    (λ c. omega (arith, few c))
     returns
     returns-2)

@@ -9,15 +9,6 @@ use Rattle.queries.proofs.Nexts.{next-found}
 use Rattle.queries.proofs.next_thing.Statement.{statement}
 use Rattle.queries.proofs.next_thing.Tie as tie
 
-returns : tie.Need-returns
-returns c = record { later = omega arith; none = λ g l m. absurd (omega arith); found = λ h. absurd (omega arith) }
-
-cast-result : tie.Need-cast-result
-cast-result c = omega (arith, trailing-le 32 (c .before .common-from .result))
-
-add-result : tie.Need-add-result
-add-result c = omega (arith, trailing-le 32 (c .before .common-from .result))
-
 returns-2 : tie.Need-returns-2
 unfolding lowest
 returns-2 c =
@@ -27,19 +18,16 @@ returns-2 c =
     next-found (a .est .now) (a .masks .now) (a .l .lead) at (a .m * a .l .row) (a .from) (c .before .common-from .result)
     (sym (c .before .common-from .ensures)) word (c .if2 .taken) (a .from) (a .l .size) (omega arith) (λ g l m. absurd (omega arith))
 
-later-thing-requires : tie.Need-later-thing-requires
-later-thing-requires c κs = (search needs, sym (c .before .common-from .ensures) ∙ c .if2 .left)
-
 pub next-thing-spec : {M : Type 1} → statement M
 next-thing-spec =
     tie.close
     (tie.spec
-    returns
+    (λ c. record { later = omega arith; none = λ g l m. absurd (omega arith); found = λ h. absurd (omega arith) })
     (λ mul-common-from. search needs)
     (λ mul-common-from-2. search needs)
     (λ common-from-requires κs. search needs)
-    cast-result
-    add-result
+    (λ c. omega (arith, trailing-le 32 (c .before .common-from .result)))
+    (λ c. omega (arith, trailing-le 32 (c .before .common-from .result)))
     returns-2
-    later-thing-requires
+    (λ c κs. (search needs, sym (c .before .common-from .ensures) ∙ c .if2 .left))
     (λ returns-3. search needs))

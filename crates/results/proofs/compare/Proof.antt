@@ -1,10 +1,10 @@
 -- `results::compare` meets its contract: its tests are those of the definition.
 -- Assumes nothing.
-use borrow.Author.Tests.{not-true, not-false}
 use mathlib.Core.Path.{_≡_, sym, ap₂, _∙_}
 use mathlib.Core.Bool.{true, false}
 use mathlib.Core.List.{List}
 use Prim.Native.Nat.{ℕ}
+use borrow.Author.Tests.{not-true, not-false}
 use lib.Bits.{bitOr}
 use Rattle.calculus.proofs.EqualResults.{sameMask, apartMask, equalMask}
 use Rattle.calculus.proofs.Masks.{nonzero}

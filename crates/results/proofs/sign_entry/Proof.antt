@@ -1,10 +1,10 @@
 -- `results::sign_entry` meets its contract: its tests are those of the definition.
 -- Assumes nothing.
-use borrow.Author.Tests.{not-true, not-false}
 use mathlib.Core.Path.{_≡_, sym, _∙_}
 use mathlib.Core.Bool.{true, false}
 use mathlib.Core.List.{List}
 use Prim.Native.Nat.{ℕ, _+_, _/_, _%_}
+use borrow.Author.Tests.{not-true, not-false}
 use lib.ListN.{getD}
 use Rattle.permset.specs.Sets.{member}
 use Rattle.calculus.proofs.SignResults.{signEntry}

@@ -4,11 +4,6 @@ use Rattle.checker.proofs.Blocks.{delivered-is}
 use Rattle.checker.proofs.sends.delivered.Statement.{statement}
 use Rattle.checker.proofs.sends.delivered.Tie as tie
 
-returns : tie.Need-returns
-returns c =
-    λ k j o w n. let a = c .before .before .before .before .before .args in
-    delivered-is k _ (a .p) (a .d) (a .b) (c .before .before .is-live .ensures k o) (c .before .passed-by .ensures k j o w n) (c .lifted .ensures k o w)
-
 pub delivered-spec : {M : Type 1} → statement M
 delivered-spec =
     tie.close
@@ -19,4 +14,6 @@ delivered-spec =
     (λ add-passed-by. search needs)
     (λ passed-by-requires κs. search needs)
     (λ lifted-requires κs. search needs)
-    returns)
+    (λ c.
+    λ k j o w n. let a = c .before .before .before .before .before .args in
+    delivered-is k _ (a .p) (a .d) (a .b) (c .before .before .is-live .ensures k o) (c .before .passed-by .ensures k j o w n) (c .lifted .ensures k o w)))

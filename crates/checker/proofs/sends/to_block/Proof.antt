@@ -19,7 +19,7 @@ use Rattle.checker.proofs.sends.to_block.Tie as tie
 starts-requires : tie.Need-starts-requires
 starts-requires c κs =
     let s = c .before .before .before in let a = s .args in
-    (s .pre .1, value-in (a .l) (a .est .now) (s .pre .0 .sized) (a .s .p + 1) (s .pre .0 .target), omega (arith, name-in (a .words .now) (a .masks .now) (a .est .now) (a .l) (a .s) (s .pre .0) (a .b) (s .pre .1) (s .pre .2), s .pre .0 .sized .wide), omega (arith, s .pre .0 .target, s .pre .0 .sized .size))
+    (s .pre .1, value-in (s .pre .0 .sized) (a .s .p + 1) (s .pre .0 .target), omega (arith, name-in (a .words .now) (a .masks .now) (a .est .now) (a .l) (a .s) (s .pre .0) (a .b) (s .pre .1) (s .pre .2), s .pre .0 .sized .wide), omega (arith, s .pre .0 .target, s .pre .0 .sized .size))
 
 returns : tie.Need-returns
 returns c =
@@ -30,11 +30,6 @@ delivered-requires : tie.Need-delivered-requires
 delivered-requires c κs =
     let s = c .before .before .before .before .before in let a = s .args in
     (s .pre .0 .sized, omega (arith, s .pre .0 .target), s .pre .0 .message, omega (arith, size-is (a .words .now) (a .masks .now) (a .est .now) (a .l) (a .s) (s .pre .0) (a .b) (s .pre .1) (s .pre .2), s .pre .1), s .pre .0 .masked .long)
-
-in-value-requires : tie.Need-in-value-requires
-in-value-requires c κs =
-    let s = c .before .before .before .before .before .before .before .before .before in let a = s .args in
-    (s .pre .0 .sized, omega (arith, size-is (a .words .now) (a .masks .now) (a .est .now) (a .l) (a .s) (s .pre .0) (a .b) (s .pre .1) (s .pre .2), s .pre .1), omega (arith, s .pre .0 .homed))
 
 returns-2 : tie.Need-returns-2
 returns-2 c =
@@ -57,6 +52,8 @@ to-block-spec =
     (λ lowered-requires κs. search needs)
     (λ mul-in-value. search needs)
     (λ add-in-value. search needs)
-    in-value-requires
+    (λ c κs.
+    let s = c .before .before .before .before .before .before .before .before .before in let a = s .args in
+    (s .pre .0 .sized, omega (arith, size-is (a .words .now) (a .masks .now) (a .est .now) (a .l) (a .s) (s .pre .0) (a .b) (s .pre .1) (s .pre .2), s .pre .1), omega (arith, s .pre .0 .homed)))
     (λ lowered-requires-2 κs. search needs)
     returns-2)

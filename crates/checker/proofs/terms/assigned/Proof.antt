@@ -14,9 +14,6 @@ use Rattle.checker.proofs.Asking.{hand-C, assign-is}
 use Rattle.checker.proofs.terms.assigned.Statement.{statement}
 use Rattle.checker.proofs.terms.assigned.Tie as tie
 
-has-some-requires : tie.Need-has-some-requires
-has-some-requires c κs = let s = c .before .before in let a = s .args in (row-in (a .l) (a .est .now) (s .pre .0 .sized) (2 * (a .p + 1)) (omega (arith, s .pre .0 .first)), mask-in _ (a .l .row) 2 (s .pre .2 .masked .long) (omega arith))
-
 returns : tie.Need-returns
 unfolding twoRule sortAt thingAt
 returns c =
@@ -33,7 +30,7 @@ assigned-spec =
     (tie.spec
     (λ add-has-some. search needs)
     (λ mul-has-some. search needs)
-    has-some-requires
+    (λ c κs. let s = c .before .before in let a = s .args in (row-in (s .pre .0 .sized) (2 * (a .p + 1)) (omega (arith, s .pre .0 .first)), mask-in _ (a .l .row) 2 (s .pre .2 .masked .long) (omega arith)))
     (λ mul-passed. search needs)
     (λ mul-passed-2. search needs)
     (λ passed-requires κs. search needs)

@@ -9,7 +9,8 @@ use Rattle.checker.proofs.terms.bind.Tie as tie
 
 returns : tie.Need-returns
 unfolding flow
-returns c = λ k o w. let a = c .before .before .before .before .args in and-parts _ (c .before .before .parts .ensures k o w) (both _ (CB _ (a .p + 1) (a .p) (c .before .passed .ensures k o w)) (CC _ (a .d) (a .p) (c .passed2 .ensures k o w)))
+returns c =
+    λ k o w. let a = c .before .before .before .before .args in and-parts _ (c .before .before .parts .ensures k o w) (both _ (CB _ (a .p + 1) (a .p) (c .before .passed .ensures k o w)) (CC _ (a .d) (a .p) (c .passed2 .ensures k o w)))
 
 pub bind-spec : {M : Type 1} → statement M
 bind-spec =

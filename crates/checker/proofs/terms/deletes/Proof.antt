@@ -3,6 +3,7 @@ use borrow.Author.Needs.{needs}
 use Prim.Native.Nat.{_+_}
 use mathlib.Core.Path.{sym, _∙_, subst₂}
 use native.Mathlib.Omega.{arith}
+use borrow.Author.Tests.{not-true, not-false}
 use Rattle.calculus.specs.Constraint.{Row, C}
 use Rattle.calculus.specs.Elements.{isString, anyRecord}
 use Rattle.calculus.specs.Rules.{pass, twoRule}
@@ -11,35 +12,29 @@ use Rattle.clauses.specs.Asks.{sortAt}
 use Rattle.clauses.proofs.Sorts.{row-C}
 use Rattle.queries.proofs.Laws.{value-in, some-words, C-found}
 use Rattle.checker.specs.Decides.{Decides}
-use Rattle.checker.proofs.Laws.{some-so, some-not, negated-true, negated-false}
+use Rattle.checker.proofs.Laws.{some-so, some-not}
 use Rattle.checker.proofs.terms.deletes.Statement.{statement}
 use Rattle.checker.proofs.terms.deletes.Tie as tie
-
-has-text-requires : tie.Need-has-text-requires
-has-text-requires c κs = let s = c .before .before in let a = s .args in (value-in (a .l) (a .est .now) (s .pre .0 .sized) (a .d) (s .pre .1), some-words (a .l) (a .est .now) (s .pre .0 .sized))
-
-returns : tie.Need-returns
-unfolding twoRule
-returns c =
-    λ k j o w n. let s = c .before .before .before .before in let a = s .args in
-    some-not k (a .est .now) (C (a .d)) isString
-    (sym (C-found k (a .est .now) (a .d) isString) ∙ sym (c .before .has-text .ensures k o w (omega (arith, s .pre .1))) ∙ negated-true (c .if1 .taken))
 
 returns-2 : tie.Need-returns-2
 unfolding twoRule sortAt
 returns-2 c =
     λ k j o w n. let s = c .before .before .before .before .before in let a = s .args in
     some-so k (a .est .now) (C (a .d)) isString
-    (sym (C-found k (a .est .now) (a .d) isString) ∙ sym (c .before .before .has-text .ensures k o w (omega (arith, s .pre .1))) ∙ negated-false (c .before .if1 .left))
+    (sym (C-found k (a .est .now) (a .d) isString) ∙ sym (c .before .before .has-text .ensures k o w (omega (arith, s .pre .1))) ∙ not-false _ (c .before .if1 .left))
     (subst₂ (λ (x y : Row). Decides (sets k (a .est .now)) (pass k x (anyRecord k) y) (c .passed-by .result)) (row-C (a .p + 1)) (row-C (a .p)) (c .passed-by .ensures k j o w n))
 
 pub deletes-spec : {M : Type 1} → statement M
+unfolding twoRule
 deletes-spec =
     tie.close
     (tie.spec
     (λ mul-has-text. search needs)
-    has-text-requires
-    returns
+    (λ c κs. let s = c .before .before in let a = s .args in (value-in (s .pre .0 .sized) (a .d) (s .pre .1), some-words (s .pre .0 .sized)))
+    (λ c.
+    λ k j o w n. let s = c .before .before .before .before in let a = s .args in
+    some-not k (a .est .now) (C (a .d)) isString
+    (sym (C-found k (a .est .now) (a .d) isString) ∙ sym (c .before .has-text .ensures k o w (omega (arith, s .pre .1))) ∙ not-true _ (c .if1 .taken)))
     (λ add-passed-by. search needs)
     (λ mul-passed-by. search needs)
     (λ mul-passed-by-2. search needs)

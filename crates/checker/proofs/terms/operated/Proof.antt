@@ -15,25 +15,6 @@ use Rattle.checker.proofs.Asking.{side-in}
 use Rattle.checker.proofs.terms.operated.Statement.{statement}
 use Rattle.checker.proofs.terms.operated.Tie as tie
 
-mul-to-2 : tie.Need-mul-to-2
-mul-to-2 c = let s = c .before .before in let a = s .args in omega (arith, side-in (a .l) (a .est .now) (a .p) (s .pre .0) (a .p) (omega (arith, s .pre .0 .first)))
-
-mul-operate-at-2 : tie.Need-mul-operate-at-2
-mul-operate-at-2 c = let s = c .before .before .before .before in let a = s .args in omega (arith, side-in (a .l) (a .est .now) (a .p) (s .pre .0) (a .p + 1) (s .pre .0 .first))
-
-mul-operate-at-4 : tie.Need-mul-operate-at-4
-mul-operate-at-4 c = let s = c .before .before .before .before .before in let a = s .args in omega (arith, side-in (a .l) (a .est .now) (a .p) (s .pre .0) (a .d) (s .pre .1))
-
-operate-at-requires : tie.Need-operate-at-requires
-operate-at-requires c κs = let s = c .before .before .before .before .before in let a = s .args in let z = s .pre .0 .sized in
-    (side-in (a .l) (a .est .now) (a .p) (s .pre .0) (a .p + 1) (s .pre .0 .first), side-in (a .l) (a .est .now) (a .p) (s .pre .0) (a .d) (s .pre .1), z .lead, omega (arith, z .wide, z .most))
-
-mul-of : tie.Need-mul-of
-mul-of c = let s = c .before .before .before .before .before .before .before in let a = s .args in omega (arith, side-in (a .l) (a .est .now) (a .p) (s .pre .0) (a .p) (omega (arith, s .pre .0 .first)))
-
-shared-slice-read-of : tie.Need-shared-slice-read-of
-shared-slice-read-of c = let s = c .before .before .before .before .before .before .before .before in let a = s .args in omega (arith, side-in (a .l) (a .est .now) (a .p) (s .pre .0) (a .p) (omega (arith, s .pre .0 .first)))
-
 returns : tie.Need-returns
 returns c =
     λ k o w. let s = c .before .before .before .before .before .before .before .before .before .before in let a = s .args in let e = a .est .now in
@@ -49,17 +30,19 @@ operated-spec =
     tie.close
     (tie.spec
     (λ mul-to. search needs)
-    mul-to-2
+    (λ c. let s = c .before .before in let a = s .args in omega (arith, side-in (a .l) (a .est .now) (a .p) (s .pre .0) (a .p) (omega (arith, s .pre .0 .first))))
     (λ operation-of-requires κs. search needs)
     (λ add-operate-at. search needs)
     (λ mul-operate-at. search needs)
-    mul-operate-at-2
+    (λ c. let s = c .before .before .before .before in let a = s .args in omega (arith, side-in (a .l) (a .est .now) (a .p) (s .pre .0) (a .p + 1) (s .pre .0 .first)))
     (λ mul-operate-at-3. search needs)
-    mul-operate-at-4
-    operate-at-requires
+    (λ c. let s = c .before .before .before .before .before in let a = s .args in omega (arith, side-in (a .l) (a .est .now) (a .p) (s .pre .0) (a .d) (s .pre .1)))
+    (λ c κs.
+    let s = c .before .before .before .before .before in let a = s .args in let z = s .pre .0 .sized in
+    (side-in (a .l) (a .est .now) (a .p) (s .pre .0) (a .p + 1) (s .pre .0 .first), side-in (a .l) (a .est .now) (a .p) (s .pre .0) (a .d) (s .pre .1), z .lead, omega (arith, z .wide, z .most)))
     (λ of-requires κs. search needs)
-    mul-of
-    shared-slice-read-of
+    (λ c. let s = c .before .before .before .before .before .before .before in let a = s .args in omega (arith, side-in (a .l) (a .est .now) (a .p) (s .pre .0) (a .p) (omega (arith, s .pre .0 .first))))
+    (λ c. let s = c .before .before .before .before .before .before .before .before in let a = s .args in omega (arith, side-in (a .l) (a .est .now) (a .p) (s .pre .0) (a .p) (omega (arith, s .pre .0 .first))))
     (λ of-requires-2 κs. search needs)
     (λ within-requires κs. search needs)
     returns)

@@ -5,11 +5,8 @@ use Rattle.checker.proofs.Laws.{both}
 use Rattle.checker.proofs.terms.repeat.Statement.{statement}
 use Rattle.checker.proofs.terms.repeat.Tie as tie
 
-returns : tie.Need-returns
-unfolding flow
-returns c = λ k o w. both _ (c .before .before .before .part .ensures k o w) (both _ (c .before .before .lifted .ensures k o w) (both _ (c .before .wakes .ensures k o w) (c .ends .ensures k o w)))
-
 pub repeat-spec : {M : Type 1} → statement M
+unfolding flow
 repeat-spec =
     tie.close
     (tie.spec
@@ -19,4 +16,4 @@ repeat-spec =
     (λ add-wakes. search needs)
     (λ wakes-requires κs. search needs)
     (λ ends-requires κs. search needs)
-    returns)
+    (λ c. λ k o w. both _ (c .before .before .before .part .ensures k o w) (both _ (c .before .before .lifted .ensures k o w) (both _ (c .before .wakes .ensures k o w) (c .ends .ensures k o w)))))

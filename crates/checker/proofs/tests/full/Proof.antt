@@ -16,33 +16,13 @@ Inv-loop est r at lead k₀ k = (k ≤ lead) × ((i : ℕ) → i < k → getD es
 abbrev μ-loop : tie.MeasureT-loop
 μ-loop est r at lead k₀ k = lead - k
 
-mul-at : tie.Need-mul-at Inv-loop μ-loop
-mul-at c = let s = c .before in omega (arith, row-in (s .args .l) (s .args .est .now) (s .pre .0) (s .args .r) (s .pre .1))
-
-loop-holds : tie.Need-loop-holds Inv-loop μ-loop
-loop-holds c = (omega arith, λ i h. absurd (omega arith))
-
-add-if1 : tie.Need-add-if1 Inv-loop μ-loop
-add-if1 c = let s = c .before .before .before in omega (arith, row-in (s .args .l) (s .args .est .now) (s .pre .0) (s .args .r) (s .pre .1), s .pre .0 .wide)
-
-mul-if1 : tie.Need-mul-if1 Inv-loop μ-loop
-mul-if1 c = let s = c .before .before .before in omega (arith, row-in (s .args .l) (s .args .est .now) (s .pre .0) (s .args .r) (s .pre .1), s .pre .0 .wide)
-
-shared-slice-read-if1 : tie.Need-shared-slice-read-if1 Inv-loop μ-loop
-shared-slice-read-if1 c = let s = c .before .before .before .before in omega (arith, row-in (s .args .l) (s .args .est .now) (s .pre .0) (s .args .r) (s .pre .1), s .pre .0 .wide)
-
 returns : tie.Need-returns Inv-loop μ-loop
 returns c =
     λ k o w. let s = c .before .before .before .before .before in
     gap-is (s .args .l) (s .args .est .now) (s .pre .0) k o w (s .args .r) (s .pre .1) (c .before .before .before .loop .k) (c .before .before .loop-test .taken) (c .if1 .taken)
 
-loop-again : tie.Need-loop-again Inv-loop μ-loop
-loop-again c = (search needs, below-more _ _ (c .before .before .before .loop .inv .1) (c .if1 .left))
-
 returns-2 : tie.Need-returns-2 Inv-loop μ-loop
-returns-2 c =
-    λ k o w. let s = c .before .before .before in
-    full-is (s .args .l) (s .args .est .now) (s .pre .0) k o w (s .args .r) (s .pre .1) (λ i h. c .before .loop .inv .1 i (omega arith))
+returns-2 c = λ k o w. let s = c .before .before .before in full-is (s .args .l) (s .args .est .now) (s .pre .0) k o w (s .args .r) (s .pre .1) (λ i h. c .before .loop .inv .1 i (omega arith))
 
 pub full-spec : {M : Type 1} → statement M
 full-spec =
@@ -50,13 +30,13 @@ full-spec =
     (tie.spec
     Inv-loop
     μ-loop
-    mul-at
-    loop-holds
-    add-if1
-    mul-if1
-    shared-slice-read-if1
+    (λ c. let s = c .before in omega (arith, row-in (s .pre .0) (s .args .r) (s .pre .1)))
+    (λ c. (omega arith, λ i h. absurd (omega arith)))
+    (λ c. let s = c .before .before .before in omega (arith, row-in (s .pre .0) (s .args .r) (s .pre .1), s .pre .0 .wide))
+    (λ c. let s = c .before .before .before in omega (arith, row-in (s .pre .0) (s .args .r) (s .pre .1), s .pre .0 .wide))
+    (λ c. let s = c .before .before .before .before in omega (arith, row-in (s .pre .0) (s .args .r) (s .pre .1), s .pre .0 .wide))
     returns
     (λ add-k. search needs)
     (λ loop-less. search needs)
-    loop-again
+    (λ c. (search needs, below-more _ _ (c .before .before .before .loop .inv .1) (c .if1 .left)))
     returns-2)

@@ -15,28 +15,10 @@ use Rattle.checker.proofs.Laid.{rowOf, passed-by-is}
 use Rattle.checker.proofs.tests.passed_by.Statement.{statement}
 use Rattle.checker.proofs.tests.passed_by.Tie as tie
 
-mul-at : tie.Need-mul-at
-mul-at c = let s = c .before .before in omega (arith, mask-in _ (s .args .l .row) (s .args .m) (s .pre .3) (s .pre .4))
-
-add-lacks-masked : tie.Need-add-lacks-masked
-add-lacks-masked c = let s = c .before .before in omega (arith, mask-in _ (s .args .l .row) (s .args .m) (s .pre .3) (s .pre .4))
-
-mul-lacks-masked : tie.Need-mul-lacks-masked
-mul-lacks-masked c = let s = c .before .before in omega (arith, mask-in _ (s .args .l .row) (s .args .m) (s .pre .3) (s .pre .4))
-
-part-lacks-masked-end : tie.Need-part-lacks-masked-end
-part-lacks-masked-end c = let s = c .before .before in omega (arith, mask-in _ (s .args .l .row) (s .args .m) (s .pre .3) (s .pre .4))
-
-mul-lacks-masked-2 : tie.Need-mul-lacks-masked-2
-mul-lacks-masked-2 c = let s = c .before .before .before in omega (arith, row-in (s .args .l) (s .args .est .now) (s .pre .0) (s .args .a) (s .pre .1))
-
-mul-lacks-masked-3 : tie.Need-mul-lacks-masked-3
-mul-lacks-masked-3 c = let s = c .before .before .before in omega (arith, row-in (s .args .l) (s .args .est .now) (s .pre .0) (s .args .b) (s .pre .2))
-
 lacks-masked-requires : tie.Need-lacks-masked-requires
 lacks-masked-requires c κs =
     let s = c .before .before .before in
-    (row-in (s .args .l) (s .args .est .now) (s .pre .0) (s .args .a) (s .pre .1), row-in (s .args .l) (s .args .est .now) (s .pre .0) (s .args .b) (s .pre .2), length-part (s .args .masks .now) (s .args .m * s .args .l .row) (s .args .l .row) (mask-in _ (s .args .l .row) (s .args .m) (s .pre .3) (s .pre .4)))
+    (row-in (s .pre .0) (s .args .a) (s .pre .1), row-in (s .pre .0) (s .args .b) (s .pre .2), length-part (s .args .masks .now) (s .args .m * s .args .l .row) (s .args .l .row) (mask-in _ (s .args .l .row) (s .args .m) (s .pre .3) (s .pre .4)))
 
 returns : tie.Need-returns
 returns c =
@@ -50,13 +32,13 @@ pub passed-by-spec : {M : Type 1} → statement M
 passed-by-spec =
     tie.close
     (tie.spec
-    mul-at
-    add-lacks-masked
-    mul-lacks-masked
+    (λ c. let s = c .before .before in omega (arith, mask-in _ (s .args .l .row) (s .args .m) (s .pre .3) (s .pre .4)))
+    (λ c. let s = c .before .before in omega (arith, mask-in _ (s .args .l .row) (s .args .m) (s .pre .3) (s .pre .4)))
+    (λ c. let s = c .before .before in omega (arith, mask-in _ (s .args .l .row) (s .args .m) (s .pre .3) (s .pre .4)))
     (λ sub-lacks-masked. search needs)
     (λ part-lacks-masked-start. search needs)
-    part-lacks-masked-end
-    mul-lacks-masked-2
-    mul-lacks-masked-3
+    (λ c. let s = c .before .before in omega (arith, mask-in _ (s .args .l .row) (s .args .m) (s .pre .3) (s .pre .4)))
+    (λ c. let s = c .before .before .before in omega (arith, row-in (s .pre .0) (s .args .a) (s .pre .1)))
+    (λ c. let s = c .before .before .before in omega (arith, row-in (s .pre .0) (s .args .b) (s .pre .2)))
     lacks-masked-requires
     returns)

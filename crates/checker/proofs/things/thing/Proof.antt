@@ -9,30 +9,12 @@ use Rattle.checker.proofs.Found.{taken-is, handed-is}
 use Rattle.checker.proofs.things.thing.Statement.{statement}
 use Rattle.checker.proofs.things.thing.Tie as tie
 
-called-requires : tie.Need-called-requires
-called-requires c κs = let s = c .before .before .before in (s .pre .0, s .pre .1, s .pre .2, s .pre .4 (c .enum-told .given .1))
-
-returns : tie.Need-returns
-returns c =
-    λ k o w. let a = c .before .before .before .before .args in
-    subst (λ (x : Action). Decides (sets k (a .est .now)) (asked x (a .p) (a .y) (a .f)) (c .called .result)) (sym (c .before .enum-told .given .1)) (c .called .ensures k o w)
-
-returns-2 : tie.Need-returns-2
-returns-2 c =
-    λ k o w. let a = c .before .before .before .before .args in
-    subst (λ (x : Action). Decides (sets k (a .est .now)) (asked x (a .p) (a .y) (a .f)) (c .passed .result)) (sym (c .before .enum-told2 .given .1)) (taken-is _ (a .p) (a .y) (a .f) (c .passed .ensures k o w))
-
-returns-3 : tie.Need-returns-3
-returns-3 c =
-    λ k o w. let a = c .before .before .before .before .args in
-    subst (λ (x : Action). Decides (sets k (a .est .now)) (asked x (a .p) (a .y) (a .f)) (c .passed2 .result)) (sym (c .before .enum-told3 .given .1)) (handed-is _ (a .p) (a .y) (a .f) (c .passed2 .ensures k o w))
-
 pub thing-spec : {M : Type 1} → statement M
 thing-spec =
     tie.close
     (tie.spec
     (λ enum-told. search needs)
-    called-requires
+    (λ c κs. let s = c .before .before .before in (s .pre .0, s .pre .1, s .pre .2, s .pre .4 (c .enum-told .given .1)))
     (λ enum-told-2. search needs)
     (λ mul-passed. search needs)
     (λ add-passed. search needs)
@@ -41,6 +23,12 @@ thing-spec =
     (λ mul-passed-2. search needs)
     (λ add-passed-2. search needs)
     (λ passed-requires-2 κs. search needs)
-    returns
-    returns-2
-    returns-3)
+    (λ c.
+    λ k o w. let a = c .before .before .before .before .args in
+    subst (λ (x : Action). Decides (sets k (a .est .now)) (asked x (a .p) (a .y) (a .f)) (c .called .result)) (sym (c .before .enum-told .given .1)) (c .called .ensures k o w))
+    (λ c.
+    λ k o w. let a = c .before .before .before .before .args in
+    subst (λ (x : Action). Decides (sets k (a .est .now)) (asked x (a .p) (a .y) (a .f)) (c .passed .result)) (sym (c .before .enum-told2 .given .1)) (taken-is _ (a .p) (a .y) (a .f) (c .passed .ensures k o w)))
+    (λ c.
+    λ k o w. let a = c .before .before .before .before .args in
+    subst (λ (x : Action). Decides (sets k (a .est .now)) (asked x (a .p) (a .y) (a .f)) (c .passed2 .result)) (sym (c .before .enum-told3 .given .1)) (handed-is _ (a .p) (a .y) (a .f) (c .passed2 .ensures k o w))))

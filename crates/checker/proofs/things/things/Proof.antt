@@ -20,9 +20,7 @@ abbrev μ-loop : tie.MeasureT-loop
 μ-loop est masks l action m p y size f₀ f = size - f
 
 next-thing-requires : tie.Need-next-thing-requires Inv-loop μ-loop
-next-thing-requires c κs =
-    let s = c .before .before in
-    (may-search (s .args .l) (s .args .est .now) (s .args .masks .now) (s .args .p) (s .pre .0) (s .pre .2) (s .args .m) (suits-three (s .args .action) (s .args .m) (s .pre .3)), omega arith)
+next-thing-requires c κs = let s = c .before .before in (may-search (s .args .l) (s .args .est .now) (s .args .masks .now) (s .args .p) (s .pre .0) (s .pre .2) (s .args .m) (suits-three (s .args .action) (s .args .m) (s .pre .3)), omega arith)
 
 loop-holds : tie.Need-loop-holds Inv-loop μ-loop
 loop-holds c =
@@ -43,16 +41,10 @@ returns c =
     one-fails (a .l) (a .est .now) (a .masks .now) (a .p + 1) (a .m) (asked (a .action) (a .p) (a .y)) (s .pre .0 .sized) (s .pre .0 .first) (suits-three (a .action) (a .m) (s .pre .3)) k o w n (c .before .before .before .loop .f) (c .before .before .loop-test .taken) (c .before .before .before .loop .inv .1 (c .before .before .loop-test .taken))
     (answered-no _ (c .if1 .taken) (c .before .thing .ensures k o w))
 
-add-next-thing-3 : tie.Need-add-next-thing-3 Inv-loop μ-loop
-add-next-thing-3 c = let s = c .before .before .before .before .before .before .before in omega (arith, s .pre .0 .sized .size)
-
 next-thing-requires-2 : tie.Need-next-thing-requires-2 Inv-loop μ-loop
 next-thing-requires-2 c κs =
     let s = c .before .before .before .before .before .before .before in
     (may-search (s .args .l) (s .args .est .now) (s .args .masks .now) (s .args .p) (s .pre .0) (s .pre .2) (s .args .m) (suits-three (s .args .action) (s .args .m) (s .pre .3)), omega arith)
-
-loop-less : tie.Need-loop-less Inv-loop μ-loop
-loop-less c = omega (arith, c .next-thing2 .ensures .later)
 
 loop-again : tie.Need-loop-again Inv-loop μ-loop
 loop-again c =
@@ -83,8 +75,8 @@ things-spec =
     returns
     (λ add-next-thing-2. search needs)
     (λ mul-next-thing-2. search needs)
-    add-next-thing-3
+    (λ c. let s = c .before .before .before .before .before .before .before in omega (arith, s .pre .0 .sized .size))
     next-thing-requires-2
-    loop-less
+    (λ c. omega (arith, c .next-thing2 .ensures .later))
     loop-again
     returns-2)

@@ -7,37 +7,8 @@ use Rattle.clauses.specs.Clauses.{ofApply, free}
 use Rattle.clauses.proofs.Arms.{arm, past}
 use Rattle.table.proofs.Outside.{outside}
 
-returns : tie.Need-returns
-unfolding ofApply
-returns c =
-    arm (ofApply _ _) _ 0 (c .before .before .match .keys1) free _ _ _ (c .free .ensures) (c .before .of .ensures) refl
-
-returns-2 : tie.Need-returns-2
-unfolding ofApply
-returns-2 c =
-    arm (ofApply _ _) _ 1 (c .before .before .match .keys2) free _ _ _ (c .free2 .ensures) (c .before .of2 .ensures) refl
-
-returns-3 : tie.Need-returns-3
-unfolding ofApply
-returns-3 c =
-    arm (ofApply _ _) _ 2 (c .before .before .match .keys3) free _ _ _ (c .free3 .ensures) (c .before .of3 .ensures) refl
-
-returns-4 : tie.Need-returns-4
-unfolding ofApply
-returns-4 c =
-    arm (ofApply _ _) _ 3 (c .before .before .match .keys4) free _ _ _ (c .free4 .ensures) (c .before .of4 .ensures) refl
-
-returns-5 : tie.Need-returns-5
-unfolding ofApply
-returns-5 c =
-    arm (ofApply _ _) _ 4 (c .before .before .match .keys5) free _ _ _ (c .free5 .ensures) (c .before .of5 .ensures) refl
-
-returns-6 : tie.Need-returns-6
-unfolding ofApply
-returns-6 c =
-    past (ofApply _ _) _ _ (c .never .ensures) (outside 5 _ (c .before .match .rest))
-
 pub apply-spec : {M : Type 1} → statement M
+unfolding ofApply
 apply-spec =
     tie.close
     (tie.spec
@@ -54,9 +25,9 @@ apply-spec =
     (λ of-requires-5 κs. search needs)
     (λ free-requires-5 κs. search needs)
     (λ never-requires κs. search needs)
-    returns
-    returns-2
-    returns-3
-    returns-4
-    returns-5
-    returns-6)
+    (λ c. arm (ofApply _ _) _ 0 (c .before .before .match .keys1) free _ _ _ (c .free .ensures) (c .before .of .ensures) refl)
+    (λ c. arm (ofApply _ _) _ 1 (c .before .before .match .keys2) free _ _ _ (c .free2 .ensures) (c .before .of2 .ensures) refl)
+    (λ c. arm (ofApply _ _) _ 2 (c .before .before .match .keys3) free _ _ _ (c .free3 .ensures) (c .before .of3 .ensures) refl)
+    (λ c. arm (ofApply _ _) _ 3 (c .before .before .match .keys4) free _ _ _ (c .free4 .ensures) (c .before .of4 .ensures) refl)
+    (λ c. arm (ofApply _ _) _ 4 (c .before .before .match .keys5) free _ _ _ (c .free5 .ensures) (c .before .of5 .ensures) refl)
+    (λ c. past (ofApply _ _) _ _ (c .never .ensures) (outside 5 _ (c .before .match .rest))))

@@ -7,27 +7,8 @@ use Rattle.clauses.specs.Clauses.{ofAssign, free, some}
 use Rattle.clauses.proofs.Arms.{arm, past}
 use Rattle.table.proofs.Outside.{outside}
 
-returns : tie.Need-returns
-unfolding ofAssign
-returns c =
-    arm (ofAssign _ _) _ 0 (c .before .before .match .keys1) free _ _ _ (c .free .ensures) (c .before .of .ensures) refl
-
-returns-2 : tie.Need-returns-2
-unfolding ofAssign
-returns-2 c =
-    arm (ofAssign _ _) _ 1 (c .before .before .match .keys2) (some _ _) _ _ _ (c .some .ensures) (c .before .flow .ensures) refl
-
-returns-3 : tie.Need-returns-3
-unfolding ofAssign
-returns-3 c =
-    arm (ofAssign _ _) _ 2 (c .before .before .match .keys3) free _ _ _ (c .free2 .ensures) (c .before .of2 .ensures) refl
-
-returns-4 : tie.Need-returns-4
-unfolding ofAssign
-returns-4 c =
-    past (ofAssign _ _) _ _ (c .never .ensures) (outside 3 _ (c .before .match .rest))
-
 pub assign-spec : {M : Type 1} → statement M
+unfolding ofAssign
 assign-spec =
     tie.close
     (tie.spec
@@ -42,7 +23,7 @@ assign-spec =
     (λ of-requires-2 κs. search needs)
     (λ free-requires-2 κs. search needs)
     (λ never-requires κs. search needs)
-    returns
-    returns-2
-    returns-3
-    returns-4)
+    (λ c. arm (ofAssign _ _) _ 0 (c .before .before .match .keys1) free _ _ _ (c .free .ensures) (c .before .of .ensures) refl)
+    (λ c. arm (ofAssign _ _) _ 1 (c .before .before .match .keys2) (some _ _) _ _ _ (c .some .ensures) (c .before .flow .ensures) refl)
+    (λ c. arm (ofAssign _ _) _ 2 (c .before .before .match .keys3) free _ _ _ (c .free2 .ensures) (c .before .of2 .ensures) refl)
+    (λ c. past (ofAssign _ _) _ _ (c .never .ensures) (outside 3 _ (c .before .match .rest))))

@@ -7,27 +7,8 @@ use Rattle.clauses.specs.Clauses.{ofLet, free}
 use Rattle.clauses.proofs.Arms.{arm, past}
 use Rattle.table.proofs.Outside.{outside}
 
-returns : tie.Need-returns
-unfolding ofLet
-returns c =
-    arm (ofLet _ _) _ 0 (c .before .before .match .keys1) free _ _ _ (c .free .ensures) (c .before .of .ensures) refl
-
-returns-2 : tie.Need-returns-2
-unfolding ofLet
-returns-2 c =
-    arm (ofLet _ _) _ 1 (c .before .before .match .keys2) free _ _ _ (c .free2 .ensures) (c .before .flow .ensures) refl
-
-returns-3 : tie.Need-returns-3
-unfolding ofLet
-returns-3 c =
-    arm (ofLet _ _) _ 2 (c .before .before .match .keys3) free _ _ _ (c .free3 .ensures) (c .before .flow2 .ensures) refl
-
-returns-4 : tie.Need-returns-4
-unfolding ofLet
-returns-4 c =
-    past (ofLet _ _) _ _ (c .never .ensures) (outside 3 _ (c .before .match .rest))
-
 pub bind-spec : {M : Type 1} → statement M
+unfolding ofLet
 bind-spec =
     tie.close
     (tie.spec
@@ -44,7 +25,7 @@ bind-spec =
     (λ flow-requires-2 κs. search needs)
     (λ free-requires-3 κs. search needs)
     (λ never-requires κs. search needs)
-    returns
-    returns-2
-    returns-3
-    returns-4)
+    (λ c. arm (ofLet _ _) _ 0 (c .before .before .match .keys1) free _ _ _ (c .free .ensures) (c .before .of .ensures) refl)
+    (λ c. arm (ofLet _ _) _ 1 (c .before .before .match .keys2) free _ _ _ (c .free2 .ensures) (c .before .flow .ensures) refl)
+    (λ c. arm (ofLet _ _) _ 2 (c .before .before .match .keys3) free _ _ _ (c .free3 .ensures) (c .before .flow2 .ensures) refl)
+    (λ c. past (ofLet _ _) _ _ (c .never .ensures) (outside 3 _ (c .before .match .rest))))

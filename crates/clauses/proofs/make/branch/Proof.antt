@@ -7,37 +7,8 @@ use Rattle.clauses.specs.Clauses.{ofIf, free, has}
 use Rattle.clauses.proofs.Arms.{arm, past}
 use Rattle.table.proofs.Outside.{outside}
 
-returns : tie.Need-returns
-unfolding ofIf
-returns c =
-    arm (ofIf _ _ _) _ 0 (c .before .before .match .keys1) free _ _ _ (c .free .ensures) (c .before .of .ensures) refl
-
-returns-2 : tie.Need-returns-2
-unfolding ofIf
-returns-2 c =
-    arm (ofIf _ _ _) _ 1 (c .before .before .match .keys2) (has _ _) _ _ _ (c .has .ensures) (c .before .live .ensures) refl
-
-returns-3 : tie.Need-returns-3
-unfolding ofIf
-returns-3 c =
-    arm (ofIf _ _ _) _ 2 (c .before .before .match .keys3) (has _ _) _ _ _ (c .has2 .ensures) (c .before .live2 .ensures) refl
-
-returns-4 : tie.Need-returns-4
-unfolding ofIf
-returns-4 c =
-    arm (ofIf _ _ _) _ 3 (c .before .before .match .keys4) free _ _ _ (c .free2 .ensures) (c .before .flow .ensures) refl
-
-returns-5 : tie.Need-returns-5
-unfolding ofIf
-returns-5 c =
-    arm (ofIf _ _ _) _ 4 (c .before .before .match .keys5) free _ _ _ (c .free3 .ensures) (c .before .flow2 .ensures) refl
-
-returns-6 : tie.Need-returns-6
-unfolding ofIf
-returns-6 c =
-    past (ofIf _ _ _) _ _ (c .never .ensures) (outside 5 _ (c .before .match .rest))
-
 pub branch-spec : {M : Type 1} → statement M
+unfolding ofIf
 branch-spec =
     tie.close
     (tie.spec
@@ -58,9 +29,9 @@ branch-spec =
     (λ flow-requires-2 κs. search needs)
     (λ free-requires-3 κs. search needs)
     (λ never-requires κs. search needs)
-    returns
-    returns-2
-    returns-3
-    returns-4
-    returns-5
-    returns-6)
+    (λ c. arm (ofIf _ _ _) _ 0 (c .before .before .match .keys1) free _ _ _ (c .free .ensures) (c .before .of .ensures) refl)
+    (λ c. arm (ofIf _ _ _) _ 1 (c .before .before .match .keys2) (has _ _) _ _ _ (c .has .ensures) (c .before .live .ensures) refl)
+    (λ c. arm (ofIf _ _ _) _ 2 (c .before .before .match .keys3) (has _ _) _ _ _ (c .has2 .ensures) (c .before .live2 .ensures) refl)
+    (λ c. arm (ofIf _ _ _) _ 3 (c .before .before .match .keys4) free _ _ _ (c .free2 .ensures) (c .before .flow .ensures) refl)
+    (λ c. arm (ofIf _ _ _) _ 4 (c .before .before .match .keys5) free _ _ _ (c .free3 .ensures) (c .before .flow2 .ensures) refl)
+    (λ c. past (ofIf _ _ _) _ _ (c .never .ensures) (outside 5 _ (c .before .match .rest))))

@@ -7,27 +7,8 @@ use Rattle.clauses.specs.Clauses.{ofCell, free}
 use Rattle.clauses.proofs.Arms.{arm, past}
 use Rattle.table.proofs.Outside.{outside}
 
-returns : tie.Need-returns
-unfolding ofCell
-returns c =
-    arm (ofCell _ _) _ 0 (c .before .before .match .keys1) free _ _ _ (c .free .ensures) (c .before .of .ensures) refl
-
-returns-2 : tie.Need-returns-2
-unfolding ofCell
-returns-2 c =
-    arm (ofCell _ _) _ 1 (c .before .before .match .keys2) free _ _ _ (c .free2 .ensures) (c .before .put .ensures) refl
-
-returns-3 : tie.Need-returns-3
-unfolding ofCell
-returns-3 c =
-    arm (ofCell _ _) _ 2 (c .before .before .match .keys3) free _ _ _ (c .free3 .ensures) (c .before .flow .ensures) refl
-
-returns-4 : tie.Need-returns-4
-unfolding ofCell
-returns-4 c =
-    past (ofCell _ _) _ _ (c .never .ensures) (outside 3 _ (c .before .match .rest))
-
 pub cell-spec : {M : Type 1} → statement M
+unfolding ofCell
 cell-spec =
     tie.close
     (tie.spec
@@ -43,7 +24,7 @@ cell-spec =
     (λ flow-requires κs. search needs)
     (λ free-requires-3 κs. search needs)
     (λ never-requires κs. search needs)
-    returns
-    returns-2
-    returns-3
-    returns-4)
+    (λ c. arm (ofCell _ _) _ 0 (c .before .before .match .keys1) free _ _ _ (c .free .ensures) (c .before .of .ensures) refl)
+    (λ c. arm (ofCell _ _) _ 1 (c .before .before .match .keys2) free _ _ _ (c .free2 .ensures) (c .before .put .ensures) refl)
+    (λ c. arm (ofCell _ _) _ 2 (c .before .before .match .keys3) free _ _ _ (c .free3 .ensures) (c .before .flow .ensures) refl)
+    (λ c. past (ofCell _ _) _ _ (c .never .ensures) (outside 3 _ (c .before .match .rest))))

@@ -7,22 +7,8 @@ use Rattle.clauses.specs.Clauses.{ofDelete, free, text}
 use Rattle.clauses.proofs.Arms.{arm, past}
 use Rattle.table.proofs.Outside.{outside}
 
-returns : tie.Need-returns
-unfolding ofDelete
-returns c =
-    arm (ofDelete _ _) _ 0 (c .before .before .match .keys1) free _ _ _ (c .free .ensures) (c .before .of .ensures) refl
-
-returns-2 : tie.Need-returns-2
-unfolding ofDelete
-returns-2 c =
-    arm (ofDelete _ _) _ 1 (c .before .before .match .keys2) (text _) _ _ _ (c .text .ensures) (c .before .of2 .ensures) refl
-
-returns-3 : tie.Need-returns-3
-unfolding ofDelete
-returns-3 c =
-    past (ofDelete _ _) _ _ (c .never .ensures) (outside 2 _ (c .before .match .rest))
-
 pub delete-spec : {M : Type 1} → statement M
+unfolding ofDelete
 delete-spec =
     tie.close
     (tie.spec
@@ -34,6 +20,6 @@ delete-spec =
     (λ of-requires-2 κs. search needs)
     (λ text-requires κs. search needs)
     (λ never-requires κs. search needs)
-    returns
-    returns-2
-    returns-3)
+    (λ c. arm (ofDelete _ _) _ 0 (c .before .before .match .keys1) free _ _ _ (c .free .ensures) (c .before .of .ensures) refl)
+    (λ c. arm (ofDelete _ _) _ 1 (c .before .before .match .keys2) (text _) _ _ _ (c .text .ensures) (c .before .of2 .ensures) refl)
+    (λ c. past (ofDelete _ _) _ _ (c .never .ensures) (outside 2 _ (c .before .match .rest))))

@@ -7,32 +7,8 @@ use Rattle.clauses.specs.Clauses.{ofGet, free, text, textHas, textSome}
 use Rattle.clauses.proofs.Arms.{arm, past}
 use Rattle.table.proofs.Outside.{outside}
 
-returns : tie.Need-returns
-unfolding ofGet
-returns c =
-    arm (ofGet _ _) _ 0 (c .before .before .match .keys1) free _ _ _ (c .free .ensures) (c .before .of .ensures) refl
-
-returns-2 : tie.Need-returns-2
-unfolding ofGet
-returns-2 c =
-    arm (ofGet _ _) _ 1 (c .before .before .match .keys2) (textSome _ _ _) _ _ _ (c .text-some .ensures) (c .before .put .ensures) refl
-
-returns-3 : tie.Need-returns-3
-unfolding ofGet
-returns-3 c =
-    arm (ofGet _ _) _ 2 (c .before .before .match .keys3) (textHas _ _ _) _ _ _ (c .text-has .ensures) (c .before .fill .ensures) refl
-
-returns-4 : tie.Need-returns-4
-unfolding ofGet
-returns-4 c =
-    arm (ofGet _ _) _ 3 (c .before .before .match .keys4) (text _) _ _ _ (c .text .ensures) (c .before .of2 .ensures) refl
-
-returns-5 : tie.Need-returns-5
-unfolding ofGet
-returns-5 c =
-    past (ofGet _ _) _ _ (c .never .ensures) (outside 4 _ (c .before .match .rest))
-
 pub get-spec : {M : Type 1} → statement M
+unfolding ofGet
 get-spec =
     tie.close
     (tie.spec
@@ -50,8 +26,8 @@ get-spec =
     (λ of-requires-2 κs. search needs)
     (λ text-requires κs. search needs)
     (λ never-requires κs. search needs)
-    returns
-    returns-2
-    returns-3
-    returns-4
-    returns-5)
+    (λ c. arm (ofGet _ _) _ 0 (c .before .before .match .keys1) free _ _ _ (c .free .ensures) (c .before .of .ensures) refl)
+    (λ c. arm (ofGet _ _) _ 1 (c .before .before .match .keys2) (textSome _ _ _) _ _ _ (c .text-some .ensures) (c .before .put .ensures) refl)
+    (λ c. arm (ofGet _ _) _ 2 (c .before .before .match .keys3) (textHas _ _ _) _ _ _ (c .text-has .ensures) (c .before .fill .ensures) refl)
+    (λ c. arm (ofGet _ _) _ 3 (c .before .before .match .keys4) (text _) _ _ _ (c .text .ensures) (c .before .of2 .ensures) refl)
+    (λ c. past (ofGet _ _) _ _ (c .never .ensures) (outside 4 _ (c .before .match .rest))))

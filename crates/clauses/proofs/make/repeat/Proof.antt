@@ -7,27 +7,8 @@ use Rattle.clauses.specs.Clauses.{ofWhile, free, has}
 use Rattle.clauses.proofs.Arms.{arm, past}
 use Rattle.table.proofs.Outside.{outside}
 
-returns : tie.Need-returns
-unfolding ofWhile
-returns c =
-    arm (ofWhile _ _) _ 0 (c .before .before .match .keys1) free _ _ _ (c .free .ensures) (c .before .of .ensures) refl
-
-returns-2 : tie.Need-returns-2
-unfolding ofWhile
-returns-2 c =
-    arm (ofWhile _ _) _ 1 (c .before .before .match .keys2) (has _ _) _ _ _ (c .has .ensures) (c .before .live .ensures) refl
-
-returns-3 : tie.Need-returns-3
-unfolding ofWhile
-returns-3 c =
-    arm (ofWhile _ _) _ 2 (c .before .before .match .keys3) (has _ _) _ _ _ (c .has2 .ensures) (c .before .put .ensures) refl
-
-returns-4 : tie.Need-returns-4
-unfolding ofWhile
-returns-4 c =
-    past (ofWhile _ _) _ _ (c .never .ensures) (outside 3 _ (c .before .match .rest))
-
 pub repeat-spec : {M : Type 1} → statement M
+unfolding ofWhile
 repeat-spec =
     tie.close
     (tie.spec
@@ -41,7 +22,7 @@ repeat-spec =
     (λ put-requires κs. search needs)
     (λ has-requires-2 κs. search needs)
     (λ never-requires κs. search needs)
-    returns
-    returns-2
-    returns-3
-    returns-4)
+    (λ c. arm (ofWhile _ _) _ 0 (c .before .before .match .keys1) free _ _ _ (c .free .ensures) (c .before .of .ensures) refl)
+    (λ c. arm (ofWhile _ _) _ 1 (c .before .before .match .keys2) (has _ _) _ _ _ (c .has .ensures) (c .before .live .ensures) refl)
+    (λ c. arm (ofWhile _ _) _ 2 (c .before .before .match .keys3) (has _ _) _ _ _ (c .has2 .ensures) (c .before .put .ensures) refl)
+    (λ c. past (ofWhile _ _) _ _ (c .never .ensures) (outside 3 _ (c .before .match .rest))))

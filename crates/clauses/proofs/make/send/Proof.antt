@@ -7,27 +7,8 @@ use Rattle.clauses.specs.Clauses.{ofSend, free, some}
 use Rattle.clauses.proofs.Arms.{arm, past}
 use Rattle.table.proofs.Outside.{outside}
 
-returns : tie.Need-returns
-unfolding ofSend
-returns c =
-    arm (ofSend _ _ _) _ 0 (c .before .before .match .keys1) free _ _ _ (c .free .ensures) (c .before .of .ensures) refl
-
-returns-2 : tie.Need-returns-2
-unfolding ofSend
-returns-2 c =
-    arm (ofSend _ _ _) _ 1 (c .before .before .match .keys2) free _ _ _ (c .free2 .ensures) (c .before .put .ensures) refl
-
-returns-3 : tie.Need-returns-3
-unfolding ofSend
-returns-3 c =
-    arm (ofSend _ _ _) _ 2 (c .before .before .match .keys3) (some _ _) _ _ _ (c .some .ensures) (c .before .of2 .ensures) refl
-
-returns-4 : tie.Need-returns-4
-unfolding ofSend
-returns-4 c =
-    past (ofSend _ _ _) _ _ (c .never .ensures) (outside 3 _ (c .before .match .rest))
-
 pub send-spec : {M : Type 1} → statement M
+unfolding ofSend
 send-spec =
     tie.close
     (tie.spec
@@ -39,7 +20,7 @@ send-spec =
     (λ of-requires-2 κs. search needs)
     (λ some-requires κs. search needs)
     (λ never-requires κs. search needs)
-    returns
-    returns-2
-    returns-3
-    returns-4)
+    (λ c. arm (ofSend _ _ _) _ 0 (c .before .before .match .keys1) free _ _ _ (c .free .ensures) (c .before .of .ensures) refl)
+    (λ c. arm (ofSend _ _ _) _ 1 (c .before .before .match .keys2) free _ _ _ (c .free2 .ensures) (c .before .put .ensures) refl)
+    (λ c. arm (ofSend _ _ _) _ 2 (c .before .before .match .keys3) (some _ _) _ _ _ (c .some .ensures) (c .before .of2 .ensures) refl)
+    (λ c. past (ofSend _ _ _) _ _ (c .never .ensures) (outside 3 _ (c .before .match .rest))))

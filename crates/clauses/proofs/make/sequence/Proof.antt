@@ -7,22 +7,8 @@ use Rattle.clauses.specs.Clauses.{ofSequence, free}
 use Rattle.clauses.proofs.Arms.{arm, past}
 use Rattle.table.proofs.Outside.{outside}
 
-returns : tie.Need-returns
-unfolding ofSequence
-returns c =
-    arm (ofSequence _ _) _ 0 (c .before .before .match .keys1) free _ _ _ (c .free .ensures) (c .before .of .ensures) refl
-
-returns-2 : tie.Need-returns-2
-unfolding ofSequence
-returns-2 c =
-    arm (ofSequence _ _) _ 1 (c .before .before .match .keys2) free _ _ _ (c .free2 .ensures) (c .before .flow .ensures) refl
-
-returns-3 : tie.Need-returns-3
-unfolding ofSequence
-returns-3 c =
-    past (ofSequence _ _) _ _ (c .never .ensures) (outside 2 _ (c .before .match .rest))
-
 pub sequence-spec : {M : Type 1} → statement M
+unfolding ofSequence
 sequence-spec =
     tie.close
     (tie.spec
@@ -33,6 +19,6 @@ sequence-spec =
     (λ flow-requires κs. search needs)
     (λ free-requires-2 κs. search needs)
     (λ never-requires κs. search needs)
-    returns
-    returns-2
-    returns-3)
+    (λ c. arm (ofSequence _ _) _ 0 (c .before .before .match .keys1) free _ _ _ (c .free .ensures) (c .before .of .ensures) refl)
+    (λ c. arm (ofSequence _ _) _ 1 (c .before .before .match .keys2) free _ _ _ (c .free2 .ensures) (c .before .flow .ensures) refl)
+    (λ c. past (ofSequence _ _) _ _ (c .never .ensures) (outside 2 _ (c .before .match .rest))))

@@ -7,37 +7,8 @@ use Rattle.clauses.specs.Clauses.{ofSet, free, text, textHas, textSome}
 use Rattle.clauses.proofs.Arms.{arm, past}
 use Rattle.table.proofs.Outside.{outside}
 
-returns : tie.Need-returns
-unfolding ofSet
-returns c =
-    arm (ofSet _ _ _ _) _ 0 (c .before .before .match .keys1) free _ _ _ (c .free .ensures) (c .before .of .ensures) refl
-
-returns-2 : tie.Need-returns-2
-unfolding ofSet
-returns-2 c =
-    arm (ofSet _ _ _ _) _ 1 (c .before .before .match .keys2) (textSome _ _ _) _ _ _ (c .text-some .ensures) (c .before .put .ensures) refl
-
-returns-3 : tie.Need-returns-3
-unfolding ofSet
-returns-3 c =
-    arm (ofSet _ _ _ _) _ 2 (c .before .before .match .keys3) (textSome _ _ _) _ _ _ (c .text-some2 .ensures) (c .before .flow .ensures) refl
-
-returns-4 : tie.Need-returns-4
-unfolding ofSet
-returns-4 c =
-    arm (ofSet _ _ _ _) _ 3 (c .before .before .match .keys4) (textHas _ _ _) _ _ _ (c .text-has .ensures) (c .before .fill .ensures) refl
-
-returns-5 : tie.Need-returns-5
-unfolding ofSet
-returns-5 c =
-    arm (ofSet _ _ _ _) _ 4 (c .before .before .match .keys5) (text _) _ _ _ (c .text .ensures) (c .before .of2 .ensures) refl
-
-returns-6 : tie.Need-returns-6
-unfolding ofSet
-returns-6 c =
-    past (ofSet _ _ _ _) _ _ (c .never .ensures) (outside 5 _ (c .before .match .rest))
-
 pub set-spec : {M : Type 1} → statement M
+unfolding ofSet
 set-spec =
     tie.close
     (tie.spec
@@ -63,9 +34,9 @@ set-spec =
     (λ of-requires-2 κs. search needs)
     (λ text-requires κs. search needs)
     (λ never-requires κs. search needs)
-    returns
-    returns-2
-    returns-3
-    returns-4
-    returns-5
-    returns-6)
+    (λ c. arm (ofSet _ _ _ _) _ 0 (c .before .before .match .keys1) free _ _ _ (c .free .ensures) (c .before .of .ensures) refl)
+    (λ c. arm (ofSet _ _ _ _) _ 1 (c .before .before .match .keys2) (textSome _ _ _) _ _ _ (c .text-some .ensures) (c .before .put .ensures) refl)
+    (λ c. arm (ofSet _ _ _ _) _ 2 (c .before .before .match .keys3) (textSome _ _ _) _ _ _ (c .text-some2 .ensures) (c .before .flow .ensures) refl)
+    (λ c. arm (ofSet _ _ _ _) _ 3 (c .before .before .match .keys4) (textHas _ _ _) _ _ _ (c .text-has .ensures) (c .before .fill .ensures) refl)
+    (λ c. arm (ofSet _ _ _ _) _ 4 (c .before .before .match .keys5) (text _) _ _ _ (c .text .ensures) (c .before .of2 .ensures) refl)
+    (λ c. past (ofSet _ _ _ _) _ _ (c .never .ensures) (outside 5 _ (c .before .match .rest))))

@@ -9,13 +9,11 @@ use Rattle.table.proofs.Outside.{outside}
 
 returns : tie.Need-returns
 unfolding ofValue
-returns c =
-    arm (ofValue _ _) _ 0 (c .before .before .match .keys1) free _ _ _ (c .free .ensures) (c .before .put .ensures) refl
+returns c = arm (ofValue _ _) _ 0 (c .before .before .match .keys1) free _ _ _ (c .free .ensures) (c .before .put .ensures) refl
 
 returns-2 : tie.Need-returns-2
 unfolding ofValue
-returns-2 c =
-    past (ofValue _ _) _ _ (c .never .ensures) (outside 1 _ (c .before .match .rest))
+returns-2 c = past (ofValue _ _) _ _ (c .never .ensures) (outside 1 _ (c .before .match .rest))
 
 pub value-spec : {M : Type 1} → statement M
 value-spec =

@@ -7,17 +7,8 @@ use Rattle.clauses.specs.Clauses.{ofVariable, free}
 use Rattle.clauses.proofs.Arms.{arm, past}
 use Rattle.table.proofs.Outside.{outside}
 
-returns : tie.Need-returns
-unfolding ofVariable
-returns c =
-    arm (ofVariable _ _) _ 0 (c .before .before .match .keys1) free _ _ _ (c .free .ensures) (c .before .flow .ensures) refl
-
-returns-2 : tie.Need-returns-2
-unfolding ofVariable
-returns-2 c =
-    past (ofVariable _ _) _ _ (c .never .ensures) (outside 1 _ (c .before .match .rest))
-
 pub variable-spec : {M : Type 1} → statement M
+unfolding ofVariable
 variable-spec =
     tie.close
     (tie.spec
@@ -27,5 +18,5 @@ variable-spec =
     (λ flow-requires κs. search needs)
     (λ free-requires κs. search needs)
     (λ never-requires κs. search needs)
-    returns
-    returns-2)
+    (λ c. arm (ofVariable _ _) _ 0 (c .before .before .match .keys1) free _ _ _ (c .free .ensures) (c .before .flow .ensures) refl)
+    (λ c. past (ofVariable _ _) _ _ (c .never .ensures) (outside 1 _ (c .before .match .rest))))

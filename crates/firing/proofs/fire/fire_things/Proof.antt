@@ -6,18 +6,8 @@ use borrow.Author.Needs.{needs}
 use Rattle.firing.proofs.fire.fire_things.Statement.{statement}
 use Rattle.firing.proofs.fire.fire_things.Tie as tie
 
-returns : tie.Need-returns
-unfolding things
-returns c =
-    let a = c .before .before .before .before .before .before .before .before .before .before .before .args in let e = a .e in let d = c .before .before .before .before .each-thing .ensures in
-    record { words = λ k o m. d .words k o (m .1) ∙ all-things k (e .what) (e .x) (e .y) (e .z) (a .f) (a .est .now) (c .before .before .before .before .before .before .before .if1 .taken); count = d .count }
-
-returns-2 : tie.Need-returns-2
-returns-2 c =
-    let a = c .before .before .before .before .before .before .before .before .before .before .before .args in let e = a .e in let d = c .before .before .before .before .one-thing .ensures in
-    record { words = λ k o m. d .words k o m ∙ one-thing k (e .what) (e .x) (e .y) (e .z) (a .f) (a .est .now) (c .before .before .before .before .before .before .before .if1 .left); count = d .count }
-
 pub fire-things-spec : {M : Type 1} → statement M
+unfolding things
 fire-things-spec =
     tie.close
     (tie.spec
@@ -25,7 +15,11 @@ fire-things-spec =
     (λ one-thing-requires κs. search needs)
     (λ same-length. search needs)
     (λ same-length-2. search needs)
-    returns
+    (λ c.
+    let a = c .before .before .before .before .before .before .before .before .before .before .before .args in let e = a .e in let d = c .before .before .before .before .each-thing .ensures in
+    record { words = λ k o m. d .words k o (m .1) ∙ all-things k (e .what) (e .x) (e .y) (e .z) (a .f) (a .est .now) (c .before .before .before .before .before .before .before .if1 .taken); count = d .count })
     (λ same-length-3. search needs)
     (λ same-length-4. search needs)
-    returns-2)
+    (λ c.
+    let a = c .before .before .before .before .before .before .before .before .before .before .before .args in let e = a .e in let d = c .before .before .before .before .one-thing .ensures in
+    record { words = λ k o m. d .words k o m ∙ one-thing k (e .what) (e .x) (e .y) (e .z) (a .f) (a .est .now) (c .before .before .before .before .before .before .before .if1 .left); count = d .count }))

@@ -15,15 +15,13 @@ use Rattle.firing.proofs.sends.deliver.Tie as tie
 
 add-result : tie.Need-add-result
 add-result c =
-    let s = c .before .before .before .before .before .before .before .before .before .before .before .before .before .before .before .before .before .before .before .before .before .before .before .before in let a = s .args in
-    omega (arith, sum-fits _ _ _ _ _ (c .before .before .before .before .before .before .before .before .before .before .before .pass .ensures .count) (c .before .before .before .before .lift .ensures .count), c .before .before .before .before .lift .kept .0, c .before .before .before .before .before .before .before .before .before .before .before .pass .kept .0, c .before .before .before .before .before .before .before .before .before .before .before .before .before .before .before .before .before .before .wake .kept .0, s .pre .0 .short)
+    let s = c .before .before .before .before .before .before .before .before .before .before .before .before .before .before .before .before .before .before .before .before .before .before .before .before in omega (arith, sum-fits _ _ _ _ _ (c .before .before .before .before .before .before .before .before .before .before .before .pass .ensures .count) (c .before .before .before .before .lift .ensures .count), c .before .before .before .before .lift .kept .0, c .before .before .before .before .before .before .before .before .before .before .before .pass .kept .0, c .before .before .before .before .before .before .before .before .before .before .before .before .before .before .before .before .before .before .wake .kept .0, s .pre .0 .short)
 
 add-result-2 : tie.Need-add-result-2
 add-result-2 c =
     let t = c .before .before .before .before .before .before .before .before .before .before .before in
     let u = c .before .before .before .before in
-    let s = c .before .before .before .before .before .before .before .before .before .before .before .before .before .before .before .before .before .before .before .before .before .before .before .before in let a = s .args in
-    omega (arith, c .before .before .before .before .before .before .before .before .before .before .before .before .before .before .before .before .before .before .wake .ensures .0 .count, t .pass .ensures .count, u .lift .ensures .count, sum-fits _ _ _ _ _ (t .pass .ensures .count) (u .lift .ensures .count), facts-most (u .lift .last .0), u .lift .kept .0, t .pass .kept .0, c .before .before .before .before .before .before .before .before .before .before .before .before .before .before .before .before .before .before .wake .kept .0, s .pre .0 .short)
+    let s = c .before .before .before .before .before .before .before .before .before .before .before .before .before .before .before .before .before .before .before .before .before .before .before .before in omega (arith, c .before .before .before .before .before .before .before .before .before .before .before .before .before .before .before .before .before .before .wake .ensures .0 .count, t .pass .ensures .count, u .lift .ensures .count, sum-fits _ _ _ _ _ (t .pass .ensures .count) (u .lift .ensures .count), facts-most (u .lift .last .0), u .lift .kept .0, t .pass .kept .0, c .before .before .before .before .before .before .before .before .before .before .before .before .before .before .before .before .before .before .wake .kept .0, s .pre .0 .short)
 
 returns : tie.Need-returns
 returns c =

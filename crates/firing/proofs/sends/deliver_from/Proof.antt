@@ -13,11 +13,6 @@ use borrow.Author.Needs.{needs}
 use Rattle.firing.proofs.sends.deliver_from.Statement.{statement}
 use Rattle.firing.proofs.sends.deliver_from.Tie as tie
 
-mark-requires : tie.Need-mark-requires
-mark-requires c κs =
-    let s = c .before .before .before .before .before .before .before .before .before .before .before .before in let a = s .args in
-    (omega (arith, value-in (a .l) (a .est .now) (s .pre .0) (a .b) (s .pre .3), c .before .before .before .before .before .before .deliver .kept .0), omega (arith, s .pre .0 .wide, s .pre .5))
-
 add-result : tie.Need-add-result
 add-result c =
     let s = c .before .before .before .before .before .before .before .before .before .before .before .before .before .before .before in let d = c .before .before .before .before .before .before .before .before .before .deliver in let m = c .before .before .mark in
@@ -38,7 +33,9 @@ deliver-from-spec =
     (λ mul-mark. search needs)
     (λ mul-mark-2. search needs)
     (λ add-mark. search needs)
-    mark-requires
+    (λ c κs.
+    let s = c .before .before .before .before .before .before .before .before .before .before .before .before in let a = s .args in
+    (omega (arith, value-in (s .pre .0) (a .b) (s .pre .3), c .before .before .before .before .before .before .deliver .kept .0), omega (arith, s .pre .0 .wide, s .pre .5)))
     add-result
     (λ same-length. search needs)
     (λ same-length-2. search needs)

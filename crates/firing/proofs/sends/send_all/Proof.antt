@@ -34,29 +34,24 @@ loop-holds c =
 
 send-to-requires : tie.Need-send-to-requires Inv-loop μ-loop
 send-to-requires c κs =
-    let s = c .before .before .before .before .before .before .before .before .before in let a = s .args in let e = a .e in let w = a .words .now in
+    let s = c .before .before .before .before .before .before .before .before .before in let a = s .args in let w = a .words .now in
     let i = c .before .before .before .loop in let g : i .b < length w = c .before .before .loop-test .taken in let t = named-there w (s .pre .0 .readable) (i .b) (i .inv .3) g in
     (i .inv .2, item-is w (s .pre .0 .readable) (i .b) g t, s .pre .2)
 
 add-added : tie.Need-add-added Inv-loop μ-loop
 add-added c =
-    let s = c .before .before .before .before .before .before .before .before .before .before .before .before .before .before in let a = s .args in let e = a .e in let w = a .words .now in
     let i = c .before .before .before .before .before .before .before .before .loop in
     omega (arith, c .before .before .before .before .send-to .ensures .count, i .inv .5, facts-most (c .before .before .before .before .send-to .last .1 .0), c .before .before .before .before .send-to .kept .1 .0, i .inv .2 .sized .short)
 
 add-link-at : tie.Need-add-link-at Inv-loop μ-loop
 add-link-at c =
-    let s = c .before .before .before .before .before .before .before .before .before .before .before .before .before .before in let a = s .args in let e = a .e in let w = a .words .now in
+    let s = c .before .before .before .before .before .before .before .before .before .before .before .before .before .before in let a = s .args in let w = a .words .now in
     let i = c .before .before .before .before .before .before .before .before .loop in let g : i .b < length w = c .before .before .before .before .before .before .before .loop-test .taken in let t = named-there w (s .pre .0 .readable) (i .b) (i .inv .3) g in
     omega (arith, body-inside w (s .pre .0 .readable) (i .b) g t)
 
-link-at-requires : tie.Need-link-at-requires Inv-loop μ-loop
-link-at-requires c κs =
-    search needs
-
 loop-less : tie.Need-loop-less Inv-loop μ-loop
 loop-less c =
-    let s = c .before .before .before .before .before .before .before .before .before .before .before .before .before .before .before in let a = s .args in let e = a .e in let w = a .words .now in
+    let s = c .before .before .before .before .before .before .before .before .before .before .before .before .before .before .before in let a = s .args in let w = a .words .now in
     let i = c .before .before .before .before .before .before .before .before .before .loop in let g : i .b < length w = c .before .before .before .before .before .before .before .before .loop-test .taken in let t = named-there w (s .pre .0 .readable) (i .b) (i .inv .3) g in
     omega (arith, ap (λ (k : Link). k .end) (c .link-at .ensures), next-is w (s .pre .0 .readable) (i .b) g t (a .links .now) (record { slice = s .pre .0 .slice; room = s .pre .0 .room; made = s .pre .0 .from }), next-later w (s .pre .0 .readable) (i .b) g t, g)
 
@@ -74,14 +69,6 @@ loop-again c =
       ap (λ (x : ℕ). fire (code w) (each (blocksOn w x) (atBlock (code w) (e .x) (e .y) (e .z))) new) n ∙ all-step w (s .pre .0 .readable) (atBlock (code w) (e .x) (e .y) (e .z)) (i .b) g t (i .est) new (f .words) ∙ i .inv .4,
       omega (arith, f .count, i .inv .5),
     )
-
-same-length : tie.Need-same-length Inv-loop μ-loop
-same-length c =
-    c .before .loop .inv .0
-
-same-length-2 : tie.Need-same-length-2 Inv-loop μ-loop
-same-length-2 c =
-    c .before .loop .inv .1
 
 returns : tie.Need-returns Inv-loop μ-loop
 returns c =
@@ -102,9 +89,9 @@ send-all-spec =
     send-to-requires
     add-added
     add-link-at
-    link-at-requires
+    (λ c κs. search needs)
     loop-less
     loop-again
-    same-length
-    same-length-2
+    (λ c. c .before .loop .inv .0)
+    (λ c. c .before .loop .inv .1)
     returns)

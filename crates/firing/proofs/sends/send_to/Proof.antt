@@ -17,7 +17,7 @@ starts-requires : tie.Need-starts-requires
 unfolding rowWords code
 starts-requires c κs =
     let s = c .before .before .before .before .before .before in let a = s .args in let e = a .e in let w = a .words .now in
-    (block-inside w (s .pre .0 .readable) w (omega arith) (a .est .now) (e .x) (e .y) (e .z) (a .own .perms .bits) (s .pre .0 .sender) (a .b) (s .pre .1), value-in (a .l) (a .est .now) (s .pre .0 .sized) (e .x + 1) (s .pre .0 .word), omega (arith, name-small w (s .pre .0 .readable) w (omega arith) (a .est .now) (e .x) (e .y) (e .z) (a .own .perms .bits) (s .pre .0 .sender) (a .b) (s .pre .1), s .pre .0 .laid .row, s .pre .0 .laid .lead), omega (arith, s .pre .0 .word, s .pre .0 .sized .size))
+    (block-inside w (s .pre .0 .readable) w (omega arith) (a .est .now) (e .x) (e .y) (e .z) (a .own .perms .bits) (s .pre .0 .sender) (a .b) (s .pre .1), value-in (s .pre .0 .sized) (e .x + 1) (s .pre .0 .word), omega (arith, name-small w (s .pre .0 .readable) w (omega arith) (a .est .now) (e .x) (e .y) (e .z) (a .own .perms .bits) (s .pre .0 .sender) (a .b) (s .pre .1), s .pre .0 .laid .row, s .pre .0 .laid .lead), omega (arith, s .pre .0 .word, s .pre .0 .sized .size))
 
 returns : tie.Need-returns
 returns c =

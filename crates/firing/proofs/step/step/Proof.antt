@@ -1,7 +1,7 @@
 -- `firing::step::step` meets its contract: the clause is fired where its word is live. Assumes nothing.
 use mathlib.Core.Path.{_≡_, refl, sym, ap, _∙_, subst}
-use mathlib.Core.Bool.{Bool, true, false, not}
 use native.Mathlib.Omega.{arith}
+use borrow.Author.Tests.{not-true, not-false}
 use Rattle.table.specs.Code.{code}
 use Rattle.table.proofs.Blocks.{head-word}
 use Rattle.calculus.specs.Constraint.{L}
@@ -18,43 +18,25 @@ use borrow.Author.Needs.{needs}
 use Rattle.firing.proofs.step.step.Statement.{statement}
 use Rattle.firing.proofs.step.step.Tie as tie
 
-not-so : (b : Bool) → not b ≡ true → b ≡ false
-not-so true e = sym e
-not-so false e = refl
-
-so : (b : Bool) → not b ≡ false → b ≡ true
-so true e = refl
-so false e = sym e
-
-is-live-requires : tie.Need-is-live-requires
-is-live-requires c κs =
-    let s = c .before .before .before .before .before .before in let a = s .args in
-    (sized (a .words .now) (a .links .now) (a .masks .now) (a .l) (s .pre .0) (a .est .now) (s .pre .1), omega (arith, s .pre .2))
-
 returns : tie.Need-returns
 returns c =
     let s = c .before .before .before .before .before .before .before .before in let a = s .args in let d = code (a .words .now) in (
       record {
         words =
             sym (fire-given-not d (L (a .p)) 0 (asks d (clauseAt (a .words .now) (a .links .now) (plain d) (a .p) (a .k)) (a .f)) (a .est .now)
-            (sym (c .before .is-live .ensures d (s .pre .0 .laid)) ∙ not-so _ (c .if1 .taken)));
+            (sym (c .before .is-live .ensures d (s .pre .0 .laid)) ∙ not-true _ (c .if1 .taken)));
         count = omega arith;
       },
       refl,
     )
 
-mul-clause : tie.Need-mul-clause
-mul-clause c =
-    let s = c .before .before .before .before .before .before .before .before .before in let a = s .args in
-    omega (arith, plain-small (a .words .now) (a .links .now) (a .masks .now) (a .l) (s .pre .0))
-
 clause-requires : tie.Need-clause-requires
 clause-requires c κs =
     let s = c .before .before .before .before .before .before .before .before .before in let a = s .args in let y = s .pre .0 in
-    let n = size-is (a .words .now) (a .links .now) (a .masks .now) (a .l) y in (
+    let n = size-is y in (
       omega (arith, n, s .pre .2),
       head-word (a .words .now) (y .readable) .sized,
-      plain-small (a .words .now) (a .links .now) (a .masks .now) (a .l) y,
+      plain-small y,
     )
 
 fire-requires : tie.Need-fire-requires
@@ -63,14 +45,14 @@ fire-requires c κs =
       s .pre .0,
       s .pre .1,
       subst (Suits (a .l) (a .masks .now) (a .words .now)) (sym (c .before .before .clause .ensures))
-          (made-suits (a .words .now) (a .links .now) (a .masks .now) (a .l) (s .pre .0) (a .p) (a .k) (s .pre .2)),
+          (made-suits (s .pre .0) (a .p) (a .k) (s .pre .2)),
     )
 
 returns-2 : tie.Need-returns-2
 returns-2 c =
     let s = c .before .before .before .before .before .before .before .before .before .before .before .before .before .before .before .before .before in let a = s .args in let w = a .words .now in let d = code w in let old = a .est .now in
-    let made = c .before .before .before .before .before .before .before .clause .ensures ∙ clause-is w (a .links .now) (a .masks .now) (a .l) (s .pre .0) (a .p) (a .k) in
-    let live = sym (c .before .before .before .before .before .before .before .before .before .before .is-live .ensures d (s .pre .0 .laid)) ∙ so _ (c .before .before .before .before .before .before .before .before .before .if1 .left) in
+    let made = c .before .before .before .before .before .before .before .clause .ensures ∙ clause-is (s .pre .0) (a .p) (a .k) in
+    let live = sym (c .before .before .before .before .before .before .before .before .before .before .is-live .ensures d (s .pre .0 .laid)) ∙ not-false _ (c .before .before .before .before .before .before .before .before .before .if1 .left) in
     let f = c .before .before .before .before .fire .ensures in (
       record {
         words =
@@ -86,10 +68,14 @@ pub step-spec : {M : Type 1} → statement M
 step-spec =
     tie.close
     (tie.spec
-    is-live-requires
+    (λ c κs.
+    let s = c .before .before .before .before .before .before in let a = s .args in
+    (sized (s .pre .0) (s .pre .1), omega (arith, s .pre .2)))
     (λ same-length. search needs)
     returns
-    mul-clause
+    (λ c.
+    let s = c .before .before .before .before .before .before .before .before .before in let a = s .args in
+    omega (arith, plain-small (s .pre .0)))
     clause-requires
     fire-requires
     (λ same-length-2. search needs)

@@ -24,15 +24,10 @@ Inv-loop est₀ h r row lead added₀ k₀ est added k =
 abbrev μ-loop : tie.MeasureT-loop
 μ-loop est₀ h r row lead added₀ k₀ est added k = lead - k
 
-loop-holds : tie.Need-loop-holds Inv-loop μ-loop
-loop-holds c =
-    let s = c .before .before in let a = s .args in
-    (refl, omega arith, none-yet (a .est .now) (a .r * a .l .row))
-
 put-bits-requires : tie.Need-put-bits-requires Inv-loop μ-loop
 put-bits-requires c κs =
     let s = c .before .before .before .before .before in let a = s .args in
-    (omega (arith, row-in (a .l) (a .est .now) (s .pre .0) (a .r) (s .pre .1), c .before .before .loop .inv .0), omega (arith, c .before .loop-test .taken, s .pre .0 .wide, s .pre .0 .lead))
+    (omega (arith, row-in (s .pre .0) (a .r) (s .pre .1), c .before .before .loop .inv .0), omega (arith, c .before .loop-test .taken, s .pre .0 .wide, s .pre .0 .lead))
 
 add-added : tie.Need-add-added Inv-loop μ-loop
 add-added c =
@@ -40,31 +35,11 @@ add-added c =
     let i = c .before .before .before .before .before .loop in let q = one-more (a .est .now) (i .est) _ (a .r * a .l .row) (i .k) (i .added) _ (i .inv .2) (c .before .before .put-bits .ensures) in
     omega (arith, small (a .est .now) _ _ (q .count), c .before .before .put-bits .kept .0, i .inv .0, s .pre .0 .short)
 
-add-k : tie.Need-add-k Inv-loop μ-loop
-add-k c =
-    search needs
-
-loop-less : tie.Need-loop-less Inv-loop μ-loop
-loop-less c =
-    omega (arith, c .before .before .before .before .loop-test .taken)
-
 loop-again : tie.Need-loop-again Inv-loop μ-loop
 loop-again c =
     let s = c .before .before .before .before .before .before .before .before in let a = s .args in
     let i = c .before .before .before .before .before .loop in
     (c .before .before .put-bits .kept .0 ∙ i .inv .0, omega (arith, c .before .before .before .before .loop-test .taken), one-more (a .est .now) (i .est) _ (a .r * a .l .row) (i .k) (i .added) _ (i .inv .2) (c .before .before .put-bits .ensures))
-
-grew-row-requires : tie.Need-grew-row-requires Inv-loop μ-loop
-grew-row-requires c κs =
-    search needs
-
-same-length : tie.Need-same-length Inv-loop μ-loop
-same-length c =
-    c .before .before .before .before .before .loop .inv .0
-
-same-length-2 : tie.Need-same-length-2 Inv-loop μ-loop
-same-length-2 c =
-    search needs
 
 returns : tie.Need-returns Inv-loop μ-loop
 returns c =
@@ -78,13 +53,13 @@ fill-spec =
     (tie.spec
     Inv-loop
     μ-loop
-    loop-holds
+    (λ c. let s = c .before .before in let a = s .args in (refl, omega arith, none-yet (a .est .now) (a .r * a .l .row)))
     put-bits-requires
     add-added
-    add-k
-    loop-less
+    (λ c. search needs)
+    (λ c. omega (arith, c .before .before .before .before .loop-test .taken))
     loop-again
-    grew-row-requires
-    same-length
-    same-length-2
+    (λ c κs. search needs)
+    (λ c. c .before .before .before .before .before .loop .inv .0)
+    (λ c. search needs)
     returns)

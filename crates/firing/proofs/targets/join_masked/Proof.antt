@@ -17,17 +17,6 @@ returns c =
     nothing-added (a .est .now) (a .b * a .row) (masked (a .mask .now) (take (a .row) (drop (a .a * a .row) (a .est .now)))) (a .row) (length-masked-row (a .mask .now) (a .est .now) (a .a * a .row) (a .row) (omega (arith, s .pre)) (omega (arith, s .pre))) (omega arith)
     (sym (c .before .before .lacked-masked .ensures .0) ∙ not-true _ (c .if1 .taken))
 
-slice-aggregate-join : tie.Need-slice-aggregate-join
-slice-aggregate-join c =
-    let s = c .before .before .before .before .before .before .before .before .before in
-    sym (length-take-le (s .args .row) _ (omega (arith, s .pre, c .before .before .before .before .lacked-masked .kept .1 .1 .1 .1 .1 .0)))
-
-join-requires : tie.Need-join-requires
-join-requires c κs =
-    let s = c .before .before .before .before .before .before .before .before .before in let a = s .args in
-    let part = length-part (a .est .now) (a .b * a .row) (a .row) (omega (arith, s .pre)) in
-    (length-take-le (a .row) _ (omega (arith, s .pre, c .before .before .before .before .lacked-masked .kept .1 .1 .1 .1 .1 .0)) ∙ sym part, omega (arith, part, s .pre))
-
 returns-2 : tie.Need-returns-2
 returns-2 c =
     let s = c .before .before .before .before .before .before .before .before .before .before .before .before in let a = s .args in
@@ -50,7 +39,12 @@ join-masked-spec =
     (λ part-join-start. search needs)
     (λ part-join-end. search needs)
     (λ array-share-prefix-new. search needs)
-    slice-aggregate-join
-    join-requires
+    (λ c.
+    let s = c .before .before .before .before .before .before .before .before .before in
+    sym (length-take-le (s .args .row) _ (omega (arith, s .pre, c .before .before .before .before .lacked-masked .kept .1 .1 .1 .1 .1 .0))))
+    (λ c κs.
+    let s = c .before .before .before .before .before .before .before .before .before in let a = s .args in
+    let part = length-part (a .est .now) (a .b * a .row) (a .row) (omega (arith, s .pre)) in
+    (length-take-le (a .row) _ (omega (arith, s .pre, c .before .before .before .before .lacked-masked .kept .1 .1 .1 .1 .1 .0)) ∙ sym part, omega (arith, part, s .pre)))
     (λ same-length-2. search needs)
     returns-2)

@@ -10,29 +10,6 @@ use borrow.Author.Needs.{needs}
 use Rattle.firing.proofs.targets.join_row.Statement.{statement}
 use Rattle.firing.proofs.targets.join_row.Tie as tie
 
-returns : tie.Need-returns
-returns c =
-    let s = c .before .before .before .before .before .before in let a = s .args in
-    nothing-added (a .est .now) (a .b * a .row) (take (a .row) (drop (a .a * a .row) (a .est .now))) (a .row) (length-row (a .est .now) (a .a * a .row) (a .row) (omega (arith, s .pre))) (omega arith)
-    (sym (c .before .before .lacked .ensures .0) ∙ not-true _ (c .if1 .taken))
-
-slice-aggregate-join : tie.Need-slice-aggregate-join
-slice-aggregate-join c =
-    let s = c .before .before .before .before .before .before .before .before in
-    sym (length-take-le (s .args .row) _ (omega (arith, s .pre, c .before .before .before .before .lacked .kept .1 .1 .1 .1 .0)))
-
-join-requires : tie.Need-join-requires
-join-requires c κs =
-    let s = c .before .before .before .before .before .before .before .before in let a = s .args in
-    let part = length-part (a .est .now) (a .b * a .row) (a .row) (omega (arith, s .pre)) in
-    (length-take-le (a .row) _ (omega (arith, s .pre, c .before .before .before .before .lacked .kept .1 .1 .1 .1 .0)) ∙ sym part, omega (arith, part, s .pre))
-
-returns-2 : tie.Need-returns-2
-returns-2 c =
-    let s = c .before .before .before .before .before .before .before .before .before .before .before in let a = s .args in
-    row-joined (a .est .now) (a .b * a .row) (a .row) _ _ _ (take (a .row) (drop (a .a * a .row) (a .est .now))) _ (omega (arith, s .pre))
-    (length-row (a .est .now) (a .a * a .row) (a .row) (omega (arith, s .pre))) (c .before .before .before .before .before .before .before .lacked .ensures .1) (c .before .before .join .ensures)
-
 pub join-row-spec : {M : Type 1} → statement M
 join-row-spec =
     tie.close
@@ -42,14 +19,25 @@ join-row-spec =
     (λ slice-aggregate-lacked. search needs)
     (λ lacked-requires κs. search needs)
     (λ same-length. search needs)
-    returns
+    (λ c.
+    let s = c .before .before .before .before .before .before in let a = s .args in
+    nothing-added (a .est .now) (a .b * a .row) (take (a .row) (drop (a .a * a .row) (a .est .now))) (a .row) (length-row (a .est .now) (a .a * a .row) (a .row) (omega (arith, s .pre))) (omega arith)
+    (sym (c .before .before .lacked .ensures .0) ∙ not-true _ (c .if1 .taken)))
     (λ add-join. search needs)
     (λ mul-join. search needs)
     (λ sub-join. search needs)
     (λ part-join-start. search needs)
     (λ part-join-end. search needs)
     (λ array-share-prefix-new. search needs)
-    slice-aggregate-join
-    join-requires
+    (λ c.
+    let s = c .before .before .before .before .before .before .before .before in
+    sym (length-take-le (s .args .row) _ (omega (arith, s .pre, c .before .before .before .before .lacked .kept .1 .1 .1 .1 .0))))
+    (λ c κs.
+    let s = c .before .before .before .before .before .before .before .before in let a = s .args in
+    let part = length-part (a .est .now) (a .b * a .row) (a .row) (omega (arith, s .pre)) in
+    (length-take-le (a .row) _ (omega (arith, s .pre, c .before .before .before .before .lacked .kept .1 .1 .1 .1 .0)) ∙ sym part, omega (arith, part, s .pre)))
     (λ same-length-2. search needs)
-    returns-2)
+    (λ c.
+    let s = c .before .before .before .before .before .before .before .before .before .before .before in let a = s .args in
+    row-joined (a .est .now) (a .b * a .row) (a .row) _ _ _ (take (a .row) (drop (a .a * a .row) (a .est .now))) _ (omega (arith, s .pre))
+    (length-row (a .est .now) (a .a * a .row) (a .row) (omega (arith, s .pre))) (c .before .before .before .before .before .before .before .lacked .ensures .1) (c .before .before .join .ensures)))

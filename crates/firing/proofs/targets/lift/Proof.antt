@@ -4,11 +4,6 @@ use borrow.Author.Needs.{needs}
 use Rattle.firing.proofs.targets.lift.Statement.{statement}
 use Rattle.firing.proofs.targets.lift.Tie as tie
 
-returns : tie.Need-returns
-returns c =
-    let s = c .before .before .before .before .before .before .before .before .before .before .before .before in let a = s .args in
-    lift-from (a .l) (a .est .now) _ _ (a .q) (a .p) _ (c .before .before .before .before .before .before .before .before .before .flags .ensures) (c .before .before .before .before .before .before .gain .ensures)
-
 pub lift-spec : {M : Type 1} → statement M
 lift-spec =
     tie.close
@@ -20,4 +15,6 @@ lift-spec =
     (λ grew-perms-requires κs. search needs)
     (λ same-length. search needs)
     (λ same-length-2. search needs)
-    returns)
+    (λ c.
+    let s = c .before .before .before .before .before .before .before .before .before .before .before .before in let a = s .args in
+    lift-from (a .l) (a .est .now) _ _ (a .q) (a .p) _ (c .before .before .before .before .before .before .before .before .before .flags .ensures) (c .before .before .before .before .before .before .gain .ensures)))

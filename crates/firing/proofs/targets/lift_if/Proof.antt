@@ -6,9 +6,7 @@ use Rattle.firing.proofs.targets.lift_if.Statement.{statement}
 use Rattle.firing.proofs.targets.lift_if.Tie as tie
 
 returns : tie.Need-returns
-returns c =
-    let s = c .before .before .before in let a = s .args in
-    only-not (a .l) (sub (P (a .q)) (P (a .p))) _ (a .est .now) (no-part (a .q) (c .if1 .taken))
+returns c = let s = c .before .before .before in let a = s .args in only-not (a .l) (sub (P (a .q)) (P (a .p))) _ (a .est .now) (no-part (a .q) (c .if1 .taken))
 
 returns-2 : tie.Need-returns-2
 returns-2 c =

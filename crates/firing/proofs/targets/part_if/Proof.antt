@@ -6,9 +6,7 @@ use Rattle.firing.proofs.targets.part_if.Statement.{statement}
 use Rattle.firing.proofs.targets.part_if.Tie as tie
 
 returns : tie.Need-returns
-returns c =
-    let s = c .before .before .before in let a = s .args in
-    only-not (a .l) (part (a .p) (a .q)) _ (a .est .now) (no-part (a .q) (c .if1 .taken))
+returns c = let s = c .before .before .before in let a = s .args in only-not (a .l) (part (a .p) (a .q)) _ (a .est .now) (no-part (a .q) (c .if1 .taken))
 
 returns-2 : tie.Need-returns-2
 returns-2 c =

@@ -15,31 +15,6 @@ use borrow.Author.Needs.{needs}
 use Rattle.firing.proofs.targets.pass.Statement.{statement}
 use Rattle.firing.proofs.targets.pass.Tie as tie
 
-mul-at : tie.Need-mul-at
-mul-at c =
-    let s = c .before .before .before in let a = s .args in
-    omega (arith, mask-in _ (a .l .row) (a .m) (s .pre .4) (s .pre .3))
-
-add-join-masked : tie.Need-add-join-masked
-add-join-masked c =
-    let s = c .before .before .before .before in let a = s .args in
-    omega (arith, mask-in _ (a .l .row) (a .m) (s .pre .4) (s .pre .3))
-
-mul-join-masked : tie.Need-mul-join-masked
-mul-join-masked c =
-    let s = c .before .before .before .before in let a = s .args in
-    omega (arith, mask-in _ (a .l .row) (a .m) (s .pre .4) (s .pre .3))
-
-part-join-masked-end : tie.Need-part-join-masked-end
-part-join-masked-end c =
-    let s = c .before .before .before .before in let a = s .args in
-    omega (arith, mask-in _ (a .l .row) (a .m) (s .pre .4) (s .pre .3))
-
-join-masked-requires : tie.Need-join-masked-requires
-join-masked-requires c κs =
-    let s = c .before .before .before .before .before in let a = s .args in
-    (row-in (a .l) (a .est .now) (s .pre .0) (a .a) (s .pre .1), row-in (a .l) (a .est .now) (s .pre .0) (a .b) (s .pre .2), s .pre .0 .most, length-part (a .masks .now) (a .m * a .l .row) (a .l .row) (mask-in _ (a .l .row) (a .m) (s .pre .4) (s .pre .3)))
-
 returns : tie.Need-returns
 returns c =
     let s = c .before .before .before .before .before .before .before .before .before .before .before .before in let a = s .args in
@@ -52,13 +27,23 @@ pub pass-spec : {M : Type 1} → statement M
 pass-spec =
     tie.close
     (tie.spec
-    mul-at
-    add-join-masked
-    mul-join-masked
+    (λ c.
+    let s = c .before .before .before in let a = s .args in
+    omega (arith, mask-in _ (a .l .row) (a .m) (s .pre .4) (s .pre .3)))
+    (λ c.
+    let s = c .before .before .before .before in let a = s .args in
+    omega (arith, mask-in _ (a .l .row) (a .m) (s .pre .4) (s .pre .3)))
+    (λ c.
+    let s = c .before .before .before .before in let a = s .args in
+    omega (arith, mask-in _ (a .l .row) (a .m) (s .pre .4) (s .pre .3)))
     (λ sub-join-masked. search needs)
     (λ part-join-masked-start. search needs)
-    part-join-masked-end
-    join-masked-requires
+    (λ c.
+    let s = c .before .before .before .before in let a = s .args in
+    omega (arith, mask-in _ (a .l .row) (a .m) (s .pre .4) (s .pre .3)))
+    (λ c κs.
+    let s = c .before .before .before .before .before in let a = s .args in
+    (row-in (s .pre .0) (a .a) (s .pre .1), row-in (s .pre .0) (a .b) (s .pre .2), s .pre .0 .most, length-part (a .masks .now) (a .m * a .l .row) (a .l .row) (mask-in _ (a .l .row) (a .m) (s .pre .4) (s .pre .3))))
     (λ grew-row-requires κs. search needs)
     (λ same-length. search needs)
     (λ same-length-2. search needs)

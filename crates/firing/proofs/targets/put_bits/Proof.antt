@@ -7,11 +7,6 @@ use borrow.Author.Needs.{needs}
 use Rattle.firing.proofs.targets.put_bits.Statement.{statement}
 use Rattle.firing.proofs.targets.put_bits.Tie as tie
 
-returns : tie.Need-returns
-returns c =
-    let a = c .before .before .before .before .before .args in
-    put-back (a .est .now) (a .r * a .row) (a .r * a .row + a .row - a .r * a .row) _ (a .k) (a .bits ∷ []) _ (c .before .before .set .ensures) (omega arith)
-
 pub put-bits-spec : {M : Type 1} → statement M
 put-bits-spec =
     tie.close
@@ -24,4 +19,6 @@ put-bits-spec =
     (λ part-set-end. search needs)
     (λ set-requires κs. search needs)
     (λ same-length. search needs)
-    returns)
+    (λ c.
+    let a = c .before .before .before .before .before .args in
+    put-back (a .est .now) (a .r * a .row) (a .r * a .row + a .row - a .r * a .row) _ (a .k) (a .bits ∷ []) _ (c .before .before .set .ensures) (omega arith)))

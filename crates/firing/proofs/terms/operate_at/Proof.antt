@@ -11,22 +11,12 @@ results-of-requires : tie.Need-results-of-requires
 results-of-requires c κs =
     let s = c .before .before .before in let a = s .args in
     let z = s .pre .0 in (
-      value-in (a .l) (a .est .now) z (a .p + 1) (s .pre .1),
-      value-in (a .l) (a .est .now) z (a .d) (s .pre .2),
+      value-in z (a .p + 1) (s .pre .1),
+      value-in z (a .d) (s .pre .2),
       z .lead,
       omega (arith, z .wide),
       z .most,
     )
-
-put-word-requires : tie.Need-put-word-requires
-put-word-requires c κs =
-    let s = c .before .before .before .before .before .before in let a = s .args in
-    (value-in (a .l) (a .est .now) (s .pre .0) (a .p) (omega (arith, s .pre .1)), some-words (a .l) (a .est .now) (s .pre .0))
-
-returns : tie.Need-returns
-returns c =
-    let s = c .before .before .before .before .before .before .before .before .before .before .before in let a = s .args in
-    operated (a .l) (a .est .now) _ _ (a .p) (a .d) _ _ (s .pre .1) (s .pre .2) (s .pre .3) (c .before .before .before .before .before .before .before .results-of .ensures) (c .before .before .before .before .put-word .ensures)
 
 pub operate-at-spec : {M : Type 1} → statement M
 operate-at-spec =
@@ -37,7 +27,11 @@ operate-at-spec =
     (λ mul-results-of-2. search needs)
     results-of-requires
     (λ mul-put-word. search needs)
-    put-word-requires
+    (λ c κs.
+    let s = c .before .before .before .before .before .before in let a = s .args in
+    (value-in (s .pre .0) (a .p) (omega (arith, s .pre .1)), some-words (s .pre .0)))
     (λ same-length. search needs)
     (λ same-length-2. search needs)
-    returns)
+    (λ c.
+    let s = c .before .before .before .before .before .before .before .before .before .before .before in let a = s .args in
+    operated (a .l) (a .est .now) _ _ (a .p) (a .d) _ _ (s .pre .1) (s .pre .2) (s .pre .3) (c .before .before .before .before .before .before .before .results-of .ensures) (c .before .before .before .before .put-word .ensures)))

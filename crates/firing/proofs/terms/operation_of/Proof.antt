@@ -23,8 +23,7 @@ returns-3 c = sym (ap operationOf (c .match .keys3))
 
 returns-4 : tie.Need-returns-4
 unfolding operationOf
-returns-4 c =
-    sym (List·getD-eq-default (Add ∷ Less ∷ Equal ∷ []) Add (outside 3 _ (c .match .rest)))
+returns-4 c = sym (List·getD-eq-default (Add ∷ Less ∷ Equal ∷ []) Add (outside 3 _ (c .match .rest)))
 
 pub operation-of-spec : {M : Type 1} → statement M
 operation-of-spec = tie.close (tie.spec returns returns-2 returns-3 returns-4)

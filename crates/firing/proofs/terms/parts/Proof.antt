@@ -12,8 +12,7 @@ use Rattle.firing.proofs.terms.parts.Tie as tie
 
 add-result : tie.Need-add-result
 add-result c =
-    let s = c .before .before .before .before .before .before .before .before .before .before .before .before .before .before .before .before .before .before .before .before .before .before .before in let a = s .args in
-    omega (arith, sum-fits _ _ _ _ _ (c .before .before .before .before .before .before .before .before .before .before .before .part-if .ensures .count) (c .before .before .before .before .part-if2 .ensures .count), c .before .before .before .before .part-if2 .kept .0, c .before .before .before .before .before .before .before .before .before .before .before .part-if .kept .0, c .before .before .before .before .before .before .before .before .before .before .before .before .before .before .before .before .before .before .part .kept .0, s .pre .0 .short)
+    let s = c .before .before .before .before .before .before .before .before .before .before .before .before .before .before .before .before .before .before .before .before .before .before .before in omega (arith, sum-fits _ _ _ _ _ (c .before .before .before .before .before .before .before .before .before .before .before .part-if .ensures .count) (c .before .before .before .before .part-if2 .ensures .count), c .before .before .before .before .part-if2 .kept .0, c .before .before .before .before .before .before .before .before .before .before .before .part-if .kept .0, c .before .before .before .before .before .before .before .before .before .before .before .before .before .before .before .before .before .before .part .kept .0, s .pre .0 .short)
 
 add-result-2 : tie.Need-add-result-2
 add-result-2 c =

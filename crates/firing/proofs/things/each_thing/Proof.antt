@@ -8,26 +8,17 @@ use Rattle.calculus.specs.Estimate.{facts}
 use Rattle.rows.proofs.Laws.{facts-most}
 use Rattle.queries.specs.Things.{both}
 use Rattle.firing.proofs.EachThing.{Left, both-masked, sized-again, searched, made-start, made-step, made-end}
+use borrow.Author.Needs.{needs}
 use Rattle.firing.proofs.things.each_thing.Statement.{statement}
 use Rattle.firing.proofs.things.each_thing.Tie as tie
 
 abbrev Inv-loop : tie.InvT-loop
-Inv-loop est₀ masks h₀ l what x y z size added₀ f₀ est h added f =
+Inv-loop est₀ masks h₀ l what x y z r size added₀ f₀ est h added f =
     (length est ≡ length est₀) × (length h ≡ length h₀) × (f < l .size → both est masks (l .lead) (2 * (x + 1) * l .row) (z * l .row) f ≡ true)
     × Left l masks what x y z est₀ est f × (facts est ≡ facts est₀ + added)
 
 abbrev μ-loop : tie.MeasureT-loop
-μ-loop est₀ masks h₀ l what x y z size added₀ f₀ est h added f = l .size - f
-
-add-next-thing : tie.Need-add-next-thing Inv-loop μ-loop
-add-next-thing c =
-    let s = c .before .before .before .before in let a = s .args in let e = a .e in
-    omega (arith, s .pre .1 .word, s .pre .0 .size)
-
-mul-next-thing : tie.Need-mul-next-thing Inv-loop μ-loop
-mul-next-thing c =
-    let s = c .before .before .before .before in let a = s .args in let e = a .e in
-    omega (arith, s .pre .1 .word, s .pre .0 .size)
+μ-loop est₀ masks h₀ l what x y z r size added₀ f₀ est h added f = l .size - f
 
 next-thing-requires : tie.Need-next-thing-requires Inv-loop μ-loop
 next-thing-requires c κs =
@@ -48,7 +39,7 @@ for-thing-requires : tie.Need-for-thing-requires Inv-loop μ-loop
 for-thing-requires c κs =
     let s = c .before .before .before .before .before .before .before .before .before in let a = s .args in let e = a .e in
     let i = c .before .before .before .loop in let g : i .f < a .l .size = c .before .before .loop-test .taken in (
-      sized-again (a .l) (a .est .now) (i .est) (s .pre .0) (i .inv .0),
+      sized-again (s .pre .0) (i .inv .0),
       record {
         word = omega (arith, s .pre .1 .word);
         row = s .pre .1 .row;
@@ -60,34 +51,14 @@ for-thing-requires c κs =
 add-added : tie.Need-add-added Inv-loop μ-loop
 add-added c =
     let t = c .before .before .before .before in
-    let s = c .before .before .before .before .before .before .before .before .before .before .before .before .before .before in let a = s .args in let e = a .e in
-    let i = c .before .before .before .before .before .before .before .before .loop in
+    let s = c .before .before .before .before .before .before .before .before .before .before .before .before .before .before in let i = c .before .before .before .before .before .before .before .before .loop in
     omega (arith, t .for-thing .ensures .count, i .inv .4, facts-most (t .for-thing .last .0), t .for-thing .kept .0, i .inv .0, s .pre .0 .short)
-
-add-next-thing-2 : tie.Need-add-next-thing-2 Inv-loop μ-loop
-add-next-thing-2 c =
-    let s = c .before .before .before .before .before .before .before .before .before .before .before .before .before .before .before in let a = s .args in let e = a .e in
-    omega (arith, s .pre .1 .word, s .pre .0 .size)
-
-mul-next-thing-2 : tie.Need-mul-next-thing-2 Inv-loop μ-loop
-mul-next-thing-2 c =
-    let s = c .before .before .before .before .before .before .before .before .before .before .before .before .before .before .before in let a = s .args in let e = a .e in
-    omega (arith, s .pre .1 .word, s .pre .0 .size)
-
-add-next-thing-3 : tie.Need-add-next-thing-3 Inv-loop μ-loop
-add-next-thing-3 c =
-    let s = c .before .before .before .before .before .before .before .before .before .before .before .before .before .before .before in let a = s .args in let e = a .e in
-    omega (arith, c .before .before .before .before .before .before .before .before .loop-test .taken, s .pre .0 .size)
 
 next-thing-requires-2 : tie.Need-next-thing-requires-2 Inv-loop μ-loop
 next-thing-requires-2 c κs =
     let s = c .before .before .before .before .before .before .before .before .before .before .before .before .before .before .before in let a = s .args in let e = a .e in
     let i = c .before .before .before .before .before .before .before .before .before .loop in
-    (searched (a .l) _ (a .masks .now) (sized-again (a .l) (a .est .now) _ (s .pre .0) (c .before .before .before .before .before .for-thing .kept .0 ∙ i .inv .0)) (2 * (e .x + 1)) (e .z) (omega (arith, s .pre .1 .word)) (omega (arith, s .pre .1 .mask)) (s .pre .1 .long), omega (arith, c .before .before .before .before .before .before .before .before .loop-test .taken))
-
-loop-less : tie.Need-loop-less Inv-loop μ-loop
-loop-less c =
-    omega (arith, c .next-thing2 .ensures .later, c .before .before .before .before .before .before .before .before .before .loop-test .taken)
+    (searched (a .l) _ (a .masks .now) (sized-again (s .pre .0) (c .before .before .before .before .before .for-thing .kept .0 ∙ i .inv .0)) (2 * (e .x + 1)) (e .z) (omega (arith, s .pre .1 .word)) (omega (arith, s .pre .1 .mask)) (s .pre .1 .long), omega (arith, c .before .before .before .before .before .before .before .before .loop-test .taken))
 
 loop-again : tie.Need-loop-again Inv-loop μ-loop
 loop-again c =
@@ -102,14 +73,6 @@ loop-again c =
           ∙ i .inv .3 k o m,
       omega (arith, c .before .before .before .before .before .before .for-thing .ensures .count, i .inv .4),
     )
-
-same-length : tie.Need-same-length Inv-loop μ-loop
-same-length c =
-    c .before .loop .inv .0
-
-same-length-2 : tie.Need-same-length-2 Inv-loop μ-loop
-same-length-2 c =
-    c .before .loop .inv .1
 
 returns : tie.Need-returns Inv-loop μ-loop
 returns c =
@@ -129,18 +92,16 @@ each-thing-spec =
     (tie.spec
     Inv-loop
     μ-loop
-    add-next-thing
-    mul-next-thing
+    (λ add-r. search needs)
+    (λ mul-r. search needs)
     next-thing-requires
     loop-holds
     for-thing-requires
     add-added
-    add-next-thing-2
-    mul-next-thing-2
-    add-next-thing-3
+    (λ add-next-thing. search needs)
     next-thing-requires-2
-    loop-less
+    (λ c. omega (arith, c .next-thing2 .ensures .later, c .before .before .before .before .before .before .before .before .before .loop-test .taken))
     loop-again
-    same-length
-    same-length-2
+    (λ c. c .before .loop .inv .0)
+    (λ c. c .before .loop .inv .1)
     returns)

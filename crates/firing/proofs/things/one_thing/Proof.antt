@@ -16,11 +16,6 @@ returns c =
       count = omega arith;
     }
 
-has-thing-requires : tie.Need-has-thing-requires
-has-thing-requires c κs =
-    let s = c .before .before .before .before .before .before in let a = s .args in let e = a .e in
-    (searched (a .l) (a .est .now) (a .masks .now) (s .pre .0) (2 * (e .x + 1)) (e .z) (omega (arith, s .pre .1 .word)) (omega (arith, s .pre .1 .mask)) (s .pre .1 .long), c .before .if1 .left)
-
 for-thing-requires : tie.Need-for-thing-requires
 for-thing-requires c κs =
     let t = c .before .before in let i = t .before .before .before in let s = i .before .before .before .before .before in let a = s .args in let e = a .e in (
@@ -62,7 +57,9 @@ one-thing-spec =
     returns
     (λ add-has-thing. search needs)
     (λ mul-has-thing. search needs)
-    has-thing-requires
+    (λ c κs.
+    let s = c .before .before .before .before .before .before in let a = s .args in let e = a .e in
+    (searched (a .l) (a .est .now) (a .masks .now) (s .pre .0) (2 * (e .x + 1)) (e .z) (omega (arith, s .pre .1 .word)) (omega (arith, s .pre .1 .mask)) (s .pre .1 .long), c .before .if1 .left))
     for-thing-requires
     (λ same-length. search needs)
     (λ same-length-2. search needs)

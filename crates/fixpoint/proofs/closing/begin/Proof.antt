@@ -7,24 +7,16 @@ use borrow.Author.Needs.{needs}
 use Rattle.fixpoint.proofs.closing.begin.Statement.{statement}
 use Rattle.fixpoint.proofs.closing.begin.Tie as tie
 
-enter-all-requires : tie.Need-enter-all-requires
-enter-all-requires c κs =
-    let s = c .before .before .before .before .before .before .before .before .before .before .before .before in
-    let a = s .args in
-    (accepted-of (a .words .now) (a .links .now) (a .masks .now) (a .l) (s .pre .0), sized (a .words .now) (a .links .now) (a .masks .now) (a .l) (s .pre .0) (a .est .now) (s .pre .1), s .pre .1)
-
-returns : tie.Need-returns
-returns c = c .before .before .before .before .before .enter-all .ensures
-
 follow-requires : tie.Need-follow-requires
-follow-requires c κs = (c .before .before .before .before .before .before .before .before .before .before .before .before .before .before .before .before .before .before .before .before .before .pre .0, c .before .before .before .before .before .before .before .before .enter-all .ensures .sound .well (c .before .before .before .before .before .before .before .before .before .before .before .before .before .before .before .before .before .before .before .before .before .pre .1))
+follow-requires c κs =
+    (c .before .before .before .before .before .before .before .before .before .before .before .before .before .before .before .before .before .before .before .before .before .pre .0, c .before .before .before .before .before .before .before .before .enter-all .ensures .sound .well (c .before .before .before .before .before .before .before .before .before .before .before .before .before .before .before .before .before .before .before .before .before .pre .1))
 
 add-result : tie.Need-add-result
 add-result c =
     let s = c .before .before .before .before .before .before .before .before .before .before .before .before .before .before .before .before .before .before .before .before .before .before .before .before .before .before .before .before in
     let a = s .args in
     let g = grown-then (code (a .words .now)) (a .rho .bits) (c .before .before .before .before .before .before .before .before .before .before .before .before .before .before .before .enter-all .ensures) (c .before .before .before .before .before .before .follow .ensures .stepped (a .rho .bits)) in
-    omega (arith, few-facts (a .words .now) (a .links .now) (a .masks .now) (a .l) (s .pre .0) (a .est .now) _ _ (g .sound .well (s .pre .1)) (g .count))
+    omega (arith, few-facts (s .pre .0) (a .est .now) _ (g .sound .well (s .pre .1)) (g .count))
 
 returns-2 : tie.Need-returns-2
 returns-2 c =
@@ -37,10 +29,13 @@ begin-spec =
     tie.close
     (tie.spec
     (λ prepare-requires κs. search needs)
-    enter-all-requires
+    (λ c κs.
+    let s = c .before .before .before .before .before .before .before .before .before .before .before .before in
+    let a = s .args in
+    (accepted-of (s .pre .0), sized (s .pre .0) (s .pre .1), s .pre .1))
     (λ same-length. search needs)
     (λ same-length-2. search needs)
-    returns
+    (λ c. c .before .before .before .before .before .enter-all .ensures)
     follow-requires
     add-result
     (λ same-length-3. search needs)

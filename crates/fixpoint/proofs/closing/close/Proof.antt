@@ -21,22 +21,10 @@ abbrev μ-loop : tie.MeasureT-loop
 μ-loop words links masks est₀ h₀ out₀ l rho room added₀ est h out added = 32 * length est - facts est
 
 loop-holds : tie.Need-loop-holds Inv-loop μ-loop
-loop-holds c =
-    let s = c .before .before .before .before .before .before in
-    let a = s .args in
-    (refl, refl, refl, grown-none (code (a .words .now)) (a .rho .bits) (a .est .now), omega arith)
+loop-holds c = let s = c .before .before .before .before .before .before in let a = s .args in (refl, refl, refl, grown-none (code (a .words .now)) (a .rho .bits) (a .est .now), omega arith)
 
 broken-requires : tie.Need-broken-requires Inv-loop μ-loop
 broken-requires c κs = (c .before .before .before .before .before .before .before .before .pre .0, c .before .loop .inv .3 .sound .well (c .before .before .before .before .before .before .before .before .pre .1))
-
-same-length : tie.Need-same-length Inv-loop μ-loop
-same-length c = c .before .before .before .before .loop .inv .0
-
-same-length-2 : tie.Need-same-length-2 Inv-loop μ-loop
-same-length-2 c = c .before .before .before .before .loop .inv .1
-
-same-length-3 : tie.Need-same-length-3 Inv-loop μ-loop
-same-length-3 c = c .before .before .before .before .loop .inv .2
 
 returns : tie.Need-returns Inv-loop μ-loop
 returns c =
@@ -45,18 +33,16 @@ returns c =
     let t = c .before .before .before .before in
     record { grown = t .loop .inv .3; obeyed = λ z. unbroken (code (a .words .now)) (a .rho .bits) (t .loop .est) (omega (arith, c .before .before .broken .ensures, broken-most (code (a .words .now)) (a .rho .bits) (t .loop .est), s .pre .0 .laid .size, c .if1 .taken)) }
 
-sub-mend : tie.Need-sub-mend Inv-loop μ-loop
-sub-mend c = omega (arith, c .before .before .before .before .before .before .before .loop .inv .4)
-
 mend-requires : tie.Need-mend-requires Inv-loop μ-loop
-mend-requires c κs = (c .before .before .before .before .before .before .before .before .before .before .before .before .before .before .pre .0, c .before .before .before .before .before .before .before .loop .inv .3 .sound .well (c .before .before .before .before .before .before .before .before .before .before .before .before .before .before .pre .1), omega (arith, c .before .before .before .if1 .left))
+mend-requires c κs =
+    (c .before .before .before .before .before .before .before .before .before .before .before .before .before .before .pre .0, c .before .before .before .before .before .before .before .loop .inv .3 .sound .well (c .before .before .before .before .before .before .before .before .before .before .before .before .before .before .pre .1), omega (arith, c .before .before .before .if1 .left))
 
 add-added : tie.Need-add-added Inv-loop μ-loop
 add-added c =
     let s = c .before .before .before .before .before .before .before .before .before .before .before .before .before .before .before .before .before .before .before .before .before in
     let a = s .args in
     let g = grown-then (code (a .words .now)) (a .rho .bits) (c .before .before .before .before .before .before .before .before .before .before .before .before .before .before .loop .inv .3) (c .before .before .before .before .before .before .mend .ensures .grown) in
-    omega (arith, few-facts (a .words .now) (a .links .now) (a .masks .now) (a .l) (s .pre .0) (a .est .now) _ _ (g .sound .well (s .pre .1)) (g .count))
+    omega (arith, few-facts (s .pre .0) (a .est .now) _ (g .sound .well (s .pre .1)) (g .count))
 
 same-length-4 : tie.Need-same-length-4 Inv-loop μ-loop
 same-length-4 c = c .before .before .before .before .before .before .before .mend .kept .1 .1 .1 .0 ∙ c .before .before .before .before .before .before .before .before .before .before .before .before .before .before .before .loop .inv .0
@@ -65,10 +51,12 @@ same-length-5 : tie.Need-same-length-5 Inv-loop μ-loop
 same-length-5 c = c .before .before .before .before .before .before .before .mend .kept .1 .1 .1 .1 .0 ∙ c .before .before .before .before .before .before .before .before .before .before .before .before .before .before .before .loop .inv .1
 
 same-length-6 : tie.Need-same-length-6 Inv-loop μ-loop
-same-length-6 c = c .before .before .before .before .before .before .before .mend .kept .1 .1 .1 .1 .1 .0 ∙ c .before .before .before .before .before .before .before .before .before .before .before .before .before .before .before .loop .inv .2
+same-length-6 c =
+    c .before .before .before .before .before .before .before .mend .kept .1 .1 .1 .1 .1 .0 ∙ c .before .before .before .before .before .before .before .before .before .before .before .before .before .before .before .loop .inv .2
 
 returns-2 : tie.Need-returns-2 Inv-loop μ-loop
-returns-2 c = record { grown = grown-then (code (c .before .before .before .before .before .before .before .before .before .before .before .before .before .before .before .before .before .before .before .before .before .before .args .words .now)) (c .before .before .before .before .before .before .before .before .before .before .before .before .before .before .before .before .before .before .before .before .before .before .args .rho .bits) (c .before .before .before .before .before .before .before .before .before .before .before .before .before .before .before .loop .inv .3) (c .before .before .before .before .before .before .before .mend .ensures .grown); obeyed = λ z. absurd (omega (arith, c .if2 .taken)) }
+returns-2 c =
+    record { grown = grown-then (code (c .before .before .before .before .before .before .before .before .before .before .before .before .before .before .before .before .before .before .before .before .before .before .args .words .now)) (c .before .before .before .before .before .before .before .before .before .before .before .before .before .before .before .before .before .before .before .before .before .before .args .rho .bits) (c .before .before .before .before .before .before .before .before .before .before .before .before .before .before .before .loop .inv .3) (c .before .before .before .before .before .before .before .mend .ensures .grown); obeyed = λ z. absurd (omega (arith, c .if2 .taken)) }
 
 loop-less : tie.Need-loop-less Inv-loop μ-loop
 loop-less c =
@@ -91,11 +79,11 @@ close-spec =
     μ-loop
     loop-holds
     broken-requires
-    same-length
-    same-length-2
-    same-length-3
+    (λ c. c .before .before .before .before .loop .inv .0)
+    (λ c. c .before .before .before .before .loop .inv .1)
+    (λ c. c .before .before .before .before .loop .inv .2)
     returns
-    sub-mend
+    (λ c. omega (arith, c .before .before .before .before .before .before .before .loop .inv .4))
     mend-requires
     add-added
     same-length-4

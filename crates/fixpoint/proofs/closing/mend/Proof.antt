@@ -8,42 +8,39 @@ use borrow.Author.Needs.{needs}
 use Rattle.fixpoint.proofs.closing.mend.Statement.{statement}
 use Rattle.fixpoint.proofs.closing.mend.Tie as tie
 
-enter-requires : tie.Need-enter-requires
-enter-requires c κs =
-    let s = c .before .before .before .before .before .before .before .before in
-    let a = s .args in
-    (accepted-of (a .words .now) (a .links .now) (a .masks .now) (a .l) (s .pre .0), sized (a .words .now) (a .links .now) (a .masks .now) (a .l) (s .pre .0) (a .est .now) (s .pre .1), s .pre .1, s .pre .2)
-
 returns : tie.Need-returns
 returns c =
     let s = c .before .before .before .before .before .before .before .before .before .before .before .before .before .before in
     let a = s .args in
-    record { grown = entered (code (a .words .now)) (a .rho .bits) (linked-code (a .words .now) (a .links .now) (a .masks .now) (a .l) (s .pre .0)) (a .p) (omega (arith, s .pre .0 .laid .size, s .pre .2)) (c .before .before .before .before .before .enter .ensures); obeyed = λ z. absurd (omega (arith, z, c .if1 .taken)) }
+    record { grown = entered (code (a .words .now)) (a .rho .bits) (linked-code (s .pre .0)) (a .p) (omega (arith, s .pre .0 .laid .size, s .pre .2)) (c .before .before .before .before .before .enter .ensures); obeyed = λ z. absurd (omega (arith, z, c .if1 .taken)) }
 
 follow-all-requires : tie.Need-follow-all-requires
 follow-all-requires c κs =
     let s = c .before .before .before .before .before .before .before .before .before .before .before .before .before .before .before .before .before in
     let a = s .args in
-    (s .pre .0, entered (code (a .words .now)) (a .rho .bits) (linked-code (a .words .now) (a .links .now) (a .masks .now) (a .l) (s .pre .0)) (a .p) (omega (arith, s .pre .0 .laid .size, s .pre .2)) (c .before .before .before .before .before .before .before .before .enter .ensures) .sound .well (s .pre .1))
+    (s .pre .0, entered (code (a .words .now)) (a .rho .bits) (linked-code (s .pre .0)) (a .p) (omega (arith, s .pre .0 .laid .size, s .pre .2)) (c .before .before .before .before .before .before .before .before .enter .ensures) .sound .well (s .pre .1))
 
 add-result : tie.Need-add-result
 add-result c =
     let s = c .before .before .before .before .before .before .before .before .before .before .before .before .before .before .before .before .before .before .before .before .before .before .before .before in
     let a = s .args in
-    let g = repaired (a .words .now) (a .links .now) (a .masks .now) (a .l) (s .pre .0) (a .p) (s .pre .2) (a .est .now) (s .pre .1) (a .rho .bits) _ _ _ _ (c .before .before .before .before .before .before .before .before .before .before .before .before .before .before .before .enter .ensures) (c .before .before .before .before .before .before .follow-all .ensures) .grown in
-    omega (arith, few-facts (a .words .now) (a .links .now) (a .masks .now) (a .l) (s .pre .0) (a .est .now) _ _ (g .sound .well (s .pre .1)) (g .count))
+    let g = repaired (s .pre .0) (a .p) (s .pre .2) (s .pre .1) (a .rho .bits) _ _ _ _ (c .before .before .before .before .before .before .before .before .before .before .before .before .before .before .before .enter .ensures) (c .before .before .before .before .before .before .follow-all .ensures) .grown in
+    omega (arith, few-facts (s .pre .0) (a .est .now) _ (g .sound .well (s .pre .1)) (g .count))
 
 returns-2 : tie.Need-returns-2
 returns-2 c =
     let s = c .before .before .before .before .before .before .before .before .before .before .before .before .before .before .before .before .before .before .before .before .before .before .before .before in
     let a = s .args in
-    repaired (a .words .now) (a .links .now) (a .masks .now) (a .l) (s .pre .0) (a .p) (s .pre .2) (a .est .now) (s .pre .1) (a .rho .bits) _ _ _ _ (c .before .before .before .before .before .before .before .before .before .before .before .before .before .before .before .enter .ensures) (c .before .before .before .before .before .before .follow-all .ensures)
+    repaired (s .pre .0) (a .p) (s .pre .2) (s .pre .1) (a .rho .bits) _ _ _ _ (c .before .before .before .before .before .before .before .before .before .before .before .before .before .before .before .enter .ensures) (c .before .before .before .before .before .before .follow-all .ensures)
 
 pub mend-spec : {M : Type 1} → statement M
 mend-spec =
     tie.close
     (tie.spec
-    enter-requires
+    (λ c κs.
+    let s = c .before .before .before .before .before .before .before .before in
+    let a = s .args in
+    (accepted-of (s .pre .0), sized (s .pre .0) (s .pre .1), s .pre .1, s .pre .2))
     (λ same-length. search needs)
     (λ same-length-2. search needs)
     returns

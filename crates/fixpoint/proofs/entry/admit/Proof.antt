@@ -11,21 +11,10 @@ use borrow.Author.Needs.{needs}
 use Rattle.fixpoint.proofs.entry.admit.Statement.{statement}
 use Rattle.fixpoint.proofs.entry.admit.Tie as tie
 
-mark-requires : tie.Need-mark-requires
-mark-requires c κs =
-    let s = c .before .before .before .before .before .before .before .before .before .before in let a = s .args in
-    (omega (arith, value-in (a .l) (a .est .now) (s .pre .0) (a .p) (s .pre .1), c .before .before .before .before .before .fill .kept .0), omega (arith, s .pre .0 .wide, s .pre .0 .lead))
-
 add-result : tie.Need-add-result
 add-result c =
     let s = c .before .before .before .before .before .before .before .before .before .before .before .before .before in let f = c .before .before .before .before .before .before .before .before .fill in let m = c .before .before .mark in
     omega (arith, sum-fits (s .args .est .now) _ _ _ _ (f .ensures .0 .count) (m .ensures .count), m .kept .0, f .kept .0, s .pre .0 .short)
-
-returns : tie.Need-returns
-returns c =
-    let a = c .before .before .before .before .before .before .before .before .before .before .before .before .before .args in
-    and-for (a .l) (a .est .now) _ _ _ _ (λ k. WellFormed k (a .est .now)) (λ k. Unit {0}) (λ k. fill k (rowAt (2 * a .p + 1))) (λ k. put (rowAt (2 * a .p)) 7)
-    (c .before .before .before .before .before .before .before .before .fill .ensures .0) (c .before .before .mark .ensures) (λ k o x e. tt)
 
 pub admit-spec : {M : Type 1} → statement M
 admit-spec =
@@ -35,8 +24,13 @@ admit-spec =
     (λ add-fill. search needs)
     (λ fill-requires κs. search needs)
     (λ mul-mark. search needs)
-    mark-requires
+    (λ c κs.
+    let s = c .before .before .before .before .before .before .before .before .before .before in let a = s .args in
+    (omega (arith, value-in (s .pre .0) (a .p) (s .pre .1), c .before .before .before .before .before .fill .kept .0), omega (arith, s .pre .0 .wide, s .pre .0 .lead)))
     add-result
     (λ same-length. search needs)
     (λ same-length-2. search needs)
-    returns)
+    (λ c.
+    let a = c .before .before .before .before .before .before .before .before .before .before .before .before .before .args in
+    and-for (a .l) (a .est .now) _ _ _ _ (λ k. WellFormed k (a .est .now)) (λ k. Unit {0}) (λ k. fill k (rowAt (2 * a .p + 1))) (λ k. put (rowAt (2 * a .p)) 7)
+    (c .before .before .before .before .before .before .before .before .fill .ensures .0) (c .before .before .mark .ensures) (λ k o x e. tt)))

@@ -4,18 +4,6 @@ use borrow.Author.Needs.{needs}
 use Rattle.fixpoint.proofs.entry.enter.Statement.{statement}
 use Rattle.fixpoint.proofs.entry.enter.Tie as tie
 
-opens-requires : tie.Need-opens-requires
-opens-requires c κs = (c .before .before .before .pre .0, c .before .before .before .pre .3)
-
-returns : tie.Need-returns
-returns c =
-    let s = c .before .before .before .before .before in
-    let a = s .args in
-    not-entered (a .words .now) (a .rho .bits) (a .p) (a .est .now) (c .before .opens .ensures) (c .if1 .taken)
-
-let-in-requires : tie.Need-let-in-requires
-let-in-requires c κs = (c .before .before .before .before .before .before .before .pre .1, c .before .before .before .before .before .before .before .pre .3)
-
 returns-2 : tie.Need-returns-2
 returns-2 c =
     let s = c .before .before .before .before .before .before .before .before .before .before .before .before in
@@ -26,9 +14,12 @@ pub enter-spec : {M : Type 1} → statement M
 enter-spec =
     tie.close
     (tie.spec
-    opens-requires
-    returns
-    let-in-requires
+    (λ c κs. (c .before .before .before .pre .0, c .before .before .before .pre .3))
+    (λ c.
+    let s = c .before .before .before .before .before in
+    let a = s .args in
+    not-entered (a .words .now) (a .rho .bits) (a .p) (a .est .now) (c .before .opens .ensures) (c .if1 .taken))
+    (λ c κs. (c .before .before .before .before .before .before .before .pre .1, c .before .before .before .before .before .before .before .pre .3))
     (λ same-length. search needs)
     (λ same-length-2. search needs)
     returns-2)

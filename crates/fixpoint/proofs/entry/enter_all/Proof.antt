@@ -6,7 +6,8 @@ use lib.ListN.{length}
 use Rattle.table.specs.Code.{code}
 use Rattle.table.proofs.Linked.{linked}
 use Rattle.fixpoint.specs.Grown.{Grown}
-use Rattle.fixpoint.proofs.Grows.{grown-none, grown-then, entered, sized-again, few-sized}
+use Rattle.firing.proofs.EachThing.{sized-again}
+use Rattle.fixpoint.proofs.Grows.{grown-none, grown-then, entered, few-sized}
 use borrow.Author.Needs.{needs}
 use Rattle.fixpoint.proofs.entry.enter_all.Statement.{statement}
 use Rattle.fixpoint.proofs.entry.enter_all.Tie as tie
@@ -18,25 +19,19 @@ Inv-loop words links est₀ h₀ l rho size added₀ p₀ est h added p =
 abbrev μ-loop : tie.MeasureT-loop
 μ-loop words links est₀ h₀ l rho size added₀ p₀ est h added p = size - p
 
-loop-holds : tie.Need-loop-holds Inv-loop μ-loop
-loop-holds c = let a = c .before .before .before .before .args in (refl, refl, grown-none (code (a .words .now)) (a .rho .bits) (a .est .now))
-
 enter-requires : tie.Need-enter-requires Inv-loop μ-loop
 enter-requires c κs =
     let s = c .before .before .before .before .before .before .before .before in let i = c .before .before .before .loop .inv in
-    (s .pre .0, sized-again (s .args .l) (s .args .est .now) _ (s .pre .1) (i .0), i .2 .sound .well (s .pre .2), c .before .before .loop-test .taken)
+    (s .pre .0, sized-again (s .pre .1) (i .0), i .2 .sound .well (s .pre .2), c .before .before .loop-test .taken)
 
 add-added : tie.Need-add-added Inv-loop μ-loop
 add-added c =
     let s = c .before .before .before .before .before .before .before .before .before .before .before .before .before in let a = s .args in let i = c .before .before .before .before .before .before .before .before .loop in let e = c .before .before .before .before .enter in
     let step = entered (code (a .words .now)) (a .rho .bits) (linked (a .words .now) (s .pre .0 .readable)) (i .p) (omega (arith, s .pre .0 .laid .size, c .before .before .before .before .before .before .before .loop-test .taken)) (e .ensures) in
-    omega (arith, few-sized (a .l) (a .est .now) _ _ (sized-again (a .l) (a .est .now) _ (s .pre .1) (e .kept .1 .0 ∙ i .inv .0)) (grown-then (code (a .words .now)) (a .rho .bits) (i .inv .2) step .count))
+    omega (arith, few-sized (a .l) (a .est .now) _ _ (sized-again (s .pre .1) (e .kept .1 .0 ∙ i .inv .0)) (grown-then (code (a .words .now)) (a .rho .bits) (i .inv .2) step .count))
 
 past-requires : tie.Need-past-requires Inv-loop μ-loop
 past-requires c κs = omega (arith, c .before .before .before .before .before .before .before .before .before .before .before .before .before .pre .1 .size, c .before .before .before .before .before .before .before .loop-test .taken)
-
-loop-less : tie.Need-loop-less Inv-loop μ-loop
-loop-less c = omega (arith, c .before .before .before .before .before .before .before .before .loop-test .taken, c .past .ensures)
 
 loop-again : tie.Need-loop-again Inv-loop μ-loop
 loop-again c =
@@ -47,28 +42,19 @@ loop-again c =
           (entered (code (a .words .now)) (a .rho .bits) (linked (a .words .now) (s .pre .0 .readable)) (i .p) (omega (arith, s .pre .0 .laid .size, c .before .before .before .before .before .before .before .before .loop-test .taken)) (e .ensures)),
     )
 
-same-length : tie.Need-same-length Inv-loop μ-loop
-same-length c = c .before .loop .inv .0
-
-same-length-2 : tie.Need-same-length-2 Inv-loop μ-loop
-same-length-2 c = c .before .loop .inv .1
-
-returns : tie.Need-returns Inv-loop μ-loop
-returns c = c .before .loop .inv .2
-
 pub enter-all-spec : {M : Type 1} → statement M
 enter-all-spec =
     tie.close
     (tie.spec
     Inv-loop
     μ-loop
-    loop-holds
+    (λ c. let a = c .before .before .before .before .args in (refl, refl, grown-none (code (a .words .now)) (a .rho .bits) (a .est .now)))
     enter-requires
     add-added
     (λ add-past. search needs)
     past-requires
-    loop-less
+    (λ c. omega (arith, c .before .before .before .before .before .before .before .before .loop-test .taken, c .past .ensures))
     loop-again
-    same-length
-    same-length-2
-    returns)
+    (λ c. c .before .loop .inv .0)
+    (λ c. c .before .loop .inv .1)
+    (λ c. c .before .loop .inv .2))

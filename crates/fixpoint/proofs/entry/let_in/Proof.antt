@@ -7,15 +7,10 @@ use Rattle.calculus.specs.Layout.{WellFormed}
 use Rattle.clauses.specs.Asks.{rowAt}
 use Rattle.firing.proofs.Fires.{in-for, and-for, sum-fits}
 use Rattle.firing.proofs.Deliver.{live-well}
-use Rattle.fixpoint.proofs.Grows.{sized-again}
+use Rattle.firing.proofs.EachThing.{sized-again}
 use borrow.Author.Needs.{needs}
 use Rattle.fixpoint.proofs.entry.let_in.Statement.{statement}
 use Rattle.fixpoint.proofs.entry.let_in.Tie as tie
-
-admit-requires : tie.Need-admit-requires
-admit-requires c κs =
-    let s = c .before .before .before .before .before .before .before .before .before .before .before in
-    (sized-again (s .args .l) (s .args .est .now) _ (s .pre .0) (c .before .before .before .before .before .before .wake .kept .0), s .pre .1)
 
 add-result : tie.Need-add-result
 add-result c =
@@ -35,7 +30,9 @@ let-in-spec =
     tie.close
     (tie.spec
     (λ wake-requires κs. search needs)
-    admit-requires
+    (λ c κs.
+    let s = c .before .before .before .before .before .before .before .before .before .before .before in
+    (sized-again (s .pre .0) (c .before .before .before .before .before .before .wake .kept .0), s .pre .1))
     add-result
     (λ same-length. search needs)
     (λ same-length-2. search needs)

@@ -25,18 +25,16 @@ loop-holds c =
     let a = s .args in
     (refl, refl, omega arith, λ ρ. grown-none (code (a .words .now)) ρ (a .est .now), λ k z. tried-none (a .words .now) (a .links .now) (a .p) (a .est .now))
 
-pick-requires : tie.Need-pick-requires Inv-loop μ-loop
-pick-requires c κs = omega (arith, c .before .before .loop-test .taken, c .before .before .before .before .number .ensures .0)
-
 take-requires : tie.Need-take-requires Inv-loop μ-loop
-take-requires c κs = (c .before .before .before .before .before .before .before .before .before .before .before .before .pre .0, c .before .before .before .before .loop .inv .3 0 .sound .well (c .before .before .before .before .before .before .before .before .before .before .before .before .pre .1))
+take-requires c κs =
+    (c .before .before .before .before .before .before .before .before .before .before .before .before .pre .0, c .before .before .before .before .loop .inv .3 0 .sound .well (c .before .before .before .before .before .before .before .before .before .before .before .before .pre .1))
 
 add-added : tie.Need-add-added Inv-loop μ-loop
 add-added c =
     let s = c .before .before .before .before .before .before .before .before .before .before .before .before .before .before .before .before .before in
     let a = s .args in
     let g = grown-then (code (a .words .now)) 0 (c .before .before .before .before .before .before .before .before .before .loop .inv .3 0) (c .before .before .before .before .take .ensures .stepped 0) in
-    omega (arith, few-facts (a .words .now) (a .links .now) (a .masks .now) (a .l) (s .pre .0) (a .est .now) _ _ (g .sound .well (s .pre .1)) (g .count))
+    omega (arith, few-facts (s .pre .0) (a .est .now) _ (g .sound .well (s .pre .1)) (g .count))
 
 same-length : tie.Need-same-length Inv-loop μ-loop
 same-length c = c .before .before .before .before .before .take .kept .1 .1 .1 .0 ∙ c .before .before .before .before .before .before .before .before .before .before .loop .inv .0
@@ -45,13 +43,11 @@ same-length-2 : tie.Need-same-length-2 Inv-loop μ-loop
 same-length-2 c = c .before .before .before .before .before .take .kept .1 .1 .1 .1 .0 ∙ c .before .before .before .before .before .before .before .before .before .before .loop .inv .1
 
 returns : tie.Need-returns Inv-loop μ-loop
-returns c = record { stepped = λ ρ. grown-then (code (c .before .before .before .before .before .before .before .before .before .before .before .before .before .before .before .before .before .before .args .words .now)) ρ (c .before .before .before .before .before .before .before .before .before .before .loop .inv .3 ρ) (c .before .before .before .before .before .take .ensures .stepped ρ); nothing = λ k z. absurd (omega (arith, z, c .if1 .taken)) }
+returns c =
+    record { stepped = λ ρ. grown-then (code (c .before .before .before .before .before .before .before .before .before .before .before .before .before .before .before .before .before .before .args .words .now)) ρ (c .before .before .before .before .before .before .before .before .before .before .loop .inv .3 ρ) (c .before .before .before .before .before .take .ensures .stepped ρ); nothing = λ k z. absurd (omega (arith, z, c .if1 .taken)) }
 
 add-i : tie.Need-add-i Inv-loop μ-loop
 add-i c = omega (arith, c .before .before .before .before .before .before .before .before .before .loop-test .taken, c .before .before .before .before .before .before .before .before .before .before .before .number .ensures .0)
-
-loop-less : tie.Need-loop-less Inv-loop μ-loop
-loop-less c = omega (arith, c .before .before .before .before .before .before .before .before .before .loop-test .taken)
 
 loop-again : tie.Need-loop-again Inv-loop μ-loop
 loop-again c =
@@ -63,15 +59,9 @@ loop-again c =
       u .take .kept .1 .1 .1 .1 .0 ∙ t .loop .inv .1,
       omega (arith, c .before .before .before .before .before .before .before .before .before .loop-test .taken),
       λ ρ. grown-then (code (a .words .now)) ρ (t .loop .inv .3 ρ) (u .take .ensures .stepped ρ),
-      λ k. tried-more (a .words .now) (a .links .now) (a .masks .now) (a .l) (s .pre .0) (a .p) k (a .est .now) (s .pre .1) (t .loop .i) (t .loop .est) _ _ _ (t .loop .inv .4 k)
-          (taken-fired (a .words .now) (a .links .now) (a .masks .now) (a .l) (s .pre .0) (a .p) k (a .est .now) (s .pre .1) _ (t .loop .i) _ _ _ (c .before .before .before .before .before .before .pick .ensures (omega (arith, k, sized (a .words .now) (a .links .now) (a .masks .now) (a .l) (s .pre .0) (a .est .now) (s .pre .1) .size))) (u .take .ensures)),
+      λ k. tried-more (s .pre .0) (a .p) k (s .pre .1) (t .loop .i) (t .loop .est) _ _ _ (t .loop .inv .4 k)
+          (taken-fired (s .pre .0) (a .p) k (s .pre .1) _ (t .loop .i) _ _ _ (c .before .before .before .before .before .before .pick .ensures (omega (arith, k, sized (s .pre .0) (s .pre .1) .size))) (u .take .ensures)),
     )
-
-same-length-3 : tie.Need-same-length-3 Inv-loop μ-loop
-same-length-3 c = c .before .loop .inv .0
-
-same-length-4 : tie.Need-same-length-4 Inv-loop μ-loop
-same-length-4 c = c .before .loop .inv .1
 
 returns-2 : tie.Need-returns-2 Inv-loop μ-loop
 returns-2 c =
@@ -82,7 +72,7 @@ returns-2 c =
       nothing =
           λ k z.
           let h : a .p < a .l .size = omega (arith, k, s .pre .0 .laid .size) in
-          tried-all (a .words .now) (a .links .now) (a .masks .now) (a .l) (s .pre .0) (a .p) h (a .est .now) (s .pre .1) (c .before .loop .i) (omega (arith, c .loop-test .left, c .before .before .number .ensures .1 (omega (arith, h, sized (a .words .now) (a .links .now) (a .masks .now) (a .l) (s .pre .0) (a .est .now) (s .pre .1) .size)))) (c .before .loop .est) (c .before .loop .inv .4 h z);
+          tried-all (s .pre .0) (a .p) h (s .pre .1) (c .before .loop .i) (omega (arith, c .loop-test .left, c .before .before .number .ensures .1 (omega (arith, h, sized (s .pre .0) (s .pre .1) .size)))) (c .before .loop .est) (c .before .loop .inv .4 h z);
     }
 
 pub drain-spec : {M : Type 1} → statement M
@@ -93,15 +83,15 @@ drain-spec =
     μ-loop
     (λ number-requires κs. search needs)
     loop-holds
-    pick-requires
+    (λ c κs. omega (arith, c .before .before .loop-test .taken, c .before .before .before .before .number .ensures .0))
     take-requires
     add-added
     same-length
     same-length-2
     returns
     add-i
-    loop-less
+    (λ c. omega (arith, c .before .before .before .before .before .before .before .before .before .loop-test .taken))
     loop-again
-    same-length-3
-    same-length-4
+    (λ c. c .before .loop .inv .0)
+    (λ c. c .before .loop .inv .1)
     returns-2)

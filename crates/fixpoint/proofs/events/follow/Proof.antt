@@ -26,18 +26,16 @@ loop-holds c =
     let a = s .args in
     (refl, refl, refl, omega arith, λ ρ. grown-none (code (a .words .now)) ρ (a .est .now), toward-start (a .words .now) (a .links .now) (a .p) (a .est .now), λ z. absurd (omega (arith, z)))
 
-sub-drain : tie.Need-sub-drain Inv-loop μ-loop
-sub-drain c = c .before .before .before .before .loop .inv .3
-
 drain-requires : tie.Need-drain-requires Inv-loop μ-loop
-drain-requires c κs = (c .before .before .before .before .before .before .before .before .before .before .before .pre .0, c .before .before .before .before .loop .inv .4 0 .sound .well (c .before .before .before .before .before .before .before .before .before .before .before .pre .1))
+drain-requires c κs =
+    (c .before .before .before .before .before .before .before .before .before .before .before .pre .0, c .before .before .before .before .loop .inv .4 0 .sound .well (c .before .before .before .before .before .before .before .before .before .before .before .pre .1))
 
 add-added : tie.Need-add-added Inv-loop μ-loop
 add-added c =
     let s = c .before .before .before .before .before .before .before .before .before .before .before .before .before .before .before .before in
     let a = s .args in
     let g = grown-then (code (a .words .now)) 0 (c .before .before .before .before .before .before .before .before .before .loop .inv .4 0) (c .before .before .before .before .drain .ensures .stepped 0) in
-    omega (arith, few-facts (a .words .now) (a .links .now) (a .masks .now) (a .l) (s .pre .0) (a .est .now) _ _ (g .sound .well (s .pre .1)) (g .count))
+    omega (arith, few-facts (s .pre .0) (a .est .now) _ (g .sound .well (s .pre .1)) (g .count))
 
 same-length : tie.Need-same-length Inv-loop μ-loop
 same-length c = c .before .before .before .before .before .drain .kept .1 .1 .1 .0 ∙ c .before .before .before .before .before .before .before .before .before .before .loop .inv .0
@@ -45,23 +43,24 @@ same-length c = c .before .before .before .before .before .drain .kept .1 .1 .1 
 same-length-2 : tie.Need-same-length-2 Inv-loop μ-loop
 same-length-2 c = c .before .before .before .before .before .drain .kept .1 .1 .1 .1 .0 ∙ c .before .before .before .before .before .before .before .before .before .before .loop .inv .1
 
-same-length-3 : tie.Need-same-length-3 Inv-loop μ-loop
-same-length-3 c = c .before .before .before .before .before .before .before .before .before .before .loop .inv .2
-
 returns : tie.Need-returns Inv-loop μ-loop
 returns c = c .before .before .before .before .before .before .before .before .before .before .loop .inv .5 _ _ (c .before .before .before .before .before .drain .ensures)
 
 same-length-4 : tie.Need-same-length-4 Inv-loop μ-loop
-same-length-4 c = c .before .before .before .before .before .before .before .before .before .before .before .before .before .before .drain .kept .1 .1 .1 .0 ∙ c .before .before .before .before .before .before .before .before .before .before .before .before .before .before .before .before .before .before .before .loop .inv .0
+same-length-4 c =
+    c .before .before .before .before .before .before .before .before .before .before .before .before .before .before .drain .kept .1 .1 .1 .0 ∙ c .before .before .before .before .before .before .before .before .before .before .before .before .before .before .before .before .before .before .before .loop .inv .0
 
 same-length-5 : tie.Need-same-length-5 Inv-loop μ-loop
-same-length-5 c = c .before .before .before .before .before .next .kept .1 .1 .1 .1 .0 ∙ c .before .before .before .before .before .before .before .before .before .before .before .before .before .before .drain .kept .1 .1 .1 .1 .0 ∙ c .before .before .before .before .before .before .before .before .before .before .before .before .before .before .before .before .before .before .before .loop .inv .1
+same-length-5 c =
+    c .before .before .before .before .before .next .kept .1 .1 .1 .1 .0 ∙ c .before .before .before .before .before .before .before .before .before .before .before .before .before .before .drain .kept .1 .1 .1 .1 .0 ∙ c .before .before .before .before .before .before .before .before .before .before .before .before .before .before .before .before .before .before .before .loop .inv .1
 
 same-length-6 : tie.Need-same-length-6 Inv-loop μ-loop
-same-length-6 c = c .before .before .before .before .before .next .kept .1 .1 .1 .1 .1 .0 ∙ c .before .before .before .before .before .before .before .before .before .before .before .before .before .before .before .before .before .before .before .loop .inv .2
+same-length-6 c =
+    c .before .before .before .before .before .next .kept .1 .1 .1 .1 .1 .0 ∙ c .before .before .before .before .before .before .before .before .before .before .before .before .before .before .before .before .before .before .before .loop .inv .2
 
 returns-2 : tie.Need-returns-2 Inv-loop μ-loop
-returns-2 c = c .before .before .before .before .before .before .before .before .before .before .before .before .before .before .before .before .before .before .before .loop .inv .5 _ _ (c .before .before .before .before .before .before .before .before .before .before .before .before .before .before .drain .ensures)
+returns-2 c =
+    c .before .before .before .before .before .before .before .before .before .before .before .before .before .before .before .before .before .before .before .loop .inv .5 _ _ (c .before .before .before .before .before .before .before .before .before .before .before .before .before .before .drain .ensures)
 
 sub-left : tie.Need-sub-left Inv-loop μ-loop
 sub-left c = omega (arith, c .before .before .before .before .before .before .before .before .before .before .before .before .before .before .before .before .before .before .loop-test .taken)
@@ -84,21 +83,12 @@ loop-again c =
       λ z. omega arith,
     )
 
-same-length-7 : tie.Need-same-length-7 Inv-loop μ-loop
-same-length-7 c = c .before .loop .inv .0
-
-same-length-8 : tie.Need-same-length-8 Inv-loop μ-loop
-same-length-8 c = c .before .loop .inv .1
-
-same-length-9 : tie.Need-same-length-9 Inv-loop μ-loop
-same-length-9 c = c .before .loop .inv .2
-
 returns-3 : tie.Need-returns-3 Inv-loop μ-loop
 returns-3 c =
     let s = c .before .before .before .before .before .before .before .before in
     let a = s .args in
     toward-end (a .words .now) (a .links .now) (a .p) (a .est .now) (c .before .loop .first) (c .before .loop .est) _ (c .before .loop .inv .5)
-    (omega (arith, c .before .loop .inv .6 (omega (arith, c .loop-test .left)), s .pre .0 .laid .size, sized (a .words .now) (a .links .now) (a .masks .now) (a .l) (s .pre .0) (a .est .now) (s .pre .1) .size))
+    (omega (arith, c .before .loop .inv .6 (omega (arith, c .loop-test .left)), s .pre .0 .laid .size, sized (s .pre .0) (s .pre .1) .size))
 
 pub follow-spec : {M : Type 1} → statement M
 follow-spec =
@@ -107,12 +97,12 @@ follow-spec =
     Inv-loop
     μ-loop
     loop-holds
-    sub-drain
+    (λ c. c .before .before .before .before .loop .inv .3)
     drain-requires
     add-added
     same-length
     same-length-2
-    same-length-3
+    (λ c. c .before .before .before .before .before .before .before .before .before .before .loop .inv .2)
     returns
     (λ next-requires κs. search needs)
     same-length-4
@@ -122,7 +112,7 @@ follow-spec =
     sub-left
     loop-less
     loop-again
-    same-length-7
-    same-length-8
-    same-length-9
+    (λ c. c .before .loop .inv .0)
+    (λ c. c .before .loop .inv .1)
+    (λ c. c .before .loop .inv .2)
     returns-3)

@@ -23,17 +23,15 @@ abbrev μ-loop : tie.MeasureT-loop
 loop-holds : tie.Need-loop-holds Inv-loop μ-loop
 loop-holds c = let a = c .before .before .before .before .before .before .args in (refl, refl, refl, omega arith, omega arith, λ ρ. grown-none (code (a .words .now)) ρ (a .est .now), λ z q h. absurd (omega arith))
 
-sub-follow : tie.Need-sub-follow Inv-loop μ-loop
-sub-follow c = c .before .before .before .before .loop .inv .4
-
 follow-requires : tie.Need-follow-requires Inv-loop μ-loop
-follow-requires c κs = (c .before .before .before .before .before .before .before .before .before .before .before .pre .0, c .before .before .before .before .loop .inv .5 0 .sound .well (c .before .before .before .before .before .before .before .before .before .before .before .pre .1))
+follow-requires c κs =
+    (c .before .before .before .before .before .before .before .before .before .before .before .pre .0, c .before .before .before .before .loop .inv .5 0 .sound .well (c .before .before .before .before .before .before .before .before .before .before .before .pre .1))
 
 add-added : tie.Need-add-added Inv-loop μ-loop
 add-added c =
     let s = c .before .before .before .before .before .before .before .before .before .before .before .before .before .before .before .before .before .before in let a = s .args in
     let g = grown-then (code (a .words .now)) 0 (c .before .before .before .before .before .before .before .before .before .before .before .loop .inv .5 0) (c .before .before .before .before .before .before .follow .ensures .stepped 0) in
-    omega (arith, few-facts (a .words .now) (a .links .now) (a .masks .now) (a .l) (s .pre .0) (a .est .now) _ _ (g .sound .well (s .pre .1)) (g .count))
+    omega (arith, few-facts (s .pre .0) (a .est .now) _ (g .sound .well (s .pre .1)) (g .count))
 
 same-length : tie.Need-same-length Inv-loop μ-loop
 same-length c = c .before .before .before .before .before .before .before .follow .kept .1 .1 .1 .0 ∙ c .before .before .before .before .before .before .before .before .before .before .before .before .loop .inv .0
@@ -52,9 +50,6 @@ returns c =
       nothing = λ z. absurd (omega (arith, z, c .if1 .taken));
     }
 
-loop-less : tie.Need-loop-less Inv-loop μ-loop
-loop-less c = omega (arith, c .before .before .before .before .before .before .before .before .before .before .before .loop-test .taken)
-
 loop-again : tie.Need-loop-again Inv-loop μ-loop
 loop-again c =
     let t = c .before .before .before .before .before .before .before .before .before .before .before .before in
@@ -70,15 +65,6 @@ loop-again c =
           (omega (arith, c .before .before .before .before .before .before .before .before .before .before .before .loop-test .taken, s .pre .0 .laid .size)) (i .inv .5) (i .inv .6) (f .ensures),
     )
 
-same-length-4 : tie.Need-same-length-4 Inv-loop μ-loop
-same-length-4 c = c .before .loop .inv .0
-
-same-length-5 : tie.Need-same-length-5 Inv-loop μ-loop
-same-length-5 c = c .before .loop .inv .1
-
-same-length-6 : tie.Need-same-length-6 Inv-loop μ-loop
-same-length-6 c = c .before .loop .inv .2
-
 returns-2 : tie.Need-returns-2 Inv-loop μ-loop
 returns-2 c =
     let s = c .before .before .before .before .before .before .before .before in let i = c .before .loop in
@@ -91,7 +77,7 @@ follow-all-spec =
     Inv-loop
     μ-loop
     loop-holds
-    sub-follow
+    (λ c. c .before .before .before .before .loop .inv .4)
     follow-requires
     add-added
     same-length
@@ -99,9 +85,9 @@ follow-all-spec =
     same-length-3
     returns
     (λ add-p. search needs)
-    loop-less
+    (λ c. omega (arith, c .before .before .before .before .before .before .before .before .before .before .before .loop-test .taken))
     loop-again
-    same-length-4
-    same-length-5
-    same-length-6
+    (λ c. c .before .loop .inv .0)
+    (λ c. c .before .loop .inv .1)
+    (λ c. c .before .loop .inv .2)
     returns-2)

@@ -5,16 +5,10 @@ use borrow.Author.Needs.{needs}
 use Rattle.fixpoint.proofs.events.number.Statement.{statement}
 use Rattle.fixpoint.proofs.events.number.Tie as tie
 
-returns : tie.Need-returns
-returns c = (omega arith, λ h. refl)
-
-returns-2 : tie.Need-returns-2
-returns-2 c = (c .count .ensures .1, λ h. absurd (omega (arith, h, c .before .if1 .left)))
-
 pub number-spec : {M : Type 1} → statement M
 number-spec =
     tie.close
     (tie.spec
     (λ count-requires κs. search needs)
-    returns
-    returns-2)
+    (λ c. (omega arith, λ h. refl))
+    (λ c. (c .count .ensures .1, λ h. absurd (omega (arith, h, c .before .if1 .left)))))

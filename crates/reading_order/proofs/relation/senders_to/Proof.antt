@@ -43,7 +43,7 @@ add-has c = let s = c .before .before .before .before .before .before .pre .0 in
 has-requires : tie.Need-has-requires Inv-loop μ-loop
 has-requires c κs =
     let s = c .before .before .before .before .before .before in
-    (value-in (s .args .l) (s .args .est .now) (s .pre .0) (s .args .b) (s .pre .2), omega (arith, inside c, s .pre .0 .wide))
+    (value-in (s .pre .0) (s .args .b) (s .pre .2), omega (arith, inside c, s .pre .0 .wide))
 
 shifted-requires : tie.Need-shifted-requires Inv-loop μ-loop
 shifted-requires c κs =

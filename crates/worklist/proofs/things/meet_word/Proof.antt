@@ -14,9 +14,6 @@ Inv-loop h₀ out₀ n kind d p f members bits₀ h out bits = (length h ≡ len
 abbrev μ-loop : tie.MeasureT-loop
 μ-loop h₀ out₀ n kind d p f members bits₀ h out bits = bits
 
-loop-less : tie.Need-loop-less Inv-loop μ-loop
-loop-less c = let b = c .before .before .before .before .before .before .before .before .before .loop .bits in omega (arith, and-le-r b (b - 1))
-
 pub meet-word-spec : {M : Type 1} → statement M
 meet-word-spec =
     tie.close
@@ -28,7 +25,7 @@ meet-word-spec =
     (λ add-g. search needs)
     (λ meet-once-requires κs. search needs)
     (λ sub-bits. search needs)
-    loop-less
+    (λ c. let b = c .before .before .before .before .before .before .before .before .before .loop .bits in omega (arith, and-le-r b (b - 1)))
     (λ loop-again. search needs)
     (λ same-length. search needs)
     (λ same-length-2. search needs)
