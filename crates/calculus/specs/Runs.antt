@@ -139,6 +139,10 @@ going =
     ∷ false-of (0x1b000002 ∷ 0x12000001 ∷ 0x13000001 ∷ [])
     ∷ false-of (0x1b000002 ∷ 0x10000001 ∷ 0x11000001 ∷ [])
     ∷ false-of (0x1b000002 ∷ 0x12000001 ∷ 0x12000002 ∷ [])
+    -- two numbers of one sign are told apart: 1 and 2, -1 and -2; -1 is itself
+    ∷ false-of (0x1b000002 ∷ 0x11000001 ∷ 0x11000002 ∷ [])
+    ∷ false-of (0x1b000002 ∷ 0x11ffffff ∷ 0x11fffffe ∷ [])
+    ∷ gives (0x11ffffff ∷ []) (0x11ffffff ∷ [])
     -- assign gives the value, and the cell has it afterwards; a read gives what a new cell was made with
     ∷ true-of (0x22000000 ∷ 0x20000000 ∷ 0x10000003 ∷ 0x10000002 ∷ [])
     ∷ true-of (0x17000000 ∷ 0x20000000 ∷ 0x10000003 ∷ 0x18000000 ∷ 0x22000000 ∷ 0x14000000 ∷ 0x10000002 ∷ 0x21000000 ∷ 0x14000000 ∷ [])
@@ -166,6 +170,9 @@ opposing =
     ∷ branched (atom (text 0)) (0x1b000002 ∷ 0x14000000 ∷ 0x12000000 ∷ []) 1
     ∷ branched (atom (text 99)) (0x1b000002 ∷ 0x14000000 ∷ 0x14000000 ∷ []) 1
     ∷ branched (atom (text 99)) (0x1b000002 ∷ 0x14000000 ∷ 0x12000016 ∷ []) 2
+    -- two strings that are none, in the fields of a record, are told apart
+    ∷ branched (fields (field 0 (atom (text 98)) (field 1 (atom (text 99)) empty)))
+    (0x1b000002 ∷ 0x1d000000 ∷ 0x14000000 ∷ 0x12000000 ∷ 0x1d000000 ∷ 0x14000000 ∷ 0x12000001 ∷ []) 2
     -- each constant
     ∷ branched undefined (0x1b000002 ∷ 0x14000000 ∷ 0x10000000 ∷ []) 1
     ∷ branched unit (0x1b000002 ∷ 0x14000000 ∷ 0x10000001 ∷ []) 1

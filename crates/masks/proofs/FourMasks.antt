@@ -8,12 +8,12 @@ use native.Mathlib.Decide.{decLt, ℕ-discrete}
 use native.Mathlib.Omega.{arith}
 use borrow.Author.Tests.{lt-ltb, le-ltb, eqb-true, eq-eqb}
 use lib.Dec.{T, eqb, ltb, ltb→lt, lt→ltb, lit<}
-use lib.ListN.{length, getD, take, drop, replicate}
+use lib.ListN.{length, getD, take, drop, replicate, length-replicate}
 use Rattle.permset.specs.Sets.{member}
 use Rattle.permset.proofs.Laws.{member-empty}
 use Rattle.table.specs.Scan.{accepted, reading}
 use Rattle.table.specs.Code.{Code, code}
-use Rattle.calculus.specs.Elements.{plain, makes}
+use Rattle.calculus.specs.Elements.{plain, elements, makes}
 use Rattle.calculus.specs.Layout.{bit, mark, rowWords, Words}
 use Rattle.calculus.proofs.Digits.{T-and, T-fst, T-snd, T-true}
 use Rattle.calculus.proofs.Slices.{pour-words, pour-adds, pour-new, pour-has, length-mark, mark-words, mark-new, mark-has}
@@ -23,8 +23,8 @@ use Rattle.rows.proofs.Full.{full, full-bit, full-words, full-short}
 use Rattle.masks.specs.declared.Sort.{Sort}
 use Rattle.masks.specs.declared.Sort.the-variants as sorts
 use Rattle.rows.specs.Mask.{Mask}
-use Rattle.masks.specs.Masks.{Masked, property, makingNumber, wordMakes, sortHas, markIf, markWord, plainMasks, firstWord, Filled}
-use Rattle.masks.proofs.Sorts.{plainHas, plain-property, made-property, word-making, and-yes, and-no, both, if-at, if-other, if-length, if-words, mask-part}
+use Rattle.masks.specs.Masks.{Masked, property, makingNumber, wordMakes, sortHas, markIf, markWord, plainMasks, firstWord, Filled, FilledIn}
+use Rattle.masks.proofs.Sorts.{plainHas, plain-property, made-property, word-making, and-yes, and-no, both, pour-rest, mark-rest, if-at, if-other, if-length, if-rest, if-words, mask-part}
 
 -- ---- the plain elements
 
@@ -57,6 +57,12 @@ module _ (zeros : List ℕ) (row lead : ℕ) (z : (k : ℕ) → getD zeros k 0 �
   plain-sent v h =
       pour-has (mark zeros (32 * row + 7)) (3 * row) (replicate lead full) v (omega (arith, length-mark zeros (32 * row + 7)))
       (full-bit lead v h)
+
+  pub plain-rest : drop (4 * row) (plainMasks row lead zeros) ≡ drop (4 * row) zeros
+  unfolding plainMasks
+  plain-rest =
+      pour-rest (mark zeros (32 * row + 7)) (3 * row) (replicate lead full) (4 * row) (omega (arith, length-replicate lead full))
+      ∙ mark-rest zeros (32 * row + 7) (4 * row) (omega arith)
 
   abbrev below : ℕ → Bool
   below v = ltb v (32 * lead)
@@ -116,6 +122,14 @@ module _ (ws : List ℕ) (row v m : ℕ) (inside : v < 32 * row) (room : 4 * row
       if-words three (96 * row + v) (sortHas sorts.Message m)
       (if-words two (64 * row + v) (sortHas sorts.Cell m)
       (if-words one (32 * row + v) (sortHas sorts.Record m) (if-words ws v (sortHas sorts.Function m) w)))
+
+  pub word-rest : drop (4 * row) (markWord row v m ws) ≡ drop (4 * row) ws
+  unfolding markWord
+  word-rest =
+      if-rest three (96 * row + v) (sortHas sorts.Message m) (4 * row) (omega arith)
+      ∙ if-rest two (64 * row + v) (sortHas sorts.Cell m) (4 * row) (omega arith)
+      ∙ if-rest one (32 * row + v) (sortHas sorts.Record m) (4 * row) (omega arith)
+      ∙ if-rest ws v (sortHas sorts.Function m) (4 * row) (omega arith)
 
   -- a digit that a sort leaves alone
   module _ (d : ℕ) where
@@ -236,7 +250,7 @@ module _ (c : Code) (masks : List ℕ) (l : Layout) (o : LaidOut c l) where
         (λ v b. f .digits s v (omega (arith, lead-fits, o .lead))
         ∙ sym (and-yes (ltb v (32 * l .lead + c .size)) _ (lt-ltb v (32 * l .lead + c .size) (omega (arith, o .lead)))))
 
-    pub masked : Masked c masks (l .row)
+    masked : Masked c masks (l .row)
     unfolding property firstWord
     masked =
         record {
@@ -245,3 +259,8 @@ module _ (c : Code) (masks : List ℕ) (l : Layout) (o : LaidOut c l) where
           cells = row-mask sorts.Cell (omega arith);
           messages = row-mask sorts.Message (omega arith);
         }
+
+    pub filled-in : (zeros : List ℕ) → drop (4 * l .row) masks ≡ drop (4 * l .row) zeros → FilledIn c (l .row) zeros masks
+    filled-in zeros e =
+        let n : 32 * l .lead + c .size ≡ elements c = omega (arith, o .lead) in
+        record { masked = masked; filled = subst (λ (n : ℕ). Filled c (l .row) n masks) n f; rest = e }

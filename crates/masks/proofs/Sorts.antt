@@ -1,8 +1,8 @@
 -- The sorts of elements: by what a word's item makes, and digits set in a list of words.
-use Prim.Native.Nat.{ℕ, _+_, _-_, _*_, _/_, _%_, _≤_, _<_}
+use Prim.Native.Nat.{ℕ, zero, suc, _+_, _-_, _*_, _/_, _%_, _^_, _≤_, _<_}
 use mathlib.Core.Path.{_≡_, refl, sym, ap, ap₂, _∙_}
 use mathlib.Core.Bool.{Bool, true, false, not, _&&_, _||_}
-use mathlib.Core.List.{List, map}
+use mathlib.Core.List.{List, [], _∷_, map}
 use mathlib.Core.Logic.{⊎-elim}
 use native.Mathlib.Decide.{decLt, ℕ-discrete}
 use native.Mathlib.Omega.{arith}
@@ -23,7 +23,7 @@ use Rattle.table.proofs.Items.{item-block, item-gap, item-term}
 use Rattle.table.proofs.Nodes.{itemNode, node-item}
 use Rattle.calculus.specs.Elements.{Making, nothing, aFunction, aRecord, aCell, leafMakes, oneMakes, makes, making, plain, elements, isFunction, isRecord, isCell}
 use Rattle.calculus.specs.Elements.{sendable, anyRecord}
-use Rattle.calculus.specs.Layout.{bit, mark, rowWords, Words}
+use Rattle.calculus.specs.Layout.{bit, mark, pour, rowWords, Words}
 use Rattle.calculus.proofs.Digits.{T-true}
 use Rattle.calculus.proofs.Slices.{length-mark, mark-words, mark-adds, mark-new, mark-has, part-words}
 use Rattle.masks.specs.declared.Sort.{Sort}
@@ -168,6 +168,20 @@ both true false f g = absurd (f tt)
 both false true f g = absurd (g tt)
 both false false f g = refl
 
+-- the words from k on, behind what is or-ed in
+pub pour-rest : (ws : List ℕ) (at : ℕ) (xs : List ℕ) (k : ℕ) → at + length xs ≤ k → drop k (pour ws at xs) ≡ drop k ws
+unfolding pour
+pour-rest [] at xs k h = refl
+pour-rest (w ∷ ws) zero [] k h = refl
+pour-rest (w ∷ ws) zero (x ∷ xs) zero h = absurd (omega arith)
+pour-rest (w ∷ ws) zero (x ∷ xs) (suc k) h = pour-rest ws zero xs k (omega arith)
+pour-rest (w ∷ ws) (suc at) xs zero h = absurd (omega arith)
+pour-rest (w ∷ ws) (suc at) xs (suc k) h = pour-rest ws at xs k (omega arith)
+
+pub mark-rest : (ws : List ℕ) (n k : ℕ) → n < 32 * k → drop k (mark ws n) ≡ drop k ws
+unfolding mark
+mark-rest ws n k h = pour-rest ws (n / 32) (2 ^ (n % 32) ∷ []) k (omega arith)
+
 module _ (ws : List ℕ) (n : ℕ) where
   if-same : (b : Bool) → n < 32 * length ws → bit ws n ≡ false → bit (markIf b ws n) n ≡ b
   unfolding markIf
@@ -184,6 +198,11 @@ module _ (ws : List ℕ) (n : ℕ) where
   unfolding markIf
   if-length true = length-mark ws n
   if-length false = refl
+
+  pub if-rest : (b : Bool) (k : ℕ) → n < 32 * k → drop k (markIf b ws n) ≡ drop k ws
+  unfolding markIf
+  if-rest true k h = mark-rest ws n k h
+  if-rest false k h = refl
 
   pub if-words : (b : Bool) → Words ws → Words (markIf b ws n)
   unfolding markIf

@@ -7,7 +7,7 @@ use lib.Dec.{eqb, ltb}
 use lib.ListN.{getD, take, drop, replicate}
 use Rattle.table.specs.Words.{kind, firstKind}
 use Rattle.table.specs.Code.{Code}
-use Rattle.calculus.specs.Elements.{Making, nothing, aFunction, aRecord, aCell, isFunction, isCell, sendable, anyRecord}
+use Rattle.calculus.specs.Elements.{Making, nothing, aFunction, aRecord, aCell, isFunction, isCell, sendable, anyRecord, elements}
 use Rattle.calculus.specs.Layout.{bit, mark, pour, Words}
 use Rattle.masks.specs.declared.Sort.{Sort}
 use Rattle.masks.specs.declared.Sort.the-variants as sorts
@@ -85,3 +85,9 @@ firstWord sorts.Message row = 3 * row
 pub record Filled (c : Code) (row n : ℕ) (masks : List ℕ) : Type 0 where
   pub words : Words masks
   pub digits : (s : Sort) (v : ℕ) → v < 32 * row → bit masks (32 * firstWord s row + v) ≡ (ltb v n && property s c v)
+
+-- every word of a slice of zeros into which the masks were filled: the four masks, in whose rows no other digit is set, and the words behind them as they were
+pub record FilledIn (c : Code) (row : ℕ) (old new : List ℕ) : Type 0 where
+  pub masked : Masked c new row
+  pub filled : Filled c row (elements c) new
+  pub rest : drop (4 * row) new ≡ drop (4 * row) old

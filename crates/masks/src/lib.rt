@@ -5,13 +5,13 @@ use rows::row::set;
 use table::kind_of;
 ghost use mathlib.Core.Path.{_≡_};
 ghost use Prim.Native.Nat.{ℕ, _+_, _*_, _<_, _≤_};
-ghost use lib.ListN.{length, getD, replicate};
+ghost use lib.ListN.{length, getD, drop, replicate};
 ghost use Rattle.table.specs.Scan.{accepted, reading};
 ghost use Rattle.table.specs.Code.{code};
 ghost use Rattle.calculus.specs.Elements.{plain};
 ghost use Rattle.calculus.specs.Layout.{mark, pour};
 ghost use Rattle.rows.specs.Laid.{LaidOut};
-ghost use Rattle.masks.specs.Masks.{Masked, wordMakes, sortHas, markIf, markWord, plainMasks, Filled};
+ghost use Rattle.masks.specs.Masks.{wordMakes, sortHas, markIf, markWord, plainMasks, Filled, FilledIn};
 
 // The sorts of elements, in the order of their masks.
 pub enum Sort {
@@ -92,7 +92,8 @@ fn fill_made(words: &[u32], masks: &mut [u32], row: usize, first: usize)
     requires { ⌜ (reading (now words) ≡ accepted) × (plain (code (now words)) ≡ first) ⌝ }
     requires { ⌜ (first + length (now words) ≤ 32 * row) × (4 * row ≤ length (now masks)) × (length (now masks) ≤ 256) ⌝ }
     requires { ⌜ Filled (code (now words)) row first (now masks) ⌝ }
-    ensures { λ _. ⌜ Filled (code (now (words .entry))) row (first + length (now (words .entry))) (now (masks .exit)) ⌝ }
+    ensures filled { λ _. ⌜ Filled (code (now (words .entry))) row (first + length (now (words .entry))) (now (masks .exit)) ⌝ }
+    ensures rest { λ _. ⌜ drop (4 * row) (now (masks .exit)) ≡ drop (4 * row) (now (masks .entry)) ⌝ }
 {
     let mut p = 0;
     while p < words.len() {
@@ -122,12 +123,12 @@ fn fill_plain(masks: &mut [u32], row: usize, lead: usize)
     set_words(masks, 3 * row, lead);
 }
 
-// Fills the masks of an accepted table into a slice of zeros.
+// Fills the masks of an accepted table into a slice of zeros. In their rows no digit is set but those of the elements, and the words behind them stay as they were.
 pub fn fill_masks(words: &[u32], masks: &mut [u32], l: Layout)
     requires { ⌜ (reading (now words) ≡ accepted) × LaidOut (code (now words)) l ⌝ }
     requires { ⌜ ((k : ℕ) → getD (now masks) k 0 ≡ 0) ⌝ }
     requires { ⌜ (4 * l .row ≤ length (now masks)) × (length (now masks) ≤ 256) ⌝ }
-    ensures { λ _. ⌜ Masked (code (now (words .entry))) (now (masks .exit)) (l .row) ⌝ }
+    ensures { λ _. ⌜ FilledIn (code (now (words .entry))) (l .row) (now (masks .entry)) (now (masks .exit)) ⌝ }
 {
     let row = l.row;
     let lead = l.lead;

@@ -9,6 +9,7 @@ pub use crate::words::arity_of;
 pub use crate::words::binds;
 pub use crate::words::kind_of;
 pub use crate::words::names_in;
+pub use crate::words::operation_of;
 pub use crate::words::term_of;
 use permset::PermSet;
 

@@ -33,7 +33,7 @@ pub fn argument_of(w: u32) -> u32
 pub fn names_of(w: u32) -> u32
     ensures { λ r. ⌜ r ≡ namesOf w ⌝ }
 {
-    if w / KIND == 5 { 64 } else { 32 }
+    if kind_of(w) == 5 { 64 } else { 32 }
 }
 
 // The same, of all words of a table.
@@ -50,7 +50,7 @@ pub fn names_in(words: &[u32]) -> u32
 fn place_of(w: u32) -> usize
     ensures { λ r. ⌜ r ≡ kind w - firstKind ⌝ }
 {
-    let kind = w / KIND;
+    let kind = kind_of(w);
     if kind < 16 { 0 } else { (kind - 16) as usize }
 }
 
@@ -126,7 +126,8 @@ fn constant_of(a: u32) -> Constant
     }
 }
 
-fn operation_of(a: u32) -> Operation
+// The operation that an argument names; add past the last.
+pub fn operation_of(a: u32) -> Operation
     ensures { λ r. ⌜ r ≡ operationOf a ⌝ }
 {
     match a {

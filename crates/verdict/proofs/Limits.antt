@@ -12,7 +12,9 @@ use Rattle.table.specs.Code.{code}
 use Rattle.calculus.specs.Layout.{estimateWords}
 use Rattle.calculus.specs.Estimate.{estimate, leak, facts}
 use Rattle.calculus.specs.Answer.{Answer, Verdict, refused, verdict, boundUsed, judge, answer, estimateAfter, workAfter}
-use Rattle.calculus.proofs.Covers.{answer-judged}
+use Rattle.calculus.specs.Correct.{Correct, Guaranteed}
+use Rattle.calculus.proofs.Correct.{call-correct}
+use Rattle.calculus.proofs.Covers.{answer-judged, answer-guaranteed}
 use Rattle.calls.specs.Calls.{Fits}
 use Rattle.calls.proofs.Answers.{after-refused, after-solved}
 use Rattle.comparison.specs.declared.Findings.{Findings}
@@ -20,6 +22,7 @@ use Rattle.comparison.specs.declared.Verdict.{Verdict as Declared·Verdict}
 use Rattle.comparison.specs.Values.{answerOf, compare}
 use Rattle.solver.specs.Ceiling.{under, wordsWithin, SolvedIn}
 use Rattle.solver.proofs.Least.{words-whole}
+use Rattle.verdict.specs.declared.limit.Limited.{Limited}
 use Rattle.verdict.specs.declared.limit.Limited.the-variants.{Judged, Exceeded}
 use Rattle.verdict.specs.Limits.{limitedAnswer, answerUnder, estimateUnder, Limits}
 use Rattle.verdict.proofs.Answers.{compare-judge}
@@ -122,3 +125,24 @@ module _ (ws : List ℕ) (ρ bound n : ℕ) (est work : List ℕ) where
       by : (a : Answer) → answer ws ρ bound (length est) (length work) ≡ a → Left
       by (refused k at) q = absurd (not-refused k at (e ∙ ap (under n) q ∙ under-refused n k at))
       by (verdict w) q = within w q (decLt n (w .facts))
+
+  -- an answer under the ceiling is correct and guaranteed, with the slice as the call leaves it
+  under-correct : (us : List ℕ) (a : Answer) → a ≡ answerUnder ws ρ bound n (length est) (length work) → us ≡ estimateUnder ws ρ bound n est work
+      → Correct ws ρ bound us a × Guaranteed ws ρ a
+  unfolding Correct Guaranteed
+  under-correct us (refused k at) e u = (tt, tt)
+  under-correct us (verdict v) e u =
+      let q = under-verdict v us e u in
+      (call-correct ws ρ bound est work us (verdict v) (q .0) (q .1), answer-guaranteed ws ρ bound (length est) (length work) (verdict v) (q .0))
+
+-- what a call promises, from what it answers and leaves
+abbrev pub PromisedUnder : List ℕ → (ρ bound n : ℕ) → (est work : List ℕ) → Limited → (est′ work′ : List ℕ) → Type 0
+PromisedUnder ws ρ bound n est work r est′ work′ =
+    (limitedAnswer r ≡ answerUnder ws ρ bound n (length est) (length work))
+    × ((est′ ≡ estimateUnder ws ρ bound n est work)
+    × ((work′ ≡ workAfter ws ρ bound est work) × (Correct ws ρ bound est′ (limitedAnswer r) × Guaranteed ws ρ (limitedAnswer r))))
+
+pub promised-under : (ws : List ℕ) (ρ bound n : ℕ) (est work : List ℕ) (r : Limited) (est′ work′ : List ℕ)
+    → Limits ws ρ bound n est work r est′ work′ → PromisedUnder ws ρ bound n est work r est′ work′
+promised-under ws ρ bound n est work r est′ work′ l =
+    (l .answers, (l .estimates, (l .works, under-correct ws ρ bound n est work est′ (limitedAnswer r) (l .answers) (l .estimates))))

@@ -9,6 +9,7 @@ use solver::analyse::solve_in;
 ghost use mathlib.Core.Path.{_≡_};
 ghost use lib.ListN.{length};
 ghost use Rattle.calculus.specs.Answer.{workAfter};
+ghost use Rattle.calculus.specs.Correct.{Correct, Guaranteed};
 ghost use Rattle.calls.specs.Calls.{Fits};
 ghost use Rattle.verdict.specs.Limits.{limitedAnswer, answerUnder, estimateUnder, Limits};
 
@@ -38,7 +39,8 @@ fn judged_within(
 }
 
 // The verdict on a table, as `judge::verdict` gives it, or that its least estimate has more facts than the ceiling. Then the words of est that the
-// estimate would take are zero, and work is as on success.
+// estimate would take are zero, and work is as on success. A verdict is correct by the words that it leaves in est, and its leak covers every run, as
+// `judge::verdict` promises; nothing of that is said where the ceiling is passed.
 pub fn verdict_within(
     words: &[u32],
     rho: u32,
@@ -50,6 +52,8 @@ pub fn verdict_within(
     ensures answer { λ r. ⌜ limitedAnswer r ≡ answerUnder (now (words .entry)) rho bound ceiling (length (now (est .entry))) (length (now (work .entry))) ⌝ }
     ensures estimate { λ _. ⌜ now (est .exit) ≡ estimateUnder (now (words .entry)) rho bound ceiling (now (est .entry)) (now (work .entry)) ⌝ }
     ensures work { λ _. ⌜ now (work .exit) ≡ workAfter (now (words .entry)) rho bound (now (est .entry)) (now (work .entry)) ⌝ }
+    ensures correct { λ r. ⌜ Correct (now (words .entry)) rho bound (now (est .exit)) (limitedAnswer r) ⌝ }
+    ensures guarantee { λ r. ⌜ Guaranteed (now (words .entry)) rho (limitedAnswer r) ⌝ }
 {
     match check(words, rho, bound, est.len(), work.len()) {
         Checked::Wrong(f) => Limited::Judged(Verdict::Refused(f)),

@@ -6,8 +6,10 @@ use crate::memory::word;
 use rows::layout::Layout;
 use table::kind_of;
 use table_links::link_at;
-ghost use Prim.Native.Nat.{_<_};
+ghost use mathlib.Core.Path.{_≡_};
+ghost use Prim.Native.Nat.{_+_, _<_, max};
 ghost use lib.ListN.{length};
+ghost use Rattle.table.specs.Links.{linkAt};
 
 const WIDEST: usize = 64;
 
@@ -31,7 +33,7 @@ pub fn binder(links: &[u32], p: usize) -> usize
 
 // The word after the term at p.
 pub fn end(links: &[u32], p: usize) -> usize
-    ensures { λ r. ⌜ r < 2048 ⌝ }
+    ensures { λ r. ⌜ (r ≡ linkAt (now (links .entry)) p .end) × (r < 2048) ⌝ }
 {
     link_at(links, p).end
 }
@@ -39,7 +41,7 @@ pub fn end(links: &[u32], p: usize) -> usize
 // The same, but later than p whatever the links say.
 pub fn past(links: &[u32], p: usize) -> usize
     requires { ⌜ p < 4096 ⌝ }
-    ensures { λ r. ⌜ p < r ⌝ }
+    ensures { λ r. ⌜ r ≡ max (p + 1) (linkAt (now (links .entry)) p .end) ⌝ }
 {
     let e = end(links, p);
     if p < e { e } else { p + 1 }

@@ -1,11 +1,12 @@
 -- `masks::fill_masks` meets its contract: the plain elements, and then what the words make.
 -- Assumes nothing.
-use mathlib.Core.Path.{sym, subst}
+use mathlib.Core.Path.{sym, ap, _∙_, subst}
 use Prim.Native.Nat.{_*_}
 use native.Mathlib.Omega.{arith}
+use lib.ListN.{drop}
 use Rattle.table.specs.Code.{code}
 use Rattle.masks.specs.Masks.{Filled}
-use Rattle.masks.proofs.FourMasks.{lead-some, lead-fits, plain-filled, masked}
+use Rattle.masks.proofs.FourMasks.{lead-some, lead-fits, plain-rest, plain-filled, filled-in}
 use borrow.Author.Needs.{needs}
 use Rattle.masks.proofs.fill_masks.Statement.{statement}
 use Rattle.masks.proofs.fill_masks.Tie as tie
@@ -44,9 +45,15 @@ returns : tie.Need-returns
 unfolding code
 returns c =
     let s = c .before .before .before .before .before .before .before .before .before .before in
-    masked (code (s .args .words .now)) _ (s .args .l) (s .pre .0 .1)
-    (omega (arith, s .pre .1 .1, c .before .before .before .before .before .before .fill-plain .kept .0, c .before .before .fill-made .kept .1 .0))
-    (c .before .before .fill-made .ensures)
+    let a = s .args in
+    let o = s .pre .0 .1 in
+    let w = code (a .words .now) in
+    let p = c .before .before .before .before .before .before .fill-plain in
+    let m = c .before .before .fill-made in
+    let h = s .pre .1 .1 .0 in
+    filled-in w _ (a .l) o (omega (arith, h, p .kept .0, m .kept .1 .0)) (m .ensures .0) (a .masks .now)
+    (m .ensures .1 ∙ ap (drop (4 * a .l .row)) (p .ensures)
+    ∙ plain-rest (a .masks .now) (a .l .row) (a .l .lead) (s .pre .1 .0) (lead-some w (a .masks .now) (a .l) o) (omega (arith, lead-fits w (a .masks .now) (a .l) o)) h)
 
 pub fill-masks-spec : {M : Type 1} → statement M
 fill-masks-spec =

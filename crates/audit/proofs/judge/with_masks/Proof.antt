@@ -19,7 +19,7 @@ ruled-requires c κs =
     let a = s .args in
     let b = row-bound (a .words .now) (s .pre .0 .readable) in (
       ready-of (a .words .now) (a .links .now) _ (a .est .now) (a .l) (s .pre .0) (omega (arith, c .before .before .fill-masks .kept .1 .0, s .pre .0 .laid .row, b))
-          (c .before .before .fill-masks .ensures),
+          (c .before .before .fill-masks .ensures .masked),
       s .pre .0,
       s .pre .1,
     )

@@ -26,7 +26,7 @@ returns c =
     record {
       wrote = reworded (ap (answerText (a .rho) (a .words .now)) (sym (ap limitedAnswer (c .before .before .before .before .before .before .v .given .1)) ∙ v .0 ∙ if-other (a .words .now) (refused 1 0) _ (s .pre .1))) (c .before .before .answer-text .ensures);
       estimates = v .1 .0 ∙ if-other (a .words .now) (a .est .now) _ (s .pre .1);
-      works = v .1 .1 ∙ if-other (a .words .now) (a .work .now) _ (s .pre .1);
+      works = v .1 .1 .0 ∙ if-other (a .words .now) (a .work .now) _ (s .pre .1);
     }
 
 returns-2 : tie.Need-returns-2
@@ -38,7 +38,7 @@ returns-2 c =
     record {
       wrote = reworded (ap (answerText (a .rho) (a .words .now)) (sym (ap limitedAnswer (c .before .before .before .before .before .n .given .1)) ∙ v .0 ∙ if-other (a .words .now) (refused 1 0) _ (s .pre .1))) (c .before .before .refusal-line .ensures .0);
       estimates = v .1 .0 ∙ if-other (a .words .now) (a .est .now) _ (s .pre .1);
-      works = v .1 .1 ∙ if-other (a .words .now) (a .work .now) _ (s .pre .1);
+      works = v .1 .1 .0 ∙ if-other (a .words .now) (a .work .now) _ (s .pre .1);
     }
 
 pub tell-narrow-within-spec : {M : Type 1} → statement M

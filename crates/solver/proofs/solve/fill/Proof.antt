@@ -16,7 +16,7 @@ run-requires : tie.Need-run-requires
 run-requires c κs =
     let s = c .before .before .before .before .before .before .before .before in
     let a = s .args in
-    (ready-of (a .words .now) (a .links .now) _ (a .est .now) (a .l) (s .pre .0) (omega (arith, c .before .before .before .fill-masks .kept .1 .0, s .pre .0 .laid .row, row-bound (a .words .now) (s .pre .0 .readable))) (c .before .before .before .fill-masks .ensures), s .pre .1)
+    (ready-of (a .words .now) (a .links .now) _ (a .est .now) (a .l) (s .pre .0) (omega (arith, c .before .before .before .fill-masks .kept .1 .0, s .pre .0 .laid .row, row-bound (a .words .now) (s .pre .0 .readable))) (c .before .before .before .fill-masks .ensures .masked), s .pre .1)
 
 pub fill-spec : {M : Type 1} → statement M
 fill-spec =

@@ -4,7 +4,7 @@ use lib.ListN.{length}
 use Rattle.calls.specs.Calls.{CheckedAs}
 use Rattle.comparison.specs.declared.Verdict.the-variants.{Refused}
 use Rattle.comparison.specs.Values.{answerOf}
-use Rattle.verdict.proofs.Limits.{turned-away}
+use Rattle.verdict.proofs.Limits.{turned-away, promised-under}
 use borrow.Author.Needs.{needs}
 use Rattle.verdict.proofs.limit.verdict_within.Statement.{statement}
 use Rattle.verdict.proofs.limit.verdict_within.Tie as tie
@@ -21,8 +21,13 @@ returns c =
     let a = c .before .before .before .before .before .before .before .args in
     let f = c .before .f .given in
     let e = subst (CheckedAs (a .words .now) (a .rho) (a .bound) (length (a .est .now)) (length (a .work .now))) (f .1) (c .before .before .before .check .ensures) in
-    let l = turned-away (a .words .now) (a .rho) (a .bound) (a .ceiling) (a .est .now) (a .work .now) (Refused (f .0 .0)) _ _ e refl in
-    (l .answers, (l .estimates, l .works))
+    promised-under (a .words .now) (a .rho) (a .bound) (a .ceiling) (a .est .now) (a .work .now) _ _ _
+    (turned-away (a .words .now) (a .rho) (a .bound) (a .ceiling) (a .est .now) (a .work .now) (Refused (f .0 .0)) _ _ e refl)
+
+returns-2 : tie.Need-returns-2
+returns-2 c =
+    let a = c .before .before .before .before .before .before .before .before .before .before .before .before .before .args in
+    promised-under (a .words .now) (a .rho) (a .bound) (a .ceiling) (a .est .now) (a .work .now) _ _ _ (c .before .before .before .before .judged-within .ensures)
 
 pub verdict-within-spec : {M : Type 1} → statement M
 verdict-within-spec =
@@ -35,4 +40,4 @@ verdict-within-spec =
     returns
     (λ same-length. search needs)
     (λ same-length-2. search needs)
-    (λ returns-2. search needs))
+    returns-2)
