@@ -14,7 +14,7 @@ use queries::has_some;
 use queries::has_text;
 use results::operate_at;
 use rows::layout::Layout;
-use table::Operation;
+use table::operation_of;
 ghost use mathlib.Core.Path.{_≡_};
 ghost use Prim.Native.Nat.{_+_, _*_, _^_, _<_};
 ghost use Rattle.permset.specs.Sets.{width};
@@ -99,18 +99,6 @@ pub fn repeat(est: &[u32], l: Layout, p: usize, d: usize) -> bool
     ensures { λ r. ⌜ Checked l (now (est .entry)) (λ c. flow c p (while (p + 1) d)) r ⌝ }
 {
     part(est, l, p, p + 1) & (lifted(est, l, d, p) & (wakes(est, l, p + 1, 2, d) & ends(est, l, p)))
-}
-
-// The operation of an argument.
-fn operation_of(a: u32) -> Operation
-    ensures { λ r. ⌜ r ≡ operationOf a ⌝ }
-{
-    match a {
-        0 => Operation::Add,
-        1 => Operation::Less,
-        2 => Operation::Equal,
-        _ => Operation::Add,
-    }
 }
 
 // The results of an operation on C(p + 1) and C(d) are in C(p).
