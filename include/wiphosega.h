@@ -27,8 +27,8 @@ extern "C" {
 
    Each pointer must be to as many bytes as its length says. `estimate` must share no byte with `work`, nor either with `system`, and nobody
    else may touch the three during the call. A pointer may be anything but null where its length is 0; wiphosega_verdict_nullable takes null
-   there. The call keeps no pointer, takes no memory but its stack, and always returns. tests/c/stack.c measures the stack that it needs:
-   WIPHOSEGA_STACK bytes are enough. */
+   there. The call keeps no pointer, takes no memory but its stack, and always returns. WIPHOSEGA_STACK bytes of stack are enough:
+   tests/c/stack.c measures 56,952, and 37,032 for wiphosega_check. */
 uint64_t wiphosega_verdict(const uint8_t *system, size_t system_bytes, uint32_t rho, uint32_t bound, uint8_t *estimate,
                            size_t estimate_bytes, uint8_t *work, size_t work_bytes);
 
@@ -49,7 +49,12 @@ static inline uint64_t wiphosega_verdict_nullable(const uint8_t *system, size_t 
    Nothing is written, and for pointers the same holds as above. */
 uint64_t wiphosega_check(const uint8_t *system, size_t system_bytes, uint32_t rho, const uint8_t *estimate, size_t estimate_bytes);
 
-/* Listings: `rt staticlib capi_text` makes their library, target/staticlib/libcapi_text.a. docs/LISTING.md says what a listing is.
+/* The calls from here on are in another library, target/staticlib/libcapi_text.a, which `rt staticlib capi_text` makes. They too keep no pointer, take no
+   memory but their stack, and always return. WIPHOSEGA_TEXT_STACK bytes of stack are enough for each: tests/c/text_stack.c measures 266,656 for
+   wiphosega_manifest, and at most 26,584 for the others. */
+#define WIPHOSEGA_TEXT_STACK 524288
+
+/* Listings. docs/LISTING.md says what a listing is.
 
    An answer below 2^32 is how many bytes were written to the output, from its start. Refused: 2^32 + number * 65536 + place, by the numbers
    1 to 12 of the table, 30 (the system's bytes are no whole words; the writer alone), 40 (a line that is no line of a listing, or has wrong
@@ -66,7 +71,7 @@ uint64_t wiphosega_listing_write(const uint8_t *system, size_t system_bytes, uin
 /* The words of the system that a listing is of, low byte first. */
 uint64_t wiphosega_listing_read(const uint8_t *text, size_t text_bytes, uint8_t *system, size_t system_bytes);
 
-/* Manifests, in the library of listings. The answer is set + version * 2^24 + count * 2^40: the permission set of a browser extension's
+/* Manifests. The answer is set + version * 2^24 + count * 2^40: the permission set of a browser extension's
    manifest, its version (2 or 3), and how many strings of the lists read set nothing. Refused: 2^32 + number * 65536, by the numbers 43 (no
    JSON text of at most 16,384 bytes that nests at most 16 deep and is an object), 44 (a key twice), 45 (no version 2 or 3), 46 (a list that
    is none of strings). A set is below 2^24 and a version below 4, so an answer has bit 32 exactly if the manifest is refused:
@@ -77,7 +82,7 @@ uint64_t wiphosega_listing_read(const uint8_t *text, size_t text_bytes, uint8_t 
 
 uint64_t wiphosega_manifest(const uint8_t *json, size_t json_bytes);
 
-/* A table laid over another, in the library of listings. Both are words, low byte first; a handler's name and its permission set together
+/* A table laid over another. Both are words, low byte first; a handler's name and its permission set together
    are the key. Refused: 2^32 + number * 65536 + place, by 30 (the base's bytes are no whole words), 130 (the overlay's), the base's numbers 1
    to 12, the overlay's plus 100, and then with place 0 47 (no such block) for the look-up, 48 (over 32 handlers), 49 (over 1,024 words) and 50
    (the output is too short) for the join. For pointers the same holds as above.
@@ -97,7 +102,7 @@ uint64_t wiphosega_lookup(const uint8_t *base, size_t base_bytes, const uint8_t 
 
 uint64_t wiphosega_join(const uint8_t *base, size_t base_bytes, const uint8_t *overlay, size_t overlay_bytes, uint8_t *out, size_t out_bytes);
 
-/* The converters, in the library of listings: a narrow table made wide (word 0 of kind 1 becomes one of kind 5), and a wide one made narrow; the
+/* The converters: a narrow table made wide (word 0 of kind 1 becomes one of kind 5), and a wide one made narrow; the
    other words stay. The answer is how many bytes were written, as many as the system has. Refused: 2^32 + number * 65536 + place, by 30 (the bytes
    are no whole words), 1 at 0 (word 0 has the other kind, or there is no word), the table's numbers 1 to 12, for wiphosega_narrow 55 (over 32
    handlers, place 0) and 56 (at the first word with a name over 31), and last 57 (the output is too short, place 0). The output counts whole words:
@@ -107,7 +112,7 @@ uint64_t wiphosega_widen(const uint8_t *system, size_t system_bytes, uint8_t *ou
 
 uint64_t wiphosega_narrow(const uint8_t *system, size_t system_bytes, uint8_t *out, size_t out_bytes);
 
-/* The fingerprint of a system, as the report on a class has it, in the library of listings: the published hash FNV-1a of 32 bits, of the bytes of
+/* The fingerprint of a system, as the report on a class has it: the published hash FNV-1a of 32 bits, of the bytes of
    its words. For the pointer the same holds as above. */
 uint32_t wiphosega_fingerprint(const uint8_t *system, size_t system_bytes);
 
