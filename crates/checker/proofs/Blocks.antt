@@ -13,7 +13,7 @@ use Rattle.table.specs.Scan.{Task, head, name, perms, guard, term, accepted, re
 use Rattle.table.specs.Code.{Code, block, code, tasks, taskAt, nodeFor, blocksFrom, endOf}
 use Rattle.table.proofs.Blocks.{Follows, Block, block as block-words, block-listed, blocks-first, blocks-next, blocks-end}
 use Rattle.table.proofs.BlockLoop.{blocksOn, next-later}
-use Rattle.calculus.specs.Elements.{made, nameElement, elements}
+use Rattle.calculus.specs.Elements.{made, nameElement}
 use Rattle.calculus.specs.Constraint.{C, P, L, Sets, Rule, put, sub}
 use Rattle.calculus.specs.Rules.{nameOf, deliveryTo, pass}
 use Rattle.calculus.specs.Layout.{sets}
@@ -48,13 +48,9 @@ module _ (ws masks est : List ℕ) (l : Layout) (s : Sending) (h : Sent ws masks
   unfolding code
   size-is = h .laid .size
 
-  pub name-in : nameElement (argument (getD ws b 0)) < 32 * l .lead + l .size
+  pub name-in : nameElement (argument (getD ws b 0)) < 32 * l .lead
   unfolding code
   name-in = omega (arith, words-of .named, h .laid .lead)
-
-  pub name-element : 32 + argument (getD ws b 0) < elements c
-  unfolding code
-  name-element = omega (arith, words-of .named)
 
   node-is : c .node b ≡ block (argument (getD ws b 0)) (argument (getD ws (b + 1) 0)) (argument (getD ws (b + 2) 0))
   unfolding code nodeFor

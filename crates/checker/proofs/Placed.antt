@@ -19,7 +19,7 @@ use Rattle.table.proofs.Nodes.{itemNode, nodeAt, node-item, binder-link}
 use Rattle.calculus.specs.Elements.{made}
 use Rattle.calculus.specs.Constraint.{C, B, Sets, Rule, put, sub}
 use Rattle.calculus.specs.Rules.{permissions, flow, leafRule, part}
-use Rattle.calculus.specs.Layout.{sets, WellFormed}
+use Rattle.calculus.specs.Layout.{sets}
 use Rattle.rows.specs.declared.layout.Layout.{Layout}
 use Rattle.rows.specs.Laid.{LaidOut, Sized}
 use Rattle.clauses.specs.Asks.{rowAt}

@@ -23,7 +23,6 @@ use Rattle.table.proofs.Items.{item-gap, item-term}
 use Rattle.table.proofs.Faults.{Stands}
 use Rattle.table.proofs.Stack.{reach}
 use Rattle.table.proofs.Parts.{place-stands}
-use Rattle.table.proofs.Blocks.{Block}
 use Rattle.table.proofs.Linked.{linked as code-linked}
 use Rattle.table.proofs.Nodes.{itemNode, nodeAt, node-item}
 use Rattle.calculus.specs.Elements.{made, nameElement, sendable}

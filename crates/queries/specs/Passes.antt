@@ -55,7 +55,7 @@ pub record Looks (l : Layout) (g : Guard) : Type 0 where
 -- x says whether the row r has something of the mask m, whatever the elements of that mask are
 abbrev pub FoundBy : Layout → (est masks : List ℕ) → (r m : ℕ) → Bool → Type 0
 FoundBy l est masks r m x =
-    (c : Code) (q : ℕ → Bool) → LaidOut c l → WellFormed c est → Mask c q (maskAt l masks m) → r < 2 * l .size → x ≡ found c est (rowAt r) q
+    (c : Code) (q : ℕ → Bool) → LaidOut c l → WellFormed c est → Mask c q (maskAt l masks m) → x ≡ found c est (rowAt r) q
 
 -- r says whether the guard passes
 abbrev pub PassedBy : Layout → (est masks : List ℕ) → Guard → Bool → Type 0

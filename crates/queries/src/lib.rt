@@ -13,7 +13,7 @@ ghost use Prim.Native.Nat.{_+_, _*_, _/_, _%_, _^_, _<_, _≤_};
 ghost use lib.ListN.{length, getD};
 ghost use Rattle.table.specs.Words.{argument};
 ghost use Rattle.table.specs.Code.{Code};
-ghost use Rattle.calculus.specs.Elements.{elements, isString};
+ghost use Rattle.calculus.specs.Elements.{isString};
 ghost use Rattle.calculus.specs.Constraint.{L};
 ghost use Rattle.calculus.specs.Layout.{sets, WellFormed};
 ghost use Rattle.calculus.specs.Estimate.{found};
@@ -34,8 +34,8 @@ pub fn is_live(est: &[u32], l: Layout, p: usize) -> bool
 
 // Whether the row r has the element v.
 pub fn has(est: &[u32], l: Layout, r: usize, v: usize) -> bool
-    requires { ⌜ (r * l .row + l .row ≤ length (now est)) × (v < 32 * l .row) ⌝ }
-    ensures { λ x. ⌜ ((c : Code) → LaidOut c l → r < 2 * l .size → v < elements c → x ≡ sets c (now (est .entry)) (rowAt r) v) ⌝ }
+    requires { ⌜ Sized l (now est) × (r < 2 * l .size) × (v < 32 * l .lead + l .size) ⌝ }
+    ensures { λ x. ⌜ ((c : Code) → LaidOut c l → x ≡ sets c (now (est .entry)) (rowAt r) v) ⌝ }
 {
     let at = r * l.row + v / 32;
     (est[at] >> (v % 32) as u32) % 2 == 1
@@ -43,8 +43,8 @@ pub fn has(est: &[u32], l: Layout, r: usize, v: usize) -> bool
 
 // Whether the row r has a string.
 pub fn has_text(est: &[u32], l: Layout, r: usize) -> bool
-    requires { ⌜ (r * l .row + l .row ≤ length (now est)) × (0 < l .row) ⌝ }
-    ensures { λ x. ⌜ ((c : Code) → LaidOut c l → WellFormed c (now (est .entry)) → r < 2 * l .size → x ≡ found c (now (est .entry)) (rowAt r) isString) ⌝ }
+    requires { ⌜ Sized l (now est) × (r < 2 * l .size) ⌝ }
+    ensures { λ x. ⌜ ((c : Code) → LaidOut c l → WellFormed c (now (est .entry)) → x ≡ found c (now (est .entry)) (rowAt r) isString) ⌝ }
 {
     let at = r * l.row;
     est[at] & 4294967040 != 0
@@ -52,7 +52,7 @@ pub fn has_text(est: &[u32], l: Layout, r: usize) -> bool
 
 // Whether the row r has something of the mask m.
 pub fn has_some(est: &[u32], masks: &[u32], l: Layout, r: usize, m: usize) -> bool
-    requires { ⌜ (r * l .row + l .row ≤ length (now est)) × (m * l .row + l .row ≤ length (now masks)) ⌝ }
+    requires { ⌜ Sized l (now est) × (r < 2 * l .size) × (4 * l .row ≤ length (now masks)) × (m < 4) ⌝ }
     ensures { λ x. ⌜ FoundBy l (now (est .entry)) (now (masks .entry)) r m x ⌝ }
 {
     let row = l.row;
@@ -146,10 +146,8 @@ pub fn starts(
     sender: PermSet,
     b: usize,
 ) -> bool
-    requires { ⌜ (b < length (now words)) × (2 * (x + 1) * l .row + l .row ≤ length (now est)) × (32 + argument (getD (now words) b 0) < 32 * l .row)
-        × (x < 1024) ⌝ }
-    ensures { λ r. ⌜ ((c : Code) → LaidOut c l → x + 1 < l .size → 32 + argument (getD (now (words .entry)) b 0) < elements c → r
-        ≡ startsAt c (now (words .entry)) (now (est .entry)) x (required .bits) (sender .bits) b) ⌝ }
+    requires { ⌜ (b < length (now words)) × Sized l (now est) × (x + 1 < l .size) × (32 + argument (getD (now words) b 0) < 32 * l .lead) ⌝ }
+    ensures { λ r. ⌜ ((c : Code) → LaidOut c l → r ≡ startsAt c (now (words .entry)) (now (est .entry)) x (required .bits) (sender .bits) b) ⌝ }
 {
     let name = argument_of(words[b]);
     if !has(est, l, 2 * (x + 1), 32 + name as usize) {

@@ -11,7 +11,7 @@ use Rattle.table.specs.Code.{Code, code}
 use Rattle.table.proofs.Limits.{size-le, blocks-le}
 use Rattle.table.proofs.Widths.{names-most}
 use Rattle.table.proofs.Linked.{linked}
-use Rattle.calculus.specs.Elements.{made, elements}
+use Rattle.calculus.specs.Elements.{made}
 use Rattle.calculus.specs.Constraint.{C}
 use Rattle.calculus.specs.Layout.{sets, rowWords, estimateWords}
 use Rattle.rows.specs.declared.layout.Layout.{Layout}
@@ -25,11 +25,9 @@ use Rattle.reading_order.specs.Relation.{sendersTo, liveAmong, senderRow
 use Rattle.reading_order.specs.Parts.{Firsts, ArrangedBy}
 
 -- an element past the plain ones in C(b) is that of a sender
-pub sender-is : (c : Code) (l : Layout) → LaidOut c l → (est : List ℕ) (b : ℕ) → b < l .size → (s : ℕ) → s < l .size → (x : Bool)
-    → (2 * b < 2 * l .size → 32 * l .lead + s < elements c → x ≡ sets c est (rowAt (2 * b)) (32 * l .lead + s))
-    → x ≡ sets c est (C b) (made c s)
-sender-is c l o est b h s k x f =
-    f (omega arith) (omega (arith, o .lead, o .size))
+pub sender-is : (c : Code) (l : Layout) → LaidOut c l → (est : List ℕ) (b : ℕ) → (s : ℕ) (x : Bool) → x ≡ sets c est (rowAt (2 * b)) (32 * l .lead + s) → x ≡ sets c est (C b) (made c s)
+sender-is c l o est b s x f =
+    f
     ∙ ap₂ (sets c est) (row-C b) (let e : 32 * l .lead + s ≡ made c s = omega (arith, o .lead) in e)
 
 listed-at : (xs : List ℕ) (i : ℕ) → i < length xs → List·Memᴰ (getD xs i 0) xs

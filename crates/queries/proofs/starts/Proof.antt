@@ -1,10 +1,8 @@
 -- `queries::starts` meets its contract. Assumes nothing.
-use Prim.Native.Nat.{ℕ, _+_, _*_, _<_}
-use mathlib.Core.Path.{sym, ap, _∙_, subst}
-use native.Mathlib.Omega.{arith}
+use Prim.Native.Nat.{ℕ, _+_, _*_}
+use mathlib.Core.Path.{ap, _∙_}
 use borrow.Author.Needs.{needs}
 use borrow.Author.Tests.{not-true, not-false}
-use Rattle.calculus.specs.Elements.{elements}
 use Rattle.calculus.specs.Layout.{sets}
 use Rattle.clauses.specs.Asks.{rowAt}
 use Rattle.queries.proofs.Sends.{first-fails, second-tells, answer-is}
@@ -15,15 +13,15 @@ returns : tie.Need-returns
 returns c =
     let s = c .before .before .before .before .before .before in let a = s .args in
     let n = c .before .before .argument-of .ensures in
-    λ k o h e. first-fails _ _ _ (not-true _ (c .if1 .taken))
-    (c .before .has .ensures k o (omega arith) (subst (λ (n : ℕ). 32 + n < elements k) (sym n) e) ∙ ap (λ (n : ℕ). sets k (a .est .now) (rowAt (2 * (a .x + 1))) (32 + n)) n)
+    λ k o. first-fails _ _ _ (not-true _ (c .if1 .taken))
+    (c .before .has .ensures k o ∙ ap (λ (n : ℕ). sets k (a .est .now) (rowAt (2 * (a .x + 1))) (32 + n)) n)
 
 returns-2 : tie.Need-returns-2
 returns-2 c =
     let s = c .before .before .before .before .before .before .before .before .before in let a = s .args in
     let n = c .before .before .before .before .before .argument-of .ensures in
-    λ k o h e. second-tells _ _ _ _ (not-false _ (c .before .before .before .if1 .left))
-    (c .before .before .before .before .has .ensures k o (omega arith) (subst (λ (n : ℕ). 32 + n < elements k) (sym n) e) ∙ ap (λ (n : ℕ). sets k (a .est .now) (rowAt (2 * (a .x + 1))) (32 + n)) n)
+    λ k o. second-tells _ _ _ _ (not-false _ (c .before .before .before .if1 .left))
+    (c .before .before .before .before .has .ensures k o ∙ ap (λ (n : ℕ). sets k (a .est .now) (rowAt (2 * (a .x + 1))) (32 + n)) n)
     (answer-is _ _ _ _ _ _ _ _ n (c .before .before .handler-at .ensures) (c .before .judge .ensures) (c .delivered .ensures))
 
 pub starts-spec : {M : Type 1} → statement M

@@ -5,27 +5,27 @@ use borrow.Author.Tests.{not-true, not-false}
 use borrow.Author.Needs.{needs}
 use Rattle.table.specs.Code.{code}
 use Rattle.clauses.specs.Asks.{sortAt}
-use Rattle.queries.proofs.Laws.{value-in, mask-in, C-found}
+use Rattle.queries.proofs.Laws.{C-found}
 use Rattle.checker.proofs.Sent.{nothing-sent, something-sent}
 use Rattle.checker.proofs.sends.messages.Statement.{statement}
 use Rattle.checker.proofs.sends.messages.Tie as tie
 
 has-some-requires : tie.Need-has-some-requires
-has-some-requires c κs = let s = c .before .before .before .before .before in let a = s .args in (value-in (s .pre .0 .sized) (a .s .d) (s .pre .0 .message), mask-in _ (a .l .row) 3 (s .pre .0 .masked .long) (omega arith))
+has-some-requires c κs = let s = c .before .before .before .before .before in let a = s .args in (s .pre .0 .sized, omega (arith, s .pre .0 .message), s .pre .0 .masked .long, omega arith)
 
 returns : tie.Need-returns
 unfolding sortAt
 returns c =
     let s = c .before .before .before .before .before .before .before in let a = s .args in let k = code (a .words .now) in
     nothing-sent k (a .est .now) (a .s)
-    (sym (C-found k (a .est .now) (a .s .d) (sortAt 3 k)) ∙ sym (c .before .has-some .ensures k (sortAt 3 k) (s .pre .0 .laid) (s .pre .0 .well) (s .pre .0 .masked .mask 3 (omega arith)) (omega (arith, s .pre .0 .message))) ∙ not-true _ (c .if1 .taken))
+    (sym (C-found k (a .est .now) (a .s .d) (sortAt 3 k)) ∙ sym (c .before .has-some .ensures k (sortAt 3 k) (s .pre .0 .laid) (s .pre .0 .well) (s .pre .0 .masked .mask 3 (omega arith))) ∙ not-true _ (c .if1 .taken))
 
 returns-2 : tie.Need-returns-2
 unfolding sortAt
 returns-2 c =
     let s = c .before .before .before .before .before .before .before .before in let a = s .args in let k = code (a .words .now) in
     something-sent k (a .est .now) (a .s)
-    (sym (C-found k (a .est .now) (a .s .d) (sortAt 3 k)) ∙ sym (c .before .before .has-some .ensures k (sortAt 3 k) (s .pre .0 .laid) (s .pre .0 .well) (s .pre .0 .masked .mask 3 (omega arith)) (omega (arith, s .pre .0 .message))) ∙ not-false _ (c .before .if1 .left))
+    (sym (C-found k (a .est .now) (a .s .d) (sortAt 3 k)) ∙ sym (c .before .before .has-some .ensures k (sortAt 3 k) (s .pre .0 .laid) (s .pre .0 .well) (s .pre .0 .masked .mask 3 (omega arith))) ∙ not-false _ (c .before .if1 .left))
     (c .to-blocks .ensures)
 
 pub messages-spec : {M : Type 1} → statement M

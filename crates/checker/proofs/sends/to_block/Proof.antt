@@ -7,11 +7,10 @@ use Rattle.table.proofs.Linked.{linked}
 use Rattle.calculus.specs.Elements.{made}
 use Rattle.calculus.specs.Constraint.{C}
 use Rattle.calculus.specs.Layout.{sets}
-use Rattle.queries.proofs.Laws.{value-in}
 use Rattle.checker.specs.Sends.{toBlock, toSender}
 use Rattle.checker.proofs.Laws.{put-is}
 use Rattle.checker.proofs.Lowered.{lowered-none, lowered-then}
-use Rattle.checker.proofs.Blocks.{size-is, name-in, name-element, unasked, started}
+use Rattle.checker.proofs.Blocks.{size-is, name-in, unasked, started}
 use borrow.Author.Needs.{needs}
 use Rattle.checker.proofs.sends.to_block.Statement.{statement}
 use Rattle.checker.proofs.sends.to_block.Tie as tie
@@ -19,12 +18,12 @@ use Rattle.checker.proofs.sends.to_block.Tie as tie
 starts-requires : tie.Need-starts-requires
 starts-requires c κs =
     let s = c .before .before .before in let a = s .args in
-    (s .pre .1, value-in (s .pre .0 .sized) (a .s .p + 1) (s .pre .0 .target), omega (arith, name-in (a .words .now) (a .masks .now) (a .est .now) (a .l) (a .s) (s .pre .0) (a .b) (s .pre .1) (s .pre .2), s .pre .0 .sized .wide), omega (arith, s .pre .0 .target, s .pre .0 .sized .size))
+    (s .pre .1, s .pre .0 .sized, s .pre .0 .target, name-in (a .words .now) (a .masks .now) (a .est .now) (a .l) (a .s) (s .pre .0) (a .b) (s .pre .1) (s .pre .2))
 
 returns : tie.Need-returns
 returns c =
     let s = c .before .before .before .before .before in let a = s .args in let k = code (a .words .now) in
-    lowered-none (unasked (a .words .now) (a .masks .now) (a .est .now) (a .l) (a .s) (s .pre .0) (a .b) (s .pre .1) (s .pre .2) (c .before .starts .ensures k (s .pre .0 .laid) (s .pre .0 .target) (name-element (a .words .now) (a .masks .now) (a .est .now) (a .l) (a .s) (s .pre .0) (a .b) (s .pre .1) (s .pre .2))) (c .if1 .taken))
+    lowered-none (unasked (a .words .now) (a .masks .now) (a .est .now) (a .l) (a .s) (s .pre .0) (a .b) (s .pre .1) (s .pre .2) (c .before .starts .ensures k (s .pre .0 .laid)) (c .if1 .taken))
 
 delivered-requires : tie.Need-delivered-requires
 delivered-requires c κs =
@@ -34,7 +33,7 @@ delivered-requires c κs =
 returns-2 : tie.Need-returns-2
 returns-2 c =
     let s = c .before .before .before .before .before .before .before .before .before .before .before in let a = s .args in let k = code (a .words .now) in let e = sets k (a .est .now) in
-    let x = c .before .before .before .before .before .before .before .starts .ensures k (s .pre .0 .laid) (s .pre .0 .target) (name-element (a .words .now) (a .masks .now) (a .est .now) (a .l) (a .s) (s .pre .0) (a .b) (s .pre .1) (s .pre .2)) in
+    let x = c .before .before .before .before .before .before .before .starts .ensures k (s .pre .0 .laid) in
     let n = c .before .before .before .before .before .before .if1 .left in
     lowered-then
     (c .before .before .before .before .lowered .ensures e (toBlock k (a .s) (a .b))

@@ -7,7 +7,7 @@ use borrow.Author.Tests.{not-true, not-false}
 use Rattle.calculus.specs.Constraint.{C}
 use Rattle.calculus.specs.Elements.{isString}
 use Rattle.calculus.specs.Rules.{twoRule}
-use Rattle.queries.proofs.Laws.{value-in, some-words, C-found}
+use Rattle.queries.proofs.Laws.{C-found}
 use Rattle.checker.proofs.Laws.{some-so, some-not}
 use Rattle.checker.proofs.Asking.{fill-C, get-is}
 use Rattle.checker.proofs.terms.gets.Statement.{statement}
@@ -18,7 +18,7 @@ unfolding twoRule
 returns-2 c =
     λ k j o w n. let s = c .before .before .before .before .before .before in let a = s .args in
     some-so k (a .est .now) (C (a .d)) isString
-    (sym (C-found k (a .est .now) (a .d) isString) ∙ sym (c .before .before .before .has-text .ensures k o w (omega (arith, s .pre .1))) ∙ not-false _ (c .before .before .if1 .left))
+    (sym (C-found k (a .est .now) (a .d) isString) ∙ sym (c .before .before .before .has-text .ensures k o w) ∙ not-false _ (c .before .before .if1 .left))
     (get-is k _ j (a .p + 1) (a .p) (fill-C k _ (a .p + 1) 7 (a .p) (c .before .fills .ensures k o w)) (c .got .ensures k j o w n))
 
 pub gets-spec : {M : Type 1} → statement M
@@ -27,11 +27,11 @@ gets-spec =
     tie.close
     (tie.spec
     (λ mul-has-text. search needs)
-    (λ c κs. let s = c .before .before in let a = s .args in (value-in (s .pre .0 .sized) (a .d) (s .pre .1), some-words (s .pre .0 .sized)))
+    (λ c κs. let s = c .before .before in let a = s .args in (s .pre .0 .sized, omega (arith, s .pre .1)))
     (λ c.
     λ k j o w n. let s = c .before .before .before .before in let a = s .args in
     some-not k (a .est .now) (C (a .d)) isString
-    (sym (C-found k (a .est .now) (a .d) isString) ∙ sym (c .before .has-text .ensures k o w (omega (arith, s .pre .1))) ∙ not-true _ (c .if1 .taken)))
+    (sym (C-found k (a .est .now) (a .d) isString) ∙ sym (c .before .has-text .ensures k o w) ∙ not-true _ (c .if1 .taken)))
     (λ add-fills. search needs)
     (λ mul-fills. search needs)
     (λ fills-requires κs. search needs)

@@ -6,23 +6,21 @@ use borrow.Author.Tests.{not-true, not-false}
 use Rattle.table.specs.Code.{code}
 use Rattle.calculus.specs.Elements.{made}
 use Rattle.calculus.specs.Constraint.{P, sub}
-use Rattle.calculus.specs.Layout.{rowWords}
-use Rattle.queries.proofs.Laws.{value-in}
 use Rattle.firing.proofs.Deliver.{block-inside, name-small, block-present, block-absent, delivered-as}
 use borrow.Author.Needs.{needs}
 use Rattle.firing.proofs.sends.send_to.Statement.{statement}
 use Rattle.firing.proofs.sends.send_to.Tie as tie
 
 starts-requires : tie.Need-starts-requires
-unfolding rowWords code
+unfolding code
 starts-requires c κs =
     let s = c .before .before .before .before .before .before in let a = s .args in let e = a .e in let w = a .words .now in
-    (block-inside w (s .pre .0 .readable) w (omega arith) (a .est .now) (e .x) (e .y) (e .z) (a .own .perms .bits) (s .pre .0 .sender) (a .b) (s .pre .1), value-in (s .pre .0 .sized) (e .x + 1) (s .pre .0 .word), omega (arith, name-small w (s .pre .0 .readable) w (omega arith) (a .est .now) (e .x) (e .y) (e .z) (a .own .perms .bits) (s .pre .0 .sender) (a .b) (s .pre .1), s .pre .0 .laid .row, s .pre .0 .laid .lead), omega (arith, s .pre .0 .word, s .pre .0 .sized .size))
+    (block-inside w (s .pre .0 .readable) w (omega arith) (a .est .now) (e .x) (e .y) (e .z) (a .own .perms .bits) (s .pre .0 .sender) (a .b) (s .pre .1), s .pre .0 .sized, s .pre .0 .word, omega (arith, name-small w (s .pre .0 .readable) w (omega arith) (a .est .now) (e .x) (e .y) (e .z) (a .own .perms .bits) (s .pre .0 .sender) (a .b) (s .pre .1), s .pre .0 .laid .lead))
 
 returns : tie.Need-returns
 returns c =
     let s = c .before .before .before .before .before .before .before .before in let a = s .args in let e = a .e in let w = a .words .now in
-    record { words = sym (block-absent w (s .pre .0 .readable) w (omega arith) (a .est .now) (e .x) (e .y) (e .z) (a .own .perms .bits) (s .pre .0 .sender) (a .b) (s .pre .1) (sym (c .before .starts .ensures (code w) (s .pre .0 .laid) (s .pre .0 .word) (omega (arith, name-small w (s .pre .0 .readable) w (omega arith) (a .est .now) (e .x) (e .y) (e .z) (a .own .perms .bits) (s .pre .0 .sender) (a .b) (s .pre .1)))) ∙ not-true _ (c .if1 .taken))); count = omega arith }
+    record { words = sym (block-absent w (s .pre .0 .readable) w (omega arith) (a .est .now) (e .x) (e .y) (e .z) (a .own .perms .bits) (s .pre .0 .sender) (a .b) (s .pre .1) (sym (c .before .starts .ensures (code w) (s .pre .0 .laid)) ∙ not-true _ (c .if1 .taken))); count = omega arith }
 
 deliver-from-requires : tie.Need-deliver-from-requires
 deliver-from-requires c κs =
@@ -37,7 +35,7 @@ returns-2 c =
       words =
           d .words (code w) (s .pre .0 .laid) (s .pre .0 .well, s .pre .0 .masked)
           ∙ delivered-as (code w) (e .y) (a .b) (sub (P (a .b)) (P (e .x))) (32 * a .l .lead + a .own .home) (made (code w) (code w .home (e .x))) (omega (arith, s .pre .0 .laid .lead, s .pre .0 .block)) (a .est .now)
-          ∙ sym (block-present w (s .pre .0 .readable) w (omega arith) (a .est .now) (e .x) (e .y) (e .z) (a .own .perms .bits) (s .pre .0 .sender) (a .b) (s .pre .1) (sym (c .before .before .before .before .before .before .before .before .starts .ensures (code w) (s .pre .0 .laid) (s .pre .0 .word) (omega (arith, name-small w (s .pre .0 .readable) w (omega arith) (a .est .now) (e .x) (e .y) (e .z) (a .own .perms .bits) (s .pre .0 .sender) (a .b) (s .pre .1)))) ∙ not-false _ (c .before .before .before .before .before .before .before .if1 .left)));
+          ∙ sym (block-present w (s .pre .0 .readable) w (omega arith) (a .est .now) (e .x) (e .y) (e .z) (a .own .perms .bits) (s .pre .0 .sender) (a .b) (s .pre .1) (sym (c .before .before .before .before .before .before .before .before .starts .ensures (code w) (s .pre .0 .laid)) ∙ not-false _ (c .before .before .before .before .before .before .before .if1 .left)));
       count = d .count;
     }
 

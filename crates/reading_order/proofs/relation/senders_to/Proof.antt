@@ -10,7 +10,6 @@ use Rattle.calculus.specs.Elements.{made}
 use Rattle.calculus.specs.Constraint.{C}
 use Rattle.calculus.specs.Layout.{sets}
 use Rattle.reading_order.specs.Relation.{sendersTo}
-use Rattle.queries.proofs.Laws.{value-in}
 use Rattle.reading_order.proofs.Elements.{sender-is}
 use Rattle.reading_order.proofs.Places.{Collected, collected-start, collected-end, collected-room, collected-step}
 use Rattle.reading_order.proofs.relation.senders_to.Statement.{statement}
@@ -43,7 +42,7 @@ add-has c = let s = c .before .before .before .before .before .before .pre .0 in
 has-requires : tie.Need-has-requires Inv-loop μ-loop
 has-requires c κs =
     let s = c .before .before .before .before .before .before in
-    (value-in (s .pre .0) (s .args .b) (s .pre .2), omega (arith, inside c, s .pre .0 .wide))
+    (s .pre .0, omega (arith, s .pre .2), omega (arith, inside c))
 
 shifted-requires : tie.Need-shifted-requires Inv-loop μ-loop
 shifted-requires c κs =
@@ -58,7 +57,7 @@ loop-again c =
     let a = s .args in
     collected-step (a .l) (passes (a .est .now) (a .b)) (a .blocks .now) (i .set) (i .i) (i .inv) (c .before .before .before .before .loop-test .taken)
     (c .before .has .result)
-    (λ k o. sender-is k (a .l) o (a .est .now) (a .b) (s .pre .2) _ (inside (c .before .before)) _ (c .before .has .ensures k o))
+    (λ k o. sender-is k (a .l) o (a .est .now) (a .b) _ _ (c .before .has .ensures k o))
     (c .shifted .result) (c .shifted .ensures)
 
 returns : tie.Need-returns Inv-loop μ-loop
