@@ -39,18 +39,12 @@ row-in {l} s r h = omega (arith, s .long, row-inside (l .size) (l .row) r h)
 pub mask-in : (n r m : ℕ) → 4 * r ≤ n → m < 4 → m * r + r ≤ n
 mask-in n r m h k = omega (arith, mul-le-mul-right r k)
 
--- the value set of a word, and an element among the first 32
+-- the value set of a word
 pub value-in : {l : Layout} {est : List ℕ} → Sized l est → (a : ℕ) → a < l .size → 2 * a * l .row + l .row ≤ length est
 value-in s a h = row-in s (2 * a) (omega arith)
 
-pub low-in : {l : Layout} {est : List ℕ} → Sized l est → (v : ℕ) → v < 32 → v < 32 * l .row
-low-in s v h = omega (arith, s .lead, s .wide)
-
 pub some-words : {l : Layout} {est : List ℕ} → Sized l est → 0 < l .row
 some-words s = omega (arith, s .lead, s .wide)
-
-pub low-element : {c : Code} {l : Layout} → LaidOut c l → (v : ℕ) → v < 32 → v < elements c
-low-element o v h = omega arith
 
 -- ---- elements
 
