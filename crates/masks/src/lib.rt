@@ -123,7 +123,7 @@ fn fill_plain(masks: &mut [u32], row: usize, lead: usize)
     set_words(masks, 3 * row, lead);
 }
 
-// Fills the masks of an accepted table into a slice of zeros. In their rows no digit is set but those of the elements, and the words behind them stay as they were.
+// Fills the masks of an accepted table into a slice of zeros. In their rows no digit is set but those of the elements; the words behind them stay.
 pub fn fill_masks(words: &[u32], masks: &mut [u32], l: Layout)
     requires { ⌜ (reading (now words) ≡ accepted) × LaidOut (code (now words)) l ⌝ }
     requires { ⌜ ((k : ℕ) → getD (now masks) k 0 ≡ 0) ⌝ }
