@@ -1,6 +1,6 @@
 -- The clauses of a word by its kind.
 use Prim.Native.Nat.{ℕ, zero, suc, _+_, _-_, _≤_, _<_}
-use mathlib.Core.Path.{_≡_, refl, sym, ap, ap₂, _∙_}
+use mathlib.Core.Path.{_≡_, refl, sym, ap, _∙_}
 use mathlib.Core.Bool.{true, false}
 use mathlib.Core.List.{List, []}
 use native.Mathlib.Decide.{decLt}
@@ -68,17 +68,10 @@ above a (suc n) j t h =
     let d : j ≡ 16 + n → ⊥ = t .1 in
     omega arith
 
--- clauses whose operands are what the links and words say
-pub through : (k : ℕ) (f : ℕ → List Clause) {d x : ℕ} {r s : Clause} → d ≡ x → r ≡ getD (f d) k never → getD (f x) k never ≡ s → r ≡ s
-through k f e h q = h ∙ ap (λ (n : ℕ). getD (f n) k never) e ∙ q
-
-pub through-both : (k : ℕ) (f : ℕ → ℕ → List Clause) {d x n y : ℕ} {r s : Clause} → d ≡ x → n ≡ y → r ≡ getD (f d n) k never → getD (f x y) k never ≡ s → r ≡ s
-through-both k f e g h q = h ∙ ap₂ (λ (i j : ℕ). getD (f i j) k never) e g ∙ q
-
 module _ (ws ls : List ℕ) (plain p k : ℕ) where
-  pub kinded : {w : ℕ} → w ≡ kind (getD ws p 0) → (j : ℕ) → w ≡ j → getD (ofItem ws ls plain p (byKind ws p j)) k never ≡ clauseAt ws ls plain p k
+  pub kinded : {w j : ℕ} {r : Clause} → w ≡ kind (getD ws p 0) → w ≡ j → r ≡ getD (ofItem ws ls plain p (byKind ws p j)) k never → r ≡ clauseAt ws ls plain p k
   unfolding clauseAt clausesAt
-  kinded e j q = ap (λ (x : Item). getD (ofItem ws ls plain p x) k never) (sym (item-by ws p j (sym e ∙ q)))
+  kinded {j = j} e q h = h ∙ ap (λ (x : Item). getD (ofItem ws ls plain p x) k never) (sym (item-by ws p j (sym e ∙ q)))
 
   -- ---- past the arms: the kind is none of 2 and 16 to 36
 
@@ -97,7 +90,7 @@ module _ (ws ls : List ℕ) (plain p k : ℕ) where
 
   pub beyond : (r : Clause) (j : ℕ) → j ≡ kind (getD ws p 0) → NoneFrom (Unit {0} × (j ≡ 2 → ⊥)) 21 j → r ≡ getD (ofOther p (plain + p) j) k never
       → r ≡ clauseAt ws ls plain p k
-  beyond r j e t h = h ∙ go (decLt j 16) ∙ kinded e j refl
+  beyond r j e t h = kinded e refl (h ∙ go (decLt j 16))
     where
       two : eqb j 2 ≡ false
       two = ne-eqb j 2 (t .0 .0 .0 .0 .0 .0 .0 .0 .0 .0 .0 .0 .0 .0 .0 .0 .0 .0 .0 .0 .0 .1)

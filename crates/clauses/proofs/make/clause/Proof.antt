@@ -1,12 +1,8 @@
 -- `clauses::make::clause` meets its contract: an arm for each kind, which is the clauses of that kind. Assumes nothing.
-use Prim.Native.Nat.{ℕ, _+_}
-use mathlib.Core.Path.{ap, _∙_}
 use borrow.Author.Needs.{needs}
-use Rattle.table.specs.Words.{constantOf, operationOf, operationNumber, termsByKind}
-use Rattle.calculus.specs.Elements.{constantElement, sign}
-use Rattle.clauses.specs.Clauses.{ofItem, ofTerm, ofValue, ofVariable, ofExercise, ofApply, ofLet, ofSequence, ofIf, ofWhile, ofOperation}
-use Rattle.clauses.specs.Clauses.{ofGet, ofSet, ofDelete, ofAssign, ofSend}
-use Rattle.clauses.proofs.ByKind.{byKind, kinded, beyond, through, through-both}
+use Rattle.table.specs.Words.{termsByKind}
+use Rattle.clauses.specs.Clauses.{ofItem, ofTerm}
+use Rattle.clauses.proofs.ByKind.{byKind, kinded, beyond}
 use Rattle.clauses.proofs.make.clause.Statement.{statement}
 use Rattle.clauses.proofs.make.clause.Tie as tie
 
@@ -83,43 +79,26 @@ clause-spec =
     (λ exercise-requires κs. search needs)
     (λ add-other. search needs)
     (λ other-requires κs. search needs)
-    (λ c. let a = c .before .before .before .before .before .before .before .args in c .block .ensures ∙ kinded (a .words .now) (a .links .now) (a .plain) (a .p) (a .k) (c .before .before .kind-of .ensures) 2 (c .before .match .keys1))
-    (λ c. let a = c .before .before .before .before .before .before .before .before .args in through (a .k) (ofValue (a .p)) (c .before .constant-element .ensures ∙ ap (λ (x : ℕ). constantElement (constantOf x)) (c .before .before .before .before .argument-of .ensures)) (c .value .ensures)
-    (kinded (a .words .now) (a .links .now) (a .plain) (a .p) (a .k) (c .before .before .before .kind-of .ensures) 16 (c .before .before .match .keys2)))
-    (λ c. let a = c .before .before .before .before .before .before .before .before .args in through (a .k) (ofValue (a .p)) (c .before .sign-element .ensures ∙ ap sign (c .before .before .before .before .argument-of .ensures)) (c .value2 .ensures)
-    (kinded (a .words .now) (a .links .now) (a .plain) (a .p) (a .k) (c .before .before .before .kind-of .ensures) 17 (c .before .before .match .keys3)))
-    (λ c. let a = c .before .before .before .before .before .before .before .args in through (a .k) (λ x. ofValue (a .p) (9 + x)) (c .before .before .before .argument-of .ensures) (c .value3 .ensures)
-    (kinded (a .words .now) (a .links .now) (a .plain) (a .p) (a .k) (c .before .before .kind-of .ensures) 18 (c .before .match .keys4)))
-    (λ c. let a = c .before .before .before .before .before .before .before .args in through (a .k) (λ x. ofValue (a .p) (32 + x)) (c .before .before .before .argument-of .ensures) (c .value4 .ensures)
-    (kinded (a .words .now) (a .links .now) (a .plain) (a .p) (a .k) (c .before .before .kind-of .ensures) 19 (c .before .match .keys5)))
-    (λ c. let a = c .before .before .before .before .before .before .before .before .args in through (a .k) (ofVariable (a .p)) (c .before .binder-of .ensures .0) (c .variable .ensures)
-    (kinded (a .words .now) (a .links .now) (a .plain) (a .p) (a .k) (c .before .before .before .kind-of .ensures) 20 (c .before .before .match .keys6)))
-    (λ c. let a = c .before .before .before .before .before .before .before .args in c .value5 .ensures ∙ kinded (a .words .now) (a .links .now) (a .plain) (a .p) (a .k) (c .before .before .kind-of .ensures) 21 (c .before .match .keys7))
-    (λ c. let a = c .before .before .before .before .before .before .before .before .args in through (a .k) (ofApply (a .p)) (c .before .end .ensures .0) (c .apply .ensures)
-    (kinded (a .words .now) (a .links .now) (a .plain) (a .p) (a .k) (c .before .before .before .kind-of .ensures) 22 (c .before .before .match .keys8)))
-    (λ c. let a = c .before .before .before .before .before .before .before .before .args in through (a .k) (ofLet (a .p)) (c .before .end2 .ensures .0) (c .bind .ensures)
-    (kinded (a .words .now) (a .links .now) (a .plain) (a .p) (a .k) (c .before .before .before .kind-of .ensures) 23 (c .before .before .match .keys9)))
-    (λ c. let a = c .before .before .before .before .before .before .before .before .args in through (a .k) (ofSequence (a .p)) (c .before .end3 .ensures .0) (c .sequence .ensures)
-    (kinded (a .words .now) (a .links .now) (a .plain) (a .p) (a .k) (c .before .before .before .kind-of .ensures) 24 (c .before .before .match .keys10)))
-    (λ c. let a = c .before .before .before .before .before .before .before .before .before .args in through-both (a .k) (ofIf (a .p)) (c .before .before .end4 .ensures .0) (c .before .next-end .ensures .0) (c .branch .ensures)
-    (kinded (a .words .now) (a .links .now) (a .plain) (a .p) (a .k) (c .before .before .before .before .kind-of .ensures) 25 (c .before .before .before .match .keys11)))
-    (λ c. let a = c .before .before .before .before .before .before .before .before .args in through (a .k) (ofWhile (a .p)) (c .before .end5 .ensures .0) (c .repeat .ensures)
-    (kinded (a .words .now) (a .links .now) (a .plain) (a .p) (a .k) (c .before .before .before .kind-of .ensures) 26 (c .before .before .match .keys12)))
-    (λ c. let a = c .before .before .before .before .before .before .before .before .before .args in through-both (a .k) (ofOperation (a .p)) (c .before .before .end6 .ensures .0) (c .before .operation-number .ensures ∙ ap (λ (x : ℕ). operationNumber (operationOf x)) (c .before .before .before .before .before .argument-of .ensures)) (c .operate .ensures)
-    (kinded (a .words .now) (a .links .now) (a .plain) (a .p) (a .k) (c .before .before .before .before .kind-of .ensures) 27 (c .before .before .before .match .keys13)))
-    (λ c. let a = c .before .before .before .before .before .before .before .args in c .value6 .ensures ∙ kinded (a .words .now) (a .links .now) (a .plain) (a .p) (a .k) (c .before .before .kind-of .ensures) 28 (c .before .match .keys14))
-    (λ c. let a = c .before .before .before .before .before .before .before .before .args in through (a .k) (ofGet (a .p)) (c .before .end7 .ensures .0) (c .get .ensures)
-    (kinded (a .words .now) (a .links .now) (a .plain) (a .p) (a .k) (c .before .before .before .kind-of .ensures) 29 (c .before .before .match .keys15)))
-    (λ c. let a = c .before .before .before .before .before .before .before .before .before .args in through-both (a .k) (λ x y. ofSet (a .p) x y (a .plain + a .p)) (c .before .before .end8 .ensures .0) (c .before .next-end2 .ensures .0) (c .set .ensures)
-    (kinded (a .words .now) (a .links .now) (a .plain) (a .p) (a .k) (c .before .before .before .before .kind-of .ensures) 30 (c .before .before .before .match .keys16)))
-    (λ c. let a = c .before .before .before .before .before .before .before .before .args in through (a .k) (ofDelete (a .p)) (c .before .end9 .ensures .0) (c .delete .ensures)
-    (kinded (a .words .now) (a .links .now) (a .plain) (a .p) (a .k) (c .before .before .before .kind-of .ensures) 31 (c .before .before .match .keys17)))
-    (λ c. let a = c .before .before .before .before .before .before .before .args in c .cell .ensures ∙ kinded (a .words .now) (a .links .now) (a .plain) (a .p) (a .k) (c .before .before .kind-of .ensures) 32 (c .before .match .keys18))
-    (λ c. let a = c .before .before .before .before .before .before .before .args in c .read .ensures ∙ kinded (a .words .now) (a .links .now) (a .plain) (a .p) (a .k) (c .before .before .kind-of .ensures) 33 (c .before .match .keys19))
-    (λ c. let a = c .before .before .before .before .before .before .before .before .args in through (a .k) (ofAssign (a .p)) (c .before .end10 .ensures .0) (c .assign .ensures)
-    (kinded (a .words .now) (a .links .now) (a .plain) (a .p) (a .k) (c .before .before .before .kind-of .ensures) 34 (c .before .before .match .keys20)))
-    (λ c. let a = c .before .before .before .before .before .before .before .before .args in through-both (a .k) (ofSend (a .p)) (c .before .end11 .ensures .0) (c .before .before .before .before .argument-of .ensures) (c .send .ensures)
-    (kinded (a .words .now) (a .links .now) (a .plain) (a .p) (a .k) (c .before .before .before .kind-of .ensures) 35 (c .before .before .match .keys21)))
-    (λ c. let a = c .before .before .before .before .before .before .before .before .args in through-both (a .k) (ofExercise (a .p)) (c .before .before .before .before .argument-of .ensures) (c .before .permissions-of .ensures) (c .exercise .ensures)
-    (kinded (a .words .now) (a .links .now) (a .plain) (a .p) (a .k) (c .before .before .before .kind-of .ensures) 36 (c .before .before .match .keys22)))
-    (λ c. let a = c .before .before .before .before .before .before .before .args in beyond (a .words .now) (a .links .now) (a .plain) (a .p) (a .k) _ _ (c .before .before .kind-of .ensures) (c .before .match .rest) (c .other .ensures)))
+    (λ c. search kinded)
+    (λ c. search (kinded, ← c .before .before .before .before .argument-of .ensures, ← c .before .constant-element .ensures))
+    (λ c. search (kinded, ← c .before .before .before .before .argument-of .ensures, ← c .before .sign-element .ensures))
+    (λ c. search (kinded, ← c .before .before .before .argument-of .ensures))
+    (λ c. search (kinded, ← c .before .before .before .argument-of .ensures))
+    (λ c. search (kinded, ← c .before .binder-of .ensures .0))
+    (λ c. search kinded)
+    (λ c. search (kinded, ← c .before .end .ensures .0))
+    (λ c. search (kinded, ← c .before .end2 .ensures .0))
+    (λ c. search (kinded, ← c .before .end3 .ensures .0))
+    (λ c. search (kinded, rw (c .before .next-end .ensures .0, c .before .before .end4 .ensures .0) at (c .branch .ensures)))
+    (λ c. search (kinded, ← c .before .end5 .ensures .0))
+    (λ c. search (kinded, ← c .before .before .before .before .before .argument-of .ensures, ← c .before .operation-number .ensures, ← c .before .before .end6 .ensures .0))
+    (λ c. search kinded)
+    (λ c. search (kinded, ← c .before .end7 .ensures .0))
+    (λ c. search (kinded, rw (c .before .next-end2 .ensures .0, c .before .before .end8 .ensures .0) at (c .set .ensures)))
+    (λ c. search (kinded, ← c .before .end9 .ensures .0))
+    (λ c. search kinded)
+    (λ c. search kinded)
+    (λ c. search (kinded, ← c .before .end10 .ensures .0))
+    (λ c. search (kinded, ← c .before .before .before .before .argument-of .ensures, ← c .before .end11 .ensures .0))
+    (λ c. search (kinded, ← c .before .before .before .before .argument-of .ensures, ← c .before .permissions-of .ensures))
+    (λ c. search beyond))
