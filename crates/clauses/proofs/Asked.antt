@@ -1,25 +1,16 @@
--- The rule of a term is its clauses: sets obey what the rule asks where the term is live exactly if they obey each of its clauses.
+-- A clause that sets obey for all targets they obey for each; what is true of each clause of a list.
 use Prim.Native.Nat.{ℕ, zero, suc, _+_, _≤_, _<_}
-use mathlib.Core.Path.{_≡_, refl, sym, ap, _∙_, subst}
-use mathlib.Core.Bool.{Bool, true, false, not}
-use mathlib.Core.Logic.{_⊎_, ⊎-elim}
+use mathlib.Core.Path.{subst}
 use mathlib.Core.List.{List, [], _∷_, List·Memᴰ}
 use native.Mathlib.Decide.{decLt}
 use native.Mathlib.Omega.{arith}
-use borrow.Author.Tests.{ne-eqb}
-use lib.Dec.{T, eqb}
+use lib.Dec.{T}
 use lib.ListN.{getD}
-use Rattle.permset.specs.Sets.{width, member, within}
 use Rattle.delivery.specs.Delivery.{delivered}
-use Rattle.table.specs.declared.Operation.{Operation}
-use Rattle.table.specs.declared.Operation.the-variants as operations
-use Rattle.table.specs.Words.{operationOf, operationNumber}
-use Rattle.table.specs.Code.{Code, Node, NodeLinked, Linked, gap, block, leaf, one, two, bind, while, branch, update, cell, read, exercise}
-use Rattle.table.specs.Code.{apply, sequence, get, delete, assign, operation, send}
-use Rattle.calculus.specs.Elements.{made, undefined, unit, opponentRecord, nothing, isFunction, isRecord, isCell, makes, anyRecord}
-use Rattle.calculus.specs.Constraint.{C, B, P, L, Sets, Obeys, Rule, put, sub, given, only, each, every, _and_}
-use Rattle.calculus.specs.Rules.{nameOf, guarded, deliveryTo, permissions, flow, leafRule, oneRule, twoRule, part, fill, eachMade, twoSender, sender}
-use Rattle.calculus.proofs.Digits.{T-true}
+use Rattle.table.specs.Code.{Code, Node, NodeLinked, Linked, gap, block, leaf, one, two, bind, while, branch, update}
+use Rattle.calculus.specs.Elements.{made, nothing, isFunction, isRecord, isCell, makes}
+use Rattle.calculus.specs.Constraint.{C, Sets, Obeys, Rule}
+use Rattle.calculus.specs.Rules.{nameOf, guarded, deliveryTo, permissions}
 use Rattle.calculus.proofs.Deliveries.{delivered-parts}
 use Rattle.calculus.proofs.Ranges.{below-in}
 use Rattle.clauses.specs.declared.Clause.{Clause}
@@ -27,10 +18,8 @@ use Rattle.clauses.specs.declared.Test.{Test}
 use Rattle.clauses.specs.declared.Test.the-variants as tests
 use Rattle.clauses.specs.declared.What.{What}
 use Rattle.clauses.specs.declared.What.the-variants as whats
-use Rattle.clauses.specs.Asks.{sortAt, thingAt, under, forThing, things, blocks, effect, asks}
-use Rattle.clauses.specs.Clauses.{never, ofValue, ofVariable, ofPermitted, ofExercise, ofApply, ofLet, ofSequence, ofIf, ofWhile}
-use Rattle.clauses.specs.Clauses.{ofOperation, ofGet, ofSet, ofDelete, ofCell, ofRead, ofAssign, ofSend}
-use Rattle.clauses.proofs.Sorts.{row-C, row-B, cell-by, record-by, is-made, is-record}
+use Rattle.clauses.specs.Asks.{thingAt, under, forThing, things, blocks, effect, asks}
+use Rattle.clauses.specs.Clauses.{never}
 
 -- each clause of a list
 abbrev pub Every : (Clause → Type 0) → List Clause → Type 0

@@ -2,7 +2,7 @@
 use Prim.Native.Nat.{ℕ, zero, suc, _+_, _-_, _≤_, _<_}
 use mathlib.Core.Path.{_≡_, refl, sym, ap, _∙_}
 use mathlib.Core.Bool.{true, false}
-use mathlib.Core.List.{List, []}
+use mathlib.Core.List.{List}
 use native.Mathlib.Decide.{decLt}
 use native.Mathlib.Omega.{arith}
 use lib.Dec.{eqb, ltb}
@@ -14,7 +14,7 @@ use Rattle.table.specs.declared.Term.the-variants as terms
 use Rattle.table.specs.Words.{kind, argument, termOf, termsByKind}
 use Rattle.table.specs.Item.{handlerAt, itemAt}
 use Rattle.clauses.specs.declared.Clause.{Clause}
-use Rattle.clauses.specs.Clauses.{never, ofOther, ofValue, ofTerm, ofItem, clausesAt, clauseAt}
+use Rattle.clauses.specs.Clauses.{never, ofOther, ofTerm, ofItem, clausesAt, clauseAt}
 
 -- what stands at p, where its word is of the kind k
 unfoldable pub byKind : List ℕ → ℕ → ℕ → Item
