@@ -21,13 +21,9 @@ use Rattle.rows.specs.Laid.{LaidOut, Sized}
 use Rattle.rows.specs.Mask.{Mask}
 use Rattle.rows.specs.Rows.{meets}
 use Rattle.rows.proofs.Laws.{meets-nonzero}
-use Rattle.clauses.specs.declared.Guard.{Guard}
-use Rattle.clauses.specs.declared.Test.{Test}
-use Rattle.clauses.specs.declared.Test.the-variants as tests
 use Rattle.clauses.specs.Asks.{rowAt}
 use Rattle.clauses.proofs.Sorts.{row-C}
 use Rattle.clauses.proofs.Numbered.{Numbered, in-C, in-B, numbered, base-row, content-row, value-row, row-inside}
-use Rattle.queries.specs.Passes.{passes, Masked, PassedBy}
 
 -- ---- where rows stand
 
@@ -80,22 +76,14 @@ module _ (c : Code) (l : Layout) (o : LaidOut c l) (est : List ℕ) where
         ∙ meets-nonzero mask (content c est (rowAt r))
         ∙ sym (found-masked c est w q mask (m .digits) (rowAt r) (value-row c r inside))
 
--- ---- guards
+-- of two tests, the second made where the first holds
+pub both-true : {x y a b : Bool} → x ≡ true → x ≡ a → y ≡ b → y ≡ a && b
+both-true {a = true} t e f = f
+both-true {a = false} t e f = absurd (true≢false (sym t ∙ e))
 
--- a guard as its parts say
-pub guard-as : (l : Layout) (est masks : List ℕ) (g : Guard) (t : Test) (r : Bool) → g .test ≡ t
-    → ((c : Code) → LaidOut c l → WellFormed c est → Masked c l masks → r ≡ passes c est t (g .d) (g .a) (g .v)) → PassedBy l est masks g r
-guard-as l est masks g t r e f c o w m = f c o w m ∙ ap (λ (x : Test). passes c est x (g .d) (g .a) (g .v)) (sym e)
-
-pub both-true : (x y a b : Bool) → x ≡ true → x ≡ a → y ≡ b → y ≡ a && b
-both-true true y true b t e f = f
-both-true true y false b t e f = absurd (true≢false e)
-both-true false y a b t e f = absurd (false≢true t)
-
-pub first-false : (x a b : Bool) → x ≡ false → x ≡ a → false ≡ a && b
-first-false true a b t e = absurd (true≢false t)
-first-false false true b t e = absurd (false≢true e)
-first-false false false b t e = refl
+pub first-false : {x a : Bool} (b : Bool) → x ≡ false → x ≡ a → false ≡ a && b
+first-false {a = true} b t e = absurd (false≢true (sym t ∙ e))
+first-false {a = false} b t e = refl
 
 -- the row of a value set by its number
 pub C-found : (c : Code) (est : List ℕ) (a : ℕ) (q : ℕ → Bool) → found c est (rowAt (2 * a)) q ≡ found c est (C a) q

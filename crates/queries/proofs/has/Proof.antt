@@ -16,10 +16,10 @@ pub has-spec : {M : Type 1} → statement M
 has-spec =
     tie.close
     (tie.spec
-    (λ c. let s = c .before in omega (arith, row-in (s .pre .0) (s .args .r) (s .pre .1), s .pre .0 .wide))
-    (λ c. let s = c .before in omega (arith, row-in (s .pre .0) (s .args .r) (s .pre .1), s .pre .0 .wide))
-    (λ c. let s = c .before in omega (arith, row-in (s .pre .0) (s .args .r) (s .pre .1), s .pre .0 .wide))
-    (λ c. let s = c .before .before in omega (arith, row-in (s .pre .0) (s .args .r) (s .pre .1), s .pre .0 .wide))
+    (λ c. let s = c .before in omega (arith, row-in (s .pre .0) (s .args .r) (s .pre .1)))
+    (λ c. let s = c .before in omega (arith, row-in (s .pre .0) (s .args .r) (s .pre .1)))
+    (λ c. let s = c .before in omega (arith, row-in (s .pre .0) (s .args .r) (s .pre .1)))
+    (λ c. let s = c .before .before in omega (arith, row-in (s .pre .0) (s .args .r) (s .pre .1)))
     (λ cast-result. search needs)
     (λ shr-result. search needs)
     returns)
