@@ -47,9 +47,7 @@ some-words s = omega (arith, s .lead, s .wide)
 module _ (c : Code) (l : Layout) (o : LaidOut c l) (est : List ℕ) where
   pub live-is : (p : ℕ) → p < l .size → member (getD est (2 * l .size * l .row + p) 0) 24 ≡ sets c est (L p) 0
   unfolding base
-  live-is p h =
-      ap (λ (k : ℕ). member (getD est k 0) 24) (ap₂ (λ (n r : ℕ). 2 * n * r + p) (sym (o .size)) (sym (o .row)))
-      ∙ sym (sets-L c p est (omega (arith, o .size)))
+  live-is p h = rw (sets-L c p est (omega (arith, o .size)), o .row, o .size)
 
   row-sets : {r : Row} {n : ℕ} → Numbered r n → n < 2 * c .size → (v : ℕ) → v < elements c
       → sets c est r v ≡ member (getD est (base c r + v / 32) 0) (v % 32)
@@ -57,24 +55,18 @@ module _ (c : Code) (l : Layout) (o : LaidOut c l) (est : List ℕ) where
   row-sets (in-B {i} e) h v k = sets-B c i v est (omega arith) k
 
   pub has-is : (r v : ℕ) → r < 2 * l .size → v < elements c → member (getD est (r * l .row + v / 32) 0) (v % 32) ≡ sets c est (rowAt r) v
-  has-is r v h k =
-      ap (λ (b : ℕ). member (getD est (b + v / 32) 0) (v % 32)) (ap (λ (x : ℕ). r * x) (sym (o .row)) ∙ sym (base-row c r))
-      ∙ sym (row-sets (numbered r) (omega (arith, o .size)) v k)
+  has-is r v h k = rw (row-sets (numbered r) (omega (arith, o .size)) v k, base-row, o .row)
 
   module _ (w : WellFormed c est) (r : ℕ) (h : r < 2 * l .size) where
     inside : r < 2 * c .size
     inside = omega (arith, o .size)
 
     pub text-is : not (eqb (bitAnd (getD est (r * l .row) 0) 4294967040) 0) ≡ found c est (rowAt r) isString
-    text-is =
-        ap (λ (b : ℕ). not (eqb (bitAnd (getD est b 0) 4294967040) 0)) (ap (λ (x : ℕ). r * x) (sym (o .row)) ∙ sym (base-row c r))
-        ∙ sym (found-string c est w (rowAt r) (value-row c r inside))
+    text-is = rw (found-string c est w (rowAt r) (value-row c r inside), base-row, o .row)
 
     pub some-is : (q : ℕ → Bool) (mask : List ℕ) → Mask c q mask → meets mask (take (l .row) (drop (r * l .row) est)) ≡ found c est (rowAt r) q
     some-is q mask m =
-        ap (meets mask) (ap (λ (x : ℕ). take x (drop (r * x) est)) (sym (o .row)) ∙ sym (content-row c est r))
-        ∙ meets-nonzero mask (content c est (rowAt r))
-        ∙ sym (found-masked c est w q mask (m .digits) (rowAt r) (value-row c r inside))
+        rw (found-masked c est w q mask (m .digits) (rowAt r) (value-row c r inside), content-row, o .row) (meets-nonzero mask _)
 
 -- of two tests, the second made where the first holds
 pub both-true : {x y a b : Bool} → x ≡ true → x ≡ a → y ≡ b → y ≡ a && b

@@ -28,18 +28,17 @@ module _ (est masks : List ℕ) (lead at to f x : ℕ) (e : common est masks at 
   same-word g l m =
       let i : g / 32 ≡ f / 32 = omega arith in
       let j : g % 32 ≡ f % 32 + (g - f) = omega arith in
-      rw (i, j) (sym (shifted (common est masks at to (lead + f / 32)) (f % 32) (g - f)) ∙ ap (λ (y : ℕ). member y (g - f)) e)
+      rw (i, j, ← shifted, e)
 
   -- its lowest digit
   module _ (w : getD est (at + (lead + f / 32)) 0 < 2 ^ 32) (n : x ≡ 0 → ⊥) where
     low : lowest x < 32 - f % 32
     low =
         let d : 32 - f % 32 + f % 32 ≡ 32 = omega arith in
-        let b : common est masks at to (lead + f / 32) < 2 ^ 32 =
-        omega (arith, and-le-l (getD est (at + (lead + f / 32)) 0) (getD masks (to + (lead + f / 32)) 0))
+        let b : common est masks at to (lead + f / 32) < 2 ^ (32 - f % 32 + f % 32) =
+        rw d (omega (arith, and-le-l (getD est (at + (lead + f / 32)) 0) (getD masks (to + (lead + f / 32)) 0)))
         in
-        lowest-lt (32 - f % 32) x (omega arith)
-        (rw e at (shr-lt (32 - f % 32) (f % 32) (subst (λ (k : ℕ). common est masks at to (lead + f / 32) < 2 ^ k) (sym d) b))) n
+        lowest-lt (32 - f % 32) x (omega arith) (rw e at (shr-lt (32 - f % 32) (f % 32) b)) n
 
     pub next-found : (from size : ℕ) → from ≤ f → ((g : ℕ) → from ≤ g → g < f → both est masks lead at to g ≡ false)
         → Next est masks lead at to size from (f + lowest x)
