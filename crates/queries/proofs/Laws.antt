@@ -1,6 +1,6 @@
 -- What the tests on words say of the sets of an estimate.
 use Prim.Native.Nat.{ℕ, _+_, _*_, _/_, _%_, _≤_, _<_}
-use mathlib.Core.Path.{_≡_, refl, sym, ap, ap₂, _∙_}
+use mathlib.Core.Path.{_≡_, refl, sym, ap, _∙_}
 use mathlib.Core.Bool.{Bool, true, false, not, _&&_, true≢false, false≢true}
 use mathlib.Core.List.{List}
 use native.Mathlib.Nat.{mul-le-mul-right}
@@ -12,7 +12,7 @@ use Rattle.permset.specs.Sets.{member}
 use Rattle.table.specs.Code.{Code}
 use Rattle.calculus.specs.Elements.{elements, isString}
 use Rattle.calculus.specs.Constraint.{Row, C, L}
-use Rattle.calculus.specs.Layout.{base, sets, content, WellFormed}
+use Rattle.calculus.specs.Layout.{base, sets, WellFormed}
 use Rattle.calculus.proofs.Folds.{found}
 use Rattle.calculus.proofs.RowOperations.{sets-C, sets-B, sets-L}
 use Rattle.calculus.proofs.RowRules.{found-masked, found-string}

@@ -4,7 +4,6 @@ use mathlib.Core.Path.{_∙_}
 use native.Mathlib.Nat.{add-sub-cancel-left}
 use native.Mathlib.Omega.{arith}
 use lib.ListN.{length}
-use Rattle.queries.specs.Passes.{maskAt}
 use Rattle.queries.proofs.Laws.{row-in, mask-in, some-is}
 use borrow.Author.Needs.{needs}
 use Rattle.queries.proofs.has_some.Statement.{statement}
@@ -31,5 +30,4 @@ has-some-spec =
     (λ part-any-start-2. search needs)
     (λ c. omega (arith, rows (c .before .before .before)))
     (λ any-requires κs. search needs)
-    (λ c k q o w x. let s = c .before .before .before .before .before in let a = s .args in
-    simp add-sub-cancel-left at (c .any .ensures) ∙ some-is k (a .l) o (a .est .now) w (a .r) (s .pre .1) q (maskAt (a .l) (a .masks .now) (a .m)) x))
+    (λ c k q o w x. simp add-sub-cancel-left at (c .any .ensures) ∙ some-is k _ o _ w _ (c .before .before .before .before .before .pre .1) q _ x))

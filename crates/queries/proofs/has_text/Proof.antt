@@ -11,4 +11,4 @@ has-text-spec =
     (λ c. let s = c .before in omega (arith, row-in (s .pre .0) (s .args .r) (s .pre .1)))
     (λ c. let s = c .before in omega (arith, row-in (s .pre .0) (s .args .r) (s .pre .1)))
     (λ c. let s = c .before .before in omega (arith, row-in (s .pre .0) (s .args .r) (s .pre .1)))
-    (λ c k o w. let s = c .before .before in text-is k (s .args .l) o (s .args .est .now) w (s .args .r) (s .pre .1)))
+    (λ c k o w. text-is k _ o _ w _ (c .before .before .pre .1)))

@@ -1,5 +1,5 @@
 -- `queries::later_thing` meets its contract: the lowest digit of the next word in common. Assumes nothing.
-use Prim.Native.Nat.{_+_, _*_, _≤_}
+use Prim.Native.Nat.{_*_, _≤_}
 use native.Mathlib.Omega.{arith}
 use lib.Count.{trailingZeros, trailing-le}
 use borrow.Author.Needs.{needs}

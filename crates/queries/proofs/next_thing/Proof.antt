@@ -1,6 +1,5 @@
 -- `queries::next_thing` meets its contract: the lowest digit of the word of `from`, or else of a later one. Assumes nothing.
 use mathlib.Core.Path.{sym, _∙_}
-use Prim.Native.Nat.{_+_, _*_, _/_}
 use native.Mathlib.Omega.{arith}
 use lib.Count.{trailing-le}
 use borrow.Author.Needs.{needs}
