@@ -35,17 +35,11 @@ pub at-every : (q : Clause → Type 0) (xs : List Clause) → ((k : ℕ) → q (
 at-every q [] a = tt
 at-every q (x ∷ xs) a = (a zero, at-every q xs (λ k. a (suc k)))
 
+-- e obeys a clause, for all targets or for the target f
+abbrev pub Asked : Code → Sets → ℕ → Clause → Type 0
+Asked c e f x = Obeys e (asks c x f)
+
 module _ (c : Code) (k : Linked c) (e : Sets) where
-  -- e obeys a clause, for all targets or for the target f
-  abbrev pub Asked : ℕ → Clause → Type 0
-  Asked f x = Obeys e (asks c x f)
-
-  pub asked-never : (f : ℕ) → Asked f never
-  unfolding asks under
-  asked-never f = tt
-
-  -- ---- one target
-
   under-map : (t : Test) (d a v : ℕ) (i j : Rule) → (Obeys e i → Obeys e j) → Obeys e (under c t d a v i) → Obeys e (under c t d a v j)
   unfolding under
   under-map tests.Never d a v i j g o = tt
@@ -125,7 +119,7 @@ module _ (c : Code) (k : Linked c) (e : Sets) where
   effect-narrow whats.Send x y z f o = blocks-narrow x y z f o
 
   -- a clause that is obeyed for all targets is obeyed for each
-  pub asked-narrow : (x : Clause) (f : ℕ) → Asked 0 x → Asked f x
+  pub asked-narrow : (x : Clause) (f : ℕ) → Asked c e 0 x → Asked c e f x
   unfolding asks
   asked-narrow x f o =
       under-map (x .guard .test) (x .guard .d) (x .guard .a) (x .guard .v) _ _

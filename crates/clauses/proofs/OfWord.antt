@@ -5,6 +5,7 @@ use mathlib.Core.Path.{_≡_, refl, sym, ap, _∙_, subst}
 use mathlib.Core.Bool.{Bool, true, false, not}
 use mathlib.Core.Logic.{_↔_, ⊎-elim}
 use mathlib.Core.List.{List, []}
+use native.Mathlib.Numerals.{add-one}
 use native.Mathlib.Omega.{arith}
 use borrow.Author.Tests.{ne-eqb}
 use lib.Dec.{T, eqb}
@@ -34,7 +35,7 @@ use Rattle.clauses.specs.Clauses.{ofLet, ofSequence, ofIf, ofWhile, ofOp
 use Rattle.clauses.specs.Asks.{sortAt, thingAt, under, forThing, things, blocks, effect, asks}
 use Rattle.calculus.proofs.Permissions.{permissions-are}
 use Rattle.calculus.proofs.Senders.{sentFrom}
-use Rattle.clauses.proofs.Asked.{Every, every-at, at-every, Asked, asked-never, asked-narrow}
+use Rattle.clauses.proofs.Asked.{Every, every-at, at-every, Asked, asked-narrow}
 use Rattle.clauses.proofs.Sorts.{row-C, row-B, cell-by, record-by, is-made, is-record}
 
 -- a site says of the term t at p what the code says
@@ -56,8 +57,8 @@ module _ (c : Code) (k : Linked c) (e : Sets) (p : ℕ) where
   -- The clauses of a node: its rule where p is live, with what it asks of its receivers.
   abbrev Means : List Clause → Node → Type 0
   Means xs n =
-      (T (e (L p) 0) → Obeys e (flow c p n) → Obeys e (each (c .blocks) (λ b. sender c b p n)) → Every (Asked c k e 0) xs)
-      × (Every (Asked c k e 0) xs → Obeys e (flow c p n) × Obeys e (each (c .blocks) (λ b. sender c b p n)))
+      (T (e (L p) 0) → Obeys e (flow c p n) → Obeys e (each (c .blocks) (λ b. sender c b p n)) → Every (Asked c e 0) xs)
+      × (Every (Asked c e 0) xs → Obeys e (flow c p n) × Obeys e (each (c .blocks) (λ b. sender c b p n)))
 
   is-part : {d : ℕ} → 0 < d → T (not (eqb d 0))
   is-part {d} h = subst (λ (b : Bool). T (not b)) (sym (ne-eqb d 0 (λ z. omega arith))) tt
@@ -65,7 +66,7 @@ module _ (c : Code) (k : Linked c) (e : Sets) (p : ℕ) where
   no-part : T (not (eqb 0 0)) → Obeys e (part p 0)
   no-part t = absurd t
 
-  allowed : (r : ℕ) (b : Bool) → Every (Asked c k e 0) (elim b [ true ↦ ofPermitted p r | false ↦ [] ])
+  allowed : (r : ℕ) (b : Bool) → Every (Asked c e 0) (elim b [ true ↦ ofPermitted p r | false ↦ [] ])
       ↔ Obeys e (only b (every width (λ i. only (member r i) (put (P p) i)) and put (C p) unit))
   unfolding ofPermitted asks under effect
   allowed r true = simp row-C ((λ a t. (a .1 .0, a .0)), λ o. let h = o tt in (h .1, (h .0, tt)))
@@ -144,16 +145,8 @@ module _ (ws : List ℕ) (r : reading ws ≡ accepted) (slice : List ℕ) (room 
   unfolding code endOf partAt
   end-later q h = omega (arith, link-end ws r slice room q h)
 
-  node-at : (p : ℕ) (t : Term) → itemAt ws p ≡ items.Term t
-      → code ws .node p ≡ termNode t (p + 1) (linkAt links (p + 1) .end) (linkAt links (linkAt links (p + 1) .end) .end)
-  unfolding itemNode
-  node-at p t h =
-      let z : suc p ≡ p + 1 = omega arith in
-      node-item ws r slice room p
-      ∙ ap (λ (x : Item). nodeAt ws r slice room x p) h
-      ∙ ap (λ (q : ℕ). termNode t q (linkAt links q .end) (linkAt links (linkAt links q .end) .end)) z
-
   pub sited : (p : ℕ) (t : Term) → itemAt ws p ≡ items.Term t → Sited (code ws) p t (siteAt ws links (plain (code ws)) p)
+  unfolding itemNode
   sited p t h =
       record {
         own = refl;
@@ -161,7 +154,7 @@ module _ (ws : List ℕ) (r : reading ws ≡ accepted) (slice : List ℕ) (room 
         perms = permissions-are ws r slice room p t h;
         second = end-later (p + 1);
         third = end-later (linkAt links (p + 1) .end);
-        node = node-at p t h;
+        node = rw (node-item ws r slice room p, h, add-one);
       }
 
   -- a property of each clause of p
@@ -185,15 +178,16 @@ module _ (ws : List ℕ) (r : reading ws ≡ accepted) (slice : List ℕ) (room 
 
     -- sets that obey the rule of a live word, and what it asks of its receivers, obey each of its clauses, for all targets and for one
     pub rule-clauses : Obeys e (flow (code ws) p (code ws .node p)) → Obeys e (sentFrom (code ws) p) → T (e (L p) 0) → (k f : ℕ) → Obeys e (asks (code ws) (clauseAt ws links (plain (code ws)) p k) f)
+    unfolding asks under
     rule-clauses o s y k f =
         asked-narrow (code ws) (code-linked ws r) e (clauseAt ws links (plain (code ws)) p k) f
-        (each-clause (Asked (code ws) (code-linked ws r) e 0) (asked-never (code ws) (code-linked ws r) e 0) p (word-means .0 y o s) k)
+        (each-clause (Asked (code ws) e 0) tt p (word-means .0 y o s) k)
 
     -- and the other way round
     pub clauses-rule : ((k : ℕ) → Obeys e (asks (code ws) (clauseAt ws links (plain (code ws)) p k) 0)) → Obeys e (flow (code ws) p (code ws .node p))
     unfolding clauseAt
-    clauses-rule a = word-means .1 (at-every (Asked (code ws) (code-linked ws r) e 0) (clausesAt ws links (plain (code ws)) p) a) .0
+    clauses-rule a = word-means .1 (at-every (Asked (code ws) e 0) (clausesAt ws links (plain (code ws)) p) a) .0
 
     pub clauses-sent : ((k : ℕ) → Obeys e (asks (code ws) (clauseAt ws links (plain (code ws)) p k) 0)) → Obeys e (sentFrom (code ws) p)
     unfolding clauseAt
-    clauses-sent a = word-means .1 (at-every (Asked (code ws) (code-linked ws r) e 0) (clausesAt ws links (plain (code ws)) p) a) .1
+    clauses-sent a = word-means .1 (at-every (Asked (code ws) e 0) (clausesAt ws links (plain (code ws)) p) a) .1
