@@ -1,17 +1,17 @@
 -- Rows by their numbers: where they stand in the words of an estimate.
 use Prim.Native.Nat.{ℕ, _+_, _*_, _/_, _%_, _≤_, _<_}
-use mathlib.Core.Path.{_≡_, sym, ap, _∙_, subst}
+use mathlib.Core.Path.{_≡_, ap}
 use mathlib.Core.List.{List}
 use native.Mathlib.Decide.{ℕ-discrete}
 use native.Mathlib.Nat.{mul-le-mul-right}
 use native.Mathlib.Omega.{arith}
+use borrow.Author.Tests.{eq-eqb, ne-eqb}
 use lib.ListN.{take, drop}
 use Rattle.table.specs.Code.{Code}
 use Rattle.calculus.specs.Constraint.{Row, C, B}
 use Rattle.calculus.specs.Layout.{rowWords, base, content}
 use Rattle.calculus.proofs.RowRules.{ValueRow, C-row, B-row}
 use Rattle.clauses.specs.Asks.{rowAt}
-use Rattle.clauses.proofs.Sorts.{row-C, row-B}
 
 -- row i of n words lies in the words of an estimate
 pub row-inside : (n r i : ℕ) → i < 2 * n → i * r + r ≤ 2 * n * r + n
@@ -23,26 +23,23 @@ pub data Numbered : Row → ℕ → Type 0 where
   in-B : {i n : ℕ} → n ≡ 2 * i + 1 → Numbered (B i) n
 
 pub numbered : (n : ℕ) → Numbered (rowAt n) n
+unfolding rowAt
 numbered n = go (ℕ-discrete (n % 2) 0)
   where
     go : Dec (n % 2 ≡ 0) → Numbered (rowAt n) n
-    go (yes e) =
-        let i : n ≡ 2 * (n / 2) = omega arith in
-        subst (λ (r : Row). Numbered r n) (sym (ap rowAt i ∙ row-C (n / 2))) (in-C i)
-    go (no e) =
-        let i : n ≡ 2 * (n / 2) + 1 = omega arith in
-        subst (λ (r : Row). Numbered r n) (sym (ap rowAt i ∙ row-B (n / 2))) (in-B i)
+    go (yes e) = let i : n ≡ 2 * (n / 2) = omega arith in rw (eq-eqb (n % 2) 0 e, rowAt) (in-C i)
+    go (no e) = let i : n ≡ 2 * (n / 2) + 1 = omega arith in rw (ne-eqb (n % 2) 0 e, rowAt) (in-B i)
 
 module _ (c : Code) where
   base-of : {r : Row} {n : ℕ} → Numbered r n → base c r ≡ n * rowWords c
   unfolding base
-  base-of (in-C e) = ap (λ (x : ℕ). x * rowWords c) (sym e)
+  base-of (in-C e) = rw e
   base-of (in-B e) = omega (arith, ap (λ (x : ℕ). x * rowWords c) e)
 
   content-of : (ws : List ℕ) {r : Row} {n : ℕ} → Numbered r n → content c ws r ≡ take (rowWords c) (drop (n * rowWords c) ws)
   unfolding content
-  content-of ws (in-C e) = ap (λ (x : ℕ). take (rowWords c) (drop x ws)) (base-of (in-C e))
-  content-of ws (in-B e) = ap (λ (x : ℕ). take (rowWords c) (drop x ws)) (base-of (in-B e))
+  content-of ws (in-C e) = rw (base-of (in-C e))
+  content-of ws (in-B e) = rw (base-of (in-B e))
 
   value-of : {r : Row} {n : ℕ} → Numbered r n → n < 2 * c .size → ValueRow c r
   value-of (in-C {i} e) h = C-row c i (omega arith)

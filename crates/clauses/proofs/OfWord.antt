@@ -1,6 +1,6 @@
 -- The clauses of a word of an accepted table: sets obey the rule of a live word, and what it asks of its receivers, exactly if they obey
 -- each of its clauses; and what the clauses ask fits the code.
-use Prim.Native.Nat.{ℕ, suc, _+_, _≤_, _<_}
+use Prim.Native.Nat.{ℕ, _+_, _≤_, _<_}
 use mathlib.Core.Path.{_≡_, refl, sym, ap, _∙_, subst}
 use mathlib.Core.Bool.{Bool, true, false, not}
 use mathlib.Core.Logic.{_↔_, ⊎-elim}
@@ -24,7 +24,7 @@ use Rattle.permset.specs.Sets.{width, member, within}
 use Rattle.table.specs.Links.{linkAt, linked}
 use Rattle.table.proofs.Linked.{linked as code-linked}
 use Rattle.table.proofs.LinkMeaning.{link-end}
-use Rattle.table.proofs.Nodes.{itemNode, nodeAt, node-item, binder-link}
+use Rattle.table.proofs.Nodes.{itemNode, node-item, binder-link}
 use Rattle.calculus.specs.Elements.{plain, made, unit, isCell}
 use Rattle.calculus.specs.Constraint.{P, C, L, Sets, Obeys, put, only, each, every, _and_}
 use Rattle.calculus.specs.Rules.{permissions, flow, leafRule, oneRule, twoRule, part, twoSender, sender}
