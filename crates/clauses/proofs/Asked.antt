@@ -1,6 +1,5 @@
 -- A clause that sets obey for all targets they obey for each; what is true of each clause of a list.
 use Prim.Native.Nat.{ℕ, zero, suc, _+_, _≤_, _<_}
-use mathlib.Core.Path.{subst}
 use mathlib.Core.List.{List, [], _∷_, List·Memᴰ}
 use native.Mathlib.Decide.{decLt}
 use native.Mathlib.Omega.{arith}
@@ -40,15 +39,16 @@ abbrev pub Asked : Code → Sets → ℕ → Clause → Type 0
 Asked c e f x = Obeys e (asks c x f)
 
 module _ (c : Code) (k : Linked c) (e : Sets) where
-  under-map : (t : Test) (d a v : ℕ) (i j : Rule) → (Obeys e i → Obeys e j) → Obeys e (under c t d a v i) → Obeys e (under c t d a v j)
-  unfolding under
-  under-map tests.Never d a v i j g o = tt
-  under-map tests.Free d a v i j g o = g o
-  under-map tests.Has d a v i j g o = λ h. g (o h)
-  under-map tests.Some d a v i j g o = λ w s h. g (o w s h)
-  under-map tests.Text d a v i j g o = λ w s h. g (o w s h)
-  under-map tests.TextHas d a v i j g o = λ w s h m. g (o w s h m)
-  under-map tests.TextSome d a v i j g o = λ w s h x r m. g (o w s h x r m)
+  module _ (d a v : ℕ) (i j : Rule) (g : Obeys e i → Obeys e j) where
+    under-map : (t : Test) → Obeys e (under c t d a v i) → Obeys e (under c t d a v j)
+    unfolding under
+    under-map tests.Never o = tt
+    under-map tests.Free o = g o
+    under-map tests.Has o = λ h. g (o h)
+    under-map tests.Some o = λ w s h. g (o w s h)
+    under-map tests.Text o = λ w s h. g (o w s h)
+    under-map tests.TextHas o = λ w s h m. g (o w s h m)
+    under-map tests.TextSome o = λ w s h x r m. g (o w s h x r m)
 
   nothing-thing : (z : ℕ) → T (thingAt z nothing) → ⊥
   unfolding thingAt isFunction isRecord isCell
@@ -58,16 +58,16 @@ module _ (c : Code) (k : Linked c) (e : Sets) where
 
   pub gap-thing : (z f : ℕ) → c .size ≤ f → T (thingAt z (makes (c .node f))) → ⊥
   unfolding makes
-  gap-thing z f h t = nothing-thing z (subst (λ (n : Node). T (thingAt z (makes n))) (k .outside f h) t)
+  gap-thing z f h t = nothing-thing z (rw (k .outside f h) at t)
 
   things-narrow : (w : What) (x y z f : ℕ) → Obeys e (things c w x y z 0) → Obeys e (things c w x y z f)
   unfolding things
   things-narrow w x y z zero o = o
-  things-narrow w x y z (suc f) o = λ t. go (decLt (suc f) (c .size)) t
+  things-narrow w x y z (suc f) o = λ t. go t (decLt (suc f) (c .size))
     where
-      go : Dec (suc f < c .size) → T (thingAt z (makes (c .node (suc f)))) → T (e (C (x + 1)) (made c (suc f))) → Obeys e (forThing w x y (suc f))
-      go (yes i) t = o (suc f) (below-in i) t
-      go (no i) t = absurd (gap-thing z (suc f) (omega arith) t)
+      go : T (thingAt z (makes (c .node (suc f)))) → Dec (suc f < c .size) → T (e (C (x + 1)) (made c (suc f))) → Obeys e (forThing w x y (suc f))
+      go t (yes i) = o (suc f) (below-in i) t
+      go t (no i) = absurd (gap-thing z (suc f) (omega arith) t)
 
   listed-node : (b : ℕ) (n : Node) → NodeLinked c b n → (s : ℕ) → T (guarded n s) → List·Memᴰ b (c .blocks)
   unfolding guarded
@@ -88,7 +88,7 @@ module _ (c : Code) (k : Linked c) (e : Sets) where
     where
       go : Dec (b < c .size) → List·Memᴰ b (c .blocks)
       go (yes i) = listed-node b (c .node b) (k .nodes b i) s t
-      go (no i) = absurd (subst (λ (n : Node). T (guarded n s)) (k .outside b (omega arith)) t)
+      go (no i) = absurd (rw (k .outside b (omega arith)) at t)
 
   pub admitted-listed : (n r s b : ℕ) → T (delivered (deliveryTo n r s (c .node b))) → List·Memᴰ b (c .blocks)
   admitted-listed n r s b t = listed-guarded b s (delivered-parts n r s (c .node b) t .2)
@@ -96,31 +96,30 @@ module _ (c : Code) (k : Linked c) (e : Sets) where
   blocks-narrow : (x y z f : ℕ) → Obeys e (blocks c x y z 0) → Obeys e (blocks c x y z f)
   unfolding blocks
   blocks-narrow x y z zero o = o
-  blocks-narrow x y z (suc f) o =
-      λ t. o (suc f) (admitted-listed (nameOf (c .node (suc f))) z (permissions c x) (suc f) t) t
+  blocks-narrow x y z (suc f) o = λ t. o (suc f) (admitted-listed (nameOf (c .node (suc f))) z (permissions c x) (suc f) t) t
 
-  effect-narrow : (w : What) (x y z f : ℕ) → Obeys e (effect c w x y z 0) → Obeys e (effect c w x y z f)
-  unfolding effect
-  effect-narrow whats.Live x y z f o = o
-  effect-narrow whats.Put x y z f o = o
-  effect-narrow whats.Fill x y z f o = o
-  effect-narrow whats.Flow x y z f o = o
-  effect-narrow whats.Pass x y z f o = o
-  effect-narrow whats.Permit x y z f o = o
-  effect-narrow whats.Operate x y z f o = o
-  effect-narrow whats.Part x y z f o = o
-  effect-narrow whats.Parts x y z f o = o
-  effect-narrow whats.Branches x y z f o = o
-  effect-narrow whats.Enter x y z f o = things-narrow whats.Enter x y z f o
-  effect-narrow whats.Lower x y z f o = things-narrow whats.Lower x y z f o
-  effect-narrow whats.Hand x y z f o = things-narrow whats.Hand x y z f o
-  effect-narrow whats.Take x y z f o = things-narrow whats.Take x y z f o
-  effect-narrow whats.Back x y z f o = things-narrow whats.Back x y z f o
-  effect-narrow whats.Send x y z f o = blocks-narrow x y z f o
+  module _ (x y z f : ℕ) where
+    effect-narrow : (w : What) → Obeys e (effect c w x y z 0) → Obeys e (effect c w x y z f)
+    unfolding effect
+    effect-narrow whats.Live o = o
+    effect-narrow whats.Put o = o
+    effect-narrow whats.Fill o = o
+    effect-narrow whats.Flow o = o
+    effect-narrow whats.Pass o = o
+    effect-narrow whats.Permit o = o
+    effect-narrow whats.Operate o = o
+    effect-narrow whats.Part o = o
+    effect-narrow whats.Parts o = o
+    effect-narrow whats.Branches o = o
+    effect-narrow whats.Enter o = things-narrow whats.Enter x y z f o
+    effect-narrow whats.Lower o = things-narrow whats.Lower x y z f o
+    effect-narrow whats.Hand o = things-narrow whats.Hand x y z f o
+    effect-narrow whats.Take o = things-narrow whats.Take x y z f o
+    effect-narrow whats.Back o = things-narrow whats.Back x y z f o
+    effect-narrow whats.Send o = blocks-narrow x y z f o
 
   -- a clause that is obeyed for all targets is obeyed for each
   pub asked-narrow : (x : Clause) (f : ℕ) → Asked c e 0 x → Asked c e f x
   unfolding asks
   asked-narrow x f o =
-      under-map (x .guard .test) (x .guard .d) (x .guard .a) (x .guard .v) _ _
-      (effect-narrow (x .effect .what) (x .effect .x) (x .effect .y) (x .effect .z) f) o
+      under-map (x .guard .d) (x .guard .a) (x .guard .v) _ _ (effect-narrow (x .effect .x) (x .effect .y) (x .effect .z) f (x .effect .what)) (x .guard .test) o

@@ -23,7 +23,7 @@ use Rattle.rows.specs.Rows.{meets}
 use Rattle.rows.proofs.Laws.{meets-nonzero}
 use Rattle.clauses.specs.Asks.{rowAt}
 use Rattle.clauses.proofs.Sorts.{row-C}
-use Rattle.clauses.proofs.Numbered.{Numbered, in-C, in-B, numbered, base-row, content-row, value-row, row-inside}
+use Rattle.clauses.proofs.Numbered.{by-number, base-row, content-row, value-row, row-inside}
 
 -- ---- where rows stand
 
@@ -49,13 +49,11 @@ module _ (c : Code) (l : Layout) (o : LaidOut c l) (est : List ℕ) where
   unfolding base
   live-is p h = rw (sets-L c p est (omega (arith, o .size)), o .row, o .size)
 
-  row-sets : {r : Row} {n : ℕ} → Numbered r n → n < 2 * c .size → (v : ℕ) → v < elements c
-      → sets c est r v ≡ member (getD est (base c r + v / 32) 0) (v % 32)
-  row-sets (in-C {i} e) h v k = sets-C c i v est (omega arith) k
-  row-sets (in-B {i} e) h v k = sets-B c i v est (omega arith) k
-
   pub has-is : (r v : ℕ) → r < 2 * l .size → v < elements c → member (getD est (r * l .row + v / 32) 0) (v % 32) ≡ sets c est (rowAt r) v
-  has-is r v h k = rw (row-sets (numbered r) (omega (arith, o .size)) v k, base-row, o .row)
+  has-is r v h k =
+      let word = by-number (λ x. sets c est x v ≡ member (getD est (base c x + v / 32) 0) (v % 32)) r (λ i e. sets-C c i v est (omega (arith, o .size)) k)
+      (λ i e. sets-B c i v est (omega (arith, o .size)) k) in
+      rw (word, base-row, o .row)
 
   module _ (w : WellFormed c est) (r : ℕ) (h : r < 2 * l .size) where
     inside : r < 2 * c .size
