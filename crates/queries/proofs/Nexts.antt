@@ -4,7 +4,7 @@ use mathlib.Core.Path.{_≡_, sym, ap, ap₂, _∙_}
 use mathlib.Core.Bool.{false}
 use mathlib.Core.List.{List}
 use native.Mathlib.Decide.{decLt}
-use native.Mathlib.Nat.{div-one}
+use native.Mathlib.Nat.{add-sub-cancel-left, div-one}
 use native.Mathlib.Omega.{arith}
 use lib.Bits.{bitAnd, and-le-l}
 use lib.Dec.{eqb}
@@ -47,9 +47,7 @@ module _ (est masks : List ℕ) (lead at to f x : ℕ) (e : common est masks at 
           later = omega arith;
           none = λ g l m. go g l m (decLt g f);
           found =
-              λ s.
-              let d : f + lowest x - f ≡ lowest x = omega arith in
-              same-word (f + lowest x) (omega arith) (omega (arith, low)) ∙ ap (member x) d
+              λ s. rw add-sub-cancel-left at (same-word (f + lowest x) (omega arith) (omega (arith, low)))
               ∙ T-true (member x (lowest x)) (lowest-member x (omega (arith, low)));
         }
       where
@@ -70,8 +68,7 @@ module _ (est masks : List ℕ) (lead at to from row k : ℕ) (z : common est ma
       go : Dec (g < (from / 32 + 1) * 32) → both est masks lead at to g ≡ false
       go (yes a) = same-word est masks lead at to from 0 z g h a ∙ member-empty (g - from)
       go (no a) =
-          ap (λ (x : ℕ). member x (g % 32)) (sym (part-word (lead + g / 32) m) ∙ next .none (lead + g / 32) (omega arith) l)
-          ∙ member-empty (g % 32)
+          rw (sym (part-word (lead + g / 32) m) ∙ next .none (lead + g / 32) (omega arith) l) (member-empty (g % 32))
 
   pub later-found : (size : ℕ) → k < row → at + row ≤ length est → getD est (at + k) 0 < 2 ^ 32
       → Next est masks lead at to size from (32 * (k - lead) + lowest (common est masks at to k))
