@@ -29,7 +29,7 @@ use Rattle.clauses.proofs.Numbered.{by-number, base-row, content-row, value-row
 
 -- the row r of an estimate
 pub row-in : {l : Layout} {est : List ℕ} → Sized l est → (r : ℕ) → r < 2 * l .size → r * l .row + l .row ≤ length est
-row-in {l} s r h = omega (arith, s .long, row-inside (l .size) (l .row) r h)
+row-in {l} s r h = omega (arith, row-inside (l .size) (l .row) r h)
 
 -- the mask m of four
 pub mask-in : (n r m : ℕ) → 4 * r ≤ n → m < 4 → m * r + r ≤ n
@@ -40,24 +40,24 @@ pub value-in : {l : Layout} {est : List ℕ} → Sized l est → (a : ℕ) → a
 value-in s a h = row-in s (2 * a) (omega arith)
 
 pub some-words : {l : Layout} {est : List ℕ} → Sized l est → 0 < l .row
-some-words s = omega (arith, s .lead, s .wide)
+some-words s = omega arith
 
 -- ---- elements
 
 module _ (c : Code) (l : Layout) (o : LaidOut c l) (est : List ℕ) where
   pub live-is : (p : ℕ) → p < l .size → member (getD est (2 * l .size * l .row + p) 0) 24 ≡ sets c est (L p) 0
   unfolding base
-  live-is p h = rw (sets-L c p est (omega (arith, o .size)), o .row, o .size)
+  live-is p h = rw (sets-L c p est (omega arith), o .row, o .size)
 
   pub has-is : (r v : ℕ) → r < 2 * l .size → v < elements c → member (getD est (r * l .row + v / 32) 0) (v % 32) ≡ sets c est (rowAt r) v
   has-is r v h k =
-      let word = by-number (λ x. sets c est x v ≡ member (getD est (base c x + v / 32) 0) (v % 32)) r (λ i e. sets-C c i v est (omega (arith, o .size)) k)
-      (λ i e. sets-B c i v est (omega (arith, o .size)) k) in
+      let word = by-number (λ x. sets c est x v ≡ member (getD est (base c x + v / 32) 0) (v % 32)) r (λ i e. sets-C c i v est (omega arith) k)
+      (λ i e. sets-B c i v est (omega arith) k) in
       rw (word, base-row, o .row)
 
   module _ (w : WellFormed c est) (r : ℕ) (h : r < 2 * l .size) where
     inside : r < 2 * c .size
-    inside = omega (arith, o .size)
+    inside = omega arith
 
     pub text-is : not (eqb (bitAnd (getD est (r * l .row) 0) 4294967040) 0) ≡ found c est (rowAt r) isString
     text-is = rw (found-string c est w (rowAt r) (value-row c r inside), base-row, o .row)

@@ -75,10 +75,10 @@ module _ (est masks : List ℕ) (lead at to from row k : ℕ) (z : common est ma
   later-found size h l w =
       let f = 32 * (k - lead) in
       let x = common est masks at to k in
-      let place : lead + f / 32 ≡ k = omega (arith, next .later) in
+      let place : lead + f / 32 ≡ k = omega arith in
       let first : f % 32 ≡ 0 = omega arith in
       next-found est masks lead at to f x (rw (place, first) (div-one x)) (rw place w)
-      (λ e. next .found (omega (arith, length-part est at row l)) (part-word k h ∙ e)) from size (omega (arith, next .later))
+      (λ e. next .found (omega (arith, length-part est at row l)) (part-word k h ∙ e)) from size (omega arith)
       (λ g a b. passed g a (omega arith) (omega arith))
 
   pub later-none : (size : ℕ) → from < size → size + 32 * lead ≤ 32 * row → row ≤ k → Next est masks lead at to size from size

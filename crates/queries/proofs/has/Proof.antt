@@ -17,4 +17,4 @@ has-spec =
     (λ c. let s = c .before .before in omega (arith, row-in (s .pre .0) (s .args .r) (s .pre .1)))
     (λ cast-result. search needs)
     (λ shr-result. search needs)
-    (λ c k o. let s = c .before .before in has-is k _ o _ _ _ (s .pre .1) (omega (arith, s .pre .2, o .lead, o .size))))
+    (λ c k o. let s = c .before .before in has-is k _ o _ _ _ (s .pre .1) (omega arith)))
