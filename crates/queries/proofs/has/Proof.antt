@@ -11,10 +11,10 @@ unfolding member
 has-spec =
     tie.close
     (tie.spec
-    (λ c. let s = c .before in omega (arith, row-in (s .pre .0) (s .args .r) (s .pre .1)))
-    (λ c. let s = c .before in omega (arith, row-in (s .pre .0) (s .args .r) (s .pre .1)))
-    (λ c. let s = c .before in omega (arith, row-in (s .pre .0) (s .args .r) (s .pre .1)))
-    (λ c. let s = c .before .before in omega (arith, row-in (s .pre .0) (s .args .r) (s .pre .1)))
+    (λ c. omega (arith, row-in (c .before .pre .0) _ (c .before .pre .1)))
+    (λ c. omega (arith, row-in (c .before .pre .0) _ (c .before .pre .1)))
+    (λ c. omega (arith, row-in (c .before .pre .0) _ (c .before .pre .1)))
+    (λ c. omega (arith, row-in (c .before .before .pre .0) _ (c .before .before .pre .1)))
     (λ cast-result. search needs)
     (λ shr-result. search needs)
-    (λ c k o. let s = c .before .before in has-is k _ o _ _ _ (s .pre .1) (omega arith)))
+    (λ c k o. has-is k _ o _ _ _ (c .before .before .pre .1) (omega arith)))

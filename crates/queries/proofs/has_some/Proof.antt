@@ -11,7 +11,7 @@ use Rattle.queries.proofs.has_some.Tie as tie
 
 rows : (s : tie.Start) → let a = s .args in
     (a .r * a .l .row + a .l .row ≤ length (a .est .now)) × (a .m * a .l .row + a .l .row ≤ length (a .masks .now))
-rows s = (row-in (s .pre .0) (s .args .r) (s .pre .1), mask-in _ (s .args .l .row) (s .args .m) (s .pre .2) (s .pre .3))
+rows s = (row-in (s .pre .0) _ (s .pre .1), mask-in _ _ _ (s .pre .2) (s .pre .3))
 
 pub has-some-spec : {M : Type 1} → statement M
 has-some-spec =

@@ -8,7 +8,7 @@ pub has-text-spec : {M : Type 1} → statement M
 has-text-spec =
     tie.close
     (tie.spec
-    (λ c. let s = c .before in omega (arith, row-in (s .pre .0) (s .args .r) (s .pre .1)))
-    (λ c. let s = c .before in omega (arith, row-in (s .pre .0) (s .args .r) (s .pre .1)))
-    (λ c. let s = c .before .before in omega (arith, row-in (s .pre .0) (s .args .r) (s .pre .1)))
+    (λ c. omega (arith, row-in (c .before .pre .0) _ (c .before .pre .1)))
+    (λ c. omega (arith, row-in (c .before .pre .0) _ (c .before .pre .1)))
+    (λ c. omega (arith, row-in (c .before .before .pre .0) _ (c .before .before .pre .1)))
     (λ c k o w. text-is k _ o _ w _ (c .before .before .pre .1)))
