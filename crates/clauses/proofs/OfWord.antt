@@ -1,7 +1,7 @@
 -- The clauses of a word of an accepted table: sets obey the rule of a live word, and what it asks of its receivers, exactly if they obey
 -- each of its clauses; and what the clauses ask fits the code.
 use Prim.Native.Nat.{ℕ, _+_, _≤_, _<_}
-use mathlib.Core.Path.{_≡_, refl, sym, ap, _∙_, subst}
+use mathlib.Core.Path.{_≡_, refl, ap, _∙_}
 use mathlib.Core.Bool.{Bool, true, false, not}
 use mathlib.Core.Logic.{_↔_, ⊎-elim}
 use mathlib.Core.List.{List, []}
@@ -61,7 +61,7 @@ module _ (c : Code) (k : Linked c) (e : Sets) (p : ℕ) where
       × (Every (Asked c e 0) xs → Obeys e (flow c p n) × Obeys e (each (c .blocks) (λ b. sender c b p n)))
 
   is-part : {d : ℕ} → 0 < d → T (not (eqb d 0))
-  is-part {d} h = subst (λ (b : Bool). T (not b)) (sym (ne-eqb d 0 (λ z. omega arith))) tt
+  is-part {d} h = rw (ne-eqb d 0 (λ z. omega arith)) tt
 
   no-part : T (not (eqb 0 0)) → Obeys e (part p 0)
   no-part t = absurd t
@@ -87,13 +87,13 @@ module _ (c : Code) (k : Linked c) (e : Sets) (p : ℕ) where
       simp row-C (
         (λ y o f. let g = o .1 .1 in
             (search no-part, ((λ i m t h. g i m t h .0), ((λ i m t h. g i m t h .1 .0), ((λ i m t h. g i m t h .1 .1 .0), ((λ i m t h. g i m t h .1 .1 .1), tt)))))),
-        λ a. search (a .0 .1 .0, is-part (w .second (l .1 .inside)), a .1 .0, a .1 .1 .0, a .1 .1 .1 .0, a .1 .1 .1 .1 .0),
+        λ a. search (a .0 .1 .0, is-part, w .second, a .1 .0, a .1 .1 .0, a .1 .1 .1 .0, a .1 .1 .1 .1 .0),
       )
-  term-means terms.Let s w l = simp (row-C, row-B) ((λ y o f. search no-part), λ a. search (a .0 .1 .0, is-part (w .second (l .0 .inside))))
-  term-means terms.Sequence s w l = simp row-C ((λ y o f. search no-part), λ a. search (a .0 .1 .0, is-part (w .second (l .1 .inside))))
-  term-means terms.If s w l = simp row-C ((λ y o f. search), λ a. search (a .0 .1 .1, is-part (w .third (l .1 .inside))))
+  term-means terms.Let s w l = simp (row-C, row-B) ((λ y o f. search no-part), λ a. search (a .0 .1 .0, is-part, w .second))
+  term-means terms.Sequence s w l = simp row-C ((λ y o f. search no-part), λ a. search (a .0 .1 .0, is-part, w .second))
+  term-means terms.If s w l = simp row-C ((λ y o f. search), λ a. search (a .0 .1 .1, is-part, w .third))
   term-means terms.While s w l = simp row-C ((λ y o f. ((o .0, (o .1 .0, λ t. absurd t)), (o .1 .1 .0, (o .1 .1 .1, tt)))), λ a. search)
-  term-means (terms.Operation d) s w l = simp operation-number ((λ y o f. search no-part), λ a. search (a .0 .1 .0, is-part (w .second (l .1 .inside))))
+  term-means (terms.Operation d) s w l = simp operation-number ((λ y o f. search no-part), λ a. search (a .0 .1 .0, is-part, w .second))
   term-means terms.Record s w l = simp (row-C, w .own) ((λ y o f. search), λ a. search)
   term-means terms.Get s w l =
       simp row-C (
@@ -105,7 +105,7 @@ module _ (c : Code) (k : Linked c) (e : Sets) (p : ℕ) where
             ((λ v q h. g v q h .1), ((λ v q h x m t i. g v q h .0 x m t i .0), tt)),
           ),
         )),
-        λ a. search (a .0 .1 .0, is-part (w .second (l .1 .inside)), a .1 .0, is-record c k, a .1 .1 .0, a .1 .1 .1 .0),
+        λ a. search (a .0 .1 .0, is-part, w .second, a .1 .0, is-record c k, a .1 .1 .0, a .1 .1 .1 .0),
       )
   term-means terms.Set s w l =
       simp (row-C, row-B, w .own) (
@@ -113,9 +113,9 @@ module _ (c : Code) (k : Linked c) (e : Sets) (p : ℕ) where
           search,
           ((λ v q h u t i. g v q h .0 u t i .0), ((λ v q h u t i. g v q h .0 u t i .1), ((λ v q h. g v q h .1 .1), ((λ v q h. g v q h .1 .0), tt)))),
         )),
-        λ a. search (a .0 .1 .0, is-part (w .second (l .0 .inside)), a .0 .1 .1, is-part (w .third (l .1 .inside)), a .1 .0, a .1 .1 .0, a .1 .1 .1 .0, a .1 .1 .1 .1 .0),
+        λ a. search (a .0 .1 .0, is-part, w .second, a .0 .1 .1, w .third, a .1 .0, a .1 .1 .0, a .1 .1 .1 .0, a .1 .1 .1 .1 .0),
       )
-  term-means terms.Delete s w l = simp row-C ((λ y o f. search no-part), λ a. search (a .0 .1 .0, is-part (w .second (l .1 .inside))))
+  term-means terms.Delete s w l = simp row-C ((λ y o f. search no-part), λ a. search (a .0 .1 .0, is-part, w .second))
   term-means terms.Cell s w l = simp (row-C, row-B, w .own) ((λ y o f. search no-part), λ a. search)
   term-means terms.Read s w l = simp row-C ((λ y o f. search no-part), λ a. search)
   term-means terms.Assign s w l =
@@ -124,7 +124,7 @@ module _ (c : Code) (k : Linked c) (e : Sets) (p : ℕ) where
           search no-part,
           ((λ u t i. let b = cell-by c k u t in g (b .word) (below-in (b .inside)) (b .makes-it) (rw (b .element) at i) .0), ((λ q m t i. g q m t i .1), tt)),
         )),
-        λ a. search (a .0 .1 .0, is-part (w .second (l .1 .inside)), a .1 .0, is-made c k isCell, a .1 .1 .0),
+        λ a. search (a .0 .1 .0, is-part, w .second, a .1 .0, is-made c k isCell, a .1 .1 .0),
       )
   term-means (terms.Send r) s w l =
       simp row-C (
