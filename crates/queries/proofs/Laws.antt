@@ -1,6 +1,6 @@
 -- What the tests on words say of the sets of an estimate.
 use Prim.Native.Nat.{ℕ, _+_, _*_, _/_, _%_, _≤_, _<_}
-use mathlib.Core.Path.{_≡_, refl, sym, ap, _∙_}
+use mathlib.Core.Path.{_≡_, refl, sym, _∙_}
 use mathlib.Core.Bool.{Bool, true, false, not, _&&_, true≢false, false≢true}
 use mathlib.Core.List.{List}
 use native.Mathlib.Nat.{mul-le-mul-right}
@@ -11,7 +11,7 @@ use lib.ListN.{length, getD, take, drop}
 use Rattle.permset.specs.Sets.{member}
 use Rattle.table.specs.Code.{Code}
 use Rattle.calculus.specs.Elements.{elements, isString}
-use Rattle.calculus.specs.Constraint.{Row, C, L}
+use Rattle.calculus.specs.Constraint.{C, L}
 use Rattle.calculus.specs.Layout.{base, sets, WellFormed}
 use Rattle.calculus.proofs.Folds.{found}
 use Rattle.calculus.proofs.RowOperations.{sets-C, sets-B, sets-L}
@@ -56,15 +56,12 @@ module _ (c : Code) (l : Layout) (o : LaidOut c l) (est : List ℕ) where
       rw (word, base-row, o .row)
 
   module _ (w : WellFormed c est) (r : ℕ) (h : r < 2 * l .size) where
-    inside : r < 2 * c .size
-    inside = omega arith
-
     pub text-is : not (eqb (bitAnd (getD est (r * l .row) 0) 4294967040) 0) ≡ found c est (rowAt r) isString
-    text-is = rw (found-string c est w (rowAt r) (value-row c r inside), base-row, o .row)
+    text-is = rw (found-string c est w (rowAt r) (value-row c r (omega arith)), base-row, o .row)
 
     pub some-is : (q : ℕ → Bool) (mask : List ℕ) → Mask c q mask → meets mask (take (l .row) (drop (r * l .row) est)) ≡ found c est (rowAt r) q
     some-is q mask m =
-        rw (found-masked c est w q mask (m .digits) (rowAt r) (value-row c r inside), content-row, o .row) (meets-nonzero mask _)
+        rw (found-masked c est w q mask (m .digits) (rowAt r) (value-row c r (omega arith)), content-row, o .row) (meets-nonzero mask _)
 
 -- of two tests, the second made where the first holds
 pub both-true : {x y a b : Bool} → x ≡ true → x ≡ a → y ≡ b → y ≡ a && b
@@ -77,7 +74,7 @@ first-false {a = false} b t e = refl
 
 -- the row of a value set by its number
 pub C-found : (c : Code) (est : List ℕ) (a : ℕ) (q : ℕ → Bool) → found c est (rowAt (2 * a)) q ≡ found c est (C a) q
-C-found c est a q = ap (λ (r : Row). found c est r q) (row-C a)
+C-found c est a q = rw row-C
 
 pub C-sets : (c : Code) (est : List ℕ) (a v : ℕ) → sets c est (rowAt (2 * a)) v ≡ sets c est (C a) v
-C-sets c est a v = ap (λ (r : Row). sets c est r v) (row-C a)
+C-sets c est a v = rw row-C
