@@ -1,5 +1,5 @@
 -- `queries::next_thing` meets its contract: the lowest digit of the word of `from`, or else of a later one. Assumes nothing.
-use mathlib.Core.Path.{sym, _∙_}
+use mathlib.Core.Path.{sym}
 use native.Mathlib.Omega.{arith}
 use lib.Count.{trailing-le}
 use borrow.Author.Needs.{needs}
@@ -21,5 +21,5 @@ next-thing-spec =
     (λ c. omega (arith, trailing-le 32 (c .before .common-from .result)))
     (λ c. next-found _ _ _ _ _ _ _ (sym (c .before .common-from .ensures)) (c .before .before .before .before .before .before .before .shared-slice-known .given _ .fits) (c .if2 .taken) _ _ (omega arith)
     (λ g l m. absurd (omega arith)))
-    (λ c κs. (search needs, sym (c .before .common-from .ensures) ∙ c .if2 .left))
+    (λ later-thing-requires κs. search needs)
     (λ returns-3. search needs))
