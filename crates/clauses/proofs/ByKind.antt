@@ -1,8 +1,8 @@
 -- The clauses of a word by its kind.
 use Prim.Native.Nat.{ℕ, zero, suc, _+_, _-_, _≤_, _<_}
-use mathlib.Core.Path.{_≡_, refl, sym, ap, ap₂, _∙_}
+use mathlib.Core.Path.{_≡_, refl, sym, ap, _∙_}
 use mathlib.Core.Bool.{true, false}
-use mathlib.Core.List.{List, []}
+use mathlib.Core.List.{List}
 use native.Mathlib.Decide.{decLt}
 use native.Mathlib.Omega.{arith}
 use lib.Dec.{eqb, ltb}
@@ -14,7 +14,7 @@ use Rattle.table.specs.declared.Term.the-variants as terms
 use Rattle.table.specs.Words.{kind, argument, termOf, termsByKind}
 use Rattle.table.specs.Item.{handlerAt, itemAt}
 use Rattle.clauses.specs.declared.Clause.{Clause}
-use Rattle.clauses.specs.Clauses.{never, ofOther, ofValue, ofTerm, ofItem, clausesAt, clauseAt}
+use Rattle.clauses.specs.Clauses.{never, ofOther, ofTerm, ofItem, clausesAt, clauseAt}
 
 -- what stands at p, where its word is of the kind k
 unfoldable pub byKind : List ℕ → ℕ → ℕ → Item
@@ -32,30 +32,6 @@ pub item-by : (ws : List ℕ) (p k : ℕ) → kind (getD ws p 0) ≡ k → itemA
 unfolding byKind itemAt termOf
 item-by ws p k e = ap (byKind ws p) e
 
--- past the kinds a term counts as a record
-kind-past : (a j : ℕ) → 37 ≤ j → getD (termsByKind a) (j - 16) terms.Record ≡ terms.Record
-unfolding termsByKind
-kind-past a j h = List·getD-eq-default (termsByKind a) terms.Record {n = j - 16} (omega arith)
-
-kind-low : (ws : List ℕ) (p j : ℕ) → eqb j 2 ≡ false → j < 16 → byKind ws p j ≡ items.Gap
-unfolding byKind
-kind-low ws p j e h = rw (e, lt-ltb j 16 h, byKind)
-
-kind-high : (ws : List ℕ) (p j : ℕ) → eqb j 2 ≡ false → 37 ≤ j → byKind ws p j ≡ items.Term terms.Record
-unfolding byKind
-kind-high ws p j e h = rw (e, le-ltb j 16 (omega arith), byKind) (ap items.Term (kind-past (argument (getD ws p 0)) j h))
-
-other-low : (p own j : ℕ) → j < 16 → ofOther p own j ≡ []
-unfolding ofOther
-other-low p own j h = rw (lt-ltb j 16 h, ofOther)
-
-other-high : (p own j : ℕ) → 16 ≤ j → ofOther p own j ≡ ofValue p own
-unfolding ofOther
-other-high p own j h = rw (le-ltb j 16 h, ofOther)
-
-not-lt : (j : ℕ) → (j < 16 → ⊥) → 16 ≤ j
-not-lt j h = omega arith
-
 -- none of the n kinds from 16 on
 abbrev pub NoneFrom : Type 0 → ℕ → ℕ → Type 0
 NoneFrom a zero j = a
@@ -68,40 +44,22 @@ above a (suc n) j t h =
     let d : j ≡ 16 + n → ⊥ = t .1 in
     omega arith
 
--- clauses whose operands are what the links and words say
-pub through : (k : ℕ) (f : ℕ → List Clause) {d x : ℕ} {r s : Clause} → d ≡ x → r ≡ getD (f d) k never → getD (f x) k never ≡ s → r ≡ s
-through k f e h q = h ∙ ap (λ (n : ℕ). getD (f n) k never) e ∙ q
-
-pub through-both : (k : ℕ) (f : ℕ → ℕ → List Clause) {d x n y : ℕ} {r s : Clause} → d ≡ x → n ≡ y → r ≡ getD (f d n) k never → getD (f x y) k never ≡ s → r ≡ s
-through-both k f e g h q = h ∙ ap₂ (λ (i j : ℕ). getD (f i j) k never) e g ∙ q
-
 module _ (ws ls : List ℕ) (plain p k : ℕ) where
-  pub kinded : {w : ℕ} → w ≡ kind (getD ws p 0) → (j : ℕ) → w ≡ j → getD (ofItem ws ls plain p (byKind ws p j)) k never ≡ clauseAt ws ls plain p k
+  pub kinded : {w j : ℕ} {r : Clause} → w ≡ kind (getD ws p 0) → w ≡ j → r ≡ getD (ofItem ws ls plain p (byKind ws p j)) k never → r ≡ clauseAt ws ls plain p k
   unfolding clauseAt clausesAt
-  kinded e j q = ap (λ (x : Item). getD (ofItem ws ls plain p x) k never) (sym (item-by ws p j (sym e ∙ q)))
+  kinded {j = j} e q h = h ∙ ap (λ (x : Item). getD (ofItem ws ls plain p x) k never) (sym (item-by ws p j (sym e ∙ q)))
 
-  -- ---- past the arms: the kind is none of 2 and 16 to 36
-
-  module _ (j : ℕ) (two : eqb j 2 ≡ false) where
-    low-item : j < 16 → getD (ofOther p (plain + p) j) k never ≡ getD (ofItem ws ls plain p (byKind ws p j)) k never
-    unfolding ofItem
-    low-item h =
-        ap (λ (xs : List Clause). getD xs k never) (other-low p (plain + p) j h)
-        ∙ ap (λ (x : Item). getD (ofItem ws ls plain p x) k never) (sym (kind-low ws p j two h))
-
-    high-item : 37 ≤ j → getD (ofOther p (plain + p) j) k never ≡ getD (ofItem ws ls plain p (byKind ws p j)) k never
-    unfolding ofItem ofTerm
-    high-item h =
-        ap (λ (xs : List Clause). getD xs k never) (other-high p (plain + p) j (omega arith))
-        ∙ ap (λ (x : Item). getD (ofItem ws ls plain p x) k never) (sym (kind-high ws p j two h))
-
+  -- past the arms: the kind is none of 2 and 16 to 36
   pub beyond : (r : Clause) (j : ℕ) → j ≡ kind (getD ws p 0) → NoneFrom (Unit {0} × (j ≡ 2 → ⊥)) 21 j → r ≡ getD (ofOther p (plain + p) j) k never
       → r ≡ clauseAt ws ls plain p k
-  beyond r j e t h = h ∙ go (decLt j 16) ∙ kinded e j refl
+  unfolding byKind ofItem ofTerm ofOther termsByKind
+  beyond r j e t h = kinded e refl (h ∙ go (decLt j 16))
     where
       two : eqb j 2 ≡ false
       two = ne-eqb j 2 (t .0 .0 .0 .0 .0 .0 .0 .0 .0 .0 .0 .0 .0 .0 .0 .0 .0 .0 .0 .0 .0 .1)
 
       go : Dec (j < 16) → getD (ofOther p (plain + p) j) k never ≡ getD (ofItem ws ls plain p (byKind ws p j)) k never
-      go (yes h) = low-item j two h
-      go (no h) = high-item j two (above (Unit {0} × (j ≡ 2 → ⊥)) 21 j t (not-lt j h))
+      go (yes i) = rw (two, lt-ltb j 16 i, ofOther, byKind)
+      go (no i) =
+          let high : 37 ≤ j = above _ 21 j t (omega arith) in
+          rw (two, le-ltb j 16 (omega arith), ofOther, byKind, List·getD-eq-default (termsByKind (argument (getD ws p 0))) terms.Record {n = j - 16} (omega arith))

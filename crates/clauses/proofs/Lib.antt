@@ -2,7 +2,6 @@ pub mod Arms
 pub mod Asked
 pub mod ByKind
 pub mod Few
-pub mod Links
 pub mod Numbered
 pub mod OfWord
 pub mod Sorts

@@ -1,17 +1,17 @@
 -- Rows by their numbers: where they stand in the words of an estimate.
 use Prim.Native.Nat.{ℕ, _+_, _*_, _/_, _%_, _≤_, _<_}
-use mathlib.Core.Path.{_≡_, sym, ap, _∙_, subst}
+use mathlib.Core.Path.{_≡_, refl, ap}
 use mathlib.Core.List.{List}
 use native.Mathlib.Decide.{ℕ-discrete}
 use native.Mathlib.Nat.{mul-le-mul-right}
 use native.Mathlib.Omega.{arith}
+use borrow.Author.Tests.{eq-eqb, ne-eqb}
 use lib.ListN.{take, drop}
 use Rattle.table.specs.Code.{Code}
 use Rattle.calculus.specs.Constraint.{Row, C, B}
 use Rattle.calculus.specs.Layout.{rowWords, base, content}
 use Rattle.calculus.proofs.RowRules.{ValueRow, C-row, B-row}
 use Rattle.clauses.specs.Asks.{rowAt}
-use Rattle.clauses.proofs.Sorts.{row-C, row-B}
 
 -- row i of n words lies in the words of an estimate
 pub row-inside : (n r i : ℕ) → i < 2 * n → i * r + r ≤ 2 * n * r + n
@@ -23,36 +23,29 @@ pub data Numbered : Row → ℕ → Type 0 where
   in-B : {i n : ℕ} → n ≡ 2 * i + 1 → Numbered (B i) n
 
 pub numbered : (n : ℕ) → Numbered (rowAt n) n
+unfolding rowAt
 numbered n = go (ℕ-discrete (n % 2) 0)
   where
     go : Dec (n % 2 ≡ 0) → Numbered (rowAt n) n
-    go (yes e) =
-        let i : n ≡ 2 * (n / 2) = omega arith in
-        subst (λ (r : Row). Numbered r n) (sym (ap rowAt i ∙ row-C (n / 2))) (in-C i)
-    go (no e) =
-        let i : n ≡ 2 * (n / 2) + 1 = omega arith in
-        subst (λ (r : Row). Numbered r n) (sym (ap rowAt i ∙ row-B (n / 2))) (in-B i)
+    go (yes e) = let i : n ≡ 2 * (n / 2) = omega arith in rw (eq-eqb (n % 2) 0 e, rowAt) (in-C i)
+    go (no e) = let i : n ≡ 2 * (n / 2) + 1 = omega arith in rw (ne-eqb (n % 2) 0 e, rowAt) (in-B i)
+
+-- what holds of the value sets and of the held sets
+pub by-number : (q : Row → Type 0) (n : ℕ) → ((i : ℕ) → n ≡ 2 * i → q (C i)) → ((i : ℕ) → n ≡ 2 * i + 1 → q (B i)) → q (rowAt n)
+by-number q n f g = go (numbered n)
+  where
+    go : {r : Row} → Numbered r n → q r
+    go (in-C {i} e) = f i e
+    go (in-B {i} e) = g i e
 
 module _ (c : Code) where
-  base-of : {r : Row} {n : ℕ} → Numbered r n → base c r ≡ n * rowWords c
-  unfolding base
-  base-of (in-C e) = ap (λ (x : ℕ). x * rowWords c) (sym e)
-  base-of (in-B e) = omega (arith, ap (λ (x : ℕ). x * rowWords c) e)
-
-  content-of : (ws : List ℕ) {r : Row} {n : ℕ} → Numbered r n → content c ws r ≡ take (rowWords c) (drop (n * rowWords c) ws)
-  unfolding content
-  content-of ws (in-C e) = ap (λ (x : ℕ). take (rowWords c) (drop x ws)) (base-of (in-C e))
-  content-of ws (in-B e) = ap (λ (x : ℕ). take (rowWords c) (drop x ws)) (base-of (in-B e))
-
-  value-of : {r : Row} {n : ℕ} → Numbered r n → n < 2 * c .size → ValueRow c r
-  value-of (in-C {i} e) h = C-row c i (omega arith)
-  value-of (in-B {i} e) h = B-row c i (omega arith)
-
   pub base-row : (n : ℕ) → base c (rowAt n) ≡ n * rowWords c
-  base-row n = base-of (numbered n)
+  unfolding base
+  base-row n = by-number (λ r. base c r ≡ n * rowWords c) n (λ i e. rw e) (λ i e. omega (arith, ap (λ (x : ℕ). x * rowWords c) e))
 
   pub content-row : (ws : List ℕ) (n : ℕ) → content c ws (rowAt n) ≡ take (rowWords c) (drop (n * rowWords c) ws)
-  content-row ws n = content-of ws (numbered n)
+  unfolding content
+  content-row ws n = rw (← base-row n) (by-number (λ r. content c ws r ≡ take (rowWords c) (drop (base c r) ws)) n (λ i e. refl) (λ i e. refl))
 
   pub value-row : (n : ℕ) → n < 2 * c .size → ValueRow c (rowAt n)
-  value-row n h = value-of (numbered n) h
+  value-row n h = by-number (ValueRow c) n (λ i e. C-row c i (omega arith)) (λ i e. B-row c i (omega arith))

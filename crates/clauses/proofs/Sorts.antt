@@ -1,9 +1,10 @@
 -- Rows by their numbers, and the elements of masks: what is made by a word, and back.
-use Prim.Native.Nat.{ℕ, _+_, _-_, _*_, _/_, _%_, _≤_, _<_}
-use mathlib.Core.Path.{_≡_, sym, ap, subst}
+use Prim.Native.Nat.{ℕ, _+_, _-_, _*_, _%_, _≤_, _<_}
+use mathlib.Core.Path.{_≡_, ap}
 use mathlib.Core.Bool.{Bool, _&&_}
 use mathlib.Core.Logic.{_⊎_, inl, inr, ⊎-elim}
 use native.Mathlib.Decide.{decLt}
+use native.Mathlib.Nat.{add-sub-cancel-left}
 use native.Mathlib.Omega.{arith}
 use borrow.Author.Tests.{eq-eqb, ne-eqb}
 use lib.Dec.{T, eqb, leb, eqb→eq, leb→le, le→leb}
@@ -16,17 +17,11 @@ use Rattle.clauses.specs.Asks.{rowAt}
 
 pub row-C : (i : ℕ) → rowAt (2 * i) ≡ C i
 unfolding rowAt
-row-C i =
-    let m : 2 * i % 2 ≡ 0 = omega arith in
-    let d : 2 * i / 2 ≡ i = omega arith in
-    rw (eq-eqb (2 * i % 2) 0 m, rowAt) (ap C d)
+row-C i = rw (eq-eqb (2 * i % 2) 0 (omega arith), rowAt) (ap C (omega arith))
 
 pub row-B : (i : ℕ) → rowAt (2 * i + 1) ≡ B i
 unfolding rowAt
-row-B i =
-    let m : (2 * i + 1) % 2 ≡ 1 = omega arith in
-    let d : (2 * i + 1) / 2 ≡ i = omega arith in
-    rw (ne-eqb ((2 * i + 1) % 2) 0 (λ z. omega arith), rowAt) (ap B d)
+row-B i = rw (ne-eqb ((2 * i + 1) % 2) 0 (λ z. omega arith), rowAt) (ap B (omega arith))
 
 module _ (c : Code) (k : Linked c) where
   -- the word that makes an element
@@ -38,16 +33,17 @@ module _ (c : Code) (k : Linked c) where
 
   made-by : (m : Making → Bool) → (T (m nothing) → ⊥) → (v : ℕ) → T (madeAs c m v) → MadeBy m v
   unfolding making makes
-  made-by m z v t =
-      let low : plain c ≤ v = leb→le (plain c) v (T-fst (leb (plain c) v) (m (making c v)) t) in
-      let q : ℕ = v - plain c in
-      let here : T (m (makes (c .node q))) = T-snd (leb (plain c) v) (m (making c v)) t in
-      go low here (decLt q (c .size))
+  made-by m z v t = go (decLt (v - plain c) (c .size))
     where
-      go : plain c ≤ v → T (m (makes (c .node (v - plain c)))) → Dec (v - plain c < c .size) → MadeBy m v
-      go low here (yes i) = record { word = v - plain c; inside = i; makes-it = here; element = omega arith }
-      go low here (no i) =
-          absurd (z (subst (λ n. T (m (makes n))) (k .outside (v - plain c) (omega arith)) here))
+      low : plain c ≤ v
+      low = leb→le (plain c) v (T-fst (leb (plain c) v) (m (making c v)) t)
+
+      here : T (m (makes (c .node (v - plain c))))
+      here = T-snd (leb (plain c) v) (m (making c v)) t
+
+      go : Dec (v - plain c < c .size) → MadeBy m v
+      go (yes i) = record { word = v - plain c; inside = i; makes-it = here; element = omega (arith, low) }
+      go (no i) = absurd (z (rw (k .outside (v - plain c) (omega arith)) at here))
 
   pub cell-by : (v : ℕ) → T (madeAs c isCell v) → MadeBy isCell v
   unfolding isCell
@@ -64,9 +60,7 @@ module _ (c : Code) (k : Linked c) where
   pub is-made : (m : Making → Bool) (q : ℕ) → T (m (makes (c .node q))) → T (madeAs c m (made c q))
   unfolding making
   is-made m q t =
-      let e : made c q - plain c ≡ q = omega arith in
-      T-and (leb (plain c) (made c q)) (m (making c (made c q))) (le→leb (plain c) (made c q) (omega arith))
-      (subst (λ (i : ℕ). T (m (makes (c .node i)))) (sym e) t)
+      T-and (leb (plain c) (made c q)) (m (making c (made c q))) (le→leb (plain c) (made c q) (omega arith)) (rw add-sub-cancel-left t)
 
   pub is-record : (q : ℕ) → T (isRecord (makes (c .node q))) → T (anyRecord c (made c q))
   unfolding anyRecord

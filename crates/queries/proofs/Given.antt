@@ -1,6 +1,6 @@
 -- What follows from an accepted table with its layout, and from a well-formed estimate of it.
 use Prim.Native.Nat.{ℕ, _+_, _*_, _≤_}
-use mathlib.Core.Path.{_≡_, ap₂, _∙_}
+use mathlib.Core.Path.{_≡_}
 use mathlib.Core.List.{List}
 use native.Mathlib.Nat.{mul-le-mul}
 use native.Mathlib.Omega.{arith}
@@ -27,15 +27,15 @@ module _ {ws links masks : List ℕ} {l : Layout} (y : Ready ws links masks l) w
   unfolding estimateWords rowWords code
   sized {est} w =
       let small : length ws ≤ 1024 = head-word ws (y .readable) .sized in
-      let long : length est ≡ 2 * l .size * l .row + l .size = w .long ∙ ap₂ (λ (x r : ℕ). 2 * x * r + x) (y .laid .size) (y .laid .row) in
-      let wide : l .row ≤ 36 = omega (arith, y .laid .size, y .laid .row, names-most (getD ws 0 0)) in
-      let n : l .size ≤ 1024 = omega (arith, y .laid .size) in
+      let long : length est ≡ 2 * l .size * l .row + l .size = rw (y .laid .row, y .laid .size) at (w .long) in
+      let wide : l .row ≤ 36 = omega (arith, names-most (getD ws 0 0)) in
+      let n : l .size ≤ 1024 = omega arith in
       let most : 2 * l .size * l .row ≤ 2048 * 36 = mul-le-mul {n₂ = 2048} {m₂ = 36} (omega arith) wide in
       record {
-        size = omega (arith, y .laid .size);
-        lead = omega (arith, y .laid .lead);
-        wide = omega (arith, y .laid .size, y .laid .row, y .laid .lead);
+        size = omega arith;
+        lead = omega arith;
+        wide = omega arith;
         most = wide;
         long = long;
-        short = omega (arith, long, most);
+        short = omega arith;
       }

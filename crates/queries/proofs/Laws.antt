@@ -1,6 +1,6 @@
 -- What the tests on words say of the sets of an estimate.
 use Prim.Native.Nat.{ℕ, _+_, _*_, _/_, _%_, _≤_, _<_}
-use mathlib.Core.Path.{_≡_, refl, sym, ap, ap₂, _∙_}
+use mathlib.Core.Path.{_≡_, refl, sym, _∙_}
 use mathlib.Core.Bool.{Bool, true, false, not, _&&_, true≢false, false≢true}
 use mathlib.Core.List.{List}
 use native.Mathlib.Nat.{mul-le-mul-right}
@@ -11,8 +11,8 @@ use lib.ListN.{length, getD, take, drop}
 use Rattle.permset.specs.Sets.{member}
 use Rattle.table.specs.Code.{Code}
 use Rattle.calculus.specs.Elements.{elements, isString}
-use Rattle.calculus.specs.Constraint.{Row, C, L}
-use Rattle.calculus.specs.Layout.{base, sets, content, WellFormed}
+use Rattle.calculus.specs.Constraint.{C, L}
+use Rattle.calculus.specs.Layout.{base, sets, WellFormed}
 use Rattle.calculus.proofs.Folds.{found}
 use Rattle.calculus.proofs.RowOperations.{sets-C, sets-B, sets-L}
 use Rattle.calculus.proofs.RowRules.{found-masked, found-string}
@@ -21,19 +21,15 @@ use Rattle.rows.specs.Laid.{LaidOut, Sized}
 use Rattle.rows.specs.Mask.{Mask}
 use Rattle.rows.specs.Rows.{meets}
 use Rattle.rows.proofs.Laws.{meets-nonzero}
-use Rattle.clauses.specs.declared.Guard.{Guard}
-use Rattle.clauses.specs.declared.Test.{Test}
-use Rattle.clauses.specs.declared.Test.the-variants as tests
 use Rattle.clauses.specs.Asks.{rowAt}
 use Rattle.clauses.proofs.Sorts.{row-C}
-use Rattle.clauses.proofs.Numbered.{Numbered, in-C, in-B, numbered, base-row, content-row, value-row, row-inside}
-use Rattle.queries.specs.Passes.{passes, Masked, PassedBy}
+use Rattle.clauses.proofs.Numbered.{by-number, base-row, content-row, value-row, row-inside}
 
 -- ---- where rows stand
 
 -- the row r of an estimate
 pub row-in : {l : Layout} {est : List ℕ} → Sized l est → (r : ℕ) → r < 2 * l .size → r * l .row + l .row ≤ length est
-row-in {l} s r h = omega (arith, s .long, row-inside (l .size) (l .row) r h)
+row-in {l} s r h = omega (arith, row-inside (l .size) (l .row) r h)
 
 -- the mask m of four
 pub mask-in : (n r m : ℕ) → 4 * r ≤ n → m < 4 → m * r + r ≤ n
@@ -44,62 +40,41 @@ pub value-in : {l : Layout} {est : List ℕ} → Sized l est → (a : ℕ) → a
 value-in s a h = row-in s (2 * a) (omega arith)
 
 pub some-words : {l : Layout} {est : List ℕ} → Sized l est → 0 < l .row
-some-words s = omega (arith, s .lead, s .wide)
+some-words s = omega arith
 
 -- ---- elements
 
 module _ (c : Code) (l : Layout) (o : LaidOut c l) (est : List ℕ) where
   pub live-is : (p : ℕ) → p < l .size → member (getD est (2 * l .size * l .row + p) 0) 24 ≡ sets c est (L p) 0
   unfolding base
-  live-is p h =
-      ap (λ (k : ℕ). member (getD est k 0) 24) (ap₂ (λ (n r : ℕ). 2 * n * r + p) (sym (o .size)) (sym (o .row)))
-      ∙ sym (sets-L c p est (omega (arith, o .size)))
-
-  row-sets : {r : Row} {n : ℕ} → Numbered r n → n < 2 * c .size → (v : ℕ) → v < elements c
-      → sets c est r v ≡ member (getD est (base c r + v / 32) 0) (v % 32)
-  row-sets (in-C {i} e) h v k = sets-C c i v est (omega arith) k
-  row-sets (in-B {i} e) h v k = sets-B c i v est (omega arith) k
+  live-is p h = rw (sets-L c p est (omega arith), o .row, o .size)
 
   pub has-is : (r v : ℕ) → r < 2 * l .size → v < elements c → member (getD est (r * l .row + v / 32) 0) (v % 32) ≡ sets c est (rowAt r) v
   has-is r v h k =
-      ap (λ (b : ℕ). member (getD est (b + v / 32) 0) (v % 32)) (ap (λ (x : ℕ). r * x) (sym (o .row)) ∙ sym (base-row c r))
-      ∙ sym (row-sets (numbered r) (omega (arith, o .size)) v k)
+      let word = by-number (λ x. sets c est x v ≡ member (getD est (base c x + v / 32) 0) (v % 32)) r (λ i e. sets-C c i v est (omega arith) k)
+      (λ i e. sets-B c i v est (omega arith) k) in
+      rw (word, base-row, o .row)
 
   module _ (w : WellFormed c est) (r : ℕ) (h : r < 2 * l .size) where
-    inside : r < 2 * c .size
-    inside = omega (arith, o .size)
-
     pub text-is : not (eqb (bitAnd (getD est (r * l .row) 0) 4294967040) 0) ≡ found c est (rowAt r) isString
-    text-is =
-        ap (λ (b : ℕ). not (eqb (bitAnd (getD est b 0) 4294967040) 0)) (ap (λ (x : ℕ). r * x) (sym (o .row)) ∙ sym (base-row c r))
-        ∙ sym (found-string c est w (rowAt r) (value-row c r inside))
+    text-is = rw (found-string c est w (rowAt r) (value-row c r (omega arith)), base-row, o .row)
 
     pub some-is : (q : ℕ → Bool) (mask : List ℕ) → Mask c q mask → meets mask (take (l .row) (drop (r * l .row) est)) ≡ found c est (rowAt r) q
     some-is q mask m =
-        ap (meets mask) (ap (λ (x : ℕ). take x (drop (r * x) est)) (sym (o .row)) ∙ sym (content-row c est r))
-        ∙ meets-nonzero mask (content c est (rowAt r))
-        ∙ sym (found-masked c est w q mask (m .digits) (rowAt r) (value-row c r inside))
+        rw (found-masked c est w q mask (m .digits) (rowAt r) (value-row c r (omega arith)), content-row, o .row) (meets-nonzero mask _)
 
--- ---- guards
+-- of two tests, the second made where the first holds
+pub both-true : {x y a b : Bool} → x ≡ true → x ≡ a → y ≡ b → y ≡ a && b
+both-true {a = true} t e f = f
+both-true {a = false} t e f = absurd (true≢false (sym t ∙ e))
 
--- a guard as its parts say
-pub guard-as : (l : Layout) (est masks : List ℕ) (g : Guard) (t : Test) (r : Bool) → g .test ≡ t
-    → ((c : Code) → LaidOut c l → WellFormed c est → Masked c l masks → r ≡ passes c est t (g .d) (g .a) (g .v)) → PassedBy l est masks g r
-guard-as l est masks g t r e f c o w m = f c o w m ∙ ap (λ (x : Test). passes c est x (g .d) (g .a) (g .v)) (sym e)
-
-pub both-true : (x y a b : Bool) → x ≡ true → x ≡ a → y ≡ b → y ≡ a && b
-both-true true y true b t e f = f
-both-true true y false b t e f = absurd (true≢false e)
-both-true false y a b t e f = absurd (false≢true t)
-
-pub first-false : (x a b : Bool) → x ≡ false → x ≡ a → false ≡ a && b
-first-false true a b t e = absurd (true≢false t)
-first-false false true b t e = absurd (false≢true e)
-first-false false false b t e = refl
+pub first-false : {x a : Bool} (b : Bool) → x ≡ false → x ≡ a → false ≡ a && b
+first-false {a = true} b t e = absurd (false≢true (sym t ∙ e))
+first-false {a = false} b t e = refl
 
 -- the row of a value set by its number
 pub C-found : (c : Code) (est : List ℕ) (a : ℕ) (q : ℕ → Bool) → found c est (rowAt (2 * a)) q ≡ found c est (C a) q
-C-found c est a q = ap (λ (r : Row). found c est r q) (row-C a)
+C-found c est a q = rw row-C
 
 pub C-sets : (c : Code) (est : List ℕ) (a v : ℕ) → sets c est (rowAt (2 * a)) v ≡ sets c est (C a) v
-C-sets c est a v = ap (λ (r : Row). sets c est r v) (row-C a)
+C-sets c est a v = rw row-C

@@ -1,10 +1,10 @@
 -- The search for the next thing that a row and a mask have: a word at a time, by its lowest digit.
 use Prim.Native.Nat.{ℕ, _+_, _-_, _*_, _/_, _%_, _^_, _≤_, _<_}
-use mathlib.Core.Path.{_≡_, sym, ap, ap₂, _∙_, subst}
+use mathlib.Core.Path.{_≡_, sym, ap, ap₂, _∙_}
 use mathlib.Core.Bool.{false}
 use mathlib.Core.List.{List}
 use native.Mathlib.Decide.{decLt}
-use native.Mathlib.Nat.{div-one}
+use native.Mathlib.Nat.{add-sub-cancel-left, div-one}
 use native.Mathlib.Omega.{arith}
 use lib.Bits.{bitAnd, and-le-l}
 use lib.Dec.{eqb}
@@ -28,18 +28,17 @@ module _ (est masks : List ℕ) (lead at to f x : ℕ) (e : common est masks at 
   same-word g l m =
       let i : g / 32 ≡ f / 32 = omega arith in
       let j : g % 32 ≡ f % 32 + (g - f) = omega arith in
-      rw (i, j) (sym (shifted (common est masks at to (lead + f / 32)) (f % 32) (g - f)) ∙ ap (λ (y : ℕ). member y (g - f)) e)
+      rw (i, j, ← shifted, e)
 
   -- its lowest digit
   module _ (w : getD est (at + (lead + f / 32)) 0 < 2 ^ 32) (n : x ≡ 0 → ⊥) where
     low : lowest x < 32 - f % 32
     low =
         let d : 32 - f % 32 + f % 32 ≡ 32 = omega arith in
-        let b : common est masks at to (lead + f / 32) < 2 ^ 32 =
-        omega (arith, and-le-l (getD est (at + (lead + f / 32)) 0) (getD masks (to + (lead + f / 32)) 0))
+        let b : common est masks at to (lead + f / 32) < 2 ^ (32 - f % 32 + f % 32) =
+        rw d (omega (arith, and-le-l (getD est (at + (lead + f / 32)) 0) (getD masks (to + (lead + f / 32)) 0)))
         in
-        lowest-lt (32 - f % 32) x (omega arith)
-        (rw e at (shr-lt (32 - f % 32) (f % 32) (subst (λ (k : ℕ). common est masks at to (lead + f / 32) < 2 ^ k) (sym d) b))) n
+        lowest-lt (32 - f % 32) x (omega arith) (rw e at (shr-lt (32 - f % 32) (f % 32) b)) n
 
     pub next-found : (from size : ℕ) → from ≤ f → ((g : ℕ) → from ≤ g → g < f → both est masks lead at to g ≡ false)
         → Next est masks lead at to size from (f + lowest x)
@@ -48,9 +47,7 @@ module _ (est masks : List ℕ) (lead at to f x : ℕ) (e : common est masks at 
           later = omega arith;
           none = λ g l m. go g l m (decLt g f);
           found =
-              λ s.
-              let d : f + lowest x - f ≡ lowest x = omega arith in
-              same-word (f + lowest x) (omega arith) (omega (arith, low)) ∙ ap (member x) d
+              λ s. rw add-sub-cancel-left at (same-word (f + lowest x) (omega arith) (omega (arith, low)))
               ∙ T-true (member x (lowest x)) (lowest-member x (omega (arith, low)));
         }
       where
@@ -71,18 +68,17 @@ module _ (est masks : List ℕ) (lead at to from row k : ℕ) (z : common est ma
       go : Dec (g < (from / 32 + 1) * 32) → both est masks lead at to g ≡ false
       go (yes a) = same-word est masks lead at to from 0 z g h a ∙ member-empty (g - from)
       go (no a) =
-          ap (λ (x : ℕ). member x (g % 32)) (sym (part-word (lead + g / 32) m) ∙ next .none (lead + g / 32) (omega arith) l)
-          ∙ member-empty (g % 32)
+          rw (sym (part-word (lead + g / 32) m) ∙ next .none (lead + g / 32) (omega arith) l) (member-empty (g % 32))
 
   pub later-found : (size : ℕ) → k < row → at + row ≤ length est → getD est (at + k) 0 < 2 ^ 32
       → Next est masks lead at to size from (32 * (k - lead) + lowest (common est masks at to k))
   later-found size h l w =
       let f = 32 * (k - lead) in
       let x = common est masks at to k in
-      let place : lead + f / 32 ≡ k = omega (arith, next .later) in
+      let place : lead + f / 32 ≡ k = omega arith in
       let first : f % 32 ≡ 0 = omega arith in
       next-found est masks lead at to f x (rw (place, first) (div-one x)) (rw place w)
-      (λ e. next .found (omega (arith, length-part est at row l)) (part-word k h ∙ e)) from size (omega (arith, next .later))
+      (λ e. next .found (omega (arith, length-part est at row l)) (part-word k h ∙ e)) from size (omega arith)
       (λ g a b. passed g a (omega arith) (omega arith))
 
   pub later-none : (size : ℕ) → from < size → size + 32 * lead ≤ 32 * row → row ≤ k → Next est masks lead at to size from size

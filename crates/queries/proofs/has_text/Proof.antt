@@ -1,6 +1,6 @@
 -- `queries::has_text` meets its contract. Assumes nothing.
 use native.Mathlib.Omega.{arith}
-use Rattle.queries.proofs.Laws.{row-in, some-words, text-is}
+use Rattle.queries.proofs.Laws.{row-in, text-is}
 use Rattle.queries.proofs.has_text.Statement.{statement}
 use Rattle.queries.proofs.has_text.Tie as tie
 
@@ -8,7 +8,7 @@ pub has-text-spec : {M : Type 1} → statement M
 has-text-spec =
     tie.close
     (tie.spec
-    (λ c. let s = c .before in omega (arith, row-in (s .pre .0) (s .args .r) (s .pre .1), some-words (s .pre .0)))
-    (λ c. let s = c .before in omega (arith, row-in (s .pre .0) (s .args .r) (s .pre .1), some-words (s .pre .0)))
-    (λ c. let s = c .before .before in omega (arith, row-in (s .pre .0) (s .args .r) (s .pre .1), some-words (s .pre .0)))
-    (λ c. λ k o w. let s = c .before .before in text-is k (s .args .l) o (s .args .est .now) w (s .args .r) (s .pre .1)))
+    (λ c. omega (arith, row-in (c .before .pre .0) _ (c .before .pre .1)))
+    (λ c. omega (arith, row-in (c .before .pre .0) _ (c .before .pre .1)))
+    (λ c. omega (arith, row-in (c .before .before .pre .0) _ (c .before .before .pre .1)))
+    (λ c k o w. text-is k _ o _ w _ (c .before .before .pre .1)))

@@ -1,5 +1,5 @@
 -- `queries::later_thing` meets its contract: the lowest digit of the next word in common. Assumes nothing.
-use Prim.Native.Nat.{_+_, _*_, _≤_}
+use Prim.Native.Nat.{_*_, _≤_}
 use native.Mathlib.Omega.{arith}
 use lib.Count.{trailingZeros, trailing-le}
 use borrow.Author.Needs.{needs}
@@ -14,24 +14,8 @@ few : (c : tie.After-shared-slice-known4)
     trailingZeros 32 (common (a .est .now) (a .masks .now) (a .r * a .l .row) (a .m * a .l .row) (c .before .before .before .next-common .result)) ≤ 32
 few c = trailing-le 32 _
 
-returns : tie.Need-returns
-unfolding lowest
-returns c =
-    let s = c .before .before .before .before .before .before .before .before in
-    let a = s .args in
-    let at = a .r * a .l .row in
-    let k = c .before .before .before .next-common .result in
-    later-found (a .est .now) (a .masks .now) (a .l .lead) at (a .m * a .l .row) (a .from) (a .l .row) k (s .pre .1)
-    (c .before .before .before .next-common .ensures) (a .l .size) (omega arith) (omega arith) (c .before .shared-slice-known3 .given (at + k) .fits)
-
-returns-2 : tie.Need-returns-2
-returns-2 c =
-    let s = c .before .before .before .before .before .before in
-    let a = s .args in
-    later-none (a .est .now) (a .masks .now) (a .l .lead) (a .r * a .l .row) (a .m * a .l .row) (a .from) (a .l .row) (c .before .next-common .result)
-    (s .pre .1) (c .before .next-common .ensures) (a .l .size) (omega arith) (omega arith) (omega arith)
-
 pub later-thing-spec : {M : Type 1} → statement M
+unfolding lowest
 later-thing-spec =
     tie.close
     (tie.spec
@@ -60,5 +44,6 @@ later-thing-spec =
     (λ shared-slice-read-result-2. search needs)
     (λ c. omega (arith, few c))
     (λ c. omega (arith, few c))
-    returns
-    returns-2)
+    (λ c. later-found _ _ _ _ _ _ _ _ (c .before .before .before .before .before .before .before .before .pre .1) (c .before .before .before .next-common .ensures) _ (omega arith) (omega arith)
+    (c .before .shared-slice-known3 .given _ .fits))
+    (λ c. later-none _ _ _ _ _ _ _ _ (c .before .before .before .before .before .before .pre .1) (c .before .next-common .ensures) _ (omega arith) (omega arith) (omega arith)))

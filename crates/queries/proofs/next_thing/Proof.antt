@@ -1,6 +1,5 @@
 -- `queries::next_thing` meets its contract: the lowest digit of the word of `from`, or else of a later one. Assumes nothing.
-use mathlib.Core.Path.{sym, _∙_}
-use Prim.Native.Nat.{_+_, _*_, _/_}
+use mathlib.Core.Path.{sym}
 use native.Mathlib.Omega.{arith}
 use lib.Count.{trailing-le}
 use borrow.Author.Needs.{needs}
@@ -9,16 +8,8 @@ use Rattle.queries.proofs.Nexts.{next-found}
 use Rattle.queries.proofs.next_thing.Statement.{statement}
 use Rattle.queries.proofs.next_thing.Tie as tie
 
-returns-2 : tie.Need-returns-2
-unfolding lowest
-returns-2 c =
-    let a = c .before .before .before .before .before .before .before .before .args in
-    let at = a .r * a .l .row in
-    let word = c .before .before .before .before .before .before .before .shared-slice-known .given (at + (a .l .lead + a .from / 32)) .fits in
-    next-found (a .est .now) (a .masks .now) (a .l .lead) at (a .m * a .l .row) (a .from) (c .before .common-from .result)
-    (sym (c .before .common-from .ensures)) word (c .if2 .taken) (a .from) (a .l .size) (omega arith) (λ g l m. absurd (omega arith))
-
 pub next-thing-spec : {M : Type 1} → statement M
+unfolding lowest
 next-thing-spec =
     tie.close
     (tie.spec
@@ -28,6 +19,7 @@ next-thing-spec =
     (λ common-from-requires κs. search needs)
     (λ c. omega (arith, trailing-le 32 (c .before .common-from .result)))
     (λ c. omega (arith, trailing-le 32 (c .before .common-from .result)))
-    returns-2
-    (λ c κs. (search needs, sym (c .before .common-from .ensures) ∙ c .if2 .left))
+    (λ c. next-found _ _ _ _ _ _ _ (sym (c .before .common-from .ensures)) (c .before .before .before .before .before .before .before .shared-slice-known .given _ .fits) (c .if2 .taken) _ _ (omega arith)
+    (λ g l m. absurd (omega arith)))
+    (λ later-thing-requires κs. search needs)
     (λ returns-3. search needs))

@@ -1,23 +1,20 @@
 -- `clauses::make::read` meets its contract: an arm for each clause, and none past them. Assumes nothing.
-use mathlib.Core.Path.{refl}
-use borrow.Author.Needs.{needs}
 use Rattle.clauses.proofs.make.read.Statement.{statement}
 use Rattle.clauses.proofs.make.read.Tie as tie
-use Rattle.clauses.specs.Clauses.{ofRead, free}
-use Rattle.clauses.proofs.Arms.{arm, past}
-use Rattle.table.proofs.Outside.{outside}
+use Rattle.clauses.specs.Clauses.{ofRead}
+use Rattle.clauses.proofs.Arms.{arms}
 
 pub read-spec : {M : Type 1} → statement M
 unfolding ofRead
 read-spec =
     tie.close
     (tie.spec
-    (λ of-requires κs. search needs)
-    (λ free-requires κs. search needs)
-    (λ mul-of. search needs)
-    (λ of-requires-2 κs. search needs)
-    (λ free-requires-2 κs. search needs)
-    (λ never-requires κs. search needs)
-    (λ c. arm (ofRead _) _ 0 (c .before .before .match .keys1) free _ _ _ (c .free .ensures) (c .before .of .ensures) refl)
-    (λ c. arm (ofRead _) _ 1 (c .before .before .match .keys2) free _ _ _ (c .free2 .ensures) (c .before .of2 .ensures) refl)
-    (λ c. past (ofRead _) _ _ (c .never .ensures) (outside 2 _ (c .before .match .rest))))
+    (λ of-requires κs. search arms)
+    (λ free-requires κs. search arms)
+    (λ mul-of. search arms)
+    (λ of-requires-2 κs. search arms)
+    (λ free-requires-2 κs. search arms)
+    (λ never-requires κs. search arms)
+    (λ returns. search arms)
+    (λ returns-2. search arms)
+    (λ returns-3. search arms))

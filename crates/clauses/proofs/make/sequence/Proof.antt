@@ -1,24 +1,21 @@
 -- `clauses::make::sequence` meets its contract: an arm for each clause, and none past them. Assumes nothing.
-use mathlib.Core.Path.{refl}
-use borrow.Author.Needs.{needs}
 use Rattle.clauses.proofs.make.sequence.Statement.{statement}
 use Rattle.clauses.proofs.make.sequence.Tie as tie
-use Rattle.clauses.specs.Clauses.{ofSequence, free}
-use Rattle.clauses.proofs.Arms.{arm, past}
-use Rattle.table.proofs.Outside.{outside}
+use Rattle.clauses.specs.Clauses.{ofSequence}
+use Rattle.clauses.proofs.Arms.{arms}
 
 pub sequence-spec : {M : Type 1} → statement M
 unfolding ofSequence
 sequence-spec =
     tie.close
     (tie.spec
-    (λ of-requires κs. search needs)
-    (λ free-requires κs. search needs)
-    (λ mul-flow. search needs)
-    (λ mul-flow-2. search needs)
-    (λ flow-requires κs. search needs)
-    (λ free-requires-2 κs. search needs)
-    (λ never-requires κs. search needs)
-    (λ c. arm (ofSequence _ _) _ 0 (c .before .before .match .keys1) free _ _ _ (c .free .ensures) (c .before .of .ensures) refl)
-    (λ c. arm (ofSequence _ _) _ 1 (c .before .before .match .keys2) free _ _ _ (c .free2 .ensures) (c .before .flow .ensures) refl)
-    (λ c. past (ofSequence _ _) _ _ (c .never .ensures) (outside 2 _ (c .before .match .rest))))
+    (λ of-requires κs. search arms)
+    (λ free-requires κs. search arms)
+    (λ mul-flow. search arms)
+    (λ mul-flow-2. search arms)
+    (λ flow-requires κs. search arms)
+    (λ free-requires-2 κs. search arms)
+    (λ never-requires κs. search arms)
+    (λ returns. search arms)
+    (λ returns-2. search arms)
+    (λ returns-3. search arms))
