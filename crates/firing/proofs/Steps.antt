@@ -20,7 +20,7 @@ use Rattle.clauses.proofs.OfWord.{rule-clauses, clauses-rule, clauses-sent}
 use Rattle.rows.specs.declared.layout.Layout.{Layout}
 use Rattle.queries.specs.Ready.{Ready}
 use Rattle.firing.specs.Step.{stepAt}
-use Rattle.firing.proofs.Suited.{ready-suits}
+use Rattle.firing.proofs.Suited.{clause-suits}
 use Rattle.firing.proofs.Fit.{clause-fits}
 
 -- what a word asks of its receivers is asked where it is live
@@ -58,7 +58,7 @@ module _ {ws links masks : List ℕ} {l : Layout} (y : Ready ws links masks l) (
 
   module _ (k f : ℕ) where
     step-fits : Fits (code ws) (stepAt ws links p k f)
-    step-fits = clause-fits y (clauseAt ws links (plain (code ws)) p k) (ready-suits y p k h) f
+    step-fits = clause-fits y (clauseAt ws links (plain (code ws)) p k) (clause-suits y p h k) f
 
     -- the estimates obey it, whatever the opponent has
     step-asked : (ρ : ℕ) (e : Sets) → Estimate (code ws) ρ e → Obeys e (stepAt ws links p k f)

@@ -13,7 +13,7 @@ use Rattle.clauses.specs.Asks.{asks}
 use Rattle.clauses.specs.Clauses.{clauseAt}
 use Rattle.queries.proofs.Given.{sized, size-is}
 use Rattle.firing.specs.Suits.{Suits}
-use Rattle.firing.proofs.Suited.{plain-small, clause-is, made-suits}
+use Rattle.firing.proofs.Suited.{plain-small, clause-is, clause-suits}
 use borrow.Author.Needs.{needs}
 use Rattle.firing.proofs.step.step.Statement.{statement}
 use Rattle.firing.proofs.step.step.Tie as tie
@@ -45,7 +45,7 @@ fire-requires c κs =
       s .pre .0,
       s .pre .1,
       subst (Suits (a .l) (a .masks .now) (a .words .now)) (sym (c .before .before .clause .ensures))
-          (made-suits (s .pre .0) (a .p) (a .k) (s .pre .2)),
+          (subst (Suits (a .l) (a .masks .now) (a .words .now)) (sym (clause-is (s .pre .0) (a .p) (a .k))) (clause-suits (s .pre .0) (a .p) (s .pre .2) (a .k))),
     )
 
 returns-2 : tie.Need-returns-2
