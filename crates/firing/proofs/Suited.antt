@@ -39,6 +39,11 @@ use Rattle.firing.specs.Placed.{Each, entering}
 use Rattle.firing.specs.Suits.{IsTerm, Fitting, Suits}
 use Rattle.firing.proofs.EachThing.{in-mask}
 
+-- one clause, and the others
+infixr 4 _also_
+_also_ : {A B : Type 0} → A → B → A × B
+a also b = (a, b)
+
 -- the word p of what a solver has
 module _ {ws links masks : List ℕ} {l : Layout} (y : Ready ws links masks l) (p : ℕ) (h : p < l .size) where
   abbrev c : Code
@@ -107,102 +112,53 @@ module _ {ws links masks : List ℕ} {l : Layout} (y : Ready ws links masks l) (
       (free-suit (omega arith, omega arith), tt)
   term-suit terms.Function s i w x n = (free-suit (put-fit _ (omega (arith, w .own, y .laid .size))), tt)
   term-suit terms.Apply s i w x n =
-      let a = to (n .1 .inside) in let b = to (n .2 .inside) in (
-        free-suit (a, b, some-word),
-        (
-          free-suit (function-each whats.Enter a (omega arith)),
-          (
-            free-suit (function-each whats.Hand a (omega arith)),
-            (
-              free-suit (function-each whats.Back a (omega arith)),
-              (free-suit (function-each whats.Lower a (omega arith)), tt),
-            ),
-          ),
-        ),
-      )
+      let a = to (n .1 .inside) in let b = to (n .2 .inside) in
+      free-suit (a, b, some-word) also free-suit (function-each whats.Enter a (omega arith)) also free-suit (function-each whats.Hand a (omega arith))
+      also free-suit (function-each whats.Back a (omega arith)) also free-suit (function-each whats.Lower a (omega arith)) also tt
   term-suit terms.Let s i w x n =
       let a = to (n .0 .inside) in let b = to (n .1 .inside) in
-      (free-suit (a, b, some-word), (free-suit (omega arith, omega arith), (free-suit (omega arith, omega arith), tt)))
+      free-suit (a, b, some-word) also free-suit (omega arith, omega arith) also free-suit (omega arith, omega arith) also tt
   term-suit terms.Sequence s i w x n =
-      let a = to (n .1 .inside) in let b = to (n .2 .inside) in (free-suit (a, b, some-word), (free-suit (omega arith, omega arith), tt))
+      let a = to (n .1 .inside) in let b = to (n .2 .inside) in free-suit (a, b, some-word) also free-suit (omega arith, omega arith) also tt
   term-suit terms.If s i w x n =
-      let a = to (n .0 .inside) in let b = to (n .1 .inside) in let d = to (n .2 .inside) in (
-        free-suit (a, b, d),
-        (
-          has-suit refl some-word a (omega arith) b,
-          (
-            has-suit refl some-word a (omega arith) d,
-            (
-              free-suit (omega arith, omega arith),
-              (free-suit (omega arith, omega arith), tt),
-            ),
-          ),
-        ),
-      )
+      let a = to (n .0 .inside) in let b = to (n .1 .inside) in let d = to (n .2 .inside) in
+      free-suit (a, b, d) also has-suit refl some-word a (omega arith) b also has-suit refl some-word a (omega arith) d
+      also free-suit (omega arith, omega arith) also free-suit (omega arith, omega arith) also tt
   term-suit terms.While s i w x n =
       let a = to (n .0 .inside) in let b = to (n .1 .inside) in
-      (free-suit (a, b, some-word), (has-suit refl some-word a (omega arith) b, (has-suit refl some-word a (omega arith) (put-fit _ (omega arith)), tt)))
+      free-suit (a, b, some-word) also has-suit refl some-word a (omega arith) b also has-suit refl some-word a (omega arith) (put-fit _ (omega arith)) also tt
   term-suit (terms.Operation d) s i w x n =
       let a = to (n .1 .inside) in let b = to (n .2 .inside) in let g = x (n .1 .inside) in
-      (free-suit (a, b, some-word), (free-suit (a, b, λ e. omega arith), tt))
-  term-suit terms.Record s i w x n = (free-suit (put-fit _ (omega (arith, w .own, y .laid .size))), tt)
+      free-suit (a, b, some-word) also free-suit (a, b, λ e. omega arith) also tt
+  term-suit terms.Record s i w x n = free-suit (put-fit _ (omega (arith, w .own, y .laid .size))) also tt
   term-suit terms.Get s i w x n =
-      let a = to (n .1 .inside) in let b = to (n .2 .inside) in (
-        free-suit (a, b, some-word),
-        (
-          some-suit b a (omega arith) (put-fit _ (omega arith)),
-          (
-            has-suit refl b a (omega arith) (omega arith),
-            (
-              some-suit b some-word (omega arith) (other-each whats.Take a (omega arith) refl (omega arith)),
-              tt,
-            ),
-          ),
-        ),
-      )
+      let a = to (n .1 .inside) in let b = to (n .2 .inside) in
+      free-suit (a, b, some-word) also some-suit b a (omega arith) (put-fit _ (omega arith)) also has-suit refl b a (omega arith) (omega arith)
+      also some-suit b some-word (omega arith) (other-each whats.Take a (omega arith) refl (omega arith)) also tt
   term-suit terms.Set s i w x n =
-      let a = to (n .0 .inside) in let b = to (n .1 .inside) in let d = to (n .2 .inside) in (
-        free-suit (a, b, d),
-        (
-          some-suit b a (omega arith) (put-fit _ (omega (arith, w .own, y .laid .size))),
-          (
-            some-suit b a (omega arith) (omega arith, omega arith),
-            (
-              has-suit refl b a (omega arith) (omega arith),
-              (
-                some-suit b some-word (omega arith) (other-each whats.Take a (omega arith) refl (omega arith)),
-                tt,
-              ),
-            ),
-          ),
-        ),
-      )
+      let a = to (n .0 .inside) in let b = to (n .1 .inside) in let d = to (n .2 .inside) in
+      free-suit (a, b, d) also some-suit b a (omega arith) (put-fit _ (omega (arith, w .own, y .laid .size)))
+      also some-suit b a (omega arith) (omega arith, omega arith) also has-suit refl b a (omega arith) (omega arith)
+      also some-suit b some-word (omega arith) (other-each whats.Take a (omega arith) refl (omega arith)) also tt
   term-suit terms.Delete s i w x n =
       let a = to (n .1 .inside) in let b = to (n .2 .inside) in
-      (free-suit (a, b, some-word), (some-suit b some-word (omega arith) (omega arith, omega arith, omega arith), tt))
+      free-suit (a, b, some-word) also some-suit b some-word (omega arith) (omega arith, omega arith, omega arith) also tt
   term-suit terms.Cell s i w x n =
       let a = to (n .inside) in
-      (free-suit (a, some-word, some-word), (free-suit (put-fit _ (omega (arith, w .own, y .laid .size))), (free-suit (omega arith, omega arith), tt)))
+      free-suit (a, some-word, some-word) also free-suit (put-fit _ (omega (arith, w .own, y .laid .size))) also free-suit (omega arith, omega arith) also tt
   term-suit terms.Read s i w x n =
-      let a = to (n .inside) in (free-suit (a, some-word, some-word), (free-suit (other-each whats.Take a (omega arith) refl (omega arith)), tt))
+      let a = to (n .inside) in free-suit (a, some-word, some-word) also free-suit (other-each whats.Take a (omega arith) refl (omega arith)) also tt
   term-suit terms.Assign s i w x n =
-      let a = to (n .1 .inside) in let b = to (n .2 .inside) in (
-        free-suit (a, b, some-word),
-        (
-          some-suit some-word a (omega arith) (omega arith, omega arith),
-          (
-            free-suit (other-each whats.Hand a (omega arith) refl (omega arith)),
-            tt,
-          ),
-        ),
-      )
+      let a = to (n .1 .inside) in let b = to (n .2 .inside) in
+      free-suit (a, b, some-word) also some-suit some-word a (omega arith) (omega arith, omega arith)
+      also free-suit (other-each whats.Hand a (omega arith) refl (omega arith)) also tt
   term-suit (terms.Send d) s i w x n =
       let a = to (n .1 .inside) in let b = to (n .2 .inside) in
-      (free-suit (a, b, some-word), (free-suit (put-fit _ (omega arith)), (some-suit some-word b (omega arith) (a, b, n .0 .0, subst IsTerm (sym i) tt), tt)))
+      free-suit (a, b, some-word) also free-suit (put-fit _ (omega arith)) also some-suit some-word b (omega arith) (a, b, n .0 .0, subst IsTerm (sym i) tt) also tt
   term-suit (terms.Exercise d) s i w x n = go (within (d .bits) (s .perms))
     where
       go : (x : Bool) → Every Suit (elim x [ true ↦ ofPermitted p (d .bits) | false ↦ [] ])
-      go true = (free-suit (put-fit _ (omega arith)), (free-suit (h, n), tt))
+      go true = free-suit (put-fit _ (omega arith)) also free-suit (h, n) also tt
       go false = tt
 
   -- ---- the clauses of a word
