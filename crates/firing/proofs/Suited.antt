@@ -10,8 +10,11 @@ use lib.ListN.{getD}
 use Rattle.permset.specs.Sets.{within}
 use Rattle.table.specs.declared.Item.{Item}
 use Rattle.table.specs.declared.Item.the-variants as items
+use Rattle.table.specs.declared.Operation.{Operation}
+use Rattle.table.specs.declared.Operation.the-variants as operations
 use Rattle.table.specs.declared.Term.{Term}
 use Rattle.table.specs.declared.Term.the-variants as terms
+use Rattle.table.specs.Words.{operationNumber}
 use Rattle.table.specs.Code.{Code, code, termNode, NodeLinked, Linked, endOf, part}
 use Rattle.table.specs.Item.{itemAt}
 use Rattle.table.specs.Links.{linked, linkAt}
@@ -38,6 +41,12 @@ use Rattle.queries.specs.Ready.{Ready}
 use Rattle.firing.specs.Placed.{Each, entering}
 use Rattle.firing.specs.Suits.{IsTerm, Fitting, Suits}
 use Rattle.firing.proofs.EachThing.{in-mask}
+
+number-lt : (o : Operation) → operationNumber o < 4294967296
+unfolding operationNumber
+number-lt operations.Add = omega arith
+number-lt operations.Less = omega arith
+number-lt operations.Equal = omega arith
 
 -- one clause, and the others
 infixr 4 _also_
@@ -129,7 +138,7 @@ module _ {ws links masks : List ℕ} {l : Layout} (y : Ready ws links masks l) (
       free-suit (a, b, some-word) also has-suit refl some-word a (omega arith) b also has-suit refl some-word a (omega arith) (put-fit _ (omega arith)) also tt
   term-suit (terms.Operation d) s i w x n =
       let a = to (n .1 .inside) in let b = to (n .2 .inside) in let g = x (n .1 .inside) in
-      free-suit (a, b, some-word) also free-suit (a, b, λ e. omega arith) also tt
+      free-suit (a, b, some-word) also free-suit (a, b, (λ e. omega arith), number-lt d) also tt
   term-suit terms.Record s i w x n = free-suit (put-fit _ (omega (arith, w .own, y .laid .size))) also tt
   term-suit terms.Get s i w x n =
       let a = to (n .1 .inside) in let b = to (n .2 .inside) in

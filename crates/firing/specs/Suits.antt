@@ -31,7 +31,7 @@ module _ (l : Layout) (masks : List ℕ) where
   Fitting ws whats.Flow x y z = (x < 2 * l .size) × (y < 2 * l .size)
   Fitting ws whats.Pass x y z = (x < 2 * l .size) × (y < 2 * l .size) × (z < 4)
   Fitting ws whats.Permit x y z = (x < l .size) × (y < 2 ^ width)
-  Fitting ws whats.Operate x y z = (x + 1 < l .size) × (y < l .size) × (y ≡ x → ⊥)
+  Fitting ws whats.Operate x y z = (x + 1 < l .size) × (y < l .size) × (y ≡ x → ⊥) × (z < 4294967296)
   Fitting ws whats.Part x y z = (x < l .size) × (y < l .size)
   Fitting ws whats.Parts x y z = (x + 1 < l .size) × (y < l .size) × (z < l .size)
   Fitting ws whats.Branches x y z = (x + 1 < l .size) × (y < l .size) × (z < l .size)

@@ -41,7 +41,7 @@ add-spec =
     let p = fitted l (a .masks .now) (a .words .now) e whats.Permit (c .before .before .enum-told6 .given .1) (s .pre .2) in (z, p .0, p .1))
     (λ enum-told-7. search needs)
     (λ c κs. let s = c .before .before .before .before .before .before .before .before .before in let a = s .args in let e = a .e in let l = a .l in let z = sized (s .pre .0) (s .pre .1) in
-    let p = fitted l (a .masks .now) (a .words .now) e whats.Operate (c .before .before .enum-told7 .given .1) (s .pre .2) in (z, p .0, p .1, p .2))
+    let p = fitted l (a .masks .now) (a .words .now) e whats.Operate (c .before .before .enum-told7 .given .1) (s .pre .2) in (z, p .0, p .1, p .2, p .3))
     (λ enum-told-8. search needs)
     (λ c κs. let s = c .before .before .before .before .before .before .before .before .before in let a = s .args in let e = a .e in let l = a .l in let z = sized (s .pre .0) (s .pre .1) in
     let p = fitted l (a .masks .now) (a .words .now) e whats.Part (c .before .before .enum-told8 .given .1) (s .pre .2) in (z, p .0, p .1))
