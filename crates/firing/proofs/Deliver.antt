@@ -202,11 +202,10 @@ module _ (ws : List ℕ) (e : reading ws ≡ accepted) (b : ℕ) (i : b < length
   item-is = rw (eq-eqb (kind (getD ws b 0)) 2 (stand .0), itemAt)
 
 -- a word of another kind is no block
-pub not-block : (ws : List ℕ) (r : reading ws ≡ accepted) (est : List ℕ) (x y z own : ℕ) → own ≡ permissions (code ws) x → (b : ℕ)
-    → (kind (getD ws b 0) ≡ 2 → ⊥) → fire (code ws) (atBlock (code ws) x y z b) est ≡ est
-unfolding itemAt
-not-block ws r est x y z own q b n =
-    no-block ws r ws (omega arith) est x y z own q b (itemAt ws b) refl (λ h e. n (block-kind ws b h e))
+pub not-block : (ws : List ℕ) (r : reading ws ≡ accepted) (est : List ℕ) (e : Effect) (b : ℕ) → (kind (getD ws b 0) ≡ 2 → ⊥)
+    → fire (code ws) (atBlock (code ws) (e .x) (e .y) (e .z) b) est ≡ est
+not-block ws r est e b n =
+    no-block ws r ws (omega arith) est (e .x) (e .y) (e .z) (permissions (code ws) (e .x)) refl b (itemAt ws b) refl (λ h i. n (block-kind ws b h i))
 
 -- the estimate that a send leaves is handed on
 pub sends-again : (ws masks old new : List ℕ) (l : Layout) (e : Effect) (own : Sender) → Sends ws masks old l e own → (b : ℕ)

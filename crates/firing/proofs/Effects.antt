@@ -7,7 +7,7 @@ use types.Run.{OneOf, miss}
 use denote.Enum.Declared.{tagOf}
 use Rattle.table.specs.Code.{Code}
 use Rattle.calculus.specs.Elements.{isString}
-use Rattle.calculus.specs.Constraint.{C, Rule, given, some}
+use Rattle.calculus.specs.Constraint.{C, Rule, given, some, each, every}
 use Rattle.calculus.specs.Layout.{sets}
 use Rattle.calculus.specs.Estimate.{fire}
 use Rattle.calculus.proofs.Folds.{found, fire-none, fire-given, fire-given-not, fire-some, fire-some-not}
@@ -17,6 +17,7 @@ use Rattle.clauses.specs.declared.Test.{Test}
 use Rattle.clauses.specs.declared.Test.the-variants as tests
 use Rattle.clauses.specs.declared.What.{What}
 use Rattle.clauses.specs.declared.What.the-variants as whats
+use Rattle.clauses.specs.declared.Effect.{Effect}
 use Rattle.clauses.proofs.What.{the-type}
 use Rattle.clauses.specs.Asks.{sortAt, under, atThing, atBlock, things, blocks, effect}
 use Rattle.queries.specs.Passes.{passes}
@@ -24,21 +25,27 @@ use Rattle.firing.specs.Fired.{Fired, FiredFor}
 
 -- ---- all targets, or one
 
-pub all-things : (c : Code) (w : What) (x y z f : ℕ) (est : List ℕ) → f ≡ 0 → fire c (things c w x y z 0) est ≡ fire c (things c w x y z f) est
-all-things c w x y z f est e = ap (λ (g : ℕ). fire c (things c w x y z g) est) (sym e)
+module _ (c : Code) (e : Effect) where
+  pub all-things : (f : ℕ) (est : List ℕ) → f ≡ 0
+      → fire c (every (c .size) (atThing c (e .what) (e .x) (e .y) (e .z))) est ≡ fire c (things c (e .what) (e .x) (e .y) (e .z) f) est
+  unfolding things
+  all-things f est z = rw z
 
-pub one-thing : (c : Code) (w : What) (x y z f : ℕ) (est : List ℕ) → (f ≡ 0 → ⊥) → fire c (atThing c w x y z f) est ≡ fire c (things c w x y z f) est
-unfolding things
-one-thing c w x y z zero est n = absurd (n refl)
-one-thing c w x y z (suc f) est n = refl
+  pub one-thing : (f : ℕ) (est : List ℕ) → (f ≡ 0 → ⊥)
+      → fire c (atThing c (e .what) (e .x) (e .y) (e .z) f) est ≡ fire c (things c (e .what) (e .x) (e .y) (e .z) f) est
+  unfolding things
+  one-thing zero est n = absurd (n refl)
+  one-thing (suc f) est n = refl
 
-pub all-blocks : (c : Code) (x y z f : ℕ) (est : List ℕ) → f ≡ 0 → fire c (blocks c x y z 0) est ≡ fire c (blocks c x y z f) est
-all-blocks c x y z f est e = ap (λ (g : ℕ). fire c (blocks c x y z g) est) (sym e)
+  pub all-blocks : (f : ℕ) (est : List ℕ) → f ≡ 0
+      → fire c (each (c .blocks) (atBlock c (e .x) (e .y) (e .z))) est ≡ fire c (blocks c (e .x) (e .y) (e .z) f) est
+  unfolding blocks
+  all-blocks f est z = rw z
 
-pub one-block : (c : Code) (x y z f : ℕ) (est : List ℕ) → (f ≡ 0 → ⊥) → fire c (atBlock c x y z f) est ≡ fire c (blocks c x y z f) est
-unfolding blocks
-one-block c x y z zero est n = absurd (n refl)
-one-block c x y z (suc f) est n = refl
+  pub one-block : (f : ℕ) (est : List ℕ) → (f ≡ 0 → ⊥) → fire c (atBlock c (e .x) (e .y) (e .z) f) est ≡ fire c (blocks c (e .x) (e .y) (e .z) f) est
+  unfolding blocks
+  one-block zero est n = absurd (n refl)
+  one-block (suc f) est n = refl
 
 -- ---- effects by their tags
 

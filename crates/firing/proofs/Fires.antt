@@ -119,20 +119,24 @@ module _ (l : Layout) (old new : List ℕ) (added : ℕ) where
 pub in-for : (l : Layout) (h : Code → Type 0) (k : Rule) (old new : List ℕ) (n : ℕ) → FiredIn l k old new n → FiredFor l h (λ c. k) old new n
 in-for l h k old new n f = record { words = λ c o x. f .words c o tt; count = f .count }
 
-module _ (l : Layout) (old mid new : List ℕ) (m n : ℕ) where
-  pub and-for : (h g : Code → Type 0) (k j : Code → Rule) → FiredFor l h k old mid m → FiredFor l g j mid new n
-      → ((c : Code) → LaidOut c l → h c → mid ≡ fire c (k c) old → g c) → FiredFor l h (λ c. k c and j c) old new (m + n)
-  and-for h g k j p q f =
+module _ {l : Layout} {old mid new : List ℕ} {m n : ℕ} where
+  pub and-then : {h g u : Code → Type 0} {k j : Code → Rule} → FiredFor l h k old mid m → FiredFor l g j mid new n
+      → ((c : Code) → LaidOut c l → u c → h c × (mid ≡ fire c (k c) old → g c)) → FiredFor l u (λ c. k c and j c) old new (m + n)
+  and-then {k = k} {j} p q f =
       record {
         words =
             λ c o x.
-            let e : mid ≡ fire c (k c) old = p .words c o x in
-            q .words c o (f c o x e) ∙ ap (fire c (j c)) e ∙ sym (fire-and c (k c) (j c) old);
+            let y = f c o x in let e = p .words c o (y .0) in
+            q .words c o (y .1 e) ∙ ap (fire c (j c)) e ∙ sym (fire-and c (k c) (j c) old);
         count = omega (arith, p .count, q .count);
       }
 
-  pub and-in : (k j : Rule) → FiredIn l k old mid m → FiredIn l j mid new n → FiredIn l (k and j) old new (m + n)
-  and-in k j p q = and-for (λ c. Unit {0}) (λ c. Unit {0}) (λ c. k) (λ c. j) p q (λ c o x e. tt)
+  pub and-in : {k j : Rule} → FiredIn l k old mid m → FiredIn l j mid new n → FiredIn l (k and j) old new (m + n)
+  and-in p q = and-then p q (λ c o x. (tt, λ e. tt))
+
+pub and-for : (l : Layout) (old mid new : List ℕ) (m n : ℕ) (h g : Code → Type 0) (k j : Code → Rule) → FiredFor l h k old mid m → FiredFor l g j mid new n
+    → ((c : Code) → LaidOut c l → h c → mid ≡ fire c (k c) old → g c) → FiredFor l h (λ c. k c and j c) old new (m + n)
+and-for l old mid new m n h g k j p q f = and-then p q (λ c o x. (x, f c o x))
 
 module _ (l : Layout) (k : Rule) (t : Bool) (old : List ℕ) where
   pub only-in : t ≡ true → (new : List ℕ) (n : ℕ) → FiredIn l k old new n → FiredIn l (only t k) old new n

@@ -83,7 +83,7 @@ module _ {ws links masks : List ℕ} {l : Layout} (y : Ready ws links masks l) w
     body q =
         let b : f + 1 < l .size =
         e .bodies q f thing
-        (sym (in-mask l masks z (e .mask) c (y .laid) (y .masked) f (inside thing)) ∙ T-true (thingAt z (makes (c .node f))) t) in
+        (sym (in-mask z (e .mask) (y .laid) (y .masked) f (inside thing)) ∙ T-true (thingAt z (makes (c .node f))) t) in
         omega (arith, y .laid .size)
 
     to-B : Alike c (rowAt r) (B f)

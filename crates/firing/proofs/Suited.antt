@@ -86,7 +86,7 @@ module _ {ws links masks : List ℕ} {l : Layout} (y : Ready ws links masks l) (
           long = y .masked .long;
           bodies = λ q f i d.
               let s : f < c .size = omega (arith, y .laid .size) in
-              to (subst (λ (n : ℕ). n < c .size) (sym (add-one f)) (body-lt c k f s (subst T (sym (in-mask l masks 0 (omega arith) c (y .laid) (y .masked) f s ∙ d)) tt)));
+              to (subst (λ (n : ℕ). n < c .size) (sym (add-one f)) (body-lt c k f s (subst T (sym (in-mask 0 (omega arith) (y .laid) (y .masked) f s ∙ d)) tt)));
         }
 
     other-each : {z : ℕ} → entering w ≡ false → z < 3 → Each l masks (of w p r z)

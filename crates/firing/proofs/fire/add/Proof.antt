@@ -99,7 +99,7 @@ add-spec =
     (λ same-length-21. search needs)
     (λ same-length-22. search needs)
     (λ c. let s = c .before .before .before .before .before .before .before .before .before .before .before .before .before .before in let e = s .args .e in
-    effect-as (e .x) (e .y) (e .z) (s .args .f) (c .before .before .before .before .before .before .before .enum-told11 .given .1) (c .before .before .before .before .fire-send .ensures))
+    effect-as (e .x) (e .y) (e .z) (s .args .f) (c .before .before .before .before .before .before .before .enum-told11 .given .1) (c .before .before .before .before .send .ensures))
     (λ same-length-23. search needs)
     (λ same-length-24. search needs)
     (λ c. let s = c .before .before .before .before .before .before .before .before .before .before .before .before .before in let e = s .args .e in

@@ -22,15 +22,15 @@ returns c =
     let s = c .before .before .before .before .before .before .before .before in let a = s .args in let e = a .e in let w = a .words .now in
     record { words = sym (block-absent w (s .pre .0 .readable) w (omega arith) (a .est .now) (e .x) (e .y) (e .z) (a .own .perms .bits) (s .pre .0 .sender) (a .b) (s .pre .1) (sym (c .before .starts .ensures (code w) (s .pre .0 .laid)) ∙ not-true _ (c .if1 .taken))); count = omega arith }
 
-deliver-from-requires : tie.Need-deliver-from-requires
-deliver-from-requires c κs =
+deliver-requires : tie.Need-deliver-requires
+deliver-requires c κs =
     let s = c .before .before .before .before .before .before .before .before .before .before in let a = s .args in let e = a .e in let w = a .words .now in
     (s .pre .0 .sized, omega (arith, s .pre .0 .word), s .pre .0 .message, omega (arith, block-inside w (s .pre .0 .readable) w (omega arith) (a .est .now) (e .x) (e .y) (e .z) (a .own .perms .bits) (s .pre .0 .sender) (a .b) (s .pre .1), s .pre .0 .laid .size), s .pre .0 .masked .long, s .pre .0 .homed)
 
 returns-2 : tie.Need-returns-2
 returns-2 c =
     let s = c .before .before .before .before .before .before .before .before .before .before .before .before .before .before .before in let a = s .args in let e = a .e in let w = a .words .now in
-    let d = c .before .before .before .before .deliver-from .ensures in
+    let d = c .before .before .before .before .deliver .ensures in
     record {
       words =
           d .words (code w) (s .pre .0 .laid) (s .pre .0 .well, s .pre .0 .masked)
@@ -47,7 +47,7 @@ send-to-spec =
     starts-requires
     (λ same-length. search needs)
     returns
-    deliver-from-requires
+    deliver-requires
     (λ same-length-2. search needs)
     (λ same-length-3. search needs)
     returns-2)
