@@ -5,7 +5,7 @@ use mathlib.Core.Bool.{Bool, true, false, _&&_, _||_}
 use mathlib.Core.List.{List}
 use native.Mathlib.Decide.{decLt}
 use native.Mathlib.Omega.{arith}
-use lib.Dec.{T, leb}
+use lib.Dec.{leb}
 use lib.ListN.{length, getD, drop}
 use lib.Seq.{getD-take, getD-drop}
 use borrow.Author.Tests.{le-leb, ne-eqb}
@@ -17,6 +17,7 @@ use Rattle.calculus.specs.Constraint.{C, Rule, each, every, range}
 use Rattle.calculus.specs.Layout.{bit, base, rowWords, sets}
 use Rattle.calculus.specs.Estimate.{fire}
 use Rattle.calculus.proofs.Folds.{fire-only-not, fire-present, fire-absent, loop-start, loop-step, loop-skip, loop-end}
+use Rattle.calculus.proofs.Masks.{T-false}
 use Rattle.calculus.proofs.RowOperations.{sets-C}
 use Rattle.rows.specs.declared.layout.Layout.{Layout}
 use Rattle.rows.specs.Laid.{LaidOut, Sized}
@@ -64,11 +65,7 @@ in-mask {l} {masks} z hz {c} o m f h =
 
 -- past the table there is no thing
 pub past-table : {c : Code} → Linked c → (w : What) (x y z f : ℕ) → c .size ≤ f → (est : List ℕ) → fire c (atThing c w x y z f) est ≡ est
-past-table {c} k w x y z f h est = fire-only-not c _ _ est (false-is (thingAt z (makes (c .node f))) (gap-thing c k (λ r v. true) z f h))
-  where
-    false-is : (t : Bool) → (T t → ⊥) → t ≡ false
-    false-is true n = absurd (n tt)
-    false-is false n = refl
+past-table {c} k w x y z f h est = fire-only-not c _ _ est (T-false (thingAt z (makes (c .node f))) (gap-thing c k (λ r v. true) z f h))
 
 -- ---- what the search is handed, and what is done for a thing
 

@@ -126,7 +126,7 @@ module _ {ws links masks : List ℕ} {l : Layout} (y : Ready ws links masks l) w
   home-inside x (items.Block h) q t = absurd t
   home-inside x (items.Term u) q t = k .listed (c .home x) (home-block ws (y .readable) (y .slice) (y .room) x u q) .0
 
-  block-fits : (x r z b : ℕ) → x < l .size → IsTerm (itemAt ws x) → List·Memᴰ b (c .blocks) → Fits c (atBlock c x r z b)
+  pub block-fits : (x r z b : ℕ) → x < l .size → IsTerm (itemAt ws x) → List·Memᴰ b (c .blocks) → Fits c (atBlock c x r z b)
   block-fits x r z b h t m =
       λ d.
       let i : b < c .size = k .listed b m .0 in

@@ -12,8 +12,8 @@ use table::kind_of;
 use table_links::link_at;
 ghost use mathlib.Core.Path.{_≡_};
 ghost use Prim.Native.Nat.{_+_, _*_, _<_, _≤_};
-ghost use lib.ListN.{length};
-ghost use Rattle.table.specs.Item.{handlerAt, itemAt};
+ghost use lib.ListN.{length, getD};
+ghost use Rattle.table.specs.Words.{kind};
 ghost use Rattle.table.specs.Code.{code};
 ghost use Rattle.calculus.specs.Constraint.{P, L, put as Put, sub, each, _and_};
 ghost use Rattle.calculus.specs.Rules.{pass as Pass};
@@ -24,7 +24,6 @@ ghost use Rattle.queries.specs.Passes.{Masked};
 ghost use Rattle.queries.specs.Ready.{Ready};
 ghost use Rattle.firing.specs.Fired.{Fired, FiredFor};
 ghost use Rattle.firing.specs.Sending.{Sends, Sending};
-ghost use Rattle.table.specs.declared.Item.the-variants as items;
 
 // The block of a send: its permissions and its first word.
 pub struct Sender {
@@ -65,7 +64,7 @@ fn send_to(
     own: Sender,
     b: usize,
 ) -> usize
-    requires { ⌜ Sends (now words) (now masks) (now est) l e own × (itemAt (now words) b ≡ items.Block (handlerAt (now words) b)) × (e .z < 4294967296) ⌝ }
+    requires { ⌜ Sends (now words) (now masks) l e own × WellFormed (code (now words)) (now est) × (kind (getD (now words) b 0) ≡ 2) ⌝ }
     ensures { λ r. ⌜ Fired (code (now (words .entry))) (atBlock (code (now (words .entry))) (e .x) (e .y) (e .z) b) (now (est .entry)) (now (est .exit)) r ⌝ }
 {
     let x = e.x;
@@ -87,7 +86,7 @@ fn send_all(
     e: Effect,
     own: Sender,
 ) -> usize
-    requires { ⌜ Ready (now words) (now links) (now masks) l × Sends (now words) (now masks) (now est) l e own × (e .z < 4294967296) ⌝ }
+    requires { ⌜ Ready (now words) (now links) (now masks) l × Sends (now words) (now masks) l e own × WellFormed (code (now words)) (now est) ⌝ }
     ensures { λ r. ⌜ Fired (code (now (words .entry))) (each (code (now (words .entry)) .blocks) (atBlock (code (now (words .entry))) (e .x) (e .y)
         (e .z))) (now (est .entry)) (now (est .exit)) r ⌝ }
 {

@@ -4,9 +4,8 @@ use native.Mathlib.Omega.{arith}
 use lib.ListN.{List·getD-eq-default}
 use Rattle.table.specs.declared.Link.{Link}
 use Rattle.table.specs.Code.{code}
-use Rattle.table.proofs.Items.{item-block}
 use Rattle.firing.proofs.Effects.{all-blocks, one-block}
-use Rattle.firing.proofs.Deliver.{not-block, sends-ready}
+use Rattle.firing.proofs.Deliver.{not-block}
 use borrow.Author.Needs.{needs}
 use Rattle.firing.proofs.sends.send.Statement.{statement}
 use Rattle.firing.proofs.sends.send.Tie as tie
@@ -18,14 +17,6 @@ returns-2 c =
       words = sym (not-block w (s .pre .0 .readable) (a .est .now) (a .e) (a .f) (λ z. omega (arith, z, List·getD-eq-default w 0 (c .if2 .taken)))) ∙ one-block (code w) (a .e) (a .f) (a .est .now) (c .before .if1 .left);
       count = omega arith;
     }
-
-send-to-requires : tie.Need-send-to-requires
-send-to-requires c κs =
-    let t = c .before .before .before in let p = t .before .before .before .before in let s = p .before .before .before .before .before .before .before in (
-      sends-ready (s .pre .0) (s .pre .1) (s .pre .2) (p .permissions-of .ensures) (ap (λ (x : Link). x .home) (p .before .link-at .ensures)),
-      item-block (s .args .words .now) (s .args .f) (sym (t .kind-of .ensures) ∙ c .before .before .if3 .taken),
-      omega (arith, s .pre .2 .required),
-    )
 
 returns-4 : tie.Need-returns-4
 returns-4 c =
@@ -42,7 +33,7 @@ send-spec =
     (λ link-at-requires κs. search needs)
     (λ permissions-of-requires κs. search needs)
     (λ c κs. let p = c .before .before .before in let s = p .before .before .before .before .before .before .before in
-    (s .pre .0, sends-ready (s .pre .0) (s .pre .1) (s .pre .2) (p .permissions-of .ensures) (ap (λ (x : Link). x .home) (p .before .link-at .ensures)), omega (arith, s .pre .2 .required)))
+    (s .pre .0, record { links = _; ready = s .pre .0; sending = s .pre .2; sender = p .permissions-of .ensures; block = ap (λ (x : Link). x .home) (p .before .link-at .ensures) }, s .pre .1))
     (λ same-length. search needs)
     (λ same-length-2. search needs)
     (λ c. let a = c .before .before .before .before .before .before .before .before .before .before .before .before .before .before .before .args in let d = c .before .before .before .before .send-all .ensures in
@@ -51,7 +42,8 @@ send-spec =
     (λ mul-kind-of. search needs)
     (λ shared-slice-read-kind-of. search needs)
     (λ kind-of-requires κs. search needs)
-    send-to-requires
+    (λ c κs. let t = c .before .before .before in let p = t .before .before .before .before in let s = p .before .before .before .before .before .before .before in
+    (record { links = _; ready = s .pre .0; sending = s .pre .2; sender = p .permissions-of .ensures; block = ap (λ (x : Link). x .home) (p .before .link-at .ensures) }, s .pre .1, sym (t .kind-of .ensures) ∙ c .before .before .if3 .taken))
     (λ same-length-3. search needs)
     (λ same-length-4. search needs)
     (λ c. let a = c .before .before .before .before .before .before .before .before .before .before .before .before .before .before .before .before .before .before .before .args in let d = c .before .before .before .before .send-to .ensures in
