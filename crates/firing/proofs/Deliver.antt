@@ -40,7 +40,6 @@ use Rattle.queries.proofs.Home.{sender, sender-home, sender-inside}
 use Rattle.queries.proofs.Sends.{answer-so, named-so, named-not}
 use Rattle.firing.specs.declared.sends.Sender.{Sender}
 use Rattle.firing.specs.Sending.{Sends}
-use Rattle.firing.specs.Suits.{IsTerm}
 use Rattle.firing.proofs.Fit.{block-fits}
 
 -- a word that was made live leaves the estimate well formed
@@ -116,4 +115,4 @@ module _ {ws masks : List ℕ} {l : Layout} {e : Effect} {own : Sender} (s : Sen
     block-well {old} w u =
         subst (WellFormed c) (sym u)
         (fire-well c (atBlock c (e .x) (e .y) (e .z) b)
-        (block-fits (s .ready) (e .x) (e .y) (e .z) b (omega (arith, s .sending .word)) (subst IsTerm (sym (s .sending .there)) tt) (linked-node .4)) old w)
+        (block-fits (s .ready) (s .sending) b (linked-node .4)) old w)

@@ -3,7 +3,6 @@ pub mod EachThing
 pub mod Effects
 pub mod Fit
 pub mod Fires
-pub mod Fitted
 pub mod Full
 pub mod Operated
 pub mod Poured

@@ -39,7 +39,7 @@ use Rattle.clauses.proofs.OfWord.{Sited, sited, each-clause}
 use Rattle.queries.specs.Passes.{byMask}
 use Rattle.queries.specs.Ready.{Ready}
 use Rattle.firing.specs.Placed.{Each, entering}
-use Rattle.firing.specs.Suits.{IsTerm, Fitting, Suits}
+use Rattle.firing.specs.Suits.{Fitting, Suits}
 use Rattle.firing.proofs.EachThing.{in-mask}
 
 number-lt : (o : Operation) → operationNumber o < 4294967296
@@ -163,7 +163,7 @@ module _ {ws links masks : List ℕ} {l : Layout} (y : Ready ws links masks l) (
       also free-suit (other-each whats.Hand a (omega arith) refl (omega arith)) also tt
   term-suit (terms.Send d) s i w x n =
       let a = to (n .1 .inside) in let b = to (n .2 .inside) in
-      free-suit (a, b, some-word) also free-suit (put-fit _ (omega arith)) also some-suit some-word b (omega arith) (a, b, n .0 .0, subst IsTerm (sym i) tt) also tt
+      free-suit (a, b, some-word) also free-suit (put-fit _ (omega arith)) also some-suit some-word b (omega arith) (record { word = a; message = b; required = n .0 .0; term = terms.Send d; there = i }) also tt
   term-suit (terms.Exercise d) s i w x n = go (within (d .bits) (s .perms))
     where
       go : (x : Bool) → Every Suit (elim x [ true ↦ ofPermitted p (d .bits) | false ↦ [] ])

@@ -12,16 +12,16 @@ use Rattle.clauses.specs.declared.Effect.{Effect}
 use Rattle.queries.specs.Ready.{Ready}
 use Rattle.firing.specs.declared.sends.Sender.{Sender}
 
-pub record Sending (ws : List ℕ) (l : Layout) (e : Effect) : Type 0 where
-  pub word : e .x + 1 < l .size
-  pub message : e .y < l .size
-  pub required : e .z < 2 ^ width
+pub record Sending (ws : List ℕ) (l : Layout) (x y z : ℕ) : Type 0 where
+  pub word : x + 1 < l .size
+  pub message : y < l .size
+  pub required : z < 2 ^ width
   pub term : Term
-  pub there : itemAt ws (e .x) ≡ items.Term term
+  pub there : itemAt ws x ≡ items.Term term
 
 pub record Sends (ws masks : List ℕ) (l : Layout) (e : Effect) (own : Sender) : Type 0 where
   pub links : List ℕ
   pub ready : Ready ws links masks l
-  pub sending : Sending ws l e
+  pub sending : Sending ws l (e .x) (e .y) (e .z)
   pub sender : own .perms .bits ≡ itemPerms (itemAt ws (linkAt links (e .x) .home))
   pub block : own .home ≡ linkAt links (e .x) .home

@@ -110,7 +110,7 @@ pub fn send(
     e: Effect,
     f: usize,
 ) -> usize
-    requires { ⌜ Ready (now words) (now links) (now masks) l × WellFormed (code (now words)) (now est) × Sending (now words) l e ⌝ }
+    requires { ⌜ Ready (now words) (now links) (now masks) l × WellFormed (code (now words)) (now est) × Sending (now words) l (e .x) (e .y) (e .z) ⌝ }
     ensures { λ r. ⌜ Fired (code (now (words .entry))) (blocks (code (now (words .entry))) (e .x) (e .y) (e .z) f) (now (est .entry)) (now (est .exit)) r ⌝ }
 {
     let home = link_at(links, e.x).home;

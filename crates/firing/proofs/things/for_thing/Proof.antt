@@ -1,14 +1,14 @@
 -- `firing::things::for_thing` meets its contract: an arm for each effect. Assumes nothing.
 use Prim.Native.Nat.{_+_, _*_}
-use mathlib.Core.Path.{ap}
+use mathlib.Core.Path.{sym, ap}
 use native.Mathlib.Numerals.{add-one}
 use native.Mathlib.Omega.{arith}
-use Rattle.clauses.specs.declared.What.the-variants as whats
+use Rattle.calculus.proofs.Folds.{fire-none}
 use Rattle.clauses.specs.Asks.{forThing}
 use Rattle.clauses.proofs.Sorts.{row-C, row-B}
 use Rattle.queries.proofs.Laws.{row-in}
 use Rattle.firing.specs.Placed.{entering}
-use Rattle.firing.proofs.Tags.{nothing-fired, thing-as}
+use Rattle.firing.proofs.Tags.{is-other}
 use borrow.Author.Needs.{needs}
 use Rattle.firing.proofs.things.for_thing.Statement.{statement}
 use Rattle.firing.proofs.things.for_thing.Tie as tie
@@ -54,5 +54,4 @@ for-thing-spec =
     (λ same-length-9. search needs)
     (λ same-length-10. search needs)
     (λ c. rw (c .before .before .before .before .before .before .before .enum-told5 .given .1) (rw (row-C, add-one) at (c .before .before .before .before .flow3 .ensures)))
-    (λ c. let s = c .before .before .before in let a = s .args in
-    nothing-fired (a .l) (a .what) (a .x) (a .y) (a .f) _ (c .match .keys6)))
+    (λ c. rw (is-other _ (c .match .keys6)) (record { words = λ k o u. sym (fire-none k _); count = omega arith })))
