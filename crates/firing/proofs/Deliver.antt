@@ -11,7 +11,7 @@ use Rattle.delivery.specs.Delivery.{delivered}
 use Rattle.table.specs.declared.Item.{Item}
 use Rattle.table.specs.Words.{kind, argument}
 use Rattle.table.specs.Scan.{namesAt, Task, name, accepted, reading}
-use Rattle.table.specs.Item.{handlerAt, itemAt}
+use Rattle.table.specs.Item.{handlerAt}
 use Rattle.table.specs.Code.{Code, block, code, taskAt, NodeLinked}
 use Rattle.table.proofs.Items.{item-block}
 use Rattle.table.proofs.Faults.{Stands}

@@ -1,6 +1,6 @@
 -- A clause that may be fired writes into rows of the code alone: its operands say so, whatever the kind of its word.
 use Prim.Native.Nat.{ℕ, zero, suc, _+_, _*_, _<_}
-use mathlib.Core.Path.{_≡_, refl, sym, _∙_, subst}
+use mathlib.Core.Path.{_≡_, refl, sym, _∙_}
 use mathlib.Core.Bool.{true}
 use mathlib.Core.List.{List, List·Memᴰ}
 use native.Mathlib.Decide.{decLt}
@@ -10,7 +10,7 @@ use Rattle.table.specs.Words.{operationOf}
 use Rattle.table.specs.Code.{Code, code, Linked}
 use Rattle.table.proofs.Nodes.{home-block}
 use Rattle.calculus.specs.Elements.{plain, makes}
-use Rattle.calculus.specs.Constraint.{Row, B, C, Rule}
+use Rattle.calculus.specs.Constraint.{Row, Rule}
 use Rattle.calculus.specs.Rules.{nameOf, permissions, part}
 use Rattle.calculus.specs.Layout.{allowed}
 use Rattle.calculus.proofs.Digits.{T-true}

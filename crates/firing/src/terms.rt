@@ -1,9 +1,10 @@
 // The effects of one term: its parts, and the results of an operation.
+use crate::targets::grew_row;
 use crate::targets::lift;
 use crate::targets::lift_if;
 use crate::targets::part;
 use crate::targets::part_if;
-use crate::targets::put_word;
+use crate::targets::put_bits;
 use rows::layout::Layout;
 use table::operation_of;
 ghost use mathlib.Core.Path.{_≡_};
@@ -48,5 +49,7 @@ pub fn operate_at(est: &mut [u32], h: &mut [u32], l: Layout, p: usize, d: usize,
     let row = l.row;
     let a = 2 * (p + 1);
     let bits = results::operate_at(est, l.lead, operation_of(o as u32), a * row, 2 * d * row);
-    put_word(est, h, l, 2 * p, bits)
+    let added = put_bits(est, row, 2 * p, 0, bits);
+    grew_row(h, 2 * p, added);
+    added
 }

@@ -1,5 +1,4 @@
 -- `firing::sends::deliver` meets its contract. Assumes nothing.
-use Prim.Native.Nat.{_+_, _*_}
 use native.Mathlib.Omega.{arith}
 use Rattle.queries.proofs.Laws.{value-in}
 use Rattle.rows.proofs.Laws.{facts-most}

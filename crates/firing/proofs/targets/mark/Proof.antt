@@ -12,7 +12,7 @@ returns : tie.Need-returns
 returns c =
     let a = c .before .before .before .before .before .args in
     let at = a .r * a .l .row in
-    put-fired (a .l) (a .est .now) _ _ (a .r) (a .v)
+    put-fired (a .r) (a .v)
     (put-back (a .est .now) at (at + a .l .row - at) _ (a .v / 32) (2 ^ (a .v % 32) ∷ []) _ (c .before .before .put .ensures) (omega arith))
 
 pub mark-spec : {M : Type 1} → statement M

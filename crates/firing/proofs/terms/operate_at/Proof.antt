@@ -2,7 +2,7 @@
 use Prim.Native.Nat.{_+_}
 use native.Mathlib.Omega.{arith}
 use Rattle.queries.proofs.Laws.{value-in, some-words}
-use Rattle.firing.proofs.Operated.{operated}
+use Rattle.firing.proofs.Fires.{operated}
 use borrow.Author.Needs.{needs}
 use Rattle.firing.proofs.terms.operate_at.Statement.{statement}
 use Rattle.firing.proofs.terms.operate_at.Tie as tie
@@ -20,9 +20,11 @@ operate-at-spec =
     (λ c. let s = c .before .before .before .before in omega (arith, value-in (s .pre .0) (s .args .d) (s .pre .2)))
     (λ c κs. let s = c .before .before .before .before in let z = s .pre .0 in
     (omega (arith, value-in z (s .args .p + 1) (s .pre .1)), omega (arith, value-in z (s .args .d) (s .pre .2)), z .lead, omega arith))
-    (λ mul-put-word. search needs)
-    (λ c κs. let s = c .before .before .before .before .before .before .before in (value-in (s .pre .0) (s .args .p) (omega (arith, s .pre .1)), some-words (s .pre .0)))
+    (λ mul-put-bits. search needs)
+    (λ c κs. let s = c .before .before .before .before .before .before in (value-in (s .pre .0) (s .args .p) (omega (arith, s .pre .1)), some-words (s .pre .0)))
+    (λ mul-grew-row. search needs)
+    (λ grew-row-requires κs. search needs)
     (λ same-length. search needs)
     (λ same-length-2. search needs)
-    (λ c. let r = c .before .before .before .before .before .before .before in let s = r .before .before .before .before .before in let a = s .args in
-    operated (a .l) (a .est .now) _ _ (a .p) (a .d) _ _ (s .pre .1) (s .pre .2) (s .pre .3) (rw (r .before .operation-of .ensures) at (r .operate-at .ensures)) (c .before .before .before .before .put-word .ensures)))
+    (λ c. let r = c .before .before .before .before .before .before .before .before in let s = r .before .before .before .before .before in let a = s .args in
+    operated (a .p) (a .d) _ (s .pre .1) (s .pre .2) (s .pre .3) (rw (r .before .operation-of .ensures) at (r .operate-at .ensures)) (c .before .before .before .before .before .before .put-bits .ensures)))
