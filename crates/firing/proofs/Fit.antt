@@ -12,12 +12,14 @@ use Rattle.table.proofs.Nodes.{home-block}
 use Rattle.calculus.specs.Elements.{plain, makes}
 use Rattle.calculus.specs.Constraint.{Row, Rule}
 use Rattle.calculus.specs.Rules.{nameOf, permissions, part}
-use Rattle.calculus.specs.Layout.{allowed}
+use Rattle.calculus.specs.Layout.{allowed, shift}
 use Rattle.calculus.proofs.Digits.{T-true}
 use Rattle.calculus.proofs.Ranges.{in-below, range-bound}
+use Rattle.calculus.proofs.Places.{is-allowed}
 use Rattle.calculus.proofs.Rows.{Alike}
+use Rattle.calculus.proofs.RowRules.{ValueRow}
 use Rattle.calculus.proofs.Firing.{Fits}
-use Rattle.calculus.proofs.Fitting.{results-lt, may-C, may-B, may-P, may-L, CC, CB, BC, BB, PP}
+use Rattle.calculus.proofs.Fitting.{results-lt, may-C, may-B, may-P, may-L, PP}
 use Rattle.rows.specs.declared.layout.Layout.{Layout}
 use Rattle.clauses.specs.declared.Test.{Test}
 use Rattle.clauses.specs.declared.Test.the-variants as tests
@@ -27,7 +29,7 @@ use Rattle.clauses.specs.declared.Clause.{Clause}
 use Rattle.clauses.specs.Asks.{rowAt, thingAt, under, forThing, atBlock, things, blocks, effect, asks}
 use Rattle.clauses.specs.Clauses.{of}
 use Rattle.clauses.proofs.Sorts.{row-C, row-B}
-use Rattle.clauses.proofs.Numbered.{Numbered, in-C, in-B, numbered}
+use Rattle.clauses.proofs.Numbered.{Numbered, in-C, in-B, numbered, value-row}
 use Rattle.clauses.proofs.Asked.{gap-thing, admitted-listed}
 use Rattle.queries.specs.Ready.{Ready}
 use Rattle.queries.proofs.Given.{linked-code}
@@ -48,21 +50,21 @@ module _ {ws links masks : List ℕ} {l : Layout} (y : Ready ws links masks l) w
 
   -- ---- rows by their numbers
 
+  row-of : (n : ℕ) → n < 2 * l .size → ValueRow c (rowAt n)
+  row-of n h = value-row c n (omega (arith, y .laid .size))
+
   may-row : (n v : ℕ) → n < 2 * l .size → v < plain c + c .size → T (allowed c (rowAt n) v)
-  may-row n v h b = go (numbered n)
-    where
-      go : {x : Row} → Numbered x n → T (allowed c x v)
-      go (in-C e) = may-C c k (omega (arith, y .laid .size)) b
-      go (in-B e) = may-B c k (omega (arith, y .laid .size)) b
+  may-row n v h b = let r = row-of n h in is-allowed c (rowAt n) v (r .mine) (rw (r .full) b)
+
+  unshifted : {r : Row} {n : ℕ} → Numbered r n → shift c r ≡ 0
+  unfolding shift
+  unshifted (in-C e) = refl
+  unshifted (in-B e) = refl
 
   alike : (i j : ℕ) → i < 2 * l .size → j < 2 * l .size → Alike c (rowAt i) (rowAt j)
-  alike i j h g = go (numbered i) (numbered j)
-    where
-      go : {a b : Row} → Numbered a i → Numbered b j → Alike c a b
-      go (in-C e) (in-C f) = CC c k (omega (arith, y .laid .size)) (omega (arith, y .laid .size))
-      go (in-C e) (in-B f) = CB c k (omega (arith, y .laid .size)) (omega (arith, y .laid .size))
-      go (in-B e) (in-C f) = BC c k (omega (arith, y .laid .size)) (omega (arith, y .laid .size))
-      go (in-B e) (in-B f) = BB c k (omega (arith, y .laid .size)) (omega (arith, y .laid .size))
+  alike i j h g =
+      let a = row-of i h in let b = row-of j g in
+      record { from = a .mine; to = b .mine; spans = a .full ∙ sym (b .full); unshifted-from = unshifted (numbered i); unshifted-to = unshifted (numbered j) }
 
   -- ---- things
 
@@ -73,17 +75,18 @@ module _ {ws links masks : List ℕ} {l : Layout} (y : Ready ws links masks l) w
       go (yes h) = h
       go (no h) = absurd (gap-thing c k (λ r v. true) z f (omega (arith, y .laid .size)) t)
 
+  things-fit : (w : What) (x r z f : ℕ) → ((g : ℕ) → g < l .size → T (thingAt z (makes (c .node g))) → Fits c (forThing w x r g))
+      → Fits c (things c w x r z f)
+  unfolding things
+  things-fit w x r z zero p = λ g m t. p g (thing-inside z g t) t
+  things-fit w x r z (suc f) p = λ t. p (suc f) (thing-inside z (suc f) t) t
+
   -- a thing that has a body
-  body : {w : What} {x r z : ℕ} → Each l masks (of w x r z) → entering w ≡ true → (f : ℕ) → T (thingAt z (makes (c .node f))) → suc f < c .size
-  body {z = z} e q f t =
-      let h = thing-inside z f t in
+  body : {w : What} {x r z : ℕ} → Each l masks (of w x r z) → entering w ≡ true → (f : ℕ) → f < l .size → T (thingAt z (makes (c .node f)))
+      → suc f < c .size
+  body {z = z} e q f h t =
       let b : f + 1 < l .size = e .bodies q f h (sym (in-mask z (e .mask) (y .laid) (y .masked) f (inside h)) ∙ T-true (thingAt z (makes (c .node f))) t) in
       omega (arith, y .laid .size)
-
-  things-fit : (w : What) (x r z f : ℕ) → ((g : ℕ) → T (thingAt z (makes (c .node g))) → Fits c (forThing w x r g)) → Fits c (things c w x r z f)
-  unfolding things
-  things-fit w x r z zero p = λ g m t. p g t
-  things-fit w x r z (suc f) p = p (suc f)
 
   -- ---- blocks
 
@@ -121,14 +124,12 @@ module _ {ws links masks : List ℕ} {l : Layout} (y : Ready ws links masks l) w
   effect-fits whats.Branches x r z f p =
       let h : x < l .size = omega (arith, p .0) in
       (part-fits h (p .0), (PP c k (inside (p .1)) (inside h), λ t. PP c k (inside (p .2)) (inside h)))
-  effect-fits whats.Enter x r z f p = things-fit whats.Enter x r z f (λ g t. may-L c k (body p refl g t))
-  effect-fits whats.Lower x r z f p = things-fit whats.Lower x r z f (λ g t. PP c k (body p refl g t) (inside (omega (arith, p .word))))
-  effect-fits whats.Hand x r z f p =
-      things-fit whats.Hand x r z f (λ g t. let h = thing-inside z g t in rw row-B at (alike r (2 * g + 1) (p .row) (omega arith)))
-  effect-fits whats.Take x r z f p =
-      things-fit whats.Take x r z f (λ g t. let h = thing-inside z g t in rw row-B at (alike (2 * g + 1) r (omega arith) (p .row)))
+  effect-fits whats.Enter x r z f p = things-fit whats.Enter x r z f (λ g h t. may-L c k (body p refl g h t))
+  effect-fits whats.Lower x r z f p = things-fit whats.Lower x r z f (λ g h t. PP c k (body p refl g h t) (inside (omega (arith, p .word))))
+  effect-fits whats.Hand x r z f p = things-fit whats.Hand x r z f (λ g h t. rw row-B at (alike r (2 * g + 1) (p .row) (omega arith)))
+  effect-fits whats.Take x r z f p = things-fit whats.Take x r z f (λ g h t. rw row-B at (alike (2 * g + 1) r (omega arith) (p .row)))
   effect-fits whats.Back x r z f p =
-      things-fit whats.Back x r z f (λ g t. let b = body p refl g t in rw row-C at (alike (2 * suc g) r (omega (arith, y .laid .size)) (p .row)))
+      things-fit whats.Back x r z f (λ g h t. let b = body p refl g h t in rw row-C at (alike (2 * suc g) r (omega (arith, y .laid .size)) (p .row)))
   effect-fits whats.Send x r z f p = blocks-fit x r z f p
 
   under-fits : (t : Test) (d a v : ℕ) (i : Rule) → Fits c i → Fits c (under c t d a v i)
