@@ -1,6 +1,5 @@
 -- `firing::targets::gain` meets its contract: what `set` did to the part is said of the whole. Assumes nothing.
 use Prim.Native.Nat.{_+_, _-_}
-use mathlib.Core.List.{[], _∷_}
 use mathlib.Core.Path.{sym}
 use native.Mathlib.Omega.{arith}
 use Rattle.rows.proofs.Laws.{put-back-whole}
@@ -20,5 +19,4 @@ gain-spec =
     (λ part-set-end. search needs)
     (λ set-requires κs. search needs)
     (λ same-length. search needs)
-    (λ c. let a = c .before .before .before .before .before .before .args in let at = c .before .before .before .before .flags .result in
-    rw (sym (c .before .before .before .before .flags .ensures)) (put-back-whole (a .est .now) at (at + 1 - at) _ (a .bits ∷ []) _ (c .before .before .set .ensures) (omega arith))))
+    (λ c. let at = c .before .before .before .before .flags in rw (sym (at .ensures)) (put-back-whole _ (at .result) (at .result + 1 - at .result) _ _ _ (c .before .before .set .ensures) (omega arith))))

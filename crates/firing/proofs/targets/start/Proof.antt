@@ -1,5 +1,4 @@
 -- `firing::targets::start` meets its contract: what `put` did to the part is said of the whole. Assumes nothing.
-use mathlib.Core.List.{[], _∷_}
 use Prim.Native.Nat.{_+_, _-_}
 use mathlib.Core.Path.{sym}
 use native.Mathlib.Omega.{arith}
@@ -21,5 +20,5 @@ start-spec =
     (λ part-put-end. search needs)
     (λ put-requires κs. search needs)
     (λ same-length. search needs)
-    (λ c. let a = c .before .before .before .before .before .before .args in let at = c .before .before .before .before .flags .result in
-    live-fired (a .q) (rw (sym (c .before .before .before .before .flags .ensures)) (put-back-whole (a .est .now) at (at + 1 - at) _ (16777216 ∷ []) _ (c .before .before .put .ensures) (omega arith)))))
+    (λ c. let at = c .before .before .before .before .flags in
+    live-fired (c .before .before .before .before .before .before .args .q) (rw (sym (at .ensures)) (put-back-whole _ (at .result) (at .result + 1 - at .result) _ _ _ (c .before .before .put .ensures) (omega arith)))))
