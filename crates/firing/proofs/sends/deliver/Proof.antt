@@ -8,11 +8,6 @@ use borrow.Author.Needs.{needs}
 use Rattle.firing.proofs.sends.deliver.Statement.{statement}
 use Rattle.firing.proofs.sends.deliver.Tie as tie
 
-add-delivered : tie.Need-add-delivered
-add-delivered c =
-    let u = c .before .before .before .before in let t = u .before .before .before .before .before .before .before in let w = t .before .before .before .before .before .before .before in
-    omega (arith, t .pass .ensures .count, u .lift .ensures .count, facts-most (u .lift .last .0), u .lift .kept .0, t .pass .kept .0, w .wake .kept .0, w .before .before .before .before .before .before .pre .0 .short)
-
 add-delivered-2 : tie.Need-add-delivered-2
 add-delivered-2 c =
     let u = c .before .before .before .before in let t = u .before .before .before .before .before .before .before in let w = t .before .before .before .before .before .before .before in
@@ -41,7 +36,7 @@ deliver-spec =
     (λ add-pass. search needs)
     (λ pass-requires κs. search needs)
     (λ lift-requires κs. search needs)
-    add-delivered
+    (λ c. omega (arith, add-delivered-2 c))
     add-delivered-2
     (λ mul-mark. search needs)
     (λ mul-mark-2. search needs)

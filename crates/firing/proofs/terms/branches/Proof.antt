@@ -6,11 +6,6 @@ use borrow.Author.Needs.{needs}
 use Rattle.firing.proofs.terms.branches.Statement.{statement}
 use Rattle.firing.proofs.terms.branches.Tie as tie
 
-add-result : tie.Need-add-result
-add-result c =
-    let u = c .before .before .before .before in let t = u .before .before .before .before .before .before .before in let w = t .before .before .before .before .before .before .before in
-    omega (arith, t .lift .ensures .count, u .lift-if .ensures .count, facts-most (u .lift-if .last .0), u .lift-if .kept .0, t .lift .kept .0, w .part .kept .0, w .before .before .before .before .before .pre .0 .short)
-
 add-result-2 : tie.Need-add-result-2
 add-result-2 c =
     let u = c .before .before .before .before in let t = u .before .before .before .before .before .before .before in let w = t .before .before .before .before .before .before .before in
@@ -24,7 +19,7 @@ branches-spec =
     (λ part-requires κs. search needs)
     (λ lift-requires κs. search needs)
     (λ lift-if-requires κs. search needs)
-    add-result
+    (λ c. omega (arith, add-result-2 c))
     add-result-2
     (λ same-length. search needs)
     (λ same-length-2. search needs)

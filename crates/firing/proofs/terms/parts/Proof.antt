@@ -6,11 +6,6 @@ use borrow.Author.Needs.{needs}
 use Rattle.firing.proofs.terms.parts.Statement.{statement}
 use Rattle.firing.proofs.terms.parts.Tie as tie
 
-add-result : tie.Need-add-result
-add-result c =
-    let u = c .before .before .before .before in let t = u .before .before .before .before .before .before .before in let w = t .before .before .before .before .before .before .before in
-    omega (arith, t .part-if .ensures .count, u .part-if2 .ensures .count, facts-most (u .part-if2 .last .0), u .part-if2 .kept .0, t .part-if .kept .0, w .part .kept .0, w .before .before .before .before .before .pre .0 .short)
-
 add-result-2 : tie.Need-add-result-2
 add-result-2 c =
     let u = c .before .before .before .before in let t = u .before .before .before .before .before .before .before in let w = t .before .before .before .before .before .before .before in
@@ -24,7 +19,7 @@ parts-spec =
     (λ part-requires κs. search needs)
     (λ part-if-requires κs. search needs)
     (λ part-if-requires-2 κs. search needs)
-    add-result
+    (λ c. omega (arith, add-result-2 c))
     add-result-2
     (λ same-length. search needs)
     (λ same-length-2. search needs)
