@@ -1,7 +1,7 @@
 -- The loop over the things of a value set: what is left to do at the thing f is the rule at each number from f on.
 use Prim.Native.Nat.{ℕ, zero, suc, _+_, _-_, _*_, _/_, _%_, _≤_, _<_}
 use mathlib.Core.Path.{_≡_, refl, sym, ap, ap₂, _∙_}
-use mathlib.Core.Bool.{Bool, true, false, _&&_, _||_}
+use mathlib.Core.Bool.{Bool, true, false, _&&_, _||_, false≢true}
 use mathlib.Core.List.{List}
 use native.Mathlib.Decide.{decLt}
 use native.Mathlib.Omega.{arith}
@@ -16,7 +16,7 @@ use Rattle.calculus.specs.Elements.{plain, made, Making, makes, making, isFunct
 use Rattle.calculus.specs.Constraint.{C, Rule, each, every, range}
 use Rattle.calculus.specs.Layout.{bit, base, rowWords, sets}
 use Rattle.calculus.specs.Estimate.{fire}
-use Rattle.calculus.proofs.Folds.{fire-only-not, fire-present, fire-absent, loop-start, loop-step, loop-skip, loop-end}
+use Rattle.calculus.proofs.Folds.{fire-only-not, loop-start, loop-step, loop-skip, loop-end}
 use Rattle.calculus.proofs.Masks.{T-false}
 use Rattle.calculus.proofs.RowOperations.{sets-C}
 use Rattle.rows.specs.declared.layout.Layout.{Layout}
@@ -30,7 +30,18 @@ use Rattle.queries.specs.Passes.{maskAt, Masked}
 use Rattle.queries.specs.Things.{both, Next, Searched}
 use Rattle.queries.proofs.Laws.{row-in, mask-in}
 use Rattle.firing.specs.Placed.{Placed, Each}
-use Rattle.firing.proofs.Effects.{both-first, both-second}
+use Rattle.firing.proofs.Effects.{when}
+
+-- ---- two tests
+
+both-second : (x y : Bool) → x && y ≡ true → y ≡ true
+both-second true y e = e
+both-second false y e = absurd (false≢true e)
+
+tests-both : (x y : Bool) (p q : List ℕ) → when y (when x p q) q ≡ when (x && y) p q
+tests-both true y p q = refl
+tests-both false true p q = refl
+tests-both false false p q = refl
 
 -- ---- the things of a mask
 
@@ -115,24 +126,19 @@ module _ {l : Layout} {masks : List ℕ} {e : Effect} (i : Each l masks e) where
       both-is : (f : ℕ) → f < c .size → both est masks (l .lead) at to f ≡ sets c est (C (e .x + 1)) (made c f) && thingAt (e .z) (makes (c .node f))
       both-is f h = member-and _ _ (f % 32) ∙ ap₂ (λ (s t : Bool). s && t) (sym (in-row f h)) (sym (in-mask (e .z) (i .mask) o m f h))
 
-      pub absent : (f : ℕ) → f < c .size → both est masks (l .lead) at to f ≡ false → fire c (one f) est ≡ est
-      absent f h u = go (sets c est (C (e .x + 1)) (made c f)) (thingAt (e .z) (makes (c .node f))) refl refl (sym (both-is f h) ∙ u)
-        where
-          go : (s t : Bool) → sets c est (C (e .x + 1)) (made c f) ≡ s → thingAt (e .z) (makes (c .node f)) ≡ t → s && t ≡ false → fire c (one f) est ≡ est
-          go true t p q v = fire-only-not c _ _ est (q ∙ v)
-          go false t p q v = fire-absent c _ _ _ _ est p
-
-      pub present : (f : ℕ) → f < c .size → both est masks (l .lead) at to f ≡ true → fire c (one f) est ≡ fire c (forThing (e .what) (e .x) (e .y) f) est
-      present f h u =
-          let v = sym (both-is f h) ∙ u in
-          fire-present c _ _ _ _ est (both-second (sets c est (C (e .x + 1)) (made c f)) _ v) (both-first (sets c est (C (e .x + 1)) (made c f)) _ v)
+      pub thing-fired : (f : ℕ) (b : Bool) → f < c .size → both est masks (l .lead) at to f ≡ b
+          → fire c (one f) est ≡ when b (fire c (forThing (e .what) (e .x) (e .y) f) est) est
+      unfolding fire
+      thing-fired f b h u =
+          tests-both (sets c est (C (e .x + 1)) (made c f)) (thingAt (e .z) (makes (c .node f))) (fire c (forThing (e .what) (e .x) (e .y) f) est) est
+          ∙ ap (λ (t : Bool). when t (fire c (forThing (e .what) (e .x) (e .y) f) est) est) (sym (both-is f h) ∙ u)
 
       -- on to the next thing
       skip-to : (j f : ℕ) → Next est masks (l .lead) at to (l .size) j f → fire c (from j) est ≡ fire c (from f) est
       skip-to j f n = go (decLt (c .size) f) (decLt (c .size) j)
         where
           passed : (t : ℕ) → t ≤ f → t ≤ c .size → (g : ℕ) → j ≤ g → g < t → fire c (one g) est ≡ est
-          passed t u v g h k = absent g (omega arith) (n .none g h (omega arith))
+          passed t u v g h k = thing-fired g false (omega arith) (n .none g h (omega arith))
 
           go : Dec (c .size < f) → Dec (c .size < j) → fire c (from j) est ≡ fire c (from f) est
           go (no u) v = loop-skip c one (c .size) j f est (n .later) (omega arith) (passed f (omega arith) (omega arith))
@@ -151,7 +157,7 @@ module _ {l : Layout} {masks : List ℕ} {e : Effect} (i : Each l masks e) where
         → new ≡ fire c (forThing (e .what) (e .x) (e .y) f) est → Next new masks (l .lead) at to (l .size) (f + 1) g → fire c (from g) new ≡ fire c (from f) est
     made-step est new f g h u v n =
         sym (skip-to new (f + 1) g n)
-        ∙ ap (fire c (from (f + 1))) (v ∙ sym (present est f (omega (arith, o .size)) u))
+        ∙ ap (fire c (from (f + 1))) (v ∙ sym (thing-fired est f true (omega (arith, o .size)) u))
         ∙ sym (loop-step c one (c .size) f est (omega (arith, o .size)))
 
 -- what is left at the thing f gives what the effect asks from the start

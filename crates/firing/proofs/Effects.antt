@@ -49,16 +49,8 @@ for-code {c = c} f o x = record { words = f .words c o x; count = f .count }
 
 -- ---- guards
 
-pub both-first : (x y : Bool) → x && y ≡ true → x ≡ true
-both-first true y e = refl
-both-first false y e = e
-
-pub both-second : (x y : Bool) → x && y ≡ true → y ≡ true
-both-second true y e = e
-both-second false y e = absurd (false≢true e)
-
 -- by a test
-abbrev when : Bool → List ℕ → List ℕ → List ℕ
+abbrev pub when : Bool → List ℕ → List ℕ → List ℕ
 when t p q = elim t [ true ↦ p | false ↦ q ]
 
 both-tests : (x y : Bool) (p q : List ℕ) → when x (when y p q) q ≡ when (x && y) p q

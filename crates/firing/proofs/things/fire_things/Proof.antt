@@ -1,7 +1,8 @@
 -- `firing::things::fire_things` meets its contract: past the table nothing is asked. Assumes nothing.
 use mathlib.Core.Path.{sym, _∙_}
+use mathlib.Core.Bool.{true, false}
 use native.Mathlib.Omega.{arith}
-use Rattle.firing.proofs.EachThing.{searched, placed, present, absent, past-table}
+use Rattle.firing.proofs.EachThing.{searched, placed, thing-fired, past-table}
 use Rattle.firing.proofs.Effects.{all-things, one-thing}
 use borrow.Author.Needs.{needs}
 use Rattle.firing.proofs.things.fire_things.Statement.{statement}
@@ -26,7 +27,7 @@ returns-3 c =
     record {
       words =
           λ k o m. d .words k o tt
-          ∙ sym (present (s .pre .1) o (m .1) (a .est .now) (a .f) (omega (arith, i .if2 .left, o .size)) (sym (t .before .has-thing .ensures) ∙ t .if3 .taken))
+          ∙ sym (thing-fired (s .pre .1) o (m .1) (a .est .now) (a .f) true (omega (arith, i .if2 .left, o .size)) (sym (t .before .has-thing .ensures) ∙ t .if3 .taken))
           ∙ one-thing k e (a .f) (a .est .now) (i .before .before .if1 .left);
       count = d .count;
     }
@@ -36,7 +37,7 @@ returns-4 c =
     let i = c .before .before .before in let s = i .before .before .before .before .before .before in let a = s .args in let e = a .e in
     record {
       words =
-          λ k o m. sym (absent (s .pre .1) o (m .1) (a .est .now) (a .f) (omega (arith, i .if2 .left, o .size)) (sym (c .before .has-thing .ensures) ∙ c .if3 .left))
+          λ k o m. sym (thing-fired (s .pre .1) o (m .1) (a .est .now) (a .f) false (omega (arith, i .if2 .left, o .size)) (sym (c .before .has-thing .ensures) ∙ c .if3 .left))
           ∙ one-thing k e (a .f) (a .est .now) (i .before .before .if1 .left);
       count = omega arith;
     }
