@@ -112,62 +112,40 @@ module _ {ws links masks : List ℕ} {l : Layout} (y : Ready ws links masks l) (
       → NodeLinked c p (termNode t (p + 1) (s .second) (s .third)) → Every Suit (ofTerm p t s)
   unfolding termNode ofTerm entering byMask ofValue ofVariable ofPermitted ofExercise ofApply ofLet ofSequence ofIf ofWhile ofOperation ofGet ofSet ofDelete
       ofCell ofRead ofAssign ofSend
-  term-suit (terms.Constant d) s i w x n = (free-suit (put-fit _ (omega (arith, constant-lt d))), tt)
-  term-suit (terms.Number d) s i w x n = (free-suit (put-fit _ (omega (arith, sign-lt d))), tt)
-  term-suit (terms.Literal d) s i w x n = (free-suit (put-fit _ (omega arith)), tt)
-  term-suit (terms.Name d) s i w x n = (free-suit (put-fit _ (omega arith)), tt)
+  term-suit (terms.Constant d) s i w x n = omega (arith, constant-lt d)
+  term-suit (terms.Number d) s i w x n = omega (arith, sign-lt d)
+  term-suit (terms.Literal d) s i w x n = omega arith
+  term-suit (terms.Name d) s i w x n = omega arith
   term-suit (terms.Variable d) s i w x n =
-      let b : s .binder < l .size = to (subst (λ (b : ℕ). b < c .size) (w .binder d refl) (k .binders p d (omega (arith, y .laid .size)) n)) in
-      (free-suit (omega arith, omega arith), tt)
-  term-suit terms.Function s i w x n = (free-suit (put-fit _ (omega (arith, w .own, y .laid .size))), tt)
+      let b : s .binder < c .size = subst (λ (b : ℕ). b < c .size) (w .binder d refl) (k .binders p d (omega (arith, y .laid .size)) n) in omega arith
+  term-suit terms.Function s i w x n = omega arith
   term-suit terms.Apply s i w x n =
-      let a = to (n .1 .inside) in let b = to (n .2 .inside) in
-      free-suit (a, b, some-word) also free-suit (function-each whats.Enter a (omega arith)) also free-suit (function-each whats.Hand a (omega arith))
-      also free-suit (function-each whats.Back a (omega arith)) also free-suit (function-each whats.Lower a (omega arith)) also tt
-  term-suit terms.Let s i w x n =
-      let a = to (n .0 .inside) in let b = to (n .1 .inside) in
-      free-suit (a, b, some-word) also free-suit (omega arith, omega arith) also free-suit (omega arith, omega arith) also tt
-  term-suit terms.Sequence s i w x n =
-      let a = to (n .1 .inside) in let b = to (n .2 .inside) in free-suit (a, b, some-word) also free-suit (omega arith, omega arith) also tt
-  term-suit terms.If s i w x n =
-      let a = to (n .0 .inside) in let b = to (n .1 .inside) in let d = to (n .2 .inside) in
-      free-suit (a, b, d) also has-suit refl some-word a (omega arith) b also has-suit refl some-word a (omega arith) d
-      also free-suit (omega arith, omega arith) also free-suit (omega arith, omega arith) also tt
-  term-suit terms.While s i w x n =
-      let a = to (n .0 .inside) in let b = to (n .1 .inside) in
-      free-suit (a, b, some-word) also has-suit refl some-word a (omega arith) b also has-suit refl some-word a (omega arith) (put-fit _ (omega arith)) also tt
-  term-suit (terms.Operation d) s i w x n =
-      let a = to (n .1 .inside) in let b = to (n .2 .inside) in let g = x (n .1 .inside) in
-      free-suit (a, b, some-word) also free-suit (a, b, (λ e. omega arith), number-lt d) also tt
-  term-suit terms.Record s i w x n = free-suit (put-fit _ (omega (arith, w .own, y .laid .size))) also tt
+      (omega arith) also free-suit (function-each whats.Enter (omega arith) (omega arith)) also free-suit (function-each whats.Hand (omega arith) (omega arith))
+      also free-suit (function-each whats.Back (omega arith) (omega arith)) also free-suit (function-each whats.Lower (omega arith) (omega arith)) also tt
+  term-suit terms.Let s i w x n = omega arith
+  term-suit terms.Sequence s i w x n = omega arith
+  term-suit terms.If s i w x n = omega arith
+  term-suit terms.While s i w x n = omega arith
+  term-suit (terms.Operation d) s i w x n = let g = x (n .1 .inside) in omega (arith, number-lt d)
+  term-suit terms.Record s i w x n = omega arith
   term-suit terms.Get s i w x n =
-      let a = to (n .1 .inside) in let b = to (n .2 .inside) in
-      free-suit (a, b, some-word) also some-suit b a (omega arith) (put-fit _ (omega arith)) also has-suit refl b a (omega arith) (omega arith)
-      also some-suit b some-word (omega arith) (other-each whats.Take a (omega arith) refl (omega arith)) also tt
+      (omega arith) also (omega arith) also has-suit refl (omega arith) (omega arith) (omega arith) (omega arith)
+      also some-suit (omega arith) (omega arith) (omega arith) (other-each whats.Take (omega arith) (omega arith) refl (omega arith)) also tt
   term-suit terms.Set s i w x n =
-      let a = to (n .0 .inside) in let b = to (n .1 .inside) in let d = to (n .2 .inside) in
-      free-suit (a, b, d) also some-suit b a (omega arith) (put-fit _ (omega (arith, w .own, y .laid .size)))
-      also some-suit b a (omega arith) (omega arith, omega arith) also has-suit refl b a (omega arith) (omega arith)
-      also some-suit b some-word (omega arith) (other-each whats.Take a (omega arith) refl (omega arith)) also tt
-  term-suit terms.Delete s i w x n =
-      let a = to (n .1 .inside) in let b = to (n .2 .inside) in
-      free-suit (a, b, some-word) also some-suit b some-word (omega arith) (omega arith, omega arith, omega arith) also tt
-  term-suit terms.Cell s i w x n =
-      let a = to (n .inside) in
-      free-suit (a, some-word, some-word) also free-suit (put-fit _ (omega (arith, w .own, y .laid .size))) also free-suit (omega arith, omega arith) also tt
-  term-suit terms.Read s i w x n =
-      let a = to (n .inside) in free-suit (a, some-word, some-word) also free-suit (other-each whats.Take a (omega arith) refl (omega arith)) also tt
+      (omega arith) also (omega arith) also (omega arith) also has-suit refl (omega arith) (omega arith) (omega arith) (omega arith)
+      also some-suit (omega arith) (omega arith) (omega arith) (other-each whats.Take (omega arith) (omega arith) refl (omega arith)) also tt
+  term-suit terms.Delete s i w x n = omega arith
+  term-suit terms.Cell s i w x n = omega arith
+  term-suit terms.Read s i w x n = (omega arith) also free-suit (other-each whats.Take (omega arith) (omega arith) refl (omega arith)) also tt
   term-suit terms.Assign s i w x n =
-      let a = to (n .1 .inside) in let b = to (n .2 .inside) in
-      free-suit (a, b, some-word) also some-suit some-word a (omega arith) (omega arith, omega arith)
-      also free-suit (other-each whats.Hand a (omega arith) refl (omega arith)) also tt
+      (omega arith) also (omega arith) also free-suit (other-each whats.Hand (omega arith) (omega arith) refl (omega arith)) also tt
   term-suit (terms.Send d) s i w x n =
-      let a = to (n .1 .inside) in let b = to (n .2 .inside) in
-      free-suit (a, b, some-word) also free-suit (put-fit _ (omega arith)) also some-suit some-word b (omega arith) (record { word = a; message = b; required = n .0 .0; term = terms.Send d; there = i }) also tt
+      (omega arith) also (omega arith)
+      also some-suit some-word (omega arith) (omega arith) (record { word = omega arith; message = omega arith; required = n .0 .0; term = terms.Send d; there = i }) also tt
   term-suit (terms.Exercise d) s i w x n = go (within (d .bits) (s .perms))
     where
       go : (x : Bool) → Every Suit (elim x [ true ↦ ofPermitted p (d .bits) | false ↦ [] ])
-      go true = free-suit (put-fit _ (omega arith)) also free-suit (h, n) also tt
+      go true = omega arith
       go false = tt
 
   -- ---- the clauses of a word
