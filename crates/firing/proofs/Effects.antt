@@ -1,7 +1,7 @@
 -- Effects and guards of a clause, as the firing of what it asks.
 use Prim.Native.Nat.{ℕ, zero, suc}
 use mathlib.Core.Path.{_≡_, refl, _∙_}
-use mathlib.Core.Bool.{Bool, true, false, _&&_, false≢true}
+use mathlib.Core.Bool.{Bool, true, false, _&&_}
 use mathlib.Core.List.{List}
 use Rattle.table.specs.Code.{Code}
 use Rattle.calculus.specs.Elements.{isString}

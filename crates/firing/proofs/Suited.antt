@@ -3,7 +3,6 @@ use Prim.Native.Nat.{ℕ, _+_, _*_, _≤_, _<_}
 use mathlib.Core.Path.{_≡_, refl, sym, ap, _∙_, subst}
 use mathlib.Core.Bool.{Bool, true, false, false≢true}
 use mathlib.Core.List.{List, []}
-use native.Mathlib.Numerals.{add-one}
 use native.Mathlib.Omega.{arith}
 use lib.Dec.{T}
 use lib.ListN.{getD}
@@ -31,7 +30,7 @@ use Rattle.clauses.specs.declared.What.the-variants as whats
 use Rattle.clauses.specs.declared.Effect.{Effect}
 use Rattle.clauses.specs.declared.Clause.{Clause}
 use Rattle.clauses.specs.Asks.{thingAt}
-use Rattle.clauses.specs.Clauses.{Site, of, when, put, functions, ofTerm, siteAt, ofItem, clausesAt, clauseAt}
+use Rattle.clauses.specs.Clauses.{Site, of, when, functions, ofTerm, siteAt, ofItem, clausesAt, clauseAt}
 use Rattle.clauses.specs.Clauses.{ofValue, ofVariable, ofPermitted, ofExercise, ofApply, ofLet, ofSequence, ofIf, ofWhile, ofOperation}
 use Rattle.clauses.specs.Clauses.{ofGet, ofSet, ofDelete, ofCell, ofRead, ofAssign, ofSend, ofBlock}
 use Rattle.clauses.proofs.Asked.{Every}
@@ -67,44 +66,29 @@ module _ {ws links masks : List ℕ} {l : Layout} (y : Ready ws links masks l) (
   abbrev Fit : Effect → Type 0
   Fit e = Fitting l masks ws (e .what) (e .x) (e .y) (e .z)
 
-  to : {q : ℕ} → q < c .size → q < l .size
-  to g = omega (arith, y .laid .size)
+  -- an effect for functions, which have bodies, and one that enters none
+  function-each : (w : What) {r : ℕ} → (p + 1 < l .size) × (r < 2 * l .size) → Each l masks (of w p r functions)
+  unfolding thingAt
+  function-each w a =
+      record {
+        word = a .0;
+        row = a .1;
+        mask = omega arith;
+        long = y .masked .long;
+        bodies = λ q f i d.
+            let s : f < c .size = omega (arith, y .laid .size) in
+            omega (arith, y .laid .size, body-lt c k f s (subst T (sym (in-mask 0 (omega arith) (y .laid) (y .masked) f s ∙ d)) tt));
+      }
 
-  -- ---- effects
+  other-each : (w : What) {r z : ℕ} → entering w ≡ false → (p + 1 < l .size) × (r < 2 * l .size) × (z < 3) → Each l masks (of w p r z)
+  other-each w n a = record { word = a .0; row = a .1; mask = a .2; long = y .masked .long; bodies = λ q. absurd (false≢true (sym n ∙ q)) }
 
-  put-fit : (v : ℕ) → v < plain c + c .size → Fit (put (2 * p) v)
-  put-fit v b = (omega arith, omega (arith, y .laid .size, y .laid .lead))
+  -- a guard that looks at a mask, and one that looks at none
+  suit : {t : Test} {d a v : ℕ} {e : Effect} → (d < l .size) × (a < l .size) × (v < 4) → Fit e → Suit (when t d a v e)
+  suit g f = record { guard = record { first = g .1; second = g .0; element = omega (arith, g .2); mask = λ q. g .2 }; effect = f }
 
-  module _ (w : What) {r : ℕ} (a : p + 1 < l .size) (b : r < 2 * l .size) where
-    function-each : Each l masks (of w p r functions)
-    unfolding thingAt
-    function-each =
-        record {
-          word = a;
-          row = b;
-          mask = omega arith;
-          long = y .masked .long;
-          bodies = λ q f i d.
-              let s : f < c .size = omega (arith, y .laid .size) in
-              to (subst (λ (n : ℕ). n < c .size) (sym (add-one f)) (body-lt c k f s (subst T (sym (in-mask 0 (omega arith) (y .laid) (y .masked) f s ∙ d)) tt)));
-        }
-
-    other-each : {z : ℕ} → entering w ≡ false → z < 3 → Each l masks (of w p r z)
-    other-each n d = record { word = a; row = b; mask = d; long = y .masked .long; bodies = λ q. absurd (false≢true (sym n ∙ q)) }
-
-  -- ---- guards: an element of a mask, one among the first 32, none
-
-  some-suit : {t : Test} {d a v : ℕ} {e : Effect} → d < l .size → a < l .size → v < 4 → Fit e → Suit (when t d a v e)
-  some-suit d a v f = record { guard = record { first = a; second = d; element = omega arith; mask = λ q. v }; effect = f }
-
-  has-suit : {t : Test} {d a v : ℕ} {e : Effect} → byMask t ≡ false → d < l .size → a < l .size → v < 32 → Fit e → Suit (when t d a v e)
-  has-suit n d a v f = record { guard = record { first = a; second = d; element = v; mask = λ q. absurd (false≢true (sym n ∙ q)) }; effect = f }
-
-  some-word : 0 < l .size
-  some-word = omega arith
-
-  free-suit : {t : Test} {e : Effect} → Fit e → Suit (when t 0 0 0 e)
-  free-suit f = some-suit some-word some-word (omega arith) f
+  has-suit : {t : Test} {d a v : ℕ} {e : Effect} → byMask t ≡ false → (d < l .size) × (a < l .size) × (v < 32) → Fit e → Suit (when t d a v e)
+  has-suit n g f = record { guard = record { first = g .1; second = g .0; element = g .2; mask = λ q. absurd (false≢true (sym n ∙ q)) }; effect = f }
 
   -- ---- the clauses of each kind
 
@@ -120,8 +104,8 @@ module _ {ws links masks : List ℕ} {l : Layout} (y : Ready ws links masks l) (
       let b : s .binder < c .size = subst (λ (b : ℕ). b < c .size) (w .binder d refl) (k .binders p d (omega (arith, y .laid .size)) n) in omega arith
   term-suit terms.Function s i w x n = omega arith
   term-suit terms.Apply s i w x n =
-      (omega arith) also free-suit (function-each whats.Enter (omega arith) (omega arith)) also free-suit (function-each whats.Hand (omega arith) (omega arith))
-      also free-suit (function-each whats.Back (omega arith) (omega arith)) also free-suit (function-each whats.Lower (omega arith) (omega arith)) also tt
+      (omega arith) also suit (omega arith) (function-each whats.Enter (omega arith)) also suit (omega arith) (function-each whats.Hand (omega arith))
+      also suit (omega arith) (function-each whats.Back (omega arith)) also suit (omega arith) (function-each whats.Lower (omega arith)) also tt
   term-suit terms.Let s i w x n = omega arith
   term-suit terms.Sequence s i w x n = omega arith
   term-suit terms.If s i w x n = omega arith
@@ -129,19 +113,19 @@ module _ {ws links masks : List ℕ} {l : Layout} (y : Ready ws links masks l) (
   term-suit (terms.Operation d) s i w x n = let g = x (n .1 .inside) in omega (arith, number-lt d)
   term-suit terms.Record s i w x n = omega arith
   term-suit terms.Get s i w x n =
-      (omega arith) also (omega arith) also has-suit refl (omega arith) (omega arith) (omega arith) (omega arith)
-      also some-suit (omega arith) (omega arith) (omega arith) (other-each whats.Take (omega arith) (omega arith) refl (omega arith)) also tt
+      (omega arith) also (omega arith) also has-suit refl (omega arith) (omega arith)
+      also suit (omega arith) (other-each whats.Take refl (omega arith)) also tt
   term-suit terms.Set s i w x n =
-      (omega arith) also (omega arith) also (omega arith) also has-suit refl (omega arith) (omega arith) (omega arith) (omega arith)
-      also some-suit (omega arith) (omega arith) (omega arith) (other-each whats.Take (omega arith) (omega arith) refl (omega arith)) also tt
+      (omega arith) also (omega arith) also (omega arith) also has-suit refl (omega arith) (omega arith)
+      also suit (omega arith) (other-each whats.Take refl (omega arith)) also tt
   term-suit terms.Delete s i w x n = omega arith
   term-suit terms.Cell s i w x n = omega arith
-  term-suit terms.Read s i w x n = (omega arith) also free-suit (other-each whats.Take (omega arith) (omega arith) refl (omega arith)) also tt
+  term-suit terms.Read s i w x n = (omega arith) also suit (omega arith) (other-each whats.Take refl (omega arith)) also tt
   term-suit terms.Assign s i w x n =
-      (omega arith) also (omega arith) also free-suit (other-each whats.Hand (omega arith) (omega arith) refl (omega arith)) also tt
+      (omega arith) also (omega arith) also suit (omega arith) (other-each whats.Hand refl (omega arith)) also tt
   term-suit (terms.Send d) s i w x n =
       (omega arith) also (omega arith)
-      also some-suit some-word (omega arith) (omega arith) (record { word = omega arith; message = omega arith; required = n .0 .0; term = terms.Send d; there = i }) also tt
+      also suit (omega arith) (record { word = omega arith; message = omega arith; required = n .0 .0; term = terms.Send d; there = i }) also tt
   term-suit (terms.Exercise d) s i w x n = go (within (d .bits) (s .perms))
     where
       go : (x : Bool) → Every Suit (elim x [ true ↦ ofPermitted p (d .bits) | false ↦ [] ])
@@ -162,7 +146,7 @@ module _ {ws links masks : List ℕ} {l : Layout} (y : Ready ws links masks l) (
   item-suit items.Gap i = tt
   item-suit (items.Block b) i =
       let n = node-item ws (y .readable) (y .slice) (y .room) p ∙ ap (λ (x : Item). nodeAt ws (y .readable) (y .slice) (y .room) x p) i in
-      (free-suit (h, to (subst (NodeLinked c p) n nodes-linked .3 .inside)), tt)
+      let b = subst (NodeLinked c p) n nodes-linked .3 .inside in omega arith
   item-suit (items.Term t) i =
       let w = sited ws (y .readable) (y .slice) (y .room) p t i in
       term-suit t (siteAt ws (linked ws (y .slice)) (plain c) p) i w second-later (subst (NodeLinked c p) (w .node) nodes-linked)
@@ -171,7 +155,7 @@ module _ {ws links masks : List ℕ} {l : Layout} (y : Ready ws links masks l) (
   unfolding clausesAt
   clause-suits n =
       subst (λ (xs : List ℕ). Suit (clauseAt ws xs (plain c) p n)) (sym (y .from))
-      (each-clause ws (y .readable) (y .slice) (y .room) Suit (free-suit some-word) p (item-suit (itemAt ws p) refl) n)
+      (each-clause ws (y .readable) (y .slice) (y .room) Suit (omega arith) p (item-suit (itemAt ws p) refl) n)
 
 -- the same for a clause made where things start at 32 times the leading words
 module _ {ws links masks : List ℕ} {l : Layout} (y : Ready ws links masks l) where
