@@ -81,8 +81,7 @@ past-table {c} k w x y z f h est = fire-only-not c _ _ est (T-false (thingAt z (
 -- ---- what the search is handed, and what is done for a thing
 
 pub sized-again : {l : Layout} {old new : List ℕ} → Sized l old → length new ≡ length old → Sized l new
-sized-again s e =
-    record { size = s .size; lead = s .lead; wide = s .wide; most = s .most; long = e ∙ s .long; short = omega (arith, s .short) }
+sized-again s e = omega arith
 
 module _ {l : Layout} {masks : List ℕ} {e : Effect} (i : Each l masks e) where
   abbrev at : ℕ
@@ -92,9 +91,7 @@ module _ {l : Layout} {masks : List ℕ} {e : Effect} (i : Each l masks e) where
   to = e .z * l .row
 
   pub searched : {est : List ℕ} → Sized l est → Searched l est masks (2 * (e .x + 1)) (e .z)
-  searched s =
-      let x = i .word in let z = i .mask in
-      record { size = s .size; wide = s .wide; most = s .most; row = row-in s (2 * (e .x + 1)) (omega arith); mask = mask-in _ _ (e .z) (i .long) (omega arith) }
+  searched s = omega (arith, row-in s (2 * (e .x + 1)) (omega (arith, i .word)), mask-in (length masks) (l .row) (e .z) (i .long) (omega (arith, i .mask)))
 
   -- a thing that is in the row and in the mask is in the mask
   pub placed : (est : List ℕ) (f : ℕ) → f < l .size → both est masks (l .lead) at to f ≡ true → Placed l (e .what) (e .x) (e .y) f
