@@ -10,8 +10,8 @@ use Rattle.firing.proofs.things.fire_things.Tie as tie
 
 returns : tie.Need-returns
 returns c =
-    let a = c .before .before .before .before .before .before .before .before .before .before .before .args in let e = a .e in let d = c .before .before .before .before .each-thing .ensures in
-    record { words = λ k o m. d .words k o (m .1) ∙ all-things k e (a .f) (a .est .now) (c .before .before .before .before .before .before .before .if1 .taken); count = d .count }
+    let u = c .before .before .before .before in let i = u .before .before .before in let a = i .before .before .before .before .args in let d = u .each-thing .ensures in
+    record { words = λ k o m. d .words k o (m .1) ∙ all-things k (a .e) (a .f) (a .est .now) (i .if1 .taken); count = d .count }
 
 returns-2 : tie.Need-returns-2
 returns-2 c =
@@ -23,7 +23,7 @@ returns-2 c =
 
 returns-3 : tie.Need-returns-3
 returns-3 c =
-    let d = c .before .before .before .before .for-thing .ensures in let t = c .before .before .before .before .before .before .before in let i = t .before .before .before in let s = i .before .before .before .before .before .before in let a = s .args in let e = a .e in
+    let u = c .before .before .before .before in let d = u .for-thing .ensures in let t = u .before .before .before in let i = t .before .before .before in let s = i .before .before .before .before .before .before in let a = s .args in let e = a .e in
     record {
       words =
           λ k o m. d .words k o tt
