@@ -75,5 +75,5 @@ add-spec =
     (λ c. rw (c .before .before .before .before .before .before .before .enum-told11 .given .1) (c .before .before .before .before .send .ensures))
     (λ same-length-23. search needs)
     (λ same-length-24. search needs)
-    (λ c. let s = c .before .before .before .before .before .before .before .before .before .before .before .before .before in
-    rw (is-thing (s .args .e .what) (c .before .before .before .before .before .before .before .match .keys12) .0) (for-code (c .before .before .before .before .fire-things .ensures) (s .pre .0 .laid) (linked-code (s .pre .0), s .pre .0 .masked))))
+    (λ c. let t = c .before .before .before .before in let u = t .before .before .before in let s = u .before .before .before .before .before .before in
+    rw (is-thing (s .args .e .what) (u .match .keys12) .0) (for-code (t .fire-things .ensures) (s .pre .0 .laid) (linked-code (s .pre .0), s .pre .0 .masked))))

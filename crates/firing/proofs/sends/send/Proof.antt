@@ -36,8 +36,8 @@ send-spec =
     (s .pre .0, record { links = _; ready = s .pre .0; sending = s .pre .2; sender = p .permissions-of .ensures; block = ap (λ (x : Link). x .home) (p .before .link-at .ensures) }, s .pre .1))
     (λ same-length. search needs)
     (λ same-length-2. search needs)
-    (λ c. let a = c .before .before .before .before .before .before .before .before .before .before .before .before .before .before .before .args in let d = c .before .before .before .before .send-all .ensures in
-    record { words = d .words ∙ all-blocks (code (a .words .now)) (a .e) (a .f) (a .est .now) (c .before .before .before .before .before .before .before .if1 .taken); count = d .count })
+    (λ c. let t = c .before .before .before .before in let u = t .before .before .before in let a = u .before .before .before .before .before .before .before .before .args in let d = t .send-all .ensures in
+    record { words = d .words ∙ all-blocks (code (a .words .now)) (a .e) (a .f) (a .est .now) (u .if1 .taken); count = d .count })
     returns-2
     (λ mul-kind-of. search needs)
     (λ shared-slice-read-kind-of. search needs)
@@ -46,6 +46,6 @@ send-spec =
     (record { links = _; ready = s .pre .0; sending = s .pre .2; sender = p .permissions-of .ensures; block = ap (λ (x : Link). x .home) (p .before .link-at .ensures) }, s .pre .1, sym (t .kind-of .ensures) ∙ c .before .before .if3 .taken))
     (λ same-length-3. search needs)
     (λ same-length-4. search needs)
-    (λ c. let a = c .before .before .before .before .before .before .before .before .before .before .before .before .before .before .before .before .before .before .before .args in let d = c .before .before .before .before .send-to .ensures in
-    record { words = d .words ∙ one-block (code (a .words .now)) (a .e) (a .f) (a .est .now) (c .before .before .before .before .before .before .before .before .before .before .before .if1 .left); count = d .count })
+    (λ c. let t = c .before .before .before .before in let u = t .before .before .before .before .before .before .before in let a = u .before .before .before .before .before .before .before .before .args in let d = t .send-to .ensures in
+    record { words = d .words ∙ one-block (code (a .words .now)) (a .e) (a .f) (a .est .now) (u .if1 .left); count = d .count })
     returns-4)

@@ -35,17 +35,17 @@ send-to-requires c κs =
 
 add-added : tie.Need-add-added Inv-loop μ-loop
 add-added c =
-    let t = c .before .before .before .before .send-to in let i = c .before .before .before .before .before .before .before .before .loop .inv in
-    omega (arith, t .ensures .count, i .5, facts-most (t .last .1 .0), t .kept .1 .0, sized (c .before .before .before .before .before .before .before .before .before .before .before .before .before .before .pre .0) (i .2) .short)
+    let u = c .before .before .before .before in let v = u .before .before .before .before in let t = u .send-to in let i = v .loop .inv in
+    omega (arith, t .ensures .count, i .5, facts-most (t .last .1 .0), t .kept .1 .0, sized (v .before .before .before .before .before .before .pre .0) (i .2) .short)
 
 loop-less : tie.Need-loop-less Inv-loop μ-loop
 loop-less c =
-    let i = c .before .before .before .before .before .before .before .before .before .loop in let y = c .before .before .before .before .before .before .before .before .before .before .before .before .before .before .before .pre .0 in let r = y .readable in let g = c .before .before .before .before .before .before .before .before .loop-test .taken in let t = named-there _ r (i .b) (i .inv .3) g in
+    let u = c .before .before .before .before .before .before .before .before in let i = u .before .loop in let y = u .before .before .before .before .before .before .before .pre .0 in let r = y .readable in let g = u .loop-test .taken in let t = named-there _ r (i .b) (i .inv .3) g in
     omega (arith, ap (λ (k : Link). k .end) (c .link-at .ensures), next-is _ r (i .b) g t _ (record { slice = y .slice; room = y .room; made = y .from }), next-later _ r (i .b) g t, g)
 
 loop-again : tie.Need-loop-again Inv-loop μ-loop
 loop-again c =
-    let u = c .before .before .before .before .before .send-to in let i = c .before .before .before .before .before .before .before .before .before .loop in let s = c .before .before .before .before .before .before .before .before .before .before .before .before .before .before .before in let y = s .pre .0 in let r = y .readable in let g = c .before .before .before .before .before .before .before .before .loop-test .taken in
+    let v = c .before .before .before .before .before in let q = v .before .before .before in let u = v .send-to in let i = q .before .loop in let s = q .before .before .before .before .before .before .before in let y = s .pre .0 in let r = y .readable in let g = q .loop-test .taken in
     let t = named-there _ r (i .b) (i .inv .3) g in
     let n = ap (λ (k : Link). k .end) (c .link-at .ensures) ∙ next-is _ r (i .b) g t _ (record { slice = y .slice; room = y .room; made = y .from }) in (
       u .kept .1 .0 ∙ i .inv .0,
@@ -70,7 +70,7 @@ send-all-spec =
     (λ c. let s = c .before .before .before .before .before in let r = s .pre .0 .readable in (refl, refl, s .pre .2, follows-first _ r, all-start _ r _ _, omega arith))
     send-to-requires
     add-added
-    (λ c. let i = c .before .before .before .before .before .before .before .before .loop in let r = c .before .before .before .before .before .before .before .before .before .before .before .before .before .before .pre .0 .readable in let g = c .before .before .before .before .before .before .before .loop-test .taken in omega (arith, body-inside _ r (i .b) g (named-there _ r (i .b) (i .inv .3) g)))
+    (λ c. let t = c .before .before .before .before .before .before .before in let i = t .before .loop in let r = t .before .before .before .before .before .before .before .pre .0 .readable in let g = t .loop-test .taken in omega (arith, body-inside _ r (i .b) g (named-there _ r (i .b) (i .inv .3) g)))
     (λ c κs. search needs)
     loop-less
     loop-again

@@ -24,8 +24,8 @@ fire-requires c κs =
 
 returns-2 : tie.Need-returns-2
 returns-2 c =
-    let f = c .before .before .before .before .fire in let i = c .before .before .before .before .before .before .before .before .before in let s = i .before .before .before .before .before .before .before .before in let a = s .args in let d = code (a .words .now) in
-    let made = c .before .before .before .before .before .before .before .clause .ensures ∙ clause-is (s .pre .0) (a .p) (a .k) in
+    let t = c .before .before .before .before in let u = t .before .before .before in let f = t .fire in let i = u .before .before in let s = i .before .before .before .before .before .before .before .before in let a = s .args in let d = code (a .words .now) in
+    let made = u .clause .ensures ∙ clause-is (s .pre .0) (a .p) (a .k) in
     let live = sym (i .before .is-live .ensures d (s .pre .0 .laid)) ∙ not-false _ (i .if1 .left) in
     (record { words = rw made at (f .ensures .words) ∙ sym (fire-given d (L (a .p)) 0 _ (a .est .now) live); count = f .ensures .count }, f .kept .1 .1 .1 .1 .0)
 

@@ -21,17 +21,17 @@ abbrev μ-loop : tie.MeasureT-loop
 
 add-added : tie.Need-add-added Inv-loop μ-loop
 add-added c =
-    let p = c .before .before .put-bits in let i = c .before .before .before .before .before .loop .inv in
-    omega (arith, i .2 .count, p .ensures .count, facts-most (p .last .0), p .kept .0, i .0, c .before .before .before .before .before .before .before .before .pre .0 .short)
+    let t = c .before .before in let u = t .before .before .before in let p = t .put-bits in let i = u .loop .inv in
+    omega (arith, i .2 .count, p .ensures .count, facts-most (p .last .0), p .kept .0, i .0, u .before .before .before .pre .0 .short)
 
 loop-again : tie.Need-loop-again Inv-loop μ-loop
 loop-again c =
-    let p = c .before .before .put-bits in let i = c .before .before .before .before .before .loop .inv in
-    (p .kept .0 ∙ i .0, omega (arith, c .before .before .before .before .loop-test .taken), one-more _ _ _ _ _ _ _ (i .2) (p .ensures))
+    let t = c .before .before in let u = t .before .before in let p = t .put-bits in let i = u .before .loop .inv in
+    (p .kept .0 ∙ i .0, omega (arith, u .loop-test .taken), one-more _ _ _ _ _ _ _ (i .2) (p .ensures))
 
 returns : tie.Need-returns Inv-loop μ-loop
 returns c =
-    let s = c .before .before .before .before .before .before .before .before in let i = c .before .before .before .before .before .loop in let e : i .k ≡ s .args .l .lead = omega (arith, c .before .before .before .before .loop-test .left, i .inv .1) in
+    let t = c .before .before .before .before in let s = t .before .before .before .before in let i = t .before .loop in let e : i .k ≡ s .args .l .lead = omega (arith, t .loop-test .left, i .inv .1) in
     (fill-fired (s .args .r) (s .pre .1) (rw e at (i .inv .2)), search needs)
 
 pub fill-spec : {M : Type 1} → statement M

@@ -38,7 +38,7 @@ flow-spec =
     (λ part-join-start. search needs)
     (λ part-join-end. search needs)
     (λ array-share-prefix-new. search needs)
-    (λ c. sym (length-take-le (c .before .before .before .before .before .before .before .before .before .args .l .row) _ (omega (arith, c .before .before .before .before .before .before .before .before .before .pre, c .before .before .before .before .lacked .kept .1 .1 .1 .1 .0))))
+    (λ c. let t = c .before .before .before .before in let u = t .before .before .before .before .before in sym (length-take-le (u .args .l .row) _ (omega (arith, u .pre, t .lacked .kept .1 .1 .1 .1 .0))))
     (λ c κs. let s = c .before .before .before .before .before .before .before .before .before in let row = s .args .l .row in let part = length-part (s .args .est .now) (s .args .b * row) row (s .pre .1) in
     (length-take-le row _ (omega (arith, s .pre, c .before .before .before .before .lacked .kept .1 .1 .1 .1 .0)) ∙ sym part, omega (arith, part, s .pre)))
     (λ grew-row-requires κs. search needs)

@@ -15,4 +15,4 @@ lift-spec =
     (λ grew-perms-requires κs. search needs)
     (λ same-length. search needs)
     (λ same-length-2. search needs)
-    (λ c. let a = c .before .before .before .before .before .before .before .before .before .before .before .before .args in lift-fired (a .q) (a .p) (rw (c .before .before .before .before .before .before .before .before .before .flags .ensures) at (c .before .before .before .before .before .before .gain .ensures))))
+    (λ c. let t = c .before .before .before .before .before .before in let u = t .before .before .before in let a = u .before .before .before .args in lift-fired (a .q) (a .p) (rw (u .flags .ensures) at (t .gain .ensures))))

@@ -12,4 +12,4 @@ part-if-spec =
     (λ part-requires κs. search needs)
     (λ same-length. search needs)
     (λ same-length-2. search needs)
-    (λ c. a-part (c .before .before .before .before .before .before .before .before .before .before .args .q) (c .before .before .before .before .before .before .before .if1 .left) (c .before .before .before .before .part .ensures)))
+    (λ c. let t = c .before .before .before .before in let u = t .before .before .before in a-part (u .before .before .before .args .q) (u .if1 .left) (t .part .ensures)))

@@ -12,4 +12,4 @@ permit-spec =
     (λ grew-perms-requires κs. search needs)
     (λ same-length. search needs)
     (λ same-length-2. search needs)
-    (λ c. let s = c .before .before .before .before .before .before .before .before .before .before in permit-fired (s .args .p) (s .args .bits) (s .pre .1) (s .pre .2) (c .before .before .before .before .before .before .gain .ensures)))
+    (λ c. let t = c .before .before .before .before .before .before in let s = t .before .before .before .before in permit-fired (s .args .p) (s .args .bits) (s .pre .1) (s .pre .2) (t .gain .ensures)))

@@ -20,5 +20,5 @@ start-spec =
     (λ part-put-end. search needs)
     (λ put-requires κs. search needs)
     (λ same-length. search needs)
-    (λ c. let at = c .before .before .before .before .flags in
-    live-fired (c .before .before .before .before .before .before .args .q) (rw (sym (at .ensures)) (put-back-whole _ (at .result) (at .result + 1 - at .result) _ _ _ (c .before .before .put .ensures) (omega arith)))))
+    (λ c. let t = c .before .before in let u = t .before .before in let at = u .flags in
+    live-fired (u .before .before .args .q) (rw (sym (at .ensures)) (put-back-whole _ (at .result) (at .result + 1 - at .result) _ _ _ (t .put .ensures) (omega arith)))))

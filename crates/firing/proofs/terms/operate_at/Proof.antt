@@ -26,5 +26,5 @@ operate-at-spec =
     (λ grew-row-requires κs. search needs)
     (λ same-length. search needs)
     (λ same-length-2. search needs)
-    (λ c. let r = c .before .before .before .before .before .before .before .before in let s = r .before .before .before .before .before in let a = s .args in
-    operated (a .p) (a .d) _ (s .pre .1) (s .pre .2) (s .pre .3) (rw (r .before .operation-of .ensures) at (r .operate-at .ensures)) (c .before .before .before .before .before .before .put-bits .ensures)))
+    (λ c. let t = c .before .before .before .before .before .before in let r = t .before .before in let s = r .before .before .before .before .before in let a = s .args in
+    operated (a .p) (a .d) _ (s .pre .1) (s .pre .2) (s .pre .3) (rw (r .before .operation-of .ensures) at (r .operate-at .ensures)) (t .put-bits .ensures)))
