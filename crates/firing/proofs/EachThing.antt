@@ -1,11 +1,10 @@
 -- The loop over the things of a value set: what is left to do at the thing f is the rule at each number from f on.
 use Prim.Native.Nat.{ℕ, zero, suc, _+_, _-_, _*_, _/_, _%_, _≤_, _<_}
 use mathlib.Core.Path.{_≡_, refl, sym, ap, ap₂, _∙_}
-use mathlib.Core.Bool.{Bool, true, false, _&&_, _||_, false≢true}
+use mathlib.Core.Bool.{Bool, true, false, _&&_, false≢true}
 use mathlib.Core.List.{List}
 use native.Mathlib.Decide.{decLt}
 use native.Mathlib.Omega.{arith}
-use lib.Dec.{leb}
 use lib.ListN.{length, getD, drop}
 use lib.Seq.{getD-take, getD-drop}
 use borrow.Author.Tests.{le-leb, ne-eqb}
@@ -26,7 +25,7 @@ use Rattle.clauses.specs.declared.What.{What}
 use Rattle.clauses.specs.declared.Effect.{Effect}
 use Rattle.clauses.specs.Asks.{sortAt, thingAt, forThing, atThing}
 use Rattle.clauses.proofs.Asked.{gap-thing}
-use Rattle.queries.specs.Passes.{maskAt, Masked}
+use Rattle.queries.specs.Passes.{Masked}
 use Rattle.queries.specs.Things.{both, Next, Searched}
 use Rattle.queries.proofs.Laws.{row-in, mask-in}
 use Rattle.firing.specs.Placed.{Placed, Each}
@@ -46,18 +45,14 @@ tests-both false false p q = refl
 -- ---- the things of a mask
 
 module _ (c : Code) where
-  made-back : (f : ℕ) → making c (made c f) ≡ makes (c .node f)
-  unfolding making
-  made-back f = let e : made c f - plain c ≡ f = omega arith in rw e
-
   sort-made : (m : Making → Bool) (f : ℕ) → madeAs c m (made c f) ≡ m (makes (c .node f))
-  sort-made m f = ap (λ (b : Bool). b && m (making c (made c f))) (le-leb (plain c) (made c f) (omega arith)) ∙ ap m (made-back f)
+  unfolding making
+  sort-made m f = let e : made c f - plain c ≡ f = omega arith in rw (le-leb (plain c) (made c f) (omega arith), e)
 
   sort-thing : (z f : ℕ) → z < 3 → sortAt z c (made c f) ≡ thingAt z (makes (c .node f))
   unfolding sortAt thingAt anyRecord
   sort-thing zero f h = sort-made isFunction f
-  sort-thing (suc zero) f h =
-      ap (λ (b : Bool). b || leb (plain c) (made c f) && isRecord (making c (made c f))) (ne-eqb (made c f) 7 (λ e. omega arith)) ∙ sort-made isRecord f
+  sort-thing (suc zero) f h = rw (ne-eqb (made c f) 7 (λ e. omega arith)) (sort-made isRecord f)
   sort-thing (suc (suc zero)) f h = sort-made isCell f
   sort-thing (suc (suc (suc n))) f h = absurd (omega arith)
 
@@ -71,8 +66,7 @@ in-mask {l} {masks} z hz {c} o m f h =
     let i : l .lead + f / 32 < l .row = omega (arith, o .lead, o .row) in
     sym (sort-thing c z f hz)
     ∙ sym (m .mask z (omega arith) .digits (made c f) (omega arith))
-    ∙ ap₂ (λ (x y : ℕ). member (getD (maskAt l masks z) x 0) y) d r
-    ∙ ap (λ (x : ℕ). member x (f % 32)) (getD-take (l .row) (drop (z * l .row) masks) (l .lead + f / 32) 0 i ∙ getD-drop (z * l .row) masks (l .lead + f / 32) 0)
+    ∙ rw (d, r, getD-take (l .row) (drop (z * l .row) masks) (l .lead + f / 32) 0 i, getD-drop (z * l .row) masks (l .lead + f / 32) 0)
 
 -- past the table there is no thing
 pub past-table : {c : Code} → Linked c → (w : What) (x y z f : ℕ) → c .size ≤ f → (est : List ℕ) → fire c (atThing c w x y z f) est ≡ est
