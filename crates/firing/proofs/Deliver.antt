@@ -31,7 +31,7 @@ use Rattle.calculus.proofs.Firing.{fire-well}
 use Rattle.calculus.proofs.Folds.{fire-only-not, fire-present, fire-absent}
 use Rattle.rows.specs.declared.layout.Layout.{Layout}
 use Rattle.clauses.specs.declared.Effect.{Effect}
-use Rattle.clauses.specs.Asks.{rowAt, sortAt, atBlock}
+use Rattle.clauses.specs.Asks.{rowAt, sortAt, atBlock, blocks}
 use Rattle.clauses.proofs.Asked.{admitted-listed}
 use Rattle.clauses.proofs.Sorts.{row-C, row-B}
 use Rattle.queries.specs.Starts.{startsAt}
@@ -39,7 +39,9 @@ use Rattle.queries.proofs.Given.{linked-code}
 use Rattle.queries.proofs.Home.{sender, sender-home, sender-inside}
 use Rattle.queries.proofs.Sends.{answer-so, named-so, named-not}
 use Rattle.firing.specs.declared.sends.Sender.{Sender}
+use Rattle.firing.specs.Fired.{Fired}
 use Rattle.firing.specs.Sending.{Sends}
+use Rattle.firing.proofs.Effects.{one-block}
 use Rattle.firing.proofs.Fit.{block-fits}
 
 -- a word that was made live leaves the estimate well formed
@@ -52,12 +54,12 @@ pub block-kind : (ws : List ℕ) (r : reading ws ≡ accepted) (b : ℕ) → b <
 block-kind ws r b i t = subst (λ (u : Task). Stands (namesAt ws) (reach ws r b i .keys) (getD ws b 0) u) t (place-stands ws r b i) .0
 
 -- and what has another is not started
-pub not-block : (ws : List ℕ) (r : reading ws ≡ accepted) (est : List ℕ) (e : Effect) (b : ℕ) → (kind (getD ws b 0) ≡ 2 → ⊥)
-    → fire (code ws) (atBlock (code ws) (e .x) (e .y) (e .z) b) est ≡ est
+pub not-block : (ws : List ℕ) (r : reading ws ≡ accepted) (est : List ℕ) (e : Effect) (b : ℕ) → (b ≡ 0 → ⊥) → (kind (getD ws b 0) ≡ 2 → ⊥)
+    → Fired (code ws) (blocks (code ws) (e .x) (e .y) (e .z) b) est est 0
 unfolding code
-not-block ws r est e b n =
-    fire-only-not (code ws) _ _ est
-    (T-false _ (λ t. let m = listed-block ws r b (admitted-listed (code ws) (code-linked ws r) (λ a v. true) _ (e .z) (permissions (code ws) (e .x)) b t) in n (block-kind ws r b (m .0) (m .1))))
+not-block ws r est e b z n =
+    let none = T-false _ (λ t. let m = listed-block ws r b (admitted-listed (code ws) (code-linked ws r) (λ a v. true) _ (e .z) (permissions (code ws) (e .x)) b t) in n (block-kind ws r b (m .0) (m .1))) in
+    record { words = sym (fire-only-not (code ws) _ _ est none) ∙ one-block (code ws) e b est z; count = omega arith }
 
 module _ {ws masks : List ℕ} {l : Layout} {e : Effect} {own : Sender} (s : Sends ws masks l e own) where
   abbrev c : Code

@@ -10,22 +10,6 @@ use borrow.Author.Needs.{needs}
 use Rattle.firing.proofs.sends.send.Statement.{statement}
 use Rattle.firing.proofs.sends.send.Tie as tie
 
-returns-2 : tie.Need-returns-2
-returns-2 c =
-    let s = c .before .before .before .before .before .before .before .before .before in let a = s .args in let w = a .words .now in
-    record {
-      words = sym (not-block w (s .pre .0 .readable) (a .est .now) (a .e) (a .f) (λ z. omega (arith, z, List·getD-eq-default w 0 (c .if2 .taken)))) ∙ one-block (code w) (a .e) (a .f) (a .est .now) (c .before .if1 .left);
-      count = omega arith;
-    }
-
-returns-4 : tie.Need-returns-4
-returns-4 c =
-    let s = c .before .before .before .before .before .before .before .before .before .before .before .before in let a = s .args in let w = a .words .now in
-    record {
-      words = sym (not-block w (s .pre .0 .readable) (a .est .now) (a .e) (a .f) (λ z. c .if3 .left (c .before .kind-of .ensures ∙ z))) ∙ one-block (code w) (a .e) (a .f) (a .est .now) (c .before .before .before .before .if1 .left);
-      count = omega arith;
-    }
-
 pub send-spec : {M : Type 1} → statement M
 send-spec =
     tie.close
@@ -38,7 +22,7 @@ send-spec =
     (λ same-length-2. search needs)
     (λ c. let t = c .before .before .before .before in let u = t .before .before .before in let a = u .before .before .before .before .before .before .before .before .args in let d = t .send-all .ensures in
     record { words = d .words ∙ all-blocks (code (a .words .now)) (a .e) (a .f) (a .est .now) (u .if1 .taken); count = d .count })
-    returns-2
+    (λ c. let s = c .before .before .before .before .before .before .before .before .before in let a = s .args in not-block _ (s .pre .0 .readable) (a .est .now) (a .e) (a .f) (c .before .if1 .left) (λ z. omega (arith, z, List·getD-eq-default (a .words .now) 0 (c .if2 .taken))))
     (λ mul-kind-of. search needs)
     (λ shared-slice-read-kind-of. search needs)
     (λ kind-of-requires κs. search needs)
@@ -48,4 +32,4 @@ send-spec =
     (λ same-length-4. search needs)
     (λ c. let t = c .before .before .before .before in let u = t .before .before .before .before .before .before .before in let a = u .before .before .before .before .before .before .before .before .args in let d = t .send-to .ensures in
     record { words = d .words ∙ one-block (code (a .words .now)) (a .e) (a .f) (a .est .now) (u .if1 .left); count = d .count })
-    returns-4)
+    (λ c. let i = c .before .before .before .before in let s = i .before .before .before .before .before .before .before .before in let a = s .args in not-block _ (s .pre .0 .readable) (a .est .now) (a .e) (a .f) (i .if1 .left) (λ z. c .if3 .left (c .before .kind-of .ensures ∙ z))))
