@@ -1,26 +1,25 @@
 -- A clause that may be fired writes into rows of the code alone: its operands say so, whatever the kind of its word.
 use Prim.Native.Nat.{ℕ, zero, suc, _+_, _*_, _<_}
-use mathlib.Core.Path.{_≡_, refl, sym, _∙_, subst}
+use mathlib.Core.Path.{_≡_, refl, sym, _∙_}
 use mathlib.Core.Bool.{true}
 use mathlib.Core.List.{List, List·Memᴰ}
 use native.Mathlib.Decide.{decLt}
 use native.Mathlib.Omega.{arith}
 use lib.Dec.{T}
-use Rattle.table.specs.declared.Item.{Item}
-use Rattle.table.specs.declared.Item.the-variants as items
 use Rattle.table.specs.Words.{operationOf}
-use Rattle.table.specs.Item.{itemAt}
 use Rattle.table.specs.Code.{Code, code, Linked}
 use Rattle.table.proofs.Nodes.{home-block}
 use Rattle.calculus.specs.Elements.{plain, makes}
-use Rattle.calculus.specs.Constraint.{Row, B, C, Rule}
+use Rattle.calculus.specs.Constraint.{Row, Rule}
 use Rattle.calculus.specs.Rules.{nameOf, permissions, part}
-use Rattle.calculus.specs.Layout.{allowed}
+use Rattle.calculus.specs.Layout.{allowed, shift}
 use Rattle.calculus.proofs.Digits.{T-true}
 use Rattle.calculus.proofs.Ranges.{in-below, range-bound}
+use Rattle.calculus.proofs.Places.{is-allowed}
 use Rattle.calculus.proofs.Rows.{Alike}
+use Rattle.calculus.proofs.RowRules.{ValueRow}
 use Rattle.calculus.proofs.Firing.{Fits}
-use Rattle.calculus.proofs.Fitting.{results-lt, may-C, may-B, may-P, may-L, CC, CB, BC, BB, PP}
+use Rattle.calculus.proofs.Fitting.{results-lt, may-C, may-B, may-P, may-L, PP}
 use Rattle.rows.specs.declared.layout.Layout.{Layout}
 use Rattle.clauses.specs.declared.Test.{Test}
 use Rattle.clauses.specs.declared.Test.the-variants as tests
@@ -30,12 +29,13 @@ use Rattle.clauses.specs.declared.Clause.{Clause}
 use Rattle.clauses.specs.Asks.{rowAt, thingAt, under, forThing, atBlock, things, blocks, effect, asks}
 use Rattle.clauses.specs.Clauses.{of}
 use Rattle.clauses.proofs.Sorts.{row-C, row-B}
-use Rattle.clauses.proofs.Numbered.{Numbered, in-C, in-B, numbered}
+use Rattle.clauses.proofs.Numbered.{Numbered, in-C, in-B, numbered, value-row}
 use Rattle.clauses.proofs.Asked.{gap-thing, admitted-listed}
 use Rattle.queries.specs.Ready.{Ready}
 use Rattle.queries.proofs.Given.{linked-code}
 use Rattle.firing.specs.Placed.{Each, entering}
-use Rattle.firing.specs.Suits.{IsTerm, Fitting, Suits}
+use Rattle.firing.specs.Sending.{Sending}
+use Rattle.firing.specs.Suits.{Fitting, Suits}
 use Rattle.firing.proofs.EachThing.{in-mask}
 
 module _ {ws links masks : List ℕ} {l : Layout} (y : Ready ws links masks l) where
@@ -50,21 +50,21 @@ module _ {ws links masks : List ℕ} {l : Layout} (y : Ready ws links masks l) w
 
   -- ---- rows by their numbers
 
+  row-of : (n : ℕ) → n < 2 * l .size → ValueRow c (rowAt n)
+  row-of n h = value-row c n (omega (arith, y .laid .size))
+
   may-row : (n v : ℕ) → n < 2 * l .size → v < plain c + c .size → T (allowed c (rowAt n) v)
-  may-row n v h b = go (numbered n)
-    where
-      go : {x : Row} → Numbered x n → T (allowed c x v)
-      go (in-C e) = may-C c k (omega (arith, y .laid .size)) b
-      go (in-B e) = may-B c k (omega (arith, y .laid .size)) b
+  may-row n v h b = let r = row-of n h in is-allowed c (rowAt n) v (r .mine) (rw (r .full) b)
+
+  unshifted : {r : Row} {n : ℕ} → Numbered r n → shift c r ≡ 0
+  unfolding shift
+  unshifted (in-C e) = refl
+  unshifted (in-B e) = refl
 
   alike : (i j : ℕ) → i < 2 * l .size → j < 2 * l .size → Alike c (rowAt i) (rowAt j)
-  alike i j h g = go (numbered i) (numbered j)
-    where
-      go : {a b : Row} → Numbered a i → Numbered b j → Alike c a b
-      go (in-C e) (in-C f) = CC c k (omega (arith, y .laid .size)) (omega (arith, y .laid .size))
-      go (in-C e) (in-B f) = CB c k (omega (arith, y .laid .size)) (omega (arith, y .laid .size))
-      go (in-B e) (in-C f) = BC c k (omega (arith, y .laid .size)) (omega (arith, y .laid .size))
-      go (in-B e) (in-B f) = BB c k (omega (arith, y .laid .size)) (omega (arith, y .laid .size))
+  alike i j h g =
+      let a = row-of i h in let b = row-of j g in
+      record { from = a .mine; to = b .mine; spans = a .full ∙ sym (b .full); unshifted-from = unshifted (numbered i); unshifted-to = unshifted (numbered j) }
 
   -- ---- things
 
@@ -75,68 +75,33 @@ module _ {ws links masks : List ℕ} {l : Layout} (y : Ready ws links masks l) w
       go (yes h) = h
       go (no h) = absurd (gap-thing c k (λ r v. true) z f (omega (arith, y .laid .size)) t)
 
-  module _ (w : What) (x r z : ℕ) (e : Each l masks (of w x r z)) (f : ℕ) (t : T (thingAt z (makes (c .node f)))) where
-    thing : f < l .size
-    thing = thing-inside z f t
-
-    body : entering w ≡ true → suc f < c .size
-    body q =
-        let b : f + 1 < l .size =
-        e .bodies q f thing
-        (sym (in-mask l masks z (e .mask) c (y .laid) (y .masked) f (inside thing)) ∙ T-true (thingAt z (makes (c .node f))) t) in
-        omega (arith, y .laid .size)
-
-    to-B : Alike c (rowAt r) (B f)
-    to-B = subst (Alike c (rowAt r)) (row-B f) (alike r (2 * f + 1) (e .row) (omega (arith, thing)))
-
-    from-B : Alike c (B f) (rowAt r)
-    from-B = subst (λ (a : Row). Alike c a (rowAt r)) (row-B f) (alike (2 * f + 1) r (omega (arith, thing)) (e .row))
-
-    from-C : suc f < c .size → Alike c (C (suc f)) (rowAt r)
-    from-C b = subst (λ (a : Row). Alike c a (rowAt r)) (row-C (suc f)) (alike (2 * suc f) r (omega (arith, y .laid .size)) (e .row))
-
-  thing-fits : (w : What) (x r z : ℕ) → Each l masks (of w x r z) → (f : ℕ) → T (thingAt z (makes (c .node f))) → Fits c (forThing w x r f)
-  unfolding forThing entering
-  thing-fits whats.Live x r z e f t = tt
-  thing-fits whats.Put x r z e f t = tt
-  thing-fits whats.Fill x r z e f t = tt
-  thing-fits whats.Flow x r z e f t = tt
-  thing-fits whats.Pass x r z e f t = tt
-  thing-fits whats.Permit x r z e f t = tt
-  thing-fits whats.Operate x r z e f t = tt
-  thing-fits whats.Part x r z e f t = tt
-  thing-fits whats.Parts x r z e f t = tt
-  thing-fits whats.Branches x r z e f t = tt
-  thing-fits whats.Enter x r z e f t = may-L c k (body whats.Enter x r z e f t refl)
-  thing-fits whats.Lower x r z e f t = PP c k (body whats.Lower x r z e f t refl) (inside (omega (arith, e .word)))
-  thing-fits whats.Hand x r z e f t = to-B whats.Hand x r z e f t
-  thing-fits whats.Take x r z e f t = from-B whats.Take x r z e f t
-  thing-fits whats.Back x r z e f t = from-C whats.Back x r z e f t (body whats.Back x r z e f t refl)
-  thing-fits whats.Send x r z e f t = tt
-
-  things-fit : (w : What) (x r z f : ℕ) → Each l masks (of w x r z) → Fits c (things c w x r z f)
+  things-fit : (w : What) (x r z f : ℕ) → ((g : ℕ) → g < l .size → T (thingAt z (makes (c .node g))) → Fits c (forThing w x r g))
+      → Fits c (things c w x r z f)
   unfolding things
-  things-fit w x r z zero e = λ f m t. thing-fits w x r z e f t
-  things-fit w x r z (suc f) e = λ t. thing-fits w x r z e (suc f) t
+  things-fit w x r z zero p = λ g m t. p g (thing-inside z g t) t
+  things-fit w x r z (suc f) p = λ t. p (suc f) (thing-inside z (suc f) t) t
+
+  -- a thing that has a body
+  body : {w : What} {x r z : ℕ} → Each l masks (of w x r z) → entering w ≡ true → (f : ℕ) → f < l .size → T (thingAt z (makes (c .node f)))
+      → suc f < c .size
+  body {z = z} e q f h t =
+      let b : f + 1 < l .size = e .bodies q f h (sym (in-mask z (e .mask) (y .laid) (y .masked) f (inside h)) ∙ T-true (thingAt z (makes (c .node f))) t) in
+      omega (arith, y .laid .size)
 
   -- ---- blocks
 
-  home-inside : (x : ℕ) (i : Item) → itemAt ws x ≡ i → IsTerm i → c .home x < c .size
-  home-inside x items.Gap q t = absurd t
-  home-inside x (items.Block h) q t = absurd t
-  home-inside x (items.Term u) q t = k .listed (c .home x) (home-block ws (y .readable) (y .slice) (y .room) x u q) .0
-
-  block-fits : (x r z b : ℕ) → x < l .size → IsTerm (itemAt ws x) → List·Memᴰ b (c .blocks) → Fits c (atBlock c x r z b)
-  block-fits x r z b h t m =
+  pub block-fits : {x r z : ℕ} → Sending ws l x r z → (b : ℕ) → List·Memᴰ b (c .blocks) → Fits c (atBlock c x r z b)
+  block-fits {x} s b m =
       λ d.
       let i : b < c .size = k .listed b m .0 in
-      ((may-L c k i, ((λ v n s. may-B c k i (in-below n)), PP c k i (inside h))), may-C c k i (omega (arith, home-inside x (itemAt ws x) refl t)))
+      let h = k .listed (c .home x) (home-block ws (y .readable) (y .slice) (y .room) x (s .term) (s .there)) .0 in
+      ((may-L c k i, ((λ v n t. may-B c k i (in-below n)), PP c k i (inside (omega (arith, s .word))))), may-C c k i (omega arith))
 
-  blocks-fit : (x r z f : ℕ) → x < l .size → IsTerm (itemAt ws x) → Fits c (blocks c x r z f)
+  blocks-fit : (x r z f : ℕ) → Sending ws l x r z → Fits c (blocks c x r z f)
   unfolding blocks
-  blocks-fit x r z zero h t = λ b m. block-fits x r z b h t m
-  blocks-fit x r z (suc f) h t =
-      λ d. block-fits x r z (suc f) h t (admitted-listed c k (λ a v. true) (nameOf (c .node (suc f))) z (permissions c x) (suc f) d) d
+  blocks-fit x r z zero s = block-fits s
+  blocks-fit x r z (suc f) s =
+      λ d. block-fits s (suc f) (admitted-listed c k (λ a v. true) (nameOf (c .node (suc f))) z (permissions c x) (suc f) d) d
 
   -- ---- effects, guards, clauses
 
@@ -144,7 +109,7 @@ module _ {ws links masks : List ℕ} {l : Layout} (y : Ready ws links masks l) w
   part-fits h g = (may-L c k (inside g), PP c k (inside g) (inside h))
 
   effect-fits : (w : What) (x r z f : ℕ) → Fitting l masks ws w x r z → Fits c (effect c w x r z f)
-  unfolding effect
+  unfolding effect forThing entering
   effect-fits whats.Live x r z f p = may-L c k (inside p)
   effect-fits whats.Put x r z f p = may-row x r (p .0) (omega (arith, p .1, y .laid .size, y .laid .lead))
   effect-fits whats.Fill x r z f p = λ v m. may-row x v p (omega (arith, range-bound _ _ v m))
@@ -159,12 +124,13 @@ module _ {ws links masks : List ℕ} {l : Layout} (y : Ready ws links masks l) w
   effect-fits whats.Branches x r z f p =
       let h : x < l .size = omega (arith, p .0) in
       (part-fits h (p .0), (PP c k (inside (p .1)) (inside h), λ t. PP c k (inside (p .2)) (inside h)))
-  effect-fits whats.Enter x r z f p = things-fit whats.Enter x r z f p
-  effect-fits whats.Lower x r z f p = things-fit whats.Lower x r z f p
-  effect-fits whats.Hand x r z f p = things-fit whats.Hand x r z f p
-  effect-fits whats.Take x r z f p = things-fit whats.Take x r z f p
-  effect-fits whats.Back x r z f p = things-fit whats.Back x r z f p
-  effect-fits whats.Send x r z f p = blocks-fit x r z f (omega (arith, p .0)) (p .3)
+  effect-fits whats.Enter x r z f p = things-fit whats.Enter x r z f (λ g h t. may-L c k (body p refl g h t))
+  effect-fits whats.Lower x r z f p = things-fit whats.Lower x r z f (λ g h t. PP c k (body p refl g h t) (inside (omega (arith, p .word))))
+  effect-fits whats.Hand x r z f p = things-fit whats.Hand x r z f (λ g h t. rw row-B at (alike r (2 * g + 1) (p .row) (omega arith)))
+  effect-fits whats.Take x r z f p = things-fit whats.Take x r z f (λ g h t. rw row-B at (alike (2 * g + 1) r (omega arith) (p .row)))
+  effect-fits whats.Back x r z f p =
+      things-fit whats.Back x r z f (λ g h t. let b = body p refl g h t in rw row-C at (alike (2 * suc g) r (omega (arith, y .laid .size)) (p .row)))
+  effect-fits whats.Send x r z f p = blocks-fit x r z f p
 
   under-fits : (t : Test) (d a v : ℕ) (i : Rule) → Fits c i → Fits c (under c t d a v i)
   unfolding under

@@ -3,10 +3,6 @@ pub mod EachThing
 pub mod Effects
 pub mod Fit
 pub mod Fires
-pub mod Fitted
-pub mod Full
-pub mod Operated
-pub mod Poured
 pub mod Steps
 pub mod Suited
 pub mod Tags

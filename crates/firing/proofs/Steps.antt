@@ -1,13 +1,12 @@
 -- The laws of a step: the words stay well-formed and inside every estimate that obeys the rules; and where no step of a word adds anything, its rule is obeyed.
 use Prim.Native.Nat.{ℕ, _<_}
-use mathlib.Core.Path.{_≡_, sym, subst}
+use mathlib.Core.Path.{_≡_}
 use mathlib.Core.List.{List}
 use native.Mathlib.Omega.{arith}
 use lib.Dec.{T}
 use Rattle.table.specs.Code.{Code, Node, Two, gap, block, leaf, one, two, bind, while, branch, update, code}
 use Rattle.table.specs.Code.{apply, sequence, get, delete, assign, operation, send}
 use Rattle.table.specs.Links.{linked}
-use Rattle.table.proofs.Linked.{linked as linked-code}
 use Rattle.calculus.specs.Constraint.{Sets, Obeys, L, given}
 use Rattle.calculus.specs.Rules.{flow, entry, twoSender, sender, rule, Estimate}
 use Rattle.calculus.specs.Layout.{sets, WellFormed, LiesIn}
@@ -15,12 +14,14 @@ use Rattle.calculus.specs.Estimate.{fire}
 use Rattle.calculus.proofs.Firing.{Fits, fire-well, fire-inside, fire-obeys}
 use Rattle.calculus.proofs.Senders.{sentFrom, from-senders, estimate-sent}
 use Rattle.calculus.specs.Elements.{plain}
+use Rattle.clauses.specs.Asks.{asks}
 use Rattle.clauses.specs.Clauses.{clauseAt}
 use Rattle.clauses.proofs.OfWord.{rule-clauses, clauses-rule, clauses-sent}
 use Rattle.rows.specs.declared.layout.Layout.{Layout}
 use Rattle.queries.specs.Ready.{Ready}
+use Rattle.queries.proofs.Given.{linked-code}
 use Rattle.firing.specs.Step.{stepAt}
-use Rattle.firing.proofs.Suited.{ready-suits}
+use Rattle.firing.proofs.Suited.{clause-suits}
 use Rattle.firing.proofs.Fit.{clause-fits}
 
 -- what a word asks of its receivers is asked where it is live
@@ -53,20 +54,17 @@ module _ {ws links masks : List ℕ} {l : Layout} (y : Ready ws links masks l) (
   in-code : p < code ws .size
   in-code = omega (arith, y .laid .size)
 
-  made-by : (q : List ℕ → Type 0) → q (linked ws (y .slice)) → q links
-  made-by q x = subst q (sym (y .from)) x
-
   module _ (k f : ℕ) where
     step-fits : Fits (code ws) (stepAt ws links p k f)
-    step-fits = clause-fits y (clauseAt ws links (plain (code ws)) p k) (ready-suits y p k h) f
+    step-fits = clause-fits y (clauseAt ws links (plain (code ws)) p k) (clause-suits y p h k) f
 
     -- the estimates obey it, whatever the opponent has
     step-asked : (ρ : ℕ) (e : Sets) → Estimate (code ws) ρ e → Obeys e (stepAt ws links p k f)
     unfolding rule
     step-asked ρ e o =
-        made-by (λ (xs : List ℕ). Obeys e (stepAt ws xs p k f))
+        rw (y .from)
         (λ t. rule-clauses ws (y .readable) (y .slice) (y .room) e p in-code (o p in-code .1 t)
-        (estimate-sent (code ws) (linked-code ws (y .readable)) e ρ o p in-code) t k f)
+        (estimate-sent (code ws) (linked-code y) e ρ o p in-code) t k f)
 
     module _ {est : List ℕ} (w : WellFormed (code ws) est) where
       pub step-well : WellFormed (code ws) (fire (code ws) (stepAt ws links p k f) est)
@@ -75,18 +73,16 @@ module _ {ws links masks : List ℕ} {l : Layout} (y : Ready ws links masks l) (
       pub step-inside : (ρ : ℕ) (e : Sets) → Estimate (code ws) ρ e → LiesIn (code ws) est e → LiesIn (code ws) (fire (code ws) (stepAt ws links p k f) est) e
       step-inside ρ e o i = fire-inside (code ws) e (stepAt ws links p k f) step-fits (step-asked ρ e o) est w i
 
-  pub steps-rule : {est : List ℕ} → WellFormed (code ws) est → ((k : ℕ) → fire (code ws) (stepAt ws links p k 0) est ≡ est)
-      → Obeys (sets (code ws) est) (given (L p) 0 (flow (code ws) p (code ws .node p)))
-  steps-rule {est} w s =
-      λ t. clauses-rule ws (y .readable) (y .slice) (y .room) (sets (code ws) est) p in-code
-      (λ k. subst (λ (xs : List ℕ). Obeys (sets (code ws) est) (stepAt ws xs p k 0)) (y .from) (fire-obeys (code ws) (stepAt ws links p k 0) (step-fits k 0) est w (s k)) t)
+  -- where no step of a live word adds anything, its clauses are obeyed: its rule is, and what it asks of its receivers
+  module _ {est : List ℕ} (w : WellFormed (code ws) est) (s : (k : ℕ) → fire (code ws) (stepAt ws links p k 0) est ≡ est) (t : T (sets (code ws) est (L p) 0)) where
+    obeyed : (k : ℕ) → Obeys (sets (code ws) est) (asks (code ws) (clauseAt ws (linked ws (y .slice)) (plain (code ws)) p k) 0)
+    obeyed k = rw (y .from) at (fire-obeys (code ws) (stepAt ws links p k 0) (step-fits k 0) est w (s k) t)
 
-  -- and what it asks of its receivers
-  pub steps-sent : {est : List ℕ} → WellFormed (code ws) est → ((k : ℕ) → fire (code ws) (stepAt ws links p k 0) est ≡ est)
-      → Obeys (sets (code ws) est) (given (L p) 0 (sentFrom (code ws) p))
-  steps-sent {est} w s =
-      λ t. clauses-sent ws (y .readable) (y .slice) (y .room) (sets (code ws) est) p in-code
-      (λ k. subst (λ (xs : List ℕ). Obeys (sets (code ws) est) (stepAt ws xs p k 0)) (y .from) (fire-obeys (code ws) (stepAt ws links p k 0) (step-fits k 0) est w (s k)) t)
+    steps-rule : Obeys (sets (code ws) est) (flow (code ws) p (code ws .node p))
+    steps-rule = clauses-rule ws (y .readable) (y .slice) (y .room) (sets (code ws) est) p in-code obeyed
+
+    steps-sent : Obeys (sets (code ws) est) (sentFrom (code ws) p)
+    steps-sent = clauses-sent ws (y .readable) (y .slice) (y .room) (sets (code ws) est) p in-code obeyed
 
 -- where no step of any word adds anything, a word whose entry is obeyed obeys its rule
 pub steps-rules : {ws links masks : List ℕ} {l : Layout} → Ready ws links masks l → (ρ : ℕ) {est : List ℕ} → WellFormed (code ws) est
@@ -95,10 +91,6 @@ pub steps-rules : {ws links masks : List ℕ} {l : Layout} → Ready ws links ma
 unfolding rule
 steps-rules {ws} {l = l} y ρ {est} w s p h o =
     let inside : (q : ℕ) → q < code ws .size → q < l .size = λ q g. omega (arith, y .laid .size) in (
-      (
-        o,
-        from-senders (code ws) (linked-code ws (y .readable)) (sets (code ws) est)
-            (λ q g. sent-live (code ws) (sets (code ws) est) q (steps-sent y q (inside q g) w (s q (inside q g)))) p (in-code y p h),
-      ),
+      (o, from-senders (code ws) (linked-code y) (sets (code ws) est) (λ q g. sent-live (code ws) (sets (code ws) est) q (steps-sent y q (inside q g) w (s q (inside q g)))) p (in-code y p h)),
       steps-rule y p h w (s p h),
     )

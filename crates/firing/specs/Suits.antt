@@ -3,21 +3,13 @@ use Prim.Native.Nat.{ℕ, _+_, _*_, _^_, _<_}
 use mathlib.Core.Path.{_≡_}
 use mathlib.Core.List.{List}
 use Rattle.permset.specs.Sets.{width}
-use Rattle.table.specs.declared.Item.{Item}
-use Rattle.table.specs.declared.Item.the-variants as items
-use Rattle.table.specs.Item.{itemAt}
 use Rattle.rows.specs.declared.layout.Layout.{Layout}
 use Rattle.clauses.specs.declared.What.{What}
 use Rattle.clauses.specs.declared.What.the-variants as whats
 use Rattle.clauses.specs.declared.Clause.{Clause}
 use Rattle.queries.specs.Passes.{Looks}
 use Rattle.firing.specs.Placed.{Each}
-
--- a word that is a term
-abbrev pub IsTerm : Item → Type 0
-IsTerm items.Gap = ⊥
-IsTerm (items.Block h) = ⊥
-IsTerm (items.Term t) = Unit {0}
+use Rattle.firing.specs.Sending.{Sending}
 
 module _ (l : Layout) (masks : List ℕ) where
   -- an effect for things
@@ -31,7 +23,7 @@ module _ (l : Layout) (masks : List ℕ) where
   Fitting ws whats.Flow x y z = (x < 2 * l .size) × (y < 2 * l .size)
   Fitting ws whats.Pass x y z = (x < 2 * l .size) × (y < 2 * l .size) × (z < 4)
   Fitting ws whats.Permit x y z = (x < l .size) × (y < 2 ^ width)
-  Fitting ws whats.Operate x y z = (x + 1 < l .size) × (y < l .size) × (y ≡ x → ⊥)
+  Fitting ws whats.Operate x y z = (x + 1 < l .size) × (y < l .size) × (y ≡ x → ⊥) × (z < 4294967296)
   Fitting ws whats.Part x y z = (x < l .size) × (y < l .size)
   Fitting ws whats.Parts x y z = (x + 1 < l .size) × (y < l .size) × (z < l .size)
   Fitting ws whats.Branches x y z = (x + 1 < l .size) × (y < l .size) × (z < l .size)
@@ -40,7 +32,7 @@ module _ (l : Layout) (masks : List ℕ) where
   Fitting ws whats.Hand x y z = things whats.Hand x y z
   Fitting ws whats.Take x y z = things whats.Take x y z
   Fitting ws whats.Back x y z = things whats.Back x y z
-  Fitting ws whats.Send x y z = (x + 1 < l .size) × (y < l .size) × (z < 2 ^ width) × IsTerm (itemAt ws x)
+  Fitting ws whats.Send x y z = Sending ws l x y z
 
   -- a clause that may be fired
   pub record Suits (ws : List ℕ) (k : Clause) : Type 0 where

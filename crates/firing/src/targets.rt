@@ -4,16 +4,15 @@ use rows::row;
 use worklist::notes::note_live;
 use worklist::notes::note_perms;
 use worklist::notes::note_row;
-ghost use mathlib.Core.Path.{_≡_};
 ghost use mathlib.Core.Bool.{not};
 ghost use mathlib.Core.List.{[], _∷_};
 ghost use Prim.Native.Nat.{_+_, _*_, _^_, _<_, _≤_};
 ghost use lib.Dec.{eqb};
-ghost use lib.ListN.{length, take, drop};
+ghost use lib.ListN.{length};
 ghost use Rattle.permset.specs.Sets.{width, member};
 ghost use Rattle.calculus.specs.Constraint.{P, L, put as Put, sub as Sub, only as Only, every};
 ghost use Rattle.calculus.specs.Rules.{fill as Fill, pass as Pass, part as Part};
-ghost use Rattle.calculus.specs.Layout.{masked, WellFormed};
+ghost use Rattle.calculus.specs.Layout.{WellFormed};
 ghost use Rattle.rows.specs.Laid.{Sized};
 ghost use Rattle.rows.specs.Rows.{Poured};
 ghost use Rattle.clauses.specs.Asks.{rowAt, sortAt};
@@ -24,38 +23,12 @@ ghost use Rattle.firing.specs.Fired.{FiredFor, FiredIn};
 // ---- rows
 
 // Bits of the word k of the row r.
-fn put_bits(est: &mut [u32], row: usize, r: usize, k: usize, bits: u32) -> usize
+pub fn put_bits(est: &mut [u32], row: usize, r: usize, k: usize, bits: u32) -> usize
     requires { ⌜ (r * row + row ≤ length (now est)) × (k < row) ⌝ }
     ensures { λ x. ⌜ Poured (now (est .entry)) (now (est .exit)) (r * row + k) (bits ∷ []) x ⌝ }
 {
     let at = r * row;
     row::set(&mut est[at..at + row], k, bits)
-}
-
-// The row a in the row b.
-fn join_row(est: &mut [u32], row: usize, a: usize, b: usize) -> usize
-    requires { ⌜ (a * row + row ≤ length (now est)) × (b * row + row ≤ length (now est)) × (row ≤ 36) ⌝ }
-    ensures { λ x. ⌜ Poured (now (est .entry)) (now (est .exit)) (b * row) (take row (drop (a * row) (now (est .entry)))) x ⌝ }
-{
-    let to = b * row;
-    let mut new = [0u32; 36];
-    if !row::lacked(est, row, a * row, to, &mut new) {
-        return 0;
-    }
-    row::join(&mut est[to..to + row], &new[..row])
-}
-
-// What the row a has of a mask in the row b.
-fn join_masked(est: &mut [u32], mask: &[u32], row: usize, a: usize, b: usize) -> usize
-    requires { ⌜ (a * row + row ≤ length (now est)) × (b * row + row ≤ length (now est)) × (row ≤ 36) × (length (now mask) ≡ row) ⌝ }
-    ensures { λ x. ⌜ Poured (now (est .entry)) (now (est .exit)) (b * row) (masked (now (mask .entry)) (take row (drop (a * row) (now (est .entry))))) x ⌝ }
-{
-    let to = b * row;
-    let mut new = [0u32; 36];
-    if !row::lacked_masked(est, mask, row, a * row, to, &mut new) {
-        return 0;
-    }
-    row::join(&mut est[to..to + row], &new[..row])
 }
 
 // Bits of the word of permissions and flag of p.
@@ -69,7 +42,7 @@ fn gain(est: &mut [u32], l: Layout, p: usize, bits: u32) -> usize
 
 // ---- what grows is noted
 
-fn grew_row(h: &mut [u32], r: usize, added: usize) {
+pub fn grew_row(h: &mut [u32], r: usize, added: usize) {
     if added != 0 {
         note_row(h, r);
     }
@@ -112,18 +85,14 @@ pub fn flow(est: &mut [u32], h: &mut [u32], l: Layout, a: usize, b: usize) -> us
     requires { ⌜ (a * l .row + l .row ≤ length (now est)) × (b * l .row + l .row ≤ length (now est)) × (l .row ≤ 36) ⌝ }
     ensures { λ x. ⌜ FiredIn l (Sub (rowAt a) (rowAt b)) (now (est .entry)) (now (est .exit)) x ⌝ }
 {
-    let added = join_row(est, l.row, a, b);
+    let row = l.row;
+    let to = b * row;
+    let mut new = [0u32; 36];
+    if !row::lacked(est, row, a * row, to, &mut new) {
+        return 0;
+    }
+    let added = row::join(&mut est[to..to + row], &new[..row]);
     grew_row(h, b, added);
-    added
-}
-
-// Bits of the first word of the row r.
-pub fn put_word(est: &mut [u32], h: &mut [u32], l: Layout, r: usize, bits: u32) -> usize
-    requires { ⌜ (r * l .row + l .row ≤ length (now est)) × (0 < l .row) ⌝ }
-    ensures { λ x. ⌜ Poured (now (est .entry)) (now (est .exit)) (r * l .row + 0) (bits ∷ []) x ⌝ }
-{
-    let added = put_bits(est, l.row, r, 0, bits);
-    grew_row(h, r, added);
     added
 }
 
@@ -161,7 +130,12 @@ pub fn pass(
 {
     let row = l.row;
     let at = m * row;
-    let added = join_masked(est, &masks[at..at + row], row, a, b);
+    let to = b * row;
+    let mut new = [0u32; 36];
+    if !row::lacked_masked(est, &masks[at..at + row], row, a * row, to, &mut new) {
+        return 0;
+    }
+    let added = row::join(&mut est[to..to + row], &new[..row]);
     grew_row(h, b, added);
     added
 }

@@ -1,22 +1,21 @@
 // The effects of one term: its parts, and the results of an operation.
+use crate::targets::grew_row;
 use crate::targets::lift;
 use crate::targets::lift_if;
 use crate::targets::part;
 use crate::targets::part_if;
-use crate::targets::put_word;
+use crate::targets::put_bits;
 use rows::layout::Layout;
-use table::Operation;
+use table::operation_of;
 ghost use mathlib.Core.Path.{_≡_};
 ghost use mathlib.Core.Bool.{not};
-ghost use Prim.Native.Nat.{_+_, _*_, _<_, _≤_};
+ghost use Prim.Native.Nat.{_+_, _<_};
 ghost use lib.Dec.{eqb};
-ghost use lib.ListN.{length, take, drop};
 ghost use Rattle.table.specs.Words.{operationOf};
-ghost use Rattle.table.specs.Code.{operation as operation·two};
+ghost use Rattle.table.specs.Code.{operation};
 ghost use Rattle.calculus.specs.Constraint.{only, _and_};
 ghost use Rattle.calculus.specs.Rules.{part as Part, waiting, twoRule};
 ghost use Rattle.calculus.specs.Layout.{WellFormed};
-ghost use Rattle.calculus.specs.ResultWords.{operationMask};
 ghost use Rattle.rows.specs.Laid.{Sized};
 ghost use Rattle.firing.specs.Fired.{FiredFor, FiredIn};
 
@@ -41,33 +40,16 @@ pub fn branches(est: &mut [u32], h: &mut [u32], l: Layout, p: usize, b: usize, d
     first + (second + lift_if(est, h, l, d, p))
 }
 
-// The operation with a number.
-fn operation_of(o: usize) -> Operation
-    ensures { λ r. ⌜ r ≡ operationOf o ⌝ }
-{
-    match o {
-        0 => Operation::Add,
-        1 => Operation::Less,
-        2 => Operation::Equal,
-        _ => Operation::Add,
-    }
-}
-
-// The results of the operation o on the rows a and d, as bits of the first word of a row.
-pub fn results_of(est: &[u32], l: Layout, o: usize, a: usize, d: usize) -> u32
-    requires { ⌜ (a * l .row + l .row ≤ length (now est)) × (d * l .row + l .row ≤ length (now est)) × (1 ≤ l .lead) × (l .lead ≤ l .row) × (l .row ≤ 36) ⌝ }
-    ensures { λ r. ⌜ r ≡ operationMask (operationOf o) (take (l .lead) (drop (a * l .row) (now (est .entry))))
-        (take (l .lead) (drop (d * l .row) (now (est .entry)))) ⌝ }
-{
-    results::operate_at(est, l.lead, operation_of(o), a * l.row, d * l.row)
-}
-
 // The results of the operation o on C(p + 1) and C(d) in C(p).
 pub fn operate_at(est: &mut [u32], h: &mut [u32], l: Layout, p: usize, d: usize, o: usize) -> usize
-    requires { ⌜ Sized l (now est) × (p + 1 < l .size) × (d < l .size) × (d ≡ p → ⊥) ⌝ }
-    ensures { λ x. ⌜ FiredFor l (λ c. WellFormed c (now (est .entry))) (λ c. twoRule c p (operation·two (operationOf o)) (p + 1) d) (now (est .entry))
+    requires { ⌜ Sized l (now est) × (p + 1 < l .size) × (d < l .size) × (d ≡ p → ⊥) × (o < 4294967296) ⌝ }
+    ensures { λ x. ⌜ FiredFor l (λ c. WellFormed c (now (est .entry))) (λ c. twoRule c p (operation (operationOf o)) (p + 1) d) (now (est .entry))
         (now (est .exit)) x ⌝ }
 {
-    let bits = results_of(est, l, o, 2 * (p + 1), 2 * d);
-    put_word(est, h, l, 2 * p, bits)
+    let row = l.row;
+    let a = 2 * (p + 1);
+    let bits = results::operate_at(est, l.lead, operation_of(o as u32), a * row, 2 * d * row);
+    let added = put_bits(est, row, 2 * p, 0, bits);
+    grew_row(h, 2 * p, added);
+    added
 }

@@ -11,7 +11,7 @@ ghost use Prim.Native.Nat.{_+_, _*_};
 ghost use Rattle.table.specs.Code.{Linked};
 ghost use Rattle.rows.specs.Laid.{Sized};
 ghost use Rattle.calculus.specs.Constraint.{every};
-ghost use Rattle.clauses.specs.Asks.{forThing, atThing};
+ghost use Rattle.clauses.specs.Asks.{forThing, atThing, things};
 ghost use Rattle.queries.specs.Passes.{Masked};
 ghost use Rattle.firing.specs.Fired.{FiredFor, FiredIn};
 ghost use Rattle.firing.specs.Placed.{Placed, Each};
@@ -40,7 +40,7 @@ fn for_thing(
 }
 
 // The effect for each thing of the mask z in C(x + 1).
-pub fn each_thing(est: &mut [u32], masks: &[u32], h: &mut [u32], l: Layout, e: Effect) -> usize
+fn each_thing(est: &mut [u32], masks: &[u32], h: &mut [u32], l: Layout, e: Effect) -> usize
     requires { ⌜ Sized l (now est) × Each l (now masks) e ⌝ }
     ensures { λ r. ⌜ FiredFor l (λ c. Masked c l (now (masks .entry))) (λ c. every (c .size) (atThing c (e .what) (e .x) (e .y) (e .z)))
         (now (est .entry)) (now (est .exit)) r ⌝ }
@@ -60,8 +60,8 @@ pub fn each_thing(est: &mut [u32], masks: &[u32], h: &mut [u32], l: Layout, e: E
     added
 }
 
-// The effect for the thing f, where C(x + 1) and the mask z have it. Past the table there is none.
-pub fn one_thing(
+// The same, or (f not 0) the effect for the thing f, where C(x + 1) and the mask z have it. Past the table there is none.
+pub fn fire_things(
     est: &mut [u32],
     masks: &[u32],
     h: &mut [u32],
@@ -70,9 +70,12 @@ pub fn one_thing(
     f: usize,
 ) -> usize
     requires { ⌜ Sized l (now est) × Each l (now masks) e ⌝ }
-    ensures { λ r. ⌜ FiredFor l (λ c. Linked c × Masked c l (now (masks .entry))) (λ c. atThing c (e .what) (e .x) (e .y) (e .z) f) (now (est .entry))
+    ensures { λ r. ⌜ FiredFor l (λ c. Linked c × Masked c l (now (masks .entry))) (λ c. things c (e .what) (e .x) (e .y) (e .z) f) (now (est .entry))
         (now (est .exit)) r ⌝ }
 {
+    if f == 0 {
+        return each_thing(est, masks, h, l, e);
+    }
     if l.size <= f {
         return 0;
     }

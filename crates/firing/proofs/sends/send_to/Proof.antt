@@ -1,12 +1,10 @@
 -- `firing::sends::send_to` meets its contract. Assumes nothing.
-use Prim.Native.Nat.{_+_, _*_}
 use mathlib.Core.Path.{sym, _∙_}
 use native.Mathlib.Omega.{arith}
 use borrow.Author.Tests.{not-true, not-false}
 use Rattle.table.specs.Code.{code}
-use Rattle.calculus.specs.Elements.{made}
-use Rattle.calculus.specs.Constraint.{P, sub}
-use Rattle.firing.proofs.Deliver.{block-inside, name-small, block-present, block-absent, delivered-as}
+use Rattle.queries.proofs.Given.{sized}
+use Rattle.firing.proofs.Deliver.{home-inside, block-inside, name-small, block-started, block-absent}
 use borrow.Author.Needs.{needs}
 use Rattle.firing.proofs.sends.send_to.Statement.{statement}
 use Rattle.firing.proofs.sends.send_to.Tie as tie
@@ -14,28 +12,24 @@ use Rattle.firing.proofs.sends.send_to.Tie as tie
 starts-requires : tie.Need-starts-requires
 unfolding code
 starts-requires c κs =
-    let s = c .before .before .before .before .before .before in let a = s .args in let e = a .e in let w = a .words .now in
-    (block-inside w (s .pre .0 .readable) w (omega arith) (a .est .now) (e .x) (e .y) (e .z) (a .own .perms .bits) (s .pre .0 .sender) (a .b) (s .pre .1), s .pre .0 .sized, s .pre .0 .word, omega (arith, name-small w (s .pre .0 .readable) w (omega arith) (a .est .now) (e .x) (e .y) (e .z) (a .own .perms .bits) (s .pre .0 .sender) (a .b) (s .pre .1), s .pre .0 .laid .lead))
+    let s = c .before .before .before .before .before .before in let t = s .pre .0 in let y = t .ready in
+    (block-inside t (s .args .b) (s .pre .2), sized y (s .pre .1), t .sending .word, omega (arith, name-small t (s .args .b) (s .pre .2), y .laid .lead))
 
 returns : tie.Need-returns
 returns c =
-    let s = c .before .before .before .before .before .before .before .before in let a = s .args in let e = a .e in let w = a .words .now in
-    record { words = sym (block-absent w (s .pre .0 .readable) w (omega arith) (a .est .now) (e .x) (e .y) (e .z) (a .own .perms .bits) (s .pre .0 .sender) (a .b) (s .pre .1) (sym (c .before .starts .ensures (code w) (s .pre .0 .laid)) ∙ not-true _ (c .if1 .taken))); count = omega arith }
+    let s = c .before .before .before .before .before .before .before .before in let t = s .pre .0 in
+    record { words = sym (block-absent t (s .args .b) (s .pre .2) (s .args .est .now) (sym (c .before .starts .ensures (code (s .args .words .now)) (t .ready .laid)) ∙ not-true _ (c .if1 .taken))); count = omega arith }
 
-deliver-from-requires : tie.Need-deliver-from-requires
-deliver-from-requires c κs =
-    let s = c .before .before .before .before .before .before .before .before .before .before in let a = s .args in let e = a .e in let w = a .words .now in
-    (s .pre .0 .sized, omega (arith, s .pre .0 .word), s .pre .0 .message, omega (arith, block-inside w (s .pre .0 .readable) w (omega arith) (a .est .now) (e .x) (e .y) (e .z) (a .own .perms .bits) (s .pre .0 .sender) (a .b) (s .pre .1), s .pre .0 .laid .size), s .pre .0 .masked .long, s .pre .0 .homed)
+deliver-requires : tie.Need-deliver-requires
+deliver-requires c κs =
+    let s = c .before .before .before .before .before .before .before .before .before .before in let t = s .pre .0 in let y = t .ready in
+    (sized y (s .pre .1), omega (arith, t .sending .word), t .sending .message, omega (arith, block-inside t (s .args .b) (s .pre .2), y .laid .size), y .masked .long, home-inside t)
 
 returns-2 : tie.Need-returns-2
 returns-2 c =
-    let s = c .before .before .before .before .before .before .before .before .before .before .before .before .before .before .before in let a = s .args in let e = a .e in let w = a .words .now in
-    let d = c .before .before .before .before .deliver-from .ensures in
+    let d = c .before .before .before .before .deliver .ensures in let i = c .before .before .before .before .before .before .before in let s = i .before .before .before .before .before .before .before .before in let t = s .pre .0 in let y = t .ready in let k = code (s .args .words .now) in
     record {
-      words =
-          d .words (code w) (s .pre .0 .laid) (s .pre .0 .well, s .pre .0 .masked)
-          ∙ delivered-as (code w) (e .y) (a .b) (sub (P (a .b)) (P (e .x))) (32 * a .l .lead + a .own .home) (made (code w) (code w .home (e .x))) (omega (arith, s .pre .0 .laid .lead, s .pre .0 .block)) (a .est .now)
-          ∙ sym (block-present w (s .pre .0 .readable) w (omega arith) (a .est .now) (e .x) (e .y) (e .z) (a .own .perms .bits) (s .pre .0 .sender) (a .b) (s .pre .1) (sym (c .before .before .before .before .before .before .before .before .starts .ensures (code w) (s .pre .0 .laid)) ∙ not-false _ (c .before .before .before .before .before .before .before .if1 .left)));
+      words = d .words k (y .laid) (s .pre .1, y .masked) ∙ block-started t (s .args .b) (s .pre .2) (s .args .est .now) (sym (i .before .starts .ensures k (y .laid)) ∙ not-false _ (i .if1 .left));
       count = d .count;
     }
 
@@ -43,11 +37,11 @@ pub send-to-spec : {M : Type 1} → statement M
 send-to-spec =
     tie.close
     (tie.spec
-    (λ cast-t11. search needs)
+    (λ c. let s = c .before .before .before .before .before in omega (arith, s .pre .0 .sending .required))
     starts-requires
     (λ same-length. search needs)
     returns
-    deliver-from-requires
+    deliver-requires
     (λ same-length-2. search needs)
     (λ same-length-3. search needs)
     returns-2)

@@ -1,19 +1,11 @@
 -- `firing::targets::gain` meets its contract: what `set` did to the part is said of the whole. Assumes nothing.
 use Prim.Native.Nat.{_+_, _-_}
-use mathlib.Core.List.{[], _∷_}
+use mathlib.Core.Path.{sym}
 use native.Mathlib.Omega.{arith}
-use Rattle.firing.proofs.Poured.{poured-at}
 use Rattle.rows.proofs.Laws.{put-back-whole}
 use borrow.Author.Needs.{needs}
 use Rattle.firing.proofs.targets.gain.Statement.{statement}
 use Rattle.firing.proofs.targets.gain.Tie as tie
-
-returns : tie.Need-returns
-returns c =
-    let a = c .before .before .before .before .before .before .args in
-    let at = c .before .before .before .before .flags .result in
-    poured-at (a .est .now) _ at _ (a .bits ∷ []) _
-    (put-back-whole (a .est .now) at (at + 1 - at) _ (a .bits ∷ []) _ (c .before .before .set .ensures) (omega arith)) (c .before .before .before .before .flags .ensures)
 
 pub gain-spec : {M : Type 1} → statement M
 gain-spec =
@@ -27,4 +19,4 @@ gain-spec =
     (λ part-set-end. search needs)
     (λ set-requires κs. search needs)
     (λ same-length. search needs)
-    returns)
+    (λ c. let at = c .before .before .before .before .flags in rw (sym (at .ensures)) (put-back-whole _ (at .result) (at .result + 1 - at .result) _ _ _ (c .before .before .set .ensures) (omega arith))))

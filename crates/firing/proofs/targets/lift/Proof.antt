@@ -1,5 +1,5 @@
 -- `firing::targets::lift` meets its contract. Assumes nothing.
-use Rattle.firing.proofs.Fires.{lift-from}
+use Rattle.firing.proofs.Fires.{lift-fired}
 use borrow.Author.Needs.{needs}
 use Rattle.firing.proofs.targets.lift.Statement.{statement}
 use Rattle.firing.proofs.targets.lift.Tie as tie
@@ -15,6 +15,4 @@ lift-spec =
     (λ grew-perms-requires κs. search needs)
     (λ same-length. search needs)
     (λ same-length-2. search needs)
-    (λ c.
-    let s = c .before .before .before .before .before .before .before .before .before .before .before .before in let a = s .args in
-    lift-from (a .l) (a .est .now) _ _ (a .q) (a .p) _ (c .before .before .before .before .before .before .before .before .before .flags .ensures) (c .before .before .before .before .before .before .gain .ensures)))
+    (λ c. let t = c .before .before .before .before .before .before in let u = t .before .before .before in let a = u .before .before .before .args in lift-fired (a .q) (a .p) (rw (u .flags .ensures) at (t .gain .ensures))))

@@ -1,19 +1,11 @@
 -- `firing::targets::mark` meets its contract: what `put` did to the part is said of the whole. Assumes nothing.
-use mathlib.Core.List.{[], _∷_}
-use Prim.Native.Nat.{_+_, _-_, _*_, _/_, _%_, _^_}
+use Prim.Native.Nat.{_+_, _-_, _*_}
 use native.Mathlib.Omega.{arith}
 use Rattle.rows.proofs.Laws.{put-back}
 use Rattle.firing.proofs.Fires.{put-fired}
 use borrow.Author.Needs.{needs}
 use Rattle.firing.proofs.targets.mark.Statement.{statement}
 use Rattle.firing.proofs.targets.mark.Tie as tie
-
-returns : tie.Need-returns
-returns c =
-    let a = c .before .before .before .before .before .args in
-    let at = a .r * a .l .row in
-    put-fired (a .l) (a .est .now) _ _ (a .r) (a .v)
-    (put-back (a .est .now) at (at + a .l .row - at) _ (a .v / 32) (2 ^ (a .v % 32) ∷ []) _ (c .before .before .put .ensures) (omega arith))
 
 pub mark-spec : {M : Type 1} → statement M
 mark-spec =
@@ -27,4 +19,4 @@ mark-spec =
     (λ part-put-end. search needs)
     (λ put-requires κs. search needs)
     (λ same-length. search needs)
-    returns)
+    (λ c. let a = c .before .before .before .before .before .args in let at = a .r * a .l .row in put-fired (a .r) (a .v) (put-back _ at (at + a .l .row - at) _ _ _ _ (c .before .before .put .ensures) (omega arith))))

@@ -4,11 +4,12 @@ use borrow.Author.Needs.{needs}
 use Rattle.firing.proofs.targets.permit.Statement.{statement}
 use Rattle.firing.proofs.targets.permit.Tie as tie
 
-returns : tie.Need-returns
-returns c =
-    let s = c .before .before .before .before .before .before .before .before .before .before in let a = s .args in
-    permit-fired (a .l) (a .est .now) _ _ (a .p) (a .bits) (s .pre .1) (s .pre .2) (c .before .before .before .before .before .before .gain .ensures)
-
 pub permit-spec : {M : Type 1} → statement M
 permit-spec =
-    tie.close (tie.spec (λ gain-requires κs. search needs) (λ grew-perms-requires κs. search needs) (λ same-length. search needs) (λ same-length-2. search needs) returns)
+    tie.close
+    (tie.spec
+    (λ gain-requires κs. search needs)
+    (λ grew-perms-requires κs. search needs)
+    (λ same-length. search needs)
+    (λ same-length-2. search needs)
+    (λ c. let t = c .before .before .before .before .before .before in let s = t .before .before .before .before in permit-fired (s .args .p) (s .args .bits) (s .pre .1) (s .pre .2) (t .gain .ensures)))

@@ -1,5 +1,4 @@
 -- `firing::targets::put_bits` meets its contract: what `set` did to the part is said of the whole. Assumes nothing.
-use mathlib.Core.List.{[], _∷_}
 use Prim.Native.Nat.{_+_, _-_, _*_}
 use native.Mathlib.Omega.{arith}
 use Rattle.rows.proofs.Laws.{put-back}
@@ -19,6 +18,4 @@ put-bits-spec =
     (λ part-set-end. search needs)
     (λ set-requires κs. search needs)
     (λ same-length. search needs)
-    (λ c.
-    let a = c .before .before .before .before .before .args in
-    put-back (a .est .now) (a .r * a .row) (a .r * a .row + a .row - a .r * a .row) _ (a .k) (a .bits ∷ []) _ (c .before .before .set .ensures) (omega arith)))
+    (λ c. let a = c .before .before .before .before .before .args in let at = a .r * a .row in put-back _ at (at + a .row - at) _ _ _ _ (c .before .before .set .ensures) (omega arith)))

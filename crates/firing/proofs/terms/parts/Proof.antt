@@ -1,29 +1,15 @@
 -- `firing::terms::parts` meets its contract. Assumes nothing.
-use Prim.Native.Nat.{_+_}
-use mathlib.Core.Bool.{not}
 use native.Mathlib.Omega.{arith}
-use lib.Dec.{eqb}
-use Rattle.calculus.specs.Constraint.{only, _and_}
-use Rattle.calculus.specs.Rules.{part}
-use Rattle.firing.proofs.Fires.{and-in, sum-fits}
+use Rattle.rows.proofs.Laws.{facts-most}
+use Rattle.firing.proofs.Fires.{and-in}
 use borrow.Author.Needs.{needs}
 use Rattle.firing.proofs.terms.parts.Statement.{statement}
 use Rattle.firing.proofs.terms.parts.Tie as tie
 
-add-result : tie.Need-add-result
-add-result c =
-    let s = c .before .before .before .before .before .before .before .before .before .before .before .before .before .before .before .before .before .before .before .before .before .before .before in omega (arith, sum-fits _ _ _ _ _ (c .before .before .before .before .before .before .before .before .before .before .before .part-if .ensures .count) (c .before .before .before .before .part-if2 .ensures .count), c .before .before .before .before .part-if2 .kept .0, c .before .before .before .before .before .before .before .before .before .before .before .part-if .kept .0, c .before .before .before .before .before .before .before .before .before .before .before .before .before .before .before .before .before .before .part .kept .0, s .pre .0 .short)
-
 add-result-2 : tie.Need-add-result-2
 add-result-2 c =
-    let s = c .before .before .before .before .before .before .before .before .before .before .before .before .before .before .before .before .before .before .before .before .before .before .before in let a = s .args in
-    omega (arith, sum-fits (a .est .now) _ _ _ _ (c .before .before .before .before .before .before .before .before .before .before .before .before .before .before .before .before .before .before .part .ensures .count) (and-in (a .l) _ _ _ _ _ (only (not (eqb (a .b) 0)) (part (a .p) (a .b))) (only (not (eqb (a .d) 0)) (part (a .p) (a .d))) (c .before .before .before .before .before .before .before .before .before .before .before .part-if .ensures) (c .before .before .before .before .part-if2 .ensures) .count), c .before .before .before .before .part-if2 .kept .0, c .before .before .before .before .before .before .before .before .before .before .before .part-if .kept .0, c .before .before .before .before .before .before .before .before .before .before .before .before .before .before .before .before .before .before .part .kept .0, s .pre .0 .short)
-
-returns : tie.Need-returns
-returns c =
-    let s = c .before .before .before .before .before .before .before .before .before .before .before .before .before .before .before .before .before .before .before .before .before .before .before in let a = s .args in
-    and-in (a .l) (a .est .now) _ _ _ _ (part (a .p) (a .p + 1)) (only (not (eqb (a .b) 0)) (part (a .p) (a .b)) and only (not (eqb (a .d) 0)) (part (a .p) (a .d))) (c .before .before .before .before .before .before .before .before .before .before .before .before .before .before .before .before .before .before .part .ensures)
-    (and-in (a .l) _ _ _ _ _ (only (not (eqb (a .b) 0)) (part (a .p) (a .b))) (only (not (eqb (a .d) 0)) (part (a .p) (a .d))) (c .before .before .before .before .before .before .before .before .before .before .before .part-if .ensures) (c .before .before .before .before .part-if2 .ensures))
+    let u = c .before .before .before .before in let t = u .before .before .before .before .before .before .before in let w = t .before .before .before .before .before .before .before in
+    omega (arith, w .part .ensures .count, t .part-if .ensures .count, u .part-if2 .ensures .count, facts-most (u .part-if2 .last .0), u .part-if2 .kept .0, t .part-if .kept .0, w .part .kept .0, w .before .before .before .before .before .pre .0 .short)
 
 pub parts-spec : {M : Type 1} → statement M
 parts-spec =
@@ -33,8 +19,8 @@ parts-spec =
     (λ part-requires κs. search needs)
     (λ part-if-requires κs. search needs)
     (λ part-if-requires-2 κs. search needs)
-    add-result
+    (λ c. omega (arith, add-result-2 c))
     add-result-2
     (λ same-length. search needs)
     (λ same-length-2. search needs)
-    returns)
+    (λ c. let t = c .before .before .before .before .before .before .before .before .before .before .before in and-in (t .before .before .before .before .before .before .before .part .ensures) (and-in (t .part-if .ensures) (c .before .before .before .before .part-if2 .ensures))))
