@@ -4,7 +4,6 @@ use mathlib.Core.Path.{_≡_, sym, ap, ap₂, _∙_, subst}
 use mathlib.Core.Bool.{Bool, true, false, _&&_, _||_, true≢false}
 use mathlib.Core.List.{List}
 use native.Mathlib.Decide.{decLt, ℕ-discrete}
-use native.Mathlib.Numerals.{add-one}
 use native.Mathlib.Omega.{arith}
 use borrow.Author.Tests.{ne-eqb}
 use lib.Dec.{T, leb, le→leb}
@@ -13,8 +12,8 @@ use Rattle.permset.specs.Sets.{member}
 use Rattle.permset.proofs.Laws.{member-and}
 use Rattle.table.specs.Code.{Code}
 use Rattle.calculus.specs.Elements.{plain, made, opponentRecord, Making, isFunction, isRecord, isCell, makes, making, anyRecord}
-use Rattle.calculus.specs.Constraint.{C, B, P, L, Sets, Rule, Obeys, sub, _and_}
-use Rattle.calculus.specs.Rules.{live, eachMade}
+use Rattle.calculus.specs.Constraint.{C, Rule, Obeys}
+use Rattle.calculus.specs.Rules.{eachMade}
 use Rattle.calculus.specs.Layout.{bit, sets, WellFormed}
 use Rattle.calculus.proofs.Digits.{T-and, T-fst, T-snd, T-true}
 use Rattle.calculus.proofs.Fitting.{body-lt}
@@ -23,17 +22,14 @@ use Rattle.rows.specs.declared.layout.Layout.{Layout}
 use Rattle.rows.specs.Laid.{LaidOut, Sized}
 use Rattle.rows.specs.Mask.{madeAs}
 use Rattle.rows.proofs.Laws.{getD-row}
-use Rattle.clauses.specs.Asks.{rowAt, sortAt, thingAt}
-use Rattle.clauses.proofs.Sorts.{row-B}
+use Rattle.clauses.specs.Asks.{sortAt, thingAt}
 use Rattle.queries.specs.Passes.{Masked}
 use Rattle.queries.specs.Things.{both, Next, Searched}
 use Rattle.queries.proofs.Laws.{row-in, mask-in, has-is, C-sets}
 use Rattle.checker.specs.declared.things.Action.{Action}
 use Rattle.checker.specs.declared.things.Action.the-variants as actions
 use Rattle.checker.specs.Decides.{Decides, MasksOf, Term}
-use Rattle.checker.specs.Things.{asked, Suits}
-use Rattle.checker.proofs.Laws.{decided, put-decides, both as both-rules}
-use Rattle.checker.proofs.Laid.{CC}
+use Rattle.checker.specs.Things.{Suits}
 
 pub suits-three : (a : Action) (m : ℕ) → Suits a m → m < 3
 suits-three actions.Call m h = omega arith
@@ -44,24 +40,6 @@ pub suits-call : (a : Action) (m : ℕ) → Suits a m → a ≡ actions.Call →
 suits-call actions.Call m h e = h
 suits-call actions.Take m h e = absurd (let z : _≡_ {A = ℕ} 0 1 = cc in omega arith)
 suits-call actions.Hand m h e = absurd (let z : _≡_ {A = ℕ} 0 1 = cc in omega arith)
-
--- ---- what is asked for one thing
-
-module _ (e : Sets) (p y f : ℕ) where
-  pub called-is : {r s t u : Bool} → r ≡ e (L (f + 1)) 0 → Decides e (sub (rowAt y) (rowAt (2 * f + 1))) s
-      → Decides e (sub (rowAt (2 * (f + 1))) (rowAt (2 * p))) t → Decides e (sub (P (f + 1)) (P p)) u → Decides e (asked actions.Call p y f) (r && (s && (t && u)))
-  unfolding asked
-  called-is {r} {s} {t} {u} q a b d =
-      subst (λ (g : ℕ). Decides e (live g and sub (rowAt y) (B f) and sub (C g) (C p) and sub (P g) (P p)) (r && (s && (t && u)))) (add-one f)
-      (both-rules e (decided e q (put-decides e (L (f + 1)) 0)) (both-rules e (rw (row-B f) at a) (both-rules e (CC e (f + 1) p b) d)))
-
-  pub taken-is : {r : Bool} → Decides e (sub (rowAt (2 * f + 1)) (rowAt y)) r → Decides e (asked actions.Take p y f) r
-  unfolding asked
-  taken-is d = rw (row-B f) at d
-
-  pub handed-is : {r : Bool} → Decides e (sub (rowAt y) (rowAt (2 * f + 1))) r → Decides e (asked actions.Hand p y f) r
-  unfolding asked
-  handed-is d = rw (row-B f) at d
 
 -- ---- things by their digits
 

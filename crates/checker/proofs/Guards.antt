@@ -1,10 +1,9 @@
 -- The entry of a block by its guard: which words have one.
-use Prim.Native.Nat.{ℕ, _+_, _*_, _≤_, _<_}
+use Prim.Native.Nat.{ℕ, _+_, _≤_, _<_}
 use mathlib.Core.Path.{_≡_, refl, sym, ap, _∙_, subst}
-use mathlib.Core.Bool.{Bool, true, false, not, _&&_}
+use mathlib.Core.Bool.{true, false}
 use mathlib.Core.List.{List, List·Memᴰ}
 use native.Mathlib.Omega.{arith}
-use borrow.Author.Tests.{not-true, not-false}
 use lib.Dec.{T}
 use lib.ListN.{length, getD}
 use Rattle.permset.specs.Sets.{within}
@@ -20,17 +19,11 @@ use Rattle.table.proofs.Parts.{place-stands}
 use Rattle.table.proofs.Items.{item-block}
 use Rattle.table.proofs.Nodes.{itemNode, nodeAt, node-item}
 use Rattle.table.proofs.Blocks.{head-word, listed-block}
-use Rattle.calculus.specs.Elements.{opponentRecord}
-use Rattle.calculus.specs.Constraint.{Row, C, L, Sets}
-use Rattle.calculus.specs.Rules.{guarded, fill, entry}
+use Rattle.calculus.specs.Rules.{guarded}
 use Rattle.calculus.proofs.Masks.{T-false}
 use Rattle.rows.specs.declared.layout.Layout.{Layout}
-use Rattle.clauses.specs.Asks.{rowAt}
-use Rattle.clauses.proofs.Sorts.{row-B}
 use Rattle.clauses.proofs.Asked.{listed-guarded}
-use Rattle.checker.specs.Decides.{Decides}
 use Rattle.checker.specs.Words.{Accepted}
-use Rattle.checker.proofs.Laws.{both, put-is, only-so, only-not}
 
 pub in-table : (ws : List ℕ) (l : Layout) → Accepted ws l → (p : ℕ) → p < l .size → (p < code ws .size) × (p < length ws) × (code ws .size ≡ length ws)
 unfolding code
@@ -66,15 +59,3 @@ module _ (ws : List ℕ) (r : reading ws ≡ accepted) (p : ℕ) (h : p < code w
   -- the guard that the words say
   pub shut : (s : ℕ) → (kind (getD ws p 0) ≡ 2 → ⊥) → false ≡ guarded (c .node p) s
   shut s n = sym (T-false (guarded (c .node p) s) (λ t. n (guard-kind s t)))
-
-  module _ (e : Sets) (ρ : ℕ) {x : Bool} (q : x ≡ guarded (c .node p) ρ) where
-    pub closed-entry : not x ≡ true → Decides e (entry c ρ p) true
-    unfolding entry
-    closed-entry n = only-not e (guarded (c .node p) ρ) (sym q ∙ not-true _ n)
-
-    pub open-entry : not x ≡ false → {y z v : Bool} → y ≡ e (L p) 0 → Decides e (fill c (rowAt (2 * p + 1))) z → v ≡ e (C p) opponentRecord
-        → Decides e (entry c ρ p) (y && (z && v))
-    unfolding entry
-    open-entry n {y} {z} u v w =
-        only-so e (guarded (c .node p) ρ) (sym q ∙ not-false _ n)
-        (both e (put-is e (L p) 0 u) (both e (subst (λ (s : Row). Decides e (fill c s) z) (row-B p) v) (put-is e (C p) opponentRecord w)))

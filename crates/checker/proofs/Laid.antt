@@ -111,7 +111,7 @@ module _ (l : Layout) (est : List ℕ) (s : Sized l est) (c : Code) (o : LaidOut
 
 -- ---- rows by their words
 
-module _ (e : Sets) (a b : ℕ) {r : Bool} where
+module _ {e : Sets} {a b : ℕ} {r : Bool} where
   pub CC : Decides e (sub (rowAt (2 * a)) (rowAt (2 * b))) r → Decides e (sub (C a) (C b)) r
   CC d = rw (row-C a, row-C b) at d
 

@@ -1,13 +1,13 @@
 -- What a word asks: a send that is live asks to be known by the blocks that it starts, and no other word asks anything of its receivers.
-use Prim.Native.Nat.{ℕ, _+_, _-_, _≤_, _<_}
+use Prim.Native.Nat.{ℕ, _+_, _-_, _*_, _≤_, _<_}
 use mathlib.Core.Path.{_≡_, refl, sym, ap, _∙_, subst}
-use mathlib.Core.Bool.{Bool, true, false}
+use mathlib.Core.Bool.{Bool, true, false, not}
 use mathlib.Core.List.{List, List·Memᴰ}
 use native.Mathlib.Decide.{decLt, ℕ-discrete}
 use native.Mathlib.Omega.{arith}
+use borrow.Author.Tests.{not-true, not-false}
 use lib.Dec.{T}
 use lib.ListN.{getD, List·getD-eq-default}
-use Rattle.delivery.specs.Delivery.{delivered}
 use Rattle.table.specs.declared.Item.{Item}
 use Rattle.table.specs.declared.Item.the-variants as items
 use Rattle.table.specs.declared.Term.{Term as TableTerm}
@@ -19,39 +19,41 @@ use Rattle.table.proofs.TermWords.{Rows, by-kind}
 use Rattle.table.proofs.TermWords.Rows.{done, _▸_}
 use Rattle.table.proofs.Items.{item-block, item-gap, item-term}
 use Rattle.table.proofs.Nodes.{itemNode, nodeAt, node-item}
-use Rattle.calculus.specs.Elements.{made, nameElement, sendable}
-use Rattle.calculus.specs.Constraint.{C, L, Sets, Rule, Obeys, put, given, some, only, each}
-use Rattle.calculus.specs.Rules.{nameOf, guarded, permissions, deliveryTo, flow, entry, sender, twoSender}
+use Rattle.calculus.specs.Elements.{sendable, unit}
+use Rattle.calculus.specs.Constraint.{C, L, Sets, Obeys, put, each, _and_}
+use Rattle.calculus.specs.Rules.{guarded, part, twoRule, flow, entry, sender, twoSender}
 use Rattle.calculus.specs.Layout.{sets}
 use Rattle.calculus.proofs.Folds.{found}
 use Rattle.rows.specs.declared.layout.Layout.{Layout}
+use Rattle.clauses.specs.Asks.{rowAt}
 use Rattle.queries.specs.Ready.{Ready}
 use Rattle.checker.specs.declared.sends.Sending.{Sending}
 use Rattle.checker.specs.Lowered.{Lowered}
-use Rattle.checker.specs.Sends.{toBlock, toSender, known, AskedForEach, AskedToSend, AskedBySend}
-use Rattle.checker.specs.Words.{SendingAt, ownRule, AskedBy}
-use Rattle.checker.proofs.Laws.{some-so, some-not, obeys-decides}
-use Rattle.checker.proofs.Lowered.{lowered-none, lowered-same}
+use Rattle.checker.specs.Sends.{toBlock, toSender, known, AskedFor, AskedToSend}
+use Rattle.checker.specs.Words.{ownRule, AskedBy}
+use Rattle.checker.proofs.Laws.{idle, on-value}
+use Rattle.checker.proofs.Blocks.{Among}
+use Rattle.checker.proofs.Lowered.{lowered-none, lowered-same, lowered-then}
 
 -- ---- where there is something to send, and where not
 
-module _ (c : Code) (est : List ℕ) (s : Sending) where
-  pub nothing-sent : found c est (C (s .d)) (sendable c) ≡ false → {below : ℕ} → Lowered (AskedToSend c (sets c est) s) below below
-  nothing-sent q = lowered-none (λ w. (
-    λ z. some-not c est {k = each (c .blocks) (toBlock c s)} (C (s .d)) (sendable c) q .yes tt,
-    λ m. some-not c est {k = toSender c s w} (C (s .d)) (sendable c) q .yes tt,
+module _ (c : Code) (est : List ℕ) (s : Sending) {t : Bool} (f : t ≡ found c est (rowAt (2 * s .d)) (sendable c)) where
+  pub nothing-sent : not t ≡ true → {below : ℕ} → Lowered (AskedToSend c (sets c est) s) below below
+  nothing-sent q = lowered-none (λ w h. (
+    λ z. idle (on-value c est {k = each (c .blocks) (toBlock c s)} f) q .yes tt,
+    λ m. idle (on-value c est {k = toSender c s w} f) q .yes tt,
   ))
 
-  -- what is asked where there is something to send is asked
-  due : (k : Rule) → found c est (C (s .d)) (sendable c) ≡ true → Obeys (sets c est) (some (C (s .d)) (sendable c) k) → Obeys (sets c est) k
-  due k q o = obeys-decides c est k .yes (some-so c est (C (s .d)) (sendable c) q (obeys-decides c est k) .no o)
-
-  pub something-sent : found c est (C (s .d)) (sendable c) ≡ true → {below r : ℕ} → Lowered (AskedForEach c (sets c est) s) below r
+  pub something-sent : not t ≡ false → {below r : ℕ} → Lowered (Among (c .blocks) (AskedFor c (sets c est) s)) below r
       → Lowered (AskedToSend c (sets c est) s) below r
   something-sent q x =
+      let so : T t = subst T (sym (not-false t q)) tt in
       lowered-same
-      (λ w a. (λ z v t i b m. a b m .0 z, λ m v t i. a w m .1 refl))
-      (λ w a b m. (λ z. due (each (c .blocks) (toBlock c s)) q (a .0 z) b m, λ z. due (toSender c s b) q (subst (λ (u : ℕ). Obeys (sets c est) (known c s u)) z (a .1 (subst (λ (u : ℕ). List·Memᴰ u (c .blocks)) (sym z) m)))))
+      (λ w h a. (λ z v t i b m. a b m .0 z, λ m v t i. a w m .1 refl))
+      (λ w h a b m. (
+        λ z. on-value c est {k = each (c .blocks) (toBlock c s)} f .asks (a .0 z) so b m,
+        λ z. on-value c est {k = toSender c s b} f .asks (subst (λ (u : ℕ). Obeys (sets c est) (known c s u)) z (a .1 (subst (λ (u : ℕ). List·Memᴰ u (c .blocks)) (sym z) m))) so,
+      ))
       x
 
 -- ---- what a word asks of its receivers
@@ -100,52 +102,40 @@ module _ {ws links masks : List ℕ} {l : Layout} (y : Ready ws links masks l) (
 
   pub word-silent : (kind (getD ws p 0) ≡ 35 → ⊥) → (ρ : ℕ) {below r : ℕ} → Lowered (λ q. q ≡ p → Obeys e (ownRule c ρ p)) below r
       → Lowered (AskedBy c e ρ p) below r
-  word-silent n ρ x = lowered-same (λ q o. (o, λ m. no-send n q)) (λ q o. o .0) x
+  word-silent n ρ x = lowered-same (λ q h o. (o, λ m. no-send n q)) (λ q h o. o .0) x
 
-  -- ---- a send
+-- ---- a send
 
-  module _ (v d : ℕ) (i : c .node p ≡ two (send v) (p + 1) d) (ρ : ℕ) where
-    no-entry : Obeys e (entry c ρ p)
-    unfolding entry guarded
-    no-entry t = absurd (subst (λ (m : Node). T (guarded m ρ)) i t)
+module _ (c : Code) (e : Sets) (p : ℕ) {v a d : ℕ} (i : c .node p ≡ two (send v) a d) (ρ : ℕ) where
+  no-entry : Obeys e (entry c ρ p)
+  unfolding entry guarded
+  no-entry x = absurd (subst (λ (m : Node). T (guarded m ρ)) i x)
 
-    pub send-idle : e (L p) 0 ≡ false → {below : ℕ} → Lowered (AskedBy c e ρ p) below below
-    unfolding sender twoSender
-    send-idle q =
-        lowered-none
-        (λ w. (λ z. (no-entry, λ t. absurd (subst T q t)), λ m. subst (λ (n : Node). Obeys e (sender c w p n)) (sym i) (λ t. absurd (subst T q t))))
+  pub send-idle : {t : Bool} → t ≡ e (L p) 0 → not t ≡ true → {below : ℕ} → Lowered (AskedBy c e ρ p) below below
+  unfolding sender twoSender
+  send-idle {t} live q =
+      lowered-none
+      (λ w h. (λ z. (no-entry, λ x. absurd (off x)), λ m. subst (λ (n : Node). Obeys e (sender c w p n)) (sym i) (λ x. absurd (off x))))
+    where
+      off : T (e (L p) 0) → ⊥
+      off x = subst T (sym live ∙ not-true t q) x
 
-    module _ (a : ℕ) (s : Sending) (x : SendingAt ws links p d a s) (f : a ≡ v) (own : s .own .bits ≡ permissions c p) (h : s .home ≡ c .home p) where
-      abbrev asked : (r t m o k b : ℕ) → Rule
-      asked r t m o k b =
-          some (C m) (sendable c)
-          (only (delivered (deliveryTo (nameOf (c .node b)) r o (c .node b))) (given (C t) (nameElement (nameOf (c .node b))) (put (C b) (made c k))))
+module _ (c : Code) (e : Sets) (s : Sending) (i : c .node (s .p) ≡ two (send (s .required .bits)) (s .p + 1) (s .d)) (ρ : ℕ) where
+  abbrev p : ℕ
+  p = s .p
 
-      same : (b : ℕ) → asked (s .required .bits) (s .p + 1) (s .d) (s .own .bits) (s .home) b ≡ asked v (p + 1) d (permissions c p) (c .home p) b
-      same b =
-          ap (λ (n : ℕ). asked n (s .p + 1) (s .d) (s .own .bits) (s .home) b) (x .required ∙ f)
-          ∙ ap (λ (n : ℕ). asked v (n + 1) (s .d) (s .own .bits) (s .home) b) (x .place)
-          ∙ ap (λ (n : ℕ). asked v (p + 1) n (s .own .bits) (s .home) b) (x .message)
-          ∙ ap (λ (n : ℕ). asked v (p + 1) d n (s .home) b) own
-          ∙ ap (λ (n : ℕ). asked v (p + 1) d (permissions c p) n b) h
-
-      same-flow : flow c (s .p) (two (send (s .required .bits)) (s .p + 1) (s .d)) ≡ flow c p (c .node p)
-      same-flow =
-          ap (λ (n : ℕ). flow c n (two (send (s .required .bits)) (n + 1) (s .d))) (x .place)
-          ∙ ap (λ (n : ℕ). flow c p (two (send (s .required .bits)) (p + 1) n)) (x .message)
-          ∙ ap (λ (n : ℕ). flow c p (two (send n) (p + 1) d)) (x .required ∙ f)
-          ∙ ap (flow c p) (sym i)
-
-      pub send-live : e (L p) 0 ≡ true → {below r : ℕ} → Lowered (AskedBySend c e s) below r → Lowered (AskedBy c e ρ p) below r
-      unfolding sender twoSender
-      send-live q g =
-          lowered-same
-          (λ w o. (
-            λ z. (no-entry, λ t. subst (Obeys e) same-flow (o .0 (z ∙ sym (x .place)))),
-            λ m. subst (λ (n : Node). Obeys e (sender c w p n)) (sym i) (λ t. subst (Obeys e) (same w) (o .1 m)),
-          ))
-          (λ w o. (
-            λ z. subst (Obeys e) (sym same-flow) (o .0 (z ∙ x .place) .1 (subst T (sym q) tt)),
-            λ m. subst (Obeys e) (sym (same w)) (subst (λ (n : Node). Obeys e (sender c w p n)) i (o .1 m) (subst T (sym q) tt)),
-          ))
-          g
+  pub send-live : {t : Bool} → t ≡ e (L p) 0 → not t ≡ false → {below m r : ℕ} → Lowered (AskedToSend c e s) below m
+      → Lowered (λ w. w ≡ p → Obeys e ((part p (p + 1) and part p (s .d)) and put (C p) unit)) m r → Lowered (AskedBy c e ρ p) below r
+  unfolding sender twoSender flow twoRule
+  send-live {t} live q x y =
+      let on : T (e (L p) 0) = subst T (sym (sym live ∙ not-false t q)) tt in
+      lowered-same
+      (λ w h a. (
+        λ z. (no-entry c e p i ρ, λ u. let o = a .1 z in subst (λ (n : Node). Obeys e (flow c p n)) (sym i) (o .0 .0, (o .0 .1, (o .1, a .0 .0 z)))),
+        λ m. subst (λ (n : Node). Obeys e (sender c w p n)) (sym i) (λ u. a .0 .1 m),
+      ))
+      (λ w h a. let f : w ≡ p → Obeys e (flow c p (two (send (s .required .bits)) (p + 1) (s .d))) = λ z. subst (λ (n : Node). Obeys e (flow c p n)) i (a .0 z .1 on) in (
+        (λ z. f z .1 .1 .1, λ m. subst (λ (n : Node). Obeys e (sender c w p n)) i (a .1 m) on),
+        λ z. ((f z .0, f z .1 .0), f z .1 .1 .0),
+      ))
+      (lowered-then x y)

@@ -4,24 +4,29 @@ use crate::tests::in_value;
 use crate::tests::lifted;
 use crate::tests::lowered;
 use crate::tests::passed_by;
+use clauses::make::end;
+use clauses::make::permissions_of;
 use permset::PermSet;
 use queries::has_some;
 use queries::is_live;
 use queries::starts;
 use rows::layout::Layout;
+use table::argument_of;
 use table_links::link_at;
 ghost use mathlib.Core.Path.{_≡_};
-ghost use Prim.Native.Nat.{_+_, _*_, _<_, _≤_};
-ghost use lib.ListN.{length};
+ghost use Prim.Native.Nat.{ℕ, _+_, _*_, _<_, _≤_};
+ghost use lib.ListN.{length, getD};
+ghost use Rattle.table.specs.Words.{kind as Kind};
 ghost use Rattle.table.specs.Scan.{name};
 ghost use Rattle.table.specs.Code.{code, taskAt};
 ghost use Rattle.table.specs.Links.{LinksOf};
 ghost use Rattle.calculus.specs.Layout.{sets};
 ghost use Rattle.rows.specs.Laid.{Sized};
+ghost use Rattle.queries.specs.Ready.{At};
 ghost use Rattle.checker.specs.Decides.{CheckedBy};
 ghost use Rattle.checker.specs.Lowered.{Lowered};
-ghost use Rattle.checker.specs.Sends.{delivery, AskedFor, AskedForEach, AskedToSend, Sent};
-ghost use Rattle.checker.specs.Words.{SendLowered};
+ghost use Rattle.checker.specs.Sends.{delivery, AskedFor, AskedToSend, Sent};
+ghost use Rattle.checker.specs.Words.{WordLowered};
 
 // The mask of what may be sent.
 const MESSAGES: usize = 3;
@@ -64,30 +69,8 @@ fn to_block(
     lowered(sent, b, in_value(est, l, b, 32 * l.lead + s.home))
 }
 
-// The same for all blocks.
+// The same for all blocks, where there is something to send.
 fn to_blocks(
-    words: &[u32],
-    links: &[u32],
-    masks: &[u32],
-    est: &[u32],
-    l: Layout,
-    s: Sending,
-    below: usize,
-) -> usize
-    requires { ⌜ Sent (now words) (now masks) (now est) l s × LinksOf (now words) (now links) ⌝ }
-    ensures { λ r. ⌜ Lowered (AskedForEach (code (now (words .entry))) (sets (code (now (words .entry))) (now (est .entry))) s) below r ⌝ }
-{
-    let mut lowest = below;
-    let mut b = 1;
-    while b < words.len() {
-        lowest = to_block(words, masks, est, l, s, b, lowest);
-        b = link_at(links, b + 3).end;
-    }
-    lowest
-}
-
-// The same, where there is something to send.
-fn messages(
     words: &[u32],
     links: &[u32],
     masks: &[u32],
@@ -102,26 +85,44 @@ fn messages(
     if !has_some(est, masks, l, 2 * s.d, MESSAGES) {
         return below;
     }
-    to_blocks(words, links, masks, est, l, s, below)
+    let mut lowest = below;
+    let mut b = 1;
+    while b < words.len() {
+        lowest = to_block(words, masks, est, l, s, b, lowest);
+        b = link_at(links, b + 3).end;
+    }
+    lowest
 }
 
-// `below`, or the lowest word that does not obey what the send asks of it.
+// `below`, or the lowest word that does not obey what the send at p asks of it.
 pub fn send(
     words: &[u32],
     links: &[u32],
     masks: &[u32],
     est: &[u32],
     l: Layout,
-    s: Sending,
+    p: usize,
     below: usize,
 ) -> usize
-    requires { ⌜ Sent (now words) (now masks) (now est) l s × LinksOf (now words) (now links) ⌝ }
-    ensures { λ r. ⌜ SendLowered (now (words .entry)) (now (est .entry)) s below r ⌝ }
+    requires { ⌜ At (now words) (now links) (now masks) (now est) l p × (Kind (getD (now words) p 0) ≡ 35) ⌝ }
+    ensures { λ r. ⌜ ((ρ : ℕ) → WordLowered (now (words .entry)) (now (est .entry)) ρ p below r) ⌝ }
 {
-    let lowest = messages(words, links, masks, est, l, s, below);
-    lowered(
-        lowest,
-        s.p,
-        parts(est, l, s.p, s.d) & in_value(est, l, s.p, 1),
-    )
+    if !is_live(est, l, p) {
+        return below;
+    }
+    let d = end(links, p + 1);
+    let home = link_at(links, p).home;
+    let required = PermSet {
+        bits: argument_of(words[p]),
+    };
+    let own = permissions_of(words, links, p);
+    let s = Sending {
+        p,
+        d,
+        home,
+        required,
+        own,
+    };
+    let lowest = to_blocks(words, links, masks, est, l, s, below);
+    lowered(lowest, p, parts(est, l, p, d) & in_value(est, l, p, 1))
 }

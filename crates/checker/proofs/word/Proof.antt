@@ -17,8 +17,8 @@ word-spec =
     (λ c. let s = c .before .before .before .before in let a = s .args in omega (arith, in-words (s .pre)))
     (λ c. let s = c .before .before .before .before .before in let a = s .args in omega (arith, in-words (s .pre)))
     (λ kind-of-requires κs. search needs)
-    (λ send-at-requires κs. search needs)
-    (λ c. c .send-at .ensures (c .before .before .before .before .before .before .before .before .args .rho .bits))
+    (λ send-requires κs. search needs)
+    (λ c. c .send .ensures (c .before .before .before .before .before .before .before .before .args .rho .bits))
     (λ own-requires κs. search needs)
     (λ lowered-requires κs. search needs)
     (λ c.

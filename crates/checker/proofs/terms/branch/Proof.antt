@@ -10,8 +10,8 @@ returns : tie.Need-returns
 unfolding flow
 returns c =
     λ k o w. let a = c .before .before .before .before .before .before .before .before .args in
-    both _ (c .before .before .before .before .before .before .part .ensures k o w) (both _ (c .before .before .before .before .before .lifted .ensures k o w) (both _ (c .before .before .before .before .lifted2 .ensures k o w) (both _ (c .before .before .before .wakes .ensures k o w)
-    (both _ (c .before .before .wakes2 .ensures k o w) (both _ (CC _ (a .d) (a .p) (c .before .passed .ensures k o w)) (CC _ (a .e) (a .p) (c .passed2 .ensures k o w)))))))
+    both (c .before .before .before .before .before .before .part .ensures k o w) (both (c .before .before .before .before .before .lifted .ensures k o w) (both (c .before .before .before .before .lifted2 .ensures k o w) (both (c .before .before .before .wakes .ensures k o w)
+    (both (c .before .before .wakes2 .ensures k o w) (both (CC (c .before .passed .ensures k o w)) (CC (c .passed2 .ensures k o w)))))))
 
 pub branch-spec : {M : Type 1} → statement M
 branch-spec =

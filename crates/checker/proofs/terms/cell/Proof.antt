@@ -11,7 +11,7 @@ use Rattle.checker.proofs.terms.cell.Tie as tie
 returns : tie.Need-returns
 unfolding flow oneRule
 returns c =
-    λ k o w. let a = c .before .before .before .before .before .args in both _ (c .before .before .before .part .ensures k o w) (both _ (own-is k (a .l) o (a .est .now) (a .p) (c .before .in-value .ensures k o)) (CB _ (a .p + 1) (a .p) (c .passed .ensures k o w)))
+    λ k o w. let a = c .before .before .before .before .before .args in both (c .before .before .before .part .ensures k o w) (both (own-is o (c .before .in-value .ensures k o)) (CB (c .passed .ensures k o w)))
 
 pub cell-spec : {M : Type 1} → statement M
 cell-spec =

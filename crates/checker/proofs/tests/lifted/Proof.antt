@@ -14,7 +14,7 @@ returns : tie.Need-returns
 returns c =
     λ k o w. let s = c .before .before .before .before .before .before .before .before in
     let e = s .args .est .now in
-    decided _
+    decided
     (c .within .ensures ∙ ap₂ (λ (x y : PermSet). within (x .bits) (y .bits)) (c .before .before .before .of .ensures) (c .before .of2 .ensures)
     ∙ ap₂ (λ (x y : ℕ). within (getD e x 0 % 2 ^ width) (getD e y 0)) (c .before .before .before .before .before .before .flags .ensures) (c .before .before .before .before .before .flags2 .ensures))
     (lifted-is (s .args .l) e (s .pre .0) k o w (s .args .p) (s .pre .2) (s .args .q) (s .pre .1))

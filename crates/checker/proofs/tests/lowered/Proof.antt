@@ -7,7 +7,7 @@ use Rattle.checker.proofs.tests.lowered.Statement.{statement}
 use Rattle.checker.proofs.tests.lowered.Tie as tie
 
 returns : tie.Need-returns
-returns c = λ e k d. lowered-none (λ q z. d .yes (subst T (sym (c .if1 .taken)) tt))
+returns c = λ e k d. lowered-none (λ q h z. d .yes (subst T (sym (c .if1 .taken)) tt))
 
 returns-2 : tie.Need-returns-2
 returns-2 c =

@@ -18,7 +18,7 @@ lacks-requires : tie.Need-lacks-requires
 lacks-requires c κs = let s = c .before .before .before in (row-in (s .pre .0) (s .args .a) (s .pre .1), row-in (s .pre .0) (s .args .b) (s .pre .2))
 
 returns : tie.Need-returns
-returns c = λ k o w. let s = c .before .before .before .before in decided _ (ap not (c .lacks .ensures)) (passed-is (s .args .l) (s .args .est .now) (s .pre .0) k o w (s .args .a) (s .args .b) (s .pre .1) (s .pre .2))
+returns c = λ k o w. let s = c .before .before .before .before in decided (ap not (c .lacks .ensures)) (passed-is (s .args .l) (s .args .est .now) (s .pre .0) k o w (s .args .a) (s .args .b) (s .pre .1) (s .pre .2))
 
 pub passed-spec : {M : Type 1} → statement M
 passed-spec = tie.close (tie.spec mul-lacks mul-lacks-2 lacks-requires returns)

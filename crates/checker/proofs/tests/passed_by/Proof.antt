@@ -24,7 +24,7 @@ returns : tie.Need-returns
 returns c =
     λ k j o w n. let s = c .before .before .before .before in
     let e = s .args .est .now in
-    decided _
+    decided
     (ap not (c .lacks-masked .ensures) ∙ ap (λ (x : List ℕ). not (lacking (masked x (rowOf (s .args .l) e (s .args .a))) (rowOf (s .args .l) e (s .args .b)))) (same-part (s .args .masks .now) (s .args .m * s .args .l .row) (s .args .l .row)))
     (passed-by-is (s .args .l) e (s .pre .0) k o w (s .args .a) (s .args .b) (s .pre .1) (s .pre .2) (sortAt (s .args .m) k) _ (n .mask (s .args .m) (s .pre .4)))
 

@@ -14,7 +14,7 @@ returns : tie.Need-returns
 returns c =
     λ k o w. let s = c .before .before .before .before .before in
     let e = s .args .est .now in
-    decided _
+    decided
     (c .within .ensures ∙ ap (λ (x : PermSet). within (s .args .set .bits) (x .bits)) (c .before .of .ensures)
     ∙ ap (λ (x : ℕ). within (s .args .set .bits) (getD e x 0)) (c .before .before .before .flags .ensures))
     (permitted-is (s .args .l) e (s .pre .0) k o w (s .args .p) (s .pre .1) (s .args .set .bits) (s .pre .2))

@@ -1,12 +1,18 @@
 -- `checker::things::called` meets its contract. Assumes nothing.
 use borrow.Author.Needs.{needs}
-use Rattle.checker.proofs.Found.{called-is}
+use native.Mathlib.Numerals.{add-one}
+use Rattle.clauses.proofs.Sorts.{row-B}
+use Rattle.checker.specs.Things.{asked}
+use Rattle.checker.proofs.Laws.{both, put-is}
+use Rattle.checker.proofs.Laid.{CC}
 use Rattle.checker.proofs.things.called.Statement.{statement}
 use Rattle.checker.proofs.things.called.Tie as tie
 
 returns : tie.Need-returns
+unfolding asked
 returns c =
-    λ k o w. let a = c .before .before .before .before .before .args in called-is _ (a .p) (a .y) (a .f) (c .before .before .before .is-live .ensures k o) (c .before .before .passed .ensures k o w) (c .before .passed2 .ensures k o w) (c .lifted .ensures k o w)
+    λ k o w. let a = c .before .before .before .before .before .args in rw (← add-one (a .f))
+    (both (put-is (c .before .before .before .is-live .ensures k o)) (both (rw (row-B (a .f)) at (c .before .before .passed .ensures k o w)) (both (CC (c .before .passed2 .ensures k o w)) (c .lifted .ensures k o w))))
 
 pub called-spec : {M : Type 1} → statement M
 called-spec =

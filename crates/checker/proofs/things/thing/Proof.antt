@@ -1,15 +1,12 @@
 -- `checker::things::thing` meets its contract: an arm for each action. Assumes nothing.
 use borrow.Author.Needs.{needs}
-use mathlib.Core.Path.{sym, subst}
-use Rattle.calculus.specs.Layout.{sets}
-use Rattle.checker.specs.declared.things.Action.{Action}
-use Rattle.checker.specs.Decides.{Decides}
 use Rattle.checker.specs.Things.{asked}
-use Rattle.checker.proofs.Found.{taken-is, handed-is}
+use Rattle.clauses.proofs.Sorts.{row-B}
 use Rattle.checker.proofs.things.thing.Statement.{statement}
 use Rattle.checker.proofs.things.thing.Tie as tie
 
 pub thing-spec : {M : Type 1} → statement M
+unfolding asked
 thing-spec =
     tie.close
     (tie.spec
@@ -23,12 +20,6 @@ thing-spec =
     (λ mul-passed-2. search needs)
     (λ add-passed-2. search needs)
     (λ passed-requires-2 κs. search needs)
-    (λ c.
-    λ k o w. let a = c .before .before .before .before .args in
-    subst (λ (x : Action). Decides (sets k (a .est .now)) (asked x (a .p) (a .y) (a .f)) (c .called .result)) (sym (c .before .enum-told .given .1)) (c .called .ensures k o w))
-    (λ c.
-    λ k o w. let a = c .before .before .before .before .args in
-    subst (λ (x : Action). Decides (sets k (a .est .now)) (asked x (a .p) (a .y) (a .f)) (c .passed .result)) (sym (c .before .enum-told2 .given .1)) (taken-is _ (a .p) (a .y) (a .f) (c .passed .ensures k o w)))
-    (λ c.
-    λ k o w. let a = c .before .before .before .before .args in
-    subst (λ (x : Action). Decides (sets k (a .est .now)) (asked x (a .p) (a .y) (a .f)) (c .passed2 .result)) (sym (c .before .enum-told3 .given .1)) (handed-is _ (a .p) (a .y) (a .f) (c .passed2 .ensures k o w))))
+    (λ c. λ k o w. rw (c .before .enum-told .given .1) (c .called .ensures k o w))
+    (λ c. λ k o w. rw (c .before .enum-told2 .given .1) (rw (row-B (c .before .before .before .before .args .f)) at (c .passed .ensures k o w)))
+    (λ c. λ k o w. rw (c .before .enum-told3 .given .1) (rw (row-B (c .before .before .before .before .args .f)) at (c .passed2 .ensures k o w))))

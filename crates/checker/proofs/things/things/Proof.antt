@@ -1,14 +1,15 @@
 -- `checker::things::things` meets its contract. The loop's invariant: what is asked for each thing passed holds, and f is the next one or none.
 -- Assumes nothing.
 use Prim.Native.Nat.{_+_, _-_, _*_, _<_}
-use mathlib.Core.Path.{_≡_}
+use mathlib.Core.Path.{_≡_, sym}
+use borrow.Author.Tests.{not-true, not-false}
 use mathlib.Core.Bool.{true}
 use native.Mathlib.Omega.{arith}
 use Rattle.queries.specs.Things.{both}
 use Rattle.checker.specs.Things.{asked}
 use Rattle.checker.proofs.Found.{Passed, passed-start, passed-more, all-passed, one-fails, suits-three, suits-call, body-in, may-search}
 use borrow.Author.Needs.{needs}
-use Rattle.checker.proofs.Laws.{answered-yes, answered-no}
+use Rattle.checker.proofs.Laws.{decided}
 use Rattle.checker.proofs.things.things.Statement.{statement}
 use Rattle.checker.proofs.things.things.Tie as tie
 
@@ -39,7 +40,7 @@ returns c =
     λ k j o w n. let s = c .before .before .before .before .before .before .before in
     let a = s .args in
     one-fails (a .l) (a .est .now) (a .masks .now) (a .p + 1) (a .m) (asked (a .action) (a .p) (a .y)) (s .pre .0 .sized) (s .pre .0 .first) (suits-three (a .action) (a .m) (s .pre .3)) k o w n (c .before .before .before .loop .f) (c .before .before .loop-test .taken) (c .before .before .before .loop .inv .1 (c .before .before .loop-test .taken))
-    (answered-no _ (c .if1 .taken) (c .before .thing .ensures k o w))
+    (decided (sym (not-true _ (c .if1 .taken))) (c .before .thing .ensures k o w))
 
 next-thing-requires-2 : tie.Need-next-thing-requires-2 Inv-loop μ-loop
 next-thing-requires-2 c κs =
@@ -51,7 +52,7 @@ loop-again c =
     let s = c .before .before .before .before .before .before .before .before in
     let a = s .args in (
       passed-more (a .l) (a .est .now) (a .masks .now) (a .p + 1) (a .m) (asked (a .action) (a .p) (a .y)) (c .before .before .before .before .loop .f) (c .next-thing2 .result) (c .before .before .before .before .loop .inv .0)
-          (λ k o w. answered-yes _ (c .before .if1 .left) (c .before .before .thing .ensures k o w)) (c .next-thing2 .ensures),
+          (λ k o w. decided (sym (not-false _ (c .before .if1 .left))) (c .before .before .thing .ensures k o w)) (c .next-thing2 .ensures),
       c .next-thing2 .ensures .found,
     )
 
