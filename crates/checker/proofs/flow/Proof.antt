@@ -11,7 +11,7 @@ use Rattle.calculus.proofs.Fitting.{constant-lt, sign-lt}
 use Rattle.clauses.proofs.ByKind.{byKind}
 use Rattle.queries.proofs.Home.{sender}
 use Rattle.checker.proofs.Guards.{body-in}
-use Rattle.checker.proofs.Laid.{BC}
+use Rattle.checker.proofs.Rows.{BC}
 use Rattle.checker.proofs.Asking.{own-is}
 use Rattle.checker.proofs.Placed.{masks-of, in-code, in-words, sizes, term-at, part-at, on, by, value, there, linked-here, out}
 use Rattle.checker.proofs.Placed.{binder-is, binder-in, block-flow, other-flow}

@@ -7,7 +7,7 @@ use Rattle.clauses.specs.Asks.{sortAt, thingAt}
 use Rattle.clauses.proofs.Sorts.{row-C}
 use Rattle.checker.specs.Things.{asked}
 use Rattle.checker.proofs.Laws.{both, parted, under-or, on-value}
-use Rattle.checker.proofs.Laid.{CC}
+use Rattle.checker.proofs.Rows.{CC}
 use Rattle.checker.proofs.Asking.{assign-is}
 use Rattle.checker.proofs.terms.assign.Statement.{statement}
 use Rattle.checker.proofs.terms.assign.Tie as tie

@@ -3,7 +3,7 @@ use borrow.Author.Needs.{needs}
 use Prim.Native.Nat.{_+_}
 use Rattle.calculus.specs.Rules.{flow}
 use Rattle.checker.proofs.Laws.{both, parted}
-use Rattle.checker.proofs.Laid.{CC, CB}
+use Rattle.checker.proofs.Rows.{CC, CB}
 use Rattle.checker.proofs.terms.bind.Statement.{statement}
 use Rattle.checker.proofs.terms.bind.Tie as tie
 

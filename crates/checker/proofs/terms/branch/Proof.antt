@@ -2,7 +2,7 @@
 use borrow.Author.Needs.{needs}
 use Rattle.calculus.specs.Rules.{flow}
 use Rattle.checker.proofs.Laws.{both}
-use Rattle.checker.proofs.Laid.{CC}
+use Rattle.checker.proofs.Rows.{CC}
 use Rattle.checker.proofs.terms.branch.Statement.{statement}
 use Rattle.checker.proofs.terms.branch.Tie as tie
 

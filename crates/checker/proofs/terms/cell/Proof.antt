@@ -3,7 +3,7 @@ use borrow.Author.Needs.{needs}
 use Prim.Native.Nat.{_+_}
 use Rattle.calculus.specs.Rules.{flow, oneRule}
 use Rattle.checker.proofs.Laws.{both}
-use Rattle.checker.proofs.Laid.{CB}
+use Rattle.checker.proofs.Rows.{CB}
 use Rattle.checker.proofs.Asking.{own-is}
 use Rattle.checker.proofs.terms.cell.Statement.{statement}
 use Rattle.checker.proofs.terms.cell.Tie as tie

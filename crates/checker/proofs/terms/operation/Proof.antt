@@ -6,7 +6,7 @@ use native.Mathlib.Omega.{arith}
 use Rattle.table.specs.Words.{operationOf}
 use Rattle.calculus.specs.Rules.{flow}
 use Rattle.checker.proofs.Laws.{decided, both, parted}
-use Rattle.checker.proofs.Laid.{operation-is}
+use Rattle.checker.proofs.Rows.{operation-is}
 use Rattle.checker.proofs.Asking.{side-in}
 use Rattle.checker.proofs.terms.operation.Statement.{statement}
 use Rattle.checker.proofs.terms.operation.Tie as tie

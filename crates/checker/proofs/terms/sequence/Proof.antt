@@ -2,7 +2,7 @@
 use borrow.Author.Needs.{needs}
 use Rattle.calculus.specs.Rules.{flow, twoRule}
 use Rattle.checker.proofs.Laws.{both, parted}
-use Rattle.checker.proofs.Laid.{CC}
+use Rattle.checker.proofs.Rows.{CC}
 use Rattle.checker.proofs.terms.sequence.Statement.{statement}
 use Rattle.checker.proofs.terms.sequence.Tie as tie
 

@@ -6,7 +6,7 @@ use Rattle.clauses.specs.Asks.{sortAt, thingAt}
 use Rattle.clauses.proofs.Sorts.{row-B}
 use Rattle.checker.specs.Things.{asked}
 use Rattle.checker.proofs.Laws.{both, both-idle, parted, idle, due, on-value}
-use Rattle.checker.proofs.Laid.{CB}
+use Rattle.checker.proofs.Rows.{CB}
 use Rattle.checker.proofs.Asking.{own-is, set-is}
 use Rattle.checker.proofs.terms.set.Statement.{statement}
 use Rattle.checker.proofs.terms.set.Tie as tie

@@ -5,7 +5,7 @@ use native.Mathlib.Omega.{arith}
 use borrow.Author.Count.{below-more}
 use lib.ListN.{getD}
 use Rattle.queries.proofs.Laws.{row-in}
-use Rattle.checker.proofs.Laid.{full-is, gap-is}
+use Rattle.checker.proofs.Rows.{full-is, gap-is}
 use borrow.Author.Needs.{needs}
 use Rattle.checker.proofs.tests.full.Statement.{statement}
 use Rattle.checker.proofs.tests.full.Tie as tie

@@ -1,7 +1,7 @@
 -- `checker::tests::lifted` meets its contract. Assumes nothing.
 use borrow.Author.Needs.{needs}
 use Rattle.checker.proofs.Laws.{decided}
-use Rattle.checker.proofs.Laid.{lifted-is}
+use Rattle.checker.proofs.Rows.{lifted-is}
 use Prim.Native.Nat.{ℕ, _%_, _^_}
 use mathlib.Core.Path.{ap₂, _∙_}
 use lib.ListN.{getD}

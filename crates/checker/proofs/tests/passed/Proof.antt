@@ -4,7 +4,7 @@ use mathlib.Core.Bool.{not}
 use native.Mathlib.Omega.{arith}
 use Rattle.queries.proofs.Laws.{row-in}
 use Rattle.checker.proofs.Laws.{decided}
-use Rattle.checker.proofs.Laid.{passed-is}
+use Rattle.checker.proofs.Rows.{passed-is}
 use Rattle.checker.proofs.tests.passed.Statement.{statement}
 use Rattle.checker.proofs.tests.passed.Tie as tie
 

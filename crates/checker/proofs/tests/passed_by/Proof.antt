@@ -11,7 +11,7 @@ use Rattle.rows.proofs.Laws.{same-part, length-part}
 use Rattle.clauses.specs.Asks.{sortAt}
 use Rattle.queries.proofs.Laws.{row-in, mask-in}
 use Rattle.checker.proofs.Laws.{decided}
-use Rattle.checker.proofs.Laid.{rowOf, passed-by-is}
+use Rattle.checker.proofs.Rows.{rowOf, passed-by-is}
 use Rattle.checker.proofs.tests.passed_by.Statement.{statement}
 use Rattle.checker.proofs.tests.passed_by.Tie as tie
 

@@ -1,7 +1,7 @@
 -- `checker::tests::permitted` meets its contract. Assumes nothing.
 use borrow.Author.Needs.{needs}
 use Rattle.checker.proofs.Laws.{decided}
-use Rattle.checker.proofs.Laid.{permitted-is}
+use Rattle.checker.proofs.Rows.{permitted-is}
 use Prim.Native.Nat.{ℕ}
 use mathlib.Core.Path.{ap, _∙_}
 use lib.ListN.{getD}

@@ -4,7 +4,7 @@ use native.Mathlib.Numerals.{add-one}
 use Rattle.clauses.proofs.Sorts.{row-B}
 use Rattle.checker.specs.Things.{asked}
 use Rattle.checker.proofs.Laws.{both, put-is}
-use Rattle.checker.proofs.Laid.{CC}
+use Rattle.checker.proofs.Rows.{CC}
 use Rattle.checker.proofs.things.called.Statement.{statement}
 use Rattle.checker.proofs.things.called.Tie as tie
 
