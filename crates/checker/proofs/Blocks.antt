@@ -31,7 +31,7 @@ use Rattle.checker.proofs.Laws.{Under, idle}
 
 -- ---- one block
 
-module _ (ws masks est : List ℕ) (l : Layout) (s : Sending) (h : Sent ws masks est l s) (b : ℕ) (i : b < length ws) (t : taskAt ws b ≡ name) where
+module _ {ws masks est : List ℕ} {l : Layout} {s : Sending} (h : Sent ws masks est l s) (b : ℕ) (i : b < length ws) (t : taskAt ws b ≡ name) where
   abbrev c : Code
   c = code ws
 

@@ -14,18 +14,16 @@ use rows::layout::Layout;
 use table::argument_of;
 use table_links::link_at;
 ghost use mathlib.Core.Path.{_≡_};
-ghost use Prim.Native.Nat.{ℕ, _+_, _*_, _<_, _≤_};
+ghost use Prim.Native.Nat.{ℕ, _<_};
 ghost use lib.ListN.{length, getD};
 ghost use Rattle.table.specs.Words.{kind as Kind};
 ghost use Rattle.table.specs.Scan.{name};
 ghost use Rattle.table.specs.Code.{code, taskAt};
 ghost use Rattle.table.specs.Links.{LinksOf};
 ghost use Rattle.calculus.specs.Layout.{sets};
-ghost use Rattle.rows.specs.Laid.{Sized};
 ghost use Rattle.queries.specs.Ready.{At};
-ghost use Rattle.checker.specs.Decides.{CheckedBy};
 ghost use Rattle.checker.specs.Lowered.{Lowered};
-ghost use Rattle.checker.specs.Sends.{delivery, AskedFor, AskedToSend, Sent};
+ghost use Rattle.checker.specs.Sends.{AskedFor, AskedToSend, Sent};
 ghost use Rattle.checker.specs.Words.{WordLowered};
 
 // The mask of what may be sent.
@@ -38,15 +36,6 @@ pub struct Sending {
     pub home: usize,
     pub required: PermSet,
     pub own: PermSet,
-}
-
-// The block b is live, what C(d) has of messages is in B(b), and P(b) is in P(p).
-fn delivered(est: &[u32], masks: &[u32], l: Layout, p: usize, d: usize, b: usize) -> bool
-    requires { ⌜ Sized l (now est) × (p < l .size) × (d < l .size) × (b < l .size) × (4 * l .row ≤ length (now masks)) ⌝ }
-    ensures { λ r. ⌜ CheckedBy l (now (est .entry)) (now (masks .entry)) (λ c. delivery c p d b) r ⌝ }
-{
-    is_live(est, l, b)
-        & (passed_by(est, masks, l, MESSAGES, 2 * d, 2 * b + 1) & lifted(est, l, b, p))
 }
 
 // `below`, or the lowest word that does not obey what the send asks for the block b: of the send itself to deliver, of b to know its sender.
@@ -65,7 +54,9 @@ fn to_block(
     if !starts(words, est, l, s.p, s.required, s.own, b) {
         return below;
     }
-    let sent = lowered(below, s.p, delivered(est, masks, l, s.p, s.d, b));
+    let delivered = is_live(est, l, b)
+        & (passed_by(est, masks, l, MESSAGES, 2 * s.d, 2 * b + 1) & lifted(est, l, b, s.p));
+    let sent = lowered(below, s.p, delivered);
     lowered(sent, b, in_value(est, l, b, 32 * l.lead + s.home))
 }
 

@@ -5,7 +5,6 @@ use crate::tests::lifted;
 use crate::tests::part;
 use crate::tests::passed;
 use crate::tests::passed_by;
-use crate::tests::permitted;
 use crate::tests::wakes;
 use crate::things::Action;
 use crate::things::things;
@@ -48,7 +47,8 @@ pub fn exercise(est: &[u32], l: Layout, p: usize, set: PermSet, own: PermSet) ->
     if !set.within(own) {
         return true;
     }
-    permitted(est, l, p, set) & in_value(est, l, p, 1)
+    let at = l.flags(p);
+    set.within(PermSet::of(est[at])) & in_value(est, l, p, 1)
 }
 
 pub fn apply(est: &[u32], masks: &[u32], l: Layout, p: usize, d: usize) -> bool
