@@ -32,10 +32,11 @@ use Rattle.queries.specs.Ready.{Ready, At}
 use Rattle.queries.proofs.Given.{linked-code, size-is, sized}
 use Rattle.checker.specs.Decides.{Decides, Checked, CheckedBy, MasksOf, Term}
 use Rattle.checker.proofs.Laws.{put-is}
+use Rattle.checker.specs.Words.{Accepted}
 use Rattle.checker.proofs.Guards.{block-node}
 
 -- the kinds of an accepted table
-kind-most : (ws : List ℕ) (r : reading ws ≡ accepted) (p : ℕ) → p < length ws → kind (getD ws p 0) ≤ 36
+pub kind-most : (ws : List ℕ) (r : reading ws ≡ accepted) (p : ℕ) → p < length ws → kind (getD ws p 0) ≤ 36
 kind-most ws r p l = go (taskAt ws p) (place-stands ws r p l)
   where
     go : (t : Task) → Stands (namesAt ws) (reach ws r p l .keys) (getD ws p 0) t → kind (getD ws p 0) ≤ 36
@@ -70,6 +71,9 @@ module _ {ws links masks est : List ℕ} {l : Layout} {p : ℕ} (g : At ws links
 
   pub sizes : Sized l est
   sizes = sized y (g .well)
+
+  pub accepted-at : Accepted ws l
+  accepted-at = record { readable = y .readable; laid = y .laid }
 
   -- the first part is a word of the code, and others are
   pub term-at : {h : ℕ} {x : List ℕ} → Within c (p + 1) h x → Term l est p
@@ -128,7 +132,7 @@ module _ {ws links masks est : List ℕ} {l : Layout} {p : ℕ} (g : At ws links
 
   pub block-flow : kind (getD ws p 0) ≡ 2 → {r : Bool} → Decides e (part p (p + 3)) r → Decides e (flow c p (c .node p)) r
   unfolding flow
-  block-flow i {r} d = subst (λ (m : Node). Decides e (flow c p m) r) (sym (block-node ws (y .readable) p in-code i)) d
+  block-flow i {r} d = subst (λ (m : Node). Decides e (flow c p m) r) (sym (block-node accepted-at (g .inside) i)) d
 
   -- past the kinds, none of 2 and 16 to 36, there is no term
   pub other-flow : {j : ℕ} → j ≡ kind (getD ws p 0) → NoneFrom (Unit {0} × (j ≡ 2 → ⊥)) 21 j → Decides e (flow c p (c .node p)) true

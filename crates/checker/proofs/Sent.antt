@@ -7,12 +7,11 @@ use native.Mathlib.Decide.{decLt, ℕ-discrete}
 use native.Mathlib.Omega.{arith}
 use borrow.Author.Tests.{not-true, not-false}
 use lib.Dec.{T}
-use lib.ListN.{getD, List·getD-eq-default}
+use lib.ListN.{getD}
 use Rattle.table.specs.declared.Item.{Item}
 use Rattle.table.specs.declared.Item.the-variants as items
 use Rattle.table.specs.declared.Term.{Term as TableTerm}
-use Rattle.table.specs.declared.Term.the-variants as terms
-use Rattle.table.specs.Words.{kind, argument, firstKind, termOf, termsByKind, limitsByKind, partsByKind}
+use Rattle.table.specs.Words.{kind, argument, firstKind, termsByKind, limitsByKind, partsByKind}
 use Rattle.table.specs.Item.{itemAt}
 use Rattle.table.specs.Code.{Code, Node, code, termNode, two, send}
 use Rattle.table.proofs.TermWords.{Rows, by-kind}
@@ -26,13 +25,14 @@ use Rattle.calculus.specs.Layout.{sets}
 use Rattle.calculus.proofs.Folds.{found}
 use Rattle.rows.specs.declared.layout.Layout.{Layout}
 use Rattle.clauses.specs.Asks.{rowAt}
-use Rattle.queries.specs.Ready.{Ready}
+use Rattle.queries.specs.Ready.{At}
 use Rattle.checker.specs.declared.sends.Sending.{Sending}
 use Rattle.checker.specs.Lowered.{Lowered}
 use Rattle.checker.specs.Sends.{toBlock, toSender, known, AskedFor, AskedToSend}
 use Rattle.checker.specs.Words.{ownRule, AskedBy}
 use Rattle.checker.proofs.Laws.{idle, on-value}
 use Rattle.checker.proofs.Blocks.{Among}
+use Rattle.checker.proofs.Placed.{kind-most, in-words}
 use Rattle.checker.proofs.Lowered.{lowered-none, lowered-same, lowered-then}
 
 -- ---- where there is something to send, and where not
@@ -71,34 +71,25 @@ module _ (c : Code) (e : Sets) (b p : ℕ) (x y z : ℕ) where
       ▸ (λ h. tt) ▸ (λ h. tt) ▸ (λ h. tt) ▸ (λ h. tt) ▸ (λ h. tt) ▸ (λ h. absurd (h refl)) ▸ (λ h. tt)
       ▸ done
 
-  quiet-term : (w : ℕ) → 16 ≤ kind w → (kind w ≡ 35 → ⊥) → Obeys e (sender c b p (termNode (termOf w) x y z))
-  unfolding Quiet termOf termsByKind termNode sender
-  quiet-term w low n = go (decLt 36 (kind w))
-    where
-      go : Dec (36 < kind w) → Obeys e (sender c b p (termNode (termOf w) x y z))
-      go (yes h) =
-          subst (λ (t : TableTerm). Obeys e (sender c b p (termNode t x y z)))
-          (sym (List·getD-eq-default (termsByKind (argument w)) terms.Record {n = kind w - 16} (omega arith))) tt
-      go (no h) = by-kind Quiet w low (omega arith) (quiet (argument w)) n
-
-module _ {ws links masks : List ℕ} {l : Layout} (y : Ready ws links masks l) (e : Sets) (p : ℕ) where
+module _ {ws links masks est : List ℕ} {l : Layout} {p : ℕ} (g : At ws links masks est l p) (e : Sets) where
   abbrev c : Code
   c = code ws
 
   abbrev Silent : ℕ → Item → Type 0
-  Silent b x = Obeys e (sender c b p (nodeAt ws (y .readable) (y .slice) (y .room) x p))
+  Silent b x = Obeys e (sender c b p (nodeAt ws (g .ready .readable) (g .ready .slice) (g .ready .room) x p))
 
   no-send : (kind (getD ws p 0) ≡ 35 → ⊥) → (b : ℕ) → Obeys e (sender c b p (c .node p))
-  unfolding itemNode sender
+  unfolding Quiet itemNode sender
   no-send n b =
-      subst (λ (m : Node). Obeys e (sender c b p m)) (sym (node-item ws (y .readable) (y .slice) (y .room) p))
+      subst (λ (m : Node). Obeys e (sender c b p m)) (sym (node-item ws (g .ready .readable) (g .ready .slice) (g .ready .room) p))
       (go (decLt (kind (getD ws p 0)) 16) (ℕ-discrete (kind (getD ws p 0)) 2))
     where
       go : Dec (kind (getD ws p 0) < 16) → Dec (kind (getD ws p 0) ≡ 2) → Silent b (itemAt ws p)
       go h (yes k) = subst (Silent b) (sym (item-block ws p k)) tt
       go (yes h) (no k) = subst (Silent b) (sym (item-gap ws p k h)) tt
       go (no h) (no k) =
-          subst (Silent b) (sym (item-term ws p (omega arith))) (quiet-term c e b p _ _ _ (getD ws p 0) (omega arith) n)
+          subst (Silent b) (sym (item-term ws p (omega arith)))
+          (by-kind (Quiet c e b p _ _ _) (getD ws p 0) (omega arith) (kind-most ws (g .ready .readable) p (in-words g)) (quiet c e b p _ _ _ (argument (getD ws p 0))) n)
 
   pub word-silent : (kind (getD ws p 0) ≡ 35 → ⊥) → (ρ : ℕ) {below r : ℕ} → Lowered (λ q. q ≡ p → Obeys e (ownRule c ρ p)) below r
       → Lowered (AskedBy c e ρ p) below r

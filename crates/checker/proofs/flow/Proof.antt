@@ -13,7 +13,7 @@ use Rattle.queries.proofs.Home.{sender}
 use Rattle.checker.proofs.Guards.{body-in}
 use Rattle.checker.proofs.Rows.{BC}
 use Rattle.checker.proofs.Asking.{own-is}
-use Rattle.checker.proofs.Placed.{masks-of, in-code, in-words, sizes, term-at, part-at, on, by, value, there, linked-here, out}
+use Rattle.checker.proofs.Placed.{masks-of, accepted-at, in-words, sizes, term-at, part-at, on, by, value, there, linked-here, out}
 use Rattle.checker.proofs.Placed.{binder-is, binder-in, block-flow, other-flow}
 use Rattle.checker.proofs.flow.Statement.{statement}
 use Rattle.checker.proofs.flow.Tie as tie
@@ -31,9 +31,9 @@ flow-spec =
     (λ c. let z = sizes (c .before .before .before .before .before .before .before .pre .0) in omega (arith, z .size, z .wide, z .most, c .before .before .before .before .before .before .before .pre .0 .inside))
     (λ kind-of-requires κs. search needs)
     (λ c. let g = c .before .before .before .before .before .before .before .before .before .pre .0 in
-    omega (arith, sizes g .size, body-in _ (g .ready .readable) _ (in-code g) (sym (c .before .kind-of .ensures) ∙ (c .match .keys1)), g .ready .laid .size))
+    omega (arith, sizes g .size, body-in (accepted-at g) (g .inside) (sym (c .before .kind-of .ensures) ∙ (c .match .keys1))))
     (λ c κs. let g = c .before .before .before .before .before .before .before .before .before .pre .0 in
-    (sizes g, g .inside, omega (arith, body-in _ (g .ready .readable) _ (in-code g) (sym (c .before .kind-of .ensures) ∙ (c .match .keys1)), g .ready .laid .size)))
+    (sizes g, g .inside, body-in (accepted-at g) (g .inside) (sym (c .before .kind-of .ensures) ∙ (c .match .keys1))))
     (λ constant-element-requires κs. search needs)
     (λ c κs. let g = c .before .before .before .before .before .before .before .before .before .before .pre .0 in
     (sizes g, g .inside, omega (arith, c .constant-element .ensures, constant-lt (constantOf (c .before .before .before .before .argument-of .result)), sizes g .lead)))

@@ -1,13 +1,13 @@
 -- `checker::own` meets its contract. Assumes nothing.
 use borrow.Author.Needs.{needs}
 use Rattle.checker.proofs.Laws.{and-no, and-rest, idle, due, on-given}
-use Rattle.checker.proofs.Placed.{sizes}
+use Rattle.checker.proofs.Placed.{accepted-at, sizes}
 use Rattle.checker.proofs.own.Statement.{statement}
 use Rattle.checker.proofs.own.Tie as tie
 
 entry-requires : tie.Need-entry-requires
 entry-requires c κs =
-    let s = c .before .before .before .before in (record { readable = s .pre .0 .ready .readable; laid = s .pre .0 .ready .laid }, sizes (s .pre .0), s .pre .0 .well, s .pre .0 .inside)
+    let s = c .before .before .before .before in (accepted-at (s .pre .0), sizes (s .pre .0), s .pre .0 .well, s .pre .0 .inside)
 
 returns : tie.Need-returns
 returns c = and-no (c .if1 .taken) (c .before .entry .ensures)
