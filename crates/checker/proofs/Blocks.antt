@@ -2,7 +2,7 @@
 use Prim.Native.Nat.{ℕ, _+_, _*_, _≤_, _<_}
 use mathlib.Core.Path.{_≡_, refl, sym, ap, _∙_, subst}
 use mathlib.Core.Logic.{⊎-elim}
-use mathlib.Core.Bool.{Bool, true, false, not}
+use mathlib.Core.Bool.{Bool, true, not, _&&_}
 use mathlib.Core.List.{List, List·Memᴰ, List·Memᴰ·head, List·Memᴰ·tail, List·Memᴰ·cases-cons, List·Memᴰ·not-nil}
 use native.Mathlib.Omega.{arith}
 use lib.Dec.{T}
@@ -10,19 +10,20 @@ use lib.ListN.{length, getD}
 use Rattle.delivery.specs.Delivery.{delivered}
 use Rattle.table.specs.declared.Link.{Link}
 use Rattle.table.specs.Words.{argument}
+use Rattle.table.specs.Item.{handlerAt}
 use Rattle.table.specs.Links.{linkAt, LinksOf}
 use Rattle.table.specs.Scan.{name, accepted, reading}
 use Rattle.table.specs.Code.{Code, block, code, taskAt, nodeFor, endOf}
-use Rattle.table.proofs.Blocks.{Follows, Block, block as block-words, blocks-first, blocks-next, blocks-end}
+use Rattle.table.proofs.Blocks.{Follows, block as block-words, blocks-first, blocks-next, blocks-end}
 use Rattle.table.proofs.BlockLoop.{blocksOn, named-there, follows-first, next-is, follows-next, next-later}
 use Rattle.calculus.specs.Elements.{made, nameElement}
 use Rattle.calculus.specs.Constraint.{C, Sets, Rule, put}
 use Rattle.calculus.specs.Rules.{nameOf, permissions, deliveryTo}
 use Rattle.calculus.specs.Layout.{sets}
-use Rattle.calculus.proofs.Digits.{T-true}
+use Rattle.calculus.proofs.Digits.{T-and, T-fst, T-snd}
 use Rattle.rows.specs.declared.layout.Layout.{Layout}
+use Rattle.clauses.proofs.Sorts.{row-C}
 use Rattle.queries.specs.Starts.{startsAt}
-use Rattle.queries.proofs.Sends.{answer-so, named-so, named-not}
 use Rattle.checker.specs.declared.sends.Sending.{Sending}
 use Rattle.checker.specs.Lowered.{Lowered}
 use Rattle.checker.specs.Sends.{delivery, toStarted, AskedFor, Sent}
@@ -35,52 +36,42 @@ module _ {ws masks est : List ℕ} {l : Layout} {s : Sending} (h : Sent ws masks
   abbrev c : Code
   c = code ws
 
-  pub words-of : Block ws b
-  words-of = block-words ws (h .readable) b i t
-
   pub size-is : length ws ≡ l .size
   unfolding code
   size-is = h .laid .size
 
   pub name-in : nameElement (argument (getD ws b 0)) < 32 * l .lead
   unfolding code
-  name-in = omega (arith, words-of .named, h .laid .lead)
-
-  node-is : c .node b ≡ block (argument (getD ws b 0)) (argument (getD ws (b + 1) 0)) (argument (getD ws (b + 2) 0))
-  unfolding code nodeFor
-  node-is = ap (nodeFor ws b) t
+  name-in = omega (arith, block-words ws (h .readable) b i t .named, h .laid .lead)
 
   abbrev e : Sets
   e = sets c est
 
-  abbrev answer : Bool
-  answer = delivered (deliveryTo (nameOf (c .node b)) (s .required .bits) (permissions c (s .p)) (c .node b))
-
   abbrev named : Bool
   named = e (C (s .p + 1)) (nameElement (nameOf (c .node b)))
 
-  abbrev starting : ℕ → Bool
-  starting own = startsAt c ws est (s .p) (s .required .bits) own b
+  abbrev answer : Bool
+  answer = delivered (deliveryTo (nameOf (c .node b)) (s .required .bits) (permissions c (s .p)) (c .node b))
+
+  abbrev starting : Bool
+  starting = startsAt c ws est (s .p) (s .required .bits) (s .own .bits) b
+
+  starts-is : starting ≡ named && answer
+  unfolding code nodeFor nameOf deliveryTo handlerAt
+  starts-is =
+      let n : c .node b ≡ block (argument (getD ws b 0)) (argument (getD ws (b + 1) 0)) (argument (getD ws (b + 2) 0)) = ap (nodeFor ws b) t in
+      rw (n, row-C (s .p + 1), h .own) refl
 
   -- what is asked where the send starts b
-  pub on-started : {k : Rule} {r : Bool} → r ≡ starting (s .own .bits) → Under e (toStarted c s b k) r k
-  on-started {r = r} q =
+  pub on-started : {k : Rule} {r : Bool} → r ≡ starting → Under e (toStarted c s b k) r k
+  on-started q =
       record {
-        asks = λ o x. let g : starting (permissions c (s .p)) ≡ true = sym z ∙ T-true r x in
-            o (subst T (sym (answer-so ws est (s .p) (s .required .bits) (permissions c (s .p)) b node-is g)) tt)
-            (subst T (sym (named-so ws est (s .p) (s .required .bits) (permissions c (s .p)) b node-is g)) tt);
-        from = λ f a n. f (go r refl a n);
+        asks = λ o x. let g = subst T (q ∙ starts-is) x in o (T-snd named answer g) (T-fst named answer g);
+        from = λ f a n. f (subst T (sym (q ∙ starts-is)) (T-and named answer n a));
       }
-    where
-      z : r ≡ starting (permissions c (s .p))
-      z = q ∙ ap starting (h .own)
-
-      go : (x : Bool) → r ≡ x → T answer → T named → T x
-      go true g a n = tt
-      go false g a n = subst T (named-not ws est (s .p) (s .required .bits) (permissions c (s .p)) b node-is (sym z ∙ g) (T-true answer a)) n
 
   -- a block that is not started is asked nothing for
-  pub unasked : {r : Bool} → r ≡ starting (s .own .bits) → not r ≡ true → (w : ℕ) → AskedFor c e s b w
+  pub unasked : {r : Bool} → r ≡ starting → not r ≡ true → (w : ℕ) → AskedFor c e s b w
   unasked q n w =
       (λ z. idle (on-started {k = delivery c (s .p) (s .d) b} q) n .yes tt, λ z. idle (on-started {k = put (C b) (made c (c .home (s .p)))} q) n .yes tt)
 

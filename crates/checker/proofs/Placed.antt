@@ -124,12 +124,6 @@ module _ {ws links masks est : List ℕ} {l : Layout} {p : ℕ} (g : At ws links
 
   -- ---- what is no term
 
-  item-flow : (x : Item) → itemAt ws p ≡ x → {r : Bool} → Decides e (flow c p (nodeAt ws (y .readable) (y .slice) (y .room) x p)) r
-      → Decides e (flow c p (c .node p)) r
-  item-flow x i {r} d =
-      subst (λ (m : Node). Decides e (flow c p m) r)
-      (sym (node-item ws (y .readable) (y .slice) (y .room) p ∙ ap (λ (z : Item). nodeAt ws (y .readable) (y .slice) (y .room) z p) i)) d
-
   pub block-flow : kind (getD ws p 0) ≡ 2 → {r : Bool} → Decides e (part p (p + 3)) r → Decides e (flow c p (c .node p)) r
   unfolding flow
   block-flow i {r} d = subst (λ (m : Node). Decides e (flow c p m) r) (sym (block-node accepted-at (g .inside) i)) d
@@ -138,8 +132,8 @@ module _ {ws links masks est : List ℕ} {l : Layout} {p : ℕ} (g : At ws links
   pub other-flow : {j : ℕ} → j ≡ kind (getD ws p 0) → NoneFrom (Unit {0} × (j ≡ 2 → ⊥)) 21 j → Decides e (flow c p (c .node p)) true
   unfolding flow itemNode
   other-flow {j} q t =
-      item-flow items.Gap
-      (item-gap ws p (λ z. t .0 .0 .0 .0 .0 .0 .0 .0 .0 .0 .0 .0 .0 .0 .0 .0 .0 .0 .0 .0 .0 .1 (q ∙ z)) (below (decLt j 16)))
+      subst (λ (m : Node). Decides e (flow c p m) true)
+      (sym (node-item ws (y .readable) (y .slice) (y .room) p ∙ ap (λ (z : Item). nodeAt ws (y .readable) (y .slice) (y .room) z p) (item-gap ws p (λ z. t .0 .0 .0 .0 .0 .0 .0 .0 .0 .0 .0 .0 .0 .0 .0 .0 .0 .0 .0 .0 .0 .1 (q ∙ z)) (below (decLt j 16)))))
       (record { yes = λ x. tt; no = λ x. tt })
     where
       below : Dec (j < 16) → kind (getD ws p 0) < 16

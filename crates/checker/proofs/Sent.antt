@@ -1,6 +1,6 @@
 -- What a word asks: a send that is live asks to be known by the blocks that it starts, and no other word asks anything of its receivers.
-use Prim.Native.Nat.{ℕ, _+_, _-_, _*_, _≤_, _<_}
-use mathlib.Core.Path.{_≡_, refl, sym, ap, _∙_, subst}
+use Prim.Native.Nat.{ℕ, _+_, _*_, _<_}
+use mathlib.Core.Path.{_≡_, refl, sym, _∙_, subst}
 use mathlib.Core.Bool.{Bool, true, false, not}
 use mathlib.Core.List.{List, List·Memᴰ}
 use native.Mathlib.Decide.{decLt, ℕ-discrete}
@@ -9,7 +9,6 @@ use borrow.Author.Tests.{not-true, not-false}
 use lib.Dec.{T}
 use lib.ListN.{getD}
 use Rattle.table.specs.declared.Item.{Item}
-use Rattle.table.specs.declared.Item.the-variants as items
 use Rattle.table.specs.declared.Term.{Term as TableTerm}
 use Rattle.table.specs.Words.{kind, argument, firstKind, termsByKind, limitsByKind, partsByKind}
 use Rattle.table.specs.Item.{itemAt}

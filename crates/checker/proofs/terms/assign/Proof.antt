@@ -1,6 +1,5 @@
 -- `checker::terms::assign` meets its contract. Assumes nothing.
 use borrow.Author.Needs.{needs}
-use Prim.Native.Nat.{_+_}
 use native.Mathlib.Omega.{arith}
 use Rattle.calculus.specs.Rules.{flow, twoRule}
 use Rattle.clauses.specs.Asks.{sortAt, thingAt}

@@ -1,6 +1,5 @@
 -- `checker::terms::bind` meets its contract. Assumes nothing.
 use borrow.Author.Needs.{needs}
-use Prim.Native.Nat.{_+_}
 use Rattle.calculus.specs.Rules.{flow}
 use Rattle.checker.proofs.Laws.{both, parted}
 use Rattle.checker.proofs.Rows.{CC, CB}

@@ -1,6 +1,5 @@
 -- `checker::terms::cell` meets its contract. Assumes nothing.
 use borrow.Author.Needs.{needs}
-use Prim.Native.Nat.{_+_}
 use Rattle.calculus.specs.Rules.{flow, oneRule}
 use Rattle.checker.proofs.Laws.{both}
 use Rattle.checker.proofs.Rows.{CB}

@@ -1,6 +1,5 @@
 -- `checker::tests::fills` meets its contract. Assumes nothing.
 use borrow.Author.Needs.{needs}
-use Rattle.calculus.specs.Constraint.{C}
 use Rattle.checker.proofs.Laws.{under-or, on-given}
 use Rattle.checker.proofs.tests.fills.Statement.{statement}
 use Rattle.checker.proofs.tests.fills.Tie as tie

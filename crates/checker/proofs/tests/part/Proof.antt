@@ -1,6 +1,5 @@
 -- `checker::tests::part` meets its contract. Assumes nothing.
 use borrow.Author.Needs.{needs}
-use Rattle.calculus.specs.Constraint.{L}
 use Rattle.checker.proofs.Laws.{both, put-is}
 use Rattle.checker.proofs.tests.part.Statement.{statement}
 use Rattle.checker.proofs.tests.part.Tie as tie

@@ -1,6 +1,5 @@
 -- `checker::tests::wakes` meets its contract. Assumes nothing.
 use borrow.Author.Needs.{needs}
-use Rattle.calculus.specs.Constraint.{C, L}
 use Rattle.checker.proofs.Laws.{put-is, under-or, on-given}
 use Rattle.checker.proofs.tests.wakes.Statement.{statement}
 use Rattle.checker.proofs.tests.wakes.Tie as tie
