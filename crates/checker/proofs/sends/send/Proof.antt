@@ -35,15 +35,6 @@ to-blocks-requires c κs =
       links-of y,
     )
 
-returns-2 : tie.Need-returns-2
-unfolding byKind termsByKind termNode
-returns-2 c =
-    λ ρ. let s = c .before .before .before .before .before .before .before .before .before .before .before .before .before .before .before in let g = s .pre .0 in let o = g .ready .laid in
-    send-live _ _ (record { p = _; d = _; home = 0; required = _; own = record { bits = 0 } })
-    (node-here g refl (s .pre .1) refl (c .before .before .before .before .before .before .before .before .end .ensures .0) refl ∙ ap (λ (v : ℕ). two (send v) (s .args .p + 1) (c .before .before .before .before .before .before .before .before .end .result)) (sym (c .before .before .before .before .before .argument-of .ensures))) ρ
-    (c .before .before .before .before .before .before .before .before .before .before .is-live .ensures _ o) (c .before .before .before .before .before .before .before .before .before .if1 .left) (c .before .before .before .to-blocks .ensures)
-    (c .lowered .ensures _ _ (both (c .before .before .parts .ensures _ o (g .well)) (put-is (c .before .in-value .ensures _ o))))
-
 pub send-spec : {M : Type 1} → statement M
 unfolding byKind termsByKind termNode
 send-spec =
@@ -62,4 +53,8 @@ send-spec =
     (λ c κs. let s = c .before .before .before .before .before .before .before .before .before .before .before .before in let g = s .pre .0 in let x = linked-here g refl (s .pre .1) refl (c .before .before .before .before .before .end .ensures .0) refl in (term-at g (x .1), part-at g (x .2)))
     (λ c κs. let g = c .before .before .before .before .before .before .before .before .before .before .before .before .before .pre .0 in (sizes g, g .inside, omega (arith, sizes g .lead)))
     (λ lowered-requires κs. search needs)
-    returns-2)
+    (λ c. λ ρ. let s = c .before .before .before .before .before .before .before .before .before .before .before .before .before .before .before in let g = s .pre .0 in let o = g .ready .laid in
+    send-live _ _ (record { p = _; d = _; home = 0; required = _; own = record { bits = 0 } })
+    (node-here g refl (s .pre .1) refl (c .before .before .before .before .before .before .before .before .end .ensures .0) refl ∙ ap (λ (v : ℕ). two (send v) (s .args .p + 1) (c .before .before .before .before .before .before .before .before .end .result)) (sym (c .before .before .before .before .before .argument-of .ensures))) ρ
+    (c .before .before .before .before .before .before .before .before .before .before .is-live .ensures _ o) (c .before .before .before .before .before .before .before .before .before .if1 .left) (c .before .before .before .to-blocks .ensures)
+    (c .lowered .ensures _ _ (both (c .before .before .parts .ensures _ o (g .well)) (put-is (c .before .in-value .ensures _ o))))))

@@ -20,25 +20,8 @@ Inv-loop words links masks est l s below lowest₀ b₀ lowest b = Looked words 
 abbrev μ-loop : tie.MeasureT-loop
 μ-loop words links masks est l s below lowest₀ b₀ lowest b = length words - b
 
-returns : tie.Need-returns Inv-loop μ-loop
-unfolding sortAt
-returns c =
-    let s = c .before .before .before .before .before .before .before in let h = s .pre .0 in
-    nothing-sent _ (s .args .est .now) (s .args .s) (c .before .has-some .ensures _ (sortAt 3 _) (h .laid) (h .well) (h .masked .mask 3 (omega arith))) (c .if1 .taken)
-
-add-link-at : tie.Need-add-link-at Inv-loop μ-loop
-add-link-at c =
-    let s = c .before .before .before .before .before .before .before .before .before .before in let q = s .pre .0 .readable in let i = c .before .before .loop in let g = c .before .loop-test .taken in
-    omega (arith, body-inside _ q (i .b) g (named-there _ q (i .b) (i .inv .0) g))
-
-returns-2 : tie.Need-returns-2 Inv-loop μ-loop
-unfolding sortAt
-returns-2 c =
-    let s = c .before .before .before .before .before .before .before .before .before in let h = s .pre .0 in
-    something-sent _ (s .args .est .now) (s .args .s) (c .before .before .before .has-some .ensures _ (sortAt 3 _) (h .laid) (h .well) (h .masked .mask 3 (omega arith)))
-    (c .before .before .if1 .left) (looked-all _ (h .readable) _ (c .before .loop .inv) (c .loop-test .left))
-
 pub to-blocks-spec : {M : Type 1} → statement M
+unfolding sortAt
 to-blocks-spec =
     tie.close
     (tie.spec
@@ -46,14 +29,18 @@ to-blocks-spec =
     μ-loop
     (λ mul-has-some. search needs)
     (λ has-some-requires κs. search needs)
-    returns
+    (λ c. let s = c .before .before .before .before .before .before .before in let h = s .pre .0 in
+    nothing-sent _ (s .args .est .now) (s .args .s) (c .before .has-some .ensures _ (sortAt 3 _) (h .laid) (h .well) (h .masked .mask 3 (omega arith))) (c .if1 .taken))
     (λ c. looked-start _ (c .before .before .before .before .before .before .before .pre .0 .readable) _)
     (λ c κs. let s = c .before .before .before .before .before .before .before .before .before in
     (s .pre .0, c .loop-test .taken, named-there _ (s .pre .0 .readable) _ (c .before .loop .inv .0) (c .loop-test .taken)))
-    add-link-at
+    (λ c. let s = c .before .before .before .before .before .before .before .before .before .before in let q = s .pre .0 .readable in let i = c .before .before .loop in let g = c .before .loop-test .taken in
+    omega (arith, body-inside _ q (i .b) g (named-there _ q (i .b) (i .inv .0) g)))
     (λ link-at-requires κs. search needs)
     (λ c. let s = c .before .before .before .before .before .before .before .before .before .before .before in let g = c .before .before .loop-test .taken in
     omega (arith, looked-next _ (s .pre .0 .readable) _ (c .before .before .before .loop .inv) g (s .pre .1) (c .link-at .ensures) (c .before .to-block .ensures) .1, g))
     (λ c. let s = c .before .before .before .before .before .before .before .before .before .before .before in
     looked-next _ (s .pre .0 .readable) _ (c .before .before .before .loop .inv) (c .before .before .loop-test .taken) (s .pre .1) (c .link-at .ensures) (c .before .to-block .ensures) .0)
-    returns-2)
+    (λ c. let s = c .before .before .before .before .before .before .before .before .before in let h = s .pre .0 in
+    something-sent _ (s .args .est .now) (s .args .s) (c .before .before .before .has-some .ensures _ (sortAt 3 _) (h .laid) (h .well) (h .masked .mask 3 (omega arith)))
+    (c .before .before .if1 .left) (looked-all _ (h .readable) _ (c .before .loop .inv) (c .loop-test .left))))

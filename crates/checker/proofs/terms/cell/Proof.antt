@@ -7,12 +7,8 @@ use Rattle.checker.proofs.Asking.{own-is}
 use Rattle.checker.proofs.terms.cell.Statement.{statement}
 use Rattle.checker.proofs.terms.cell.Tie as tie
 
-returns : tie.Need-returns
-unfolding flow oneRule
-returns c =
-    λ k o w. let a = c .before .before .before .before .before .args in both (c .before .before .before .part .ensures k o w) (both (own-is o (c .before .in-value .ensures k o)) (CB (c .passed .ensures k o w)))
-
 pub cell-spec : {M : Type 1} → statement M
+unfolding flow oneRule
 cell-spec =
     tie.close
     (tie.spec
@@ -26,4 +22,4 @@ cell-spec =
     (λ mul-passed-2. search needs)
     (λ add-passed-2. search needs)
     (λ passed-requires κs. search needs)
-    returns)
+    (λ c. λ k o w. let a = c .before .before .before .before .before .args in both (c .before .before .before .part .ensures k o w) (both (own-is o (c .before .in-value .ensures k o)) (CB (c .passed .ensures k o w)))))

@@ -11,15 +11,8 @@ use Rattle.checker.proofs.Asking.{side-in}
 use Rattle.checker.proofs.terms.operation.Statement.{statement}
 use Rattle.checker.proofs.terms.operation.Tie as tie
 
-returns : tie.Need-returns
-unfolding flow
-returns c =
-    λ k o w. let s = c .before .before .before .before .before .before .before .before .before .before .before in let a = s .args in
-    parted (both (c .before .before .before .before .before .before .before .before .before .parts .ensures k o w) (decided
-    (c .within .ensures ∙ rw (c .before .of2 .ensures, c .before .before .before .of .ensures, c .before .before .before .before .operate-at .ensures, c .before .before .before .before .before .before .before .operation-of .ensures) refl)
-    (operation-is (a .l) (a .est .now) (s .pre .0 .sized) k o w (a .p) (a .p + 1) (a .d) (omega (arith, s .pre .0 .first)) (s .pre .0 .first) (s .pre .1) (operationOf (a .a)))))
-
 pub operation-spec : {M : Type 1} → statement M
+unfolding flow
 operation-spec =
     tie.close
     (tie.spec
@@ -39,4 +32,7 @@ operation-spec =
     (λ c. let s = c .before .before .before .before .before .before .before .before .before in omega (arith, side-in (s .pre .0 .sized) (s .args .p) (omega (arith, s .pre .0 .first))))
     (λ of-requires-2 κs. search needs)
     (λ within-requires κs. search needs)
-    returns)
+    (λ c. λ k o w. let s = c .before .before .before .before .before .before .before .before .before .before .before in let a = s .args in
+    parted (both (c .before .before .before .before .before .before .before .before .before .parts .ensures k o w) (decided
+    (c .within .ensures ∙ rw (c .before .of2 .ensures, c .before .before .before .of .ensures, c .before .before .before .before .operate-at .ensures, c .before .before .before .before .before .before .before .operation-of .ensures) refl)
+    (operation-is (a .l) (a .est .now) (s .pre .0 .sized) k o w (a .p) (a .p + 1) (a .d) (omega (arith, s .pre .0 .first)) (s .pre .0 .first) (s .pre .1) (operationOf (a .a)))))))

@@ -6,12 +6,6 @@ use mathlib.Core.Path.{refl, _∙_}
 use Rattle.checker.proofs.tests.lifted.Statement.{statement}
 use Rattle.checker.proofs.tests.lifted.Tie as tie
 
-returns : tie.Need-returns
-returns c =
-    λ k o w. let s = c .before .before .before .before .before .before .before .before in
-    decided (c .within .ensures ∙ rw (c .before .before .before .of .ensures, c .before .of2 .ensures, c .before .before .before .before .before .before .flags .ensures, c .before .before .before .before .before .flags2 .ensures) refl)
-    (lifted-is (s .args .l) (s .args .est .now) (s .pre .0) k o w (s .args .p) (s .pre .2) (s .args .q) (s .pre .1))
-
 pub lifted-spec : {M : Type 1} → statement M
 lifted-spec =
     tie.close
@@ -25,4 +19,6 @@ lifted-spec =
     (λ shared-slice-read-of-2. search needs)
     (λ of-requires-2 κs. search needs)
     (λ within-requires κs. search needs)
-    returns)
+    (λ c. λ k o w. let s = c .before .before .before .before .before .before .before .before in
+    decided (c .within .ensures ∙ rw (c .before .before .before .of .ensures, c .before .of2 .ensures, c .before .before .before .before .before .before .flags .ensures, c .before .before .before .before .before .flags2 .ensures) refl)
+    (lifted-is (s .args .l) (s .args .est .now) (s .pre .0) k o w (s .args .p) (s .pre .2) (s .args .q) (s .pre .1))))

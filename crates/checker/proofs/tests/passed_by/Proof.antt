@@ -12,12 +12,6 @@ use Rattle.checker.proofs.Rows.{passed-by-is}
 use Rattle.checker.proofs.tests.passed_by.Statement.{statement}
 use Rattle.checker.proofs.tests.passed_by.Tie as tie
 
-returns : tie.Need-returns
-returns c =
-    λ k j o w n. let s = c .before .before .before .before in let a = s .args in
-    decided (ap not (c .lacks-masked .ensures) ∙ rw (same-part (a .masks .now) (a .m * a .l .row) (a .l .row)) refl)
-    (passed-by-is _ _ (s .pre .0) k o w _ _ (s .pre .1) (s .pre .2) (sortAt (a .m) k) _ (n .mask (a .m) (s .pre .4)))
-
 pub passed-by-spec : {M : Type 1} → statement M
 passed-by-spec =
     tie.close
@@ -32,4 +26,6 @@ passed-by-spec =
     (λ c. omega (arith, row-in (c .before .before .before .pre .0) _ (c .before .before .before .pre .2)))
     (λ c κs. let s = c .before .before .before in let a = s .args in
     (row-in (s .pre .0) _ (s .pre .1), row-in (s .pre .0) _ (s .pre .2), length-part (a .masks .now) (a .m * a .l .row) (a .l .row) (mask-in _ (a .l .row) _ (s .pre .3) (s .pre .4))))
-    returns)
+    (λ c. λ k j o w n. let s = c .before .before .before .before in let a = s .args in
+    decided (ap not (c .lacks-masked .ensures) ∙ rw (same-part (a .masks .now) (a .m * a .l .row) (a .l .row)) refl)
+    (passed-by-is _ _ (s .pre .0) k o w _ _ (s .pre .1) (s .pre .2) (sortAt (a .m) k) _ (n .mask (a .m) (s .pre .4)))))

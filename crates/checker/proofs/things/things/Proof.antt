@@ -14,11 +14,6 @@ Inv-loop est masks l action m p y size f₀ f = Looked l est masks p m (asked ac
 abbrev μ-loop : tie.MeasureT-loop
 μ-loop est masks l action m p y size f₀ f = size - f
 
-thing-requires : tie.Need-thing-requires Inv-loop μ-loop
-thing-requires c κs =
-    let s = c .before .before .before .before .before in let t = s .pre .0 in let u = suits (s .args .action) (s .args .m) (s .pre .3) in let g = c .loop-test .taken in
-    (t .sized, omega (arith, t .first), s .pre .1, g, λ e. body-in t (u .0) (s .pre .2) (u .1 e) (c .before .loop .f) g (c .before .loop .inv .found g))
-
 pub things-spec : {M : Type 1} → statement M
 things-spec =
     tie.close
@@ -29,7 +24,8 @@ things-spec =
     (λ mul-next-thing. search needs)
     (λ c κs. let s = c .before .before in (may-search (s .pre .0) (suits (s .args .action) (s .args .m) (s .pre .3) .0) (s .pre .2), omega arith))
     (λ c. looked-start (c .next-thing .ensures))
-    thing-requires
+    (λ c κs. let s = c .before .before .before .before .before in let t = s .pre .0 in let u = suits (s .args .action) (s .args .m) (s .pre .3) in let g = c .loop-test .taken in
+    (t .sized, omega (arith, t .first), s .pre .1, g, λ e. body-in t (u .0) (s .pre .2) (u .1 e) (c .before .loop .f) g (c .before .loop .inv .found g)))
     (λ c. let s = c .before .before .before .before .before .before .before in
     one-fails (s .pre .0) (suits (s .args .action) (s .args .m) (s .pre .3) .0) (c .before .before .before .loop .inv) (c .before .before .loop-test .taken) (c .before .thing .ensures) (c .if1 .taken))
     (λ add-next-thing-2. search needs)
