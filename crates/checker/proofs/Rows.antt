@@ -69,6 +69,11 @@ lacks-is xs ys h w f g =
           (λ i l m. subst T (bit-at ys k i l) (g o (32 * k + i) (subst T (sym (bit-at xs k i l)) m))));
     }
 
+-- the digits below n
+within-is : {e : Sets} {k : Rule} (n x y : ℕ) → x < 2 ^ n → (((i : ℕ) → i < n → T (member x i) → T (member y i)) → Obeys e k)
+    → (Obeys e k → (i : ℕ) → i < n → T (member x i) → T (member y i)) → Decides e k (within x y)
+within-is n x y h f g = record { yes = λ t. f (λ i j m. within-member x y i t m); no = λ o. member-within-below n x y h (g o) }
+
 flat : (c : Code) (r : Row) → span c r ≡ elements c → shift c r ≡ 0
 unfolding span shift
 flat c (C i) z = refl
@@ -165,21 +170,16 @@ module _ (l : Layout) (est : List ℕ) (s : Sized l est) (c : Code) (o : LaidOut
   module _ (p : ℕ) (hp : p < l .size) where
     pub permitted-is : (x : ℕ) → x < 2 ^ width → Decides e (every width (λ i. only (member x i) (put (P p) i))) (within x (flags p))
     permitted-is x h =
-        record {
-          yes = λ t i n m. subst T (sym (has-flag p hp i (in-below n))) (within-member x (flags p) i t m);
-          no = λ f. member-within-below width x (flags p) h (λ i j m. subst T (has-flag p hp i j) (f i (below-in j) m));
-        }
+        within-is width x (flags p) h (λ f i n m. subst T (sym (has-flag p hp i (in-below n))) (f i (in-below n) m))
+        (λ f i j m. subst T (has-flag p hp i j) (f i (below-in j) m))
 
     pub lifted-is : (q : ℕ) → q < l .size → Decides e (sub (P q) (P p)) (within (flags q % 2 ^ width) (flags p))
     unfolding span
     lifted-is q hq =
-        record {
-          yes = λ t v u. let j : v < width = span-lt c (P q) v (sets-allowed c est (P q) v u) in
-              subst T (sym (has-flag p hp v j))
-              (within-member (flags q % 2 ^ width) (flags p) v t (subst T (sym (member-low (flags q) width v j)) (subst T (has-flag q hq v j) u)));
-          no = λ f. member-within-below width (flags q % 2 ^ width) (flags p) (mod-lt (flags q) (pow-pos width))
-              (λ i j m. subst T (has-flag p hp i j) (f i (subst T (sym (has-flag q hq i j)) (subst T (member-low (flags q) width i j) m))));
-        }
+        within-is width (flags q % 2 ^ width) (flags p) (mod-lt (flags q) (pow-pos width))
+        (λ f v u. let j : v < width = span-lt c (P q) v (sets-allowed c est (P q) v u) in
+        subst T (sym (has-flag p hp v j)) (f v j (subst T (sym (member-low (flags q) width v j)) (subst T (has-flag q hq v j) u))))
+        (λ f i j m. subst T (has-flag p hp i j) (f i (subst T (sym (has-flag q hq i j)) (subst T (member-low (flags q) width i j) m))))
 
   -- ---- operations
 
@@ -206,27 +206,25 @@ module _ (l : Layout) (est : List ℕ) (s : Sized l est) (c : Code) (o : LaidOut
     operation-is =
         subst (λ (x : ℕ). Decides e (twoRule c p (operation f) a d) (within x (getD est (2 * p * l .row) 0)))
         (ap₂ (resultMask c f) (sym (side-is a)) (sym (side-is d)) ∙ side-mask c (l .lead) (o .lead) est w a d (word-in ha) (word-in hd) f ∙ ap₂ (operationMask f) (side-is a) (side-is d))
+        (within-is 7 (resultMask c f (from a) (from d)) _ (mask-lt c f (from a) (from d))
+        (λ t x mx tx y my ty z mz.
+        subst T (sym (low-set z (results-lt c f x y z mz)))
+        (t z (results-lt c f x y z mz)
+        (results-in c f (from a) (from d) z
         (record {
-          yes = λ t x mx tx y my ty z mz.
-              subst T (sym (low-set z (results-lt c f x y z mz)))
-              (within-member (resultMask c f (from a) (from d)) _ z t
-              (results-in c f (from a) (from d) z
-              (record {
-                first = x;
-                second = y;
-                first-plain = in-below mx;
-                second-plain = in-below my;
-                in-first = subst T (in-side a ha x (in-below mx)) tx;
-                in-second = subst T (in-side d hd y (in-below my)) ty;
-                result = mz;
-              })));
-          no = λ r. member-within-below 7 (resultMask c f (from a) (from d)) _ (mask-lt c f (from a) (from d))
-              (λ i j b. let g = results-only c f (from a) (from d) i b in
-              subst T (low-set i j)
-              (r (g .first) (below-in (g .first-plain)) (subst T (sym (in-side a ha (g .first) (g .first-plain))) (g .in-first))
-              (g .second) (below-in (g .second-plain)) (subst T (sym (in-side d hd (g .second) (g .second-plain))) (g .in-second))
-              i (g .result)));
-        })
+          first = x;
+          second = y;
+          first-plain = in-below mx;
+          second-plain = in-below my;
+          in-first = subst T (in-side a ha x (in-below mx)) tx;
+          in-second = subst T (in-side d hd y (in-below my)) ty;
+          result = mz;
+        }))))
+        (λ r i j b. let g = results-only c f (from a) (from d) i b in
+        subst T (low-set i j)
+        (r (g .first) (below-in (g .first-plain)) (subst T (sym (in-side a ha (g .first) (g .first-plain))) (g .in-first))
+        (g .second) (below-in (g .second-plain)) (subst T (sym (in-side d hd (g .second) (g .second-plain))) (g .in-second))
+        i (g .result))))
 
 -- ---- rows by their words
 
