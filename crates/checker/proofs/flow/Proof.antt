@@ -23,8 +23,8 @@ unfolding byKind termsByKind termNode flow leafRule code
 flow-spec =
     tie.close
     (tie.spec
-    (λ c. omega (arith, in-words (c .before .before .before .before .pre .0)))
-    (λ c. omega (arith, in-words (c .before .before .before .before .before .pre .0)))
+    (λ mul-w. search (needs, in-words))
+    (λ mul-w. search (needs, in-words))
     (λ argument-of-requires κs. search needs)
     (λ add-first. search needs)
     (λ c. omega (arith, sizes (c .before .before .before .before .before .before .before .pre .0) .wide, sizes (c .before .before .before .before .before .before .before .pre .0) .most))
@@ -54,7 +54,7 @@ flow-spec =
     (λ c. omega (arith, sizes (c .before .before .before .before .before .before .before .before .before .before .pre .0) .size, c .before .before .before .before .before .before .before .before .before .before .pre .0 .inside))
     (λ c κs. let g = c .before .before .before .before .before .before .before .before .before .before .pre .0 in
     (sizes g, omega (arith, binder-in g (there g (c .before .before .kind-of .ensures) (c .before .match .keys6) refl) (c .binder-of .ensures .0) (linked-here g (c .before .before .kind-of .ensures) (c .before .match .keys6) refl refl refl)), omega (arith, g .inside)))
-    (λ c κs. let g = c .before .before .before .before .before .before .before .before .before .pre .0 in (sizes g, g .inside, omega (arith, g .inside)))
+    (λ in-value-requires κs. search (needs, sizes))
     (λ end-requires κs. search needs)
     (λ c κs. let g = c .before .before .before .before .before .before .before .before .before .before .pre .0 in
     let x = linked-here g (c .before .before .kind-of .ensures) (c .before .match .keys8) refl (c .end .ensures .0) refl in (term-at g (x .1), part-at g (x .2), masks-of (g .ready)))
@@ -75,7 +75,7 @@ flow-spec =
     (λ end-requires κs. search needs)
     (λ c κs. let g = c .before .before .before .before .before .before .before .before .before .before .pre .0 in
     let x = linked-here g (c .before .before .kind-of .ensures) (c .before .match .keys13) refl (c .end6 .ensures .0) refl in (term-at g (x .1), part-at g (x .2)))
-    (λ c κs. let g = c .before .before .before .before .before .before .before .before .before .pre .0 in (sizes g, g .inside, omega (arith, g .inside)))
+    (λ in-value-requires κs. search (needs, sizes))
     (λ end-requires κs. search needs)
     (λ c κs. let g = c .before .before .before .before .before .before .before .before .before .before .pre .0 in
     let x = linked-here g (c .before .before .kind-of .ensures) (c .before .match .keys15) refl (c .end7 .ensures .0) refl in (term-at g (x .1), part-at g (x .2), masks-of (g .ready)))

@@ -9,9 +9,9 @@ pub own-spec : {M : Type 1} → statement M
 own-spec =
     tie.close
     (tie.spec
-    (λ c κs. let s = c .before .before .before .before in (accepted-at (s .pre .0), sizes (s .pre .0), s .pre .0 .well, s .pre .0 .inside))
+    (λ entry-requires κs. search (needs, accepted-at, sizes))
     (λ c. and-no (c .if1 .taken) (c .before .entry .ensures))
-    (λ c κs. let s = c .before .before .before .before .before .before in (sizes (s .pre .0), s .pre .0 .inside))
+    (λ is-live-requires κs. search (needs, sizes))
     (λ c. let s = c .before .before .before .before .before .before .before .before in
     and-rest (c .before .before .if1 .left) (c .before .before .before .entry .ensures) (idle (on-given (c .before .is-live .ensures _ (s .pre .0 .ready .laid))) (c .if2 .taken)))
     (λ flow-requires κs. search needs)

@@ -11,8 +11,8 @@ pub word-spec : {M : Type 1} → statement M
 word-spec =
     tie.close
     (tie.spec
-    (λ c. omega (arith, in-words (c .before .before .before .before .pre)))
-    (λ c. omega (arith, in-words (c .before .before .before .before .before .pre)))
+    (λ mul-kind-of. search (needs, in-words))
+    (λ mul-kind-of. search (needs, in-words))
     (λ kind-of-requires κs. search needs)
     (λ send-requires κs. search needs)
     (λ c. c .send .ensures (c .before .before .before .before .before .before .before .before .args .rho .bits))

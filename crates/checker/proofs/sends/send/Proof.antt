@@ -40,13 +40,13 @@ unfolding byKind termsByKind termNode
 send-spec =
     tie.close
     (tie.spec
-    (λ c κs. let g = c .before .before .before .before .pre .0 in (sizes g, g .inside))
+    (λ is-live-requires κs. search (needs, sizes))
     (λ c. λ ρ. let s = c .before .before .before .before .before .before in let g = s .pre .0 in send-idle _ _ _ (node-here g refl (s .pre .1) refl refl refl) ρ (c .before .is-live .ensures _ (g .ready .laid)) (c .if1 .taken))
     (λ add-end. search needs)
     (λ end-requires κs. search needs)
     (λ link-at-requires κs. search needs)
-    (λ c. omega (arith, in-words (c .before .before .before .before .before .before .before .before .pre .0)))
-    (λ c. omega (arith, in-words (c .before .before .before .before .before .before .before .before .before .pre .0)))
+    (λ mul-argument-of. search (needs, in-words))
+    (λ mul-argument-of. search (needs, in-words))
     (λ argument-of-requires κs. search needs)
     (λ permissions-of-requires κs. search needs)
     to-blocks-requires
