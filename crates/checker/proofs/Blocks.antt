@@ -18,7 +18,7 @@ use Rattle.table.proofs.Blocks.{Follows, block as block-words, blocks-first, bl
 use Rattle.table.proofs.BlockLoop.{blocksOn, named-there, follows-first, next-is, follows-next, next-later}
 use Rattle.calculus.specs.Elements.{made, nameElement}
 use Rattle.calculus.specs.Constraint.{C, Sets, Rule, put}
-use Rattle.calculus.specs.Rules.{nameOf, permissions, deliveryTo}
+use Rattle.calculus.specs.Rules.{nameOf, permissions, deliveryTo, delivering}
 use Rattle.calculus.specs.Layout.{sets}
 use Rattle.calculus.proofs.Digits.{T-and, T-fst, T-snd}
 use Rattle.rows.specs.declared.layout.Layout.{Layout}
@@ -26,7 +26,7 @@ use Rattle.clauses.proofs.Sorts.{row-C}
 use Rattle.queries.specs.Starts.{startsAt}
 use Rattle.checker.specs.declared.sends.Sending.{Sending}
 use Rattle.checker.specs.Lowered.{Lowered}
-use Rattle.checker.specs.Sends.{delivery, toStarted, AskedFor, Sent}
+use Rattle.checker.specs.Sends.{delivery, AskedFor, Sent}
 use Rattle.checker.proofs.Lowered.{lowered-none, lowered-same, lowered-then}
 use Rattle.checker.proofs.Laws.{Under, idle}
 
@@ -63,7 +63,7 @@ module _ {ws masks est : List ℕ} {l : Layout} {s : Sending} (h : Sent ws masks
       rw (n, row-C (s .p + 1), h .own) refl
 
   -- what is asked where the send starts b
-  pub on-started : {k : Rule} {r : Bool} → r ≡ starting → Under e (toStarted c s b k) r k
+  pub on-started : {k : Rule} {r : Bool} → r ≡ starting → Under e (delivering c (s .p) (s .required .bits) (s .p + 1) b k) r k
   on-started q =
       record {
         asks = λ o x. let g = subst T (q ∙ starts-is) x in o (T-snd named answer g) (T-fst named answer g);

@@ -14,14 +14,14 @@ use Rattle.permset.proofs.Laws.{within-member, member-within-below, same-below}
 use Rattle.table.specs.declared.Operation.{Operation}
 use Rattle.table.specs.Code.{Code, operation}
 use Rattle.calculus.specs.Elements.{plain, elements}
-use Rattle.calculus.specs.Constraint.{Row, C, B, P, L, Sets, Rule, Obeys, put, sub, only, every}
+use Rattle.calculus.specs.Constraint.{C, B, P, Sets, Rule, Obeys, put, sub, only, every}
 use Rattle.calculus.specs.Rules.{fill, pass, twoRule}
-use Rattle.calculus.specs.Layout.{bit, masked, base, shift, span, sets, content, Words, WellFormed}
+use Rattle.calculus.specs.Layout.{bit, masked, base, span, sets, content, Words, WellFormed}
 use Rattle.calculus.proofs.Digits.{T-and, T-fst, T-snd, T-true, member-low}
 use Rattle.calculus.proofs.Slices.{_≼_, bit-at}
 use Rattle.calculus.proofs.Masks.{bit-masked, masked-words}
 use Rattle.calculus.proofs.Places.{span-lt}
-use Rattle.calculus.proofs.Rows.{sets-allowed, content-words, content-sound, content-complete}
+use Rattle.calculus.proofs.Rows.{sets-allowed, content-words, content-sound}
 use Rattle.calculus.proofs.Ranges.{below-in, in-below}
 use Rattle.calculus.proofs.RowOperations.{sets-P}
 use Rattle.calculus.proofs.OperationMasks.{results-in, results-only, side, side-bit, resultMask, results-lt as mask-lt}
@@ -32,7 +32,7 @@ use Rattle.rows.specs.Laid.{LaidOut, Sized}
 use Rattle.rows.specs.Mask.{Mask}
 use Rattle.rows.specs.Rows.{lacking}
 use Rattle.rows.proofs.Full.{full-digit}
-use Rattle.rows.proofs.Laws.{length-row, length-masked-row}
+use Rattle.rows.proofs.Laws.{length-row, getD-row, length-masked-row}
 use Rattle.clauses.specs.Asks.{rowAt}
 use Rattle.clauses.proofs.Sorts.{row-C, row-B}
 use Rattle.clauses.proofs.Numbered.{base-row, content-row, value-row}
@@ -74,13 +74,6 @@ within-is : {e : Sets} {k : Rule} (n x y : ℕ) → x < 2 ^ n → (((i : ℕ) �
     → (Obeys e k → (i : ℕ) → i < n → T (member x i) → T (member y i)) → Decides e k (within x y)
 within-is n x y h f g = record { yes = λ t. f (λ i j m. within-member x y i t m); no = λ o. member-within-below n x y h (g o) }
 
-flat : (c : Code) (r : Row) → span c r ≡ elements c → shift c r ≡ 0
-unfolding span shift
-flat c (C i) z = refl
-flat c (B i) z = refl
-flat c (P i) z = refl
-flat c (L i) z = absurd (omega arith)
-
 -- a row of an estimate of this layout
 abbrev pub rowOf : Layout → List ℕ → ℕ → List ℕ
 rowOf l est r = take (l .row) (drop (r * l .row) est)
@@ -101,17 +94,18 @@ module _ (l : Layout) (est : List ℕ) (s : Sized l est) (c : Code) (o : LaidOut
     row-words : Words (rowOf l est r)
     row-words = subst Words row-is (content-words c est w (rowAt r))
 
-    row-has : (v : ℕ) → T (e (rowAt r) v) → T (bit (rowOf l est r) v)
-    row-has v x =
-        subst (λ (xs : List ℕ). T (bit xs v)) row-is
-        (content-complete c est w (rowAt r) v (flat c (rowAt r) (value-row c r (omega (arith, o .size)) .full)) x)
-
     has-row : (v : ℕ) → T (bit (rowOf l est r) v) → T (e (rowAt r) v)
     has-row v x =
         content-sound c est w (rowAt r) v (value-row c r (omega (arith, o .size)) .mine) (subst (λ (xs : List ℕ). T (bit xs v)) (sym row-is) x)
 
     row-lt : (v : ℕ) → T (e (rowAt r) v) → v < elements c
     row-lt v x = omega (arith, span-lt c (rowAt r) v (sets-allowed c est (rowAt r) v x), value-row c r (omega (arith, o .size)) .full)
+
+    row-has : (v : ℕ) → T (e (rowAt r) v) → T (bit (rowOf l est r) v)
+    unfolding bit
+    row-has v x =
+        let i : v < elements c = row-lt v x in
+        subst T (sym (ap (λ (y : ℕ). member y (v % 32)) (getD-row est (r * l .row) (l .row) (v / 32) (omega (arith, s .wide, o .size, o .lead))) ∙ has-is c l o est r v h i)) x
 
     row-long : length (rowOf l est r) ≡ l .row
     row-long = length-row est (r * l .row) (l .row) (row-in s r h)

@@ -17,21 +17,13 @@ use Rattle.checker.specs.declared.sends.Sending.{Sending}
 abbrev pub delivery : Code → (p d b : ℕ) → Rule
 delivery c p d b = live b and pass c (C d) (sendable c) (B b) and sub (P b) (P p)
 
--- k where it starts the block b
-abbrev pub toStarted : Code → Sending → ℕ → Rule → Rule
-toStarted c s b k = delivering c (s .p) (s .required .bits) (s .p + 1) b k
-
--- for the block b
+-- for the block b, where it starts it
 abbrev pub toBlock : Code → Sending → ℕ → Rule
-toBlock c s b = toStarted c s b (delivery c (s .p) (s .d) b)
+toBlock c s b = delivering c (s .p) (s .required .bits) (s .p + 1) b (delivery c (s .p) (s .d) b)
 
 -- the block of the send is in C(b), where the send starts b
 abbrev pub toSender : Code → Sending → ℕ → Rule
-toSender c s b = toStarted c s b (put (C b) (made c (c .home (s .p))))
-
--- for each block, where there is something to send
-abbrev pub sent : Code → Sending → Rule
-sent c s = some (C (s .d)) (sendable c) (each (c .blocks) (toBlock c s))
+toSender c s b = delivering c (s .p) (s .required .bits) (s .p + 1) b (put (C b) (made c (c .home (s .p))))
 
 -- the block b has the block of the send, where there is something to send
 abbrev pub known : Code → Sending → ℕ → Rule
@@ -43,7 +35,7 @@ module _ (c : Code) (e : Sets) (s : Sending) where
   AskedFor b q = (q ≡ s .p → Obeys e (toBlock c s b)) × (q ≡ b → Obeys e (toSender c s b))
 
   abbrev pub AskedToSend : ℕ → Type 0
-  AskedToSend q = (q ≡ s .p → Obeys e (sent c s)) × (List·Memᴰ q (c .blocks) → Obeys e (known c s q))
+  AskedToSend q = (q ≡ s .p → Obeys e (some (C (s .d)) (sendable c) (each (c .blocks) (toBlock c s)))) × (List·Memᴰ q (c .blocks) → Obeys e (known c s q))
 
 -- what the tests of a send are handed
 pub record Sent (ws masks est : List ℕ) (l : Layout) (s : Sending) : Type 0 where

@@ -1,7 +1,6 @@
 -- `checker::word` meets its contract. Assumes nothing.
 use borrow.Author.Needs.{needs}
 use mathlib.Core.Path.{_∙_}
-use native.Mathlib.Omega.{arith}
 use Rattle.checker.proofs.Placed.{in-words}
 use Rattle.checker.proofs.Sent.{word-silent}
 use Rattle.checker.proofs.word.Statement.{statement}
