@@ -71,7 +71,7 @@ module _ {ws masks est : List ℕ} {l : Layout} {s : Sending} (h : Sent ws masks
       }
 
   -- a block that is not started is asked nothing for
-  pub unasked : {r : Bool} → r ≡ starting → not r ≡ true → (w : ℕ) → AskedFor c e s b w
+  pub unasked : {r : Bool} → r ≡ starting → not r ≡ true → (w : ℕ) → AskedFor c e (s .p) (s .d) (s .required .bits) b w
   unasked q n w =
       (λ z. idle (on-started {k = delivery c (s .p) (s .d) b} q) n .yes tt, λ z. idle (on-started {k = put (C b) (made c (c .home (s .p)))} q) n .yes tt)
 

@@ -18,16 +18,15 @@ use Rattle.table.proofs.TermWords.Rows.{done, _▸_}
 use Rattle.table.proofs.Items.{item-block, item-gap, item-term}
 use Rattle.table.proofs.Nodes.{itemNode, nodeAt, node-item}
 use Rattle.calculus.specs.Elements.{sendable, unit}
-use Rattle.calculus.specs.Constraint.{C, L, Sets, Obeys, put, each, _and_}
+use Rattle.calculus.specs.Constraint.{C, L, Sets, Obeys, put, some, each, _and_}
 use Rattle.calculus.specs.Rules.{guarded, part, twoRule, flow, entry, sender, twoSender}
 use Rattle.calculus.specs.Layout.{sets}
 use Rattle.calculus.proofs.Folds.{found}
 use Rattle.rows.specs.declared.layout.Layout.{Layout}
 use Rattle.clauses.specs.Asks.{rowAt}
 use Rattle.queries.specs.Ready.{At}
-use Rattle.checker.specs.declared.sends.Sending.{Sending}
 use Rattle.checker.specs.Lowered.{Lowered}
-use Rattle.checker.specs.Sends.{toBlock, toSender, known, AskedFor, AskedToSend}
+use Rattle.checker.specs.Sends.{toBlock, toSender, AskedFor, AskedToSend}
 use Rattle.checker.specs.Words.{ownRule, AskedBy}
 use Rattle.checker.proofs.Laws.{idle, on-value}
 use Rattle.checker.proofs.Blocks.{Among}
@@ -36,22 +35,22 @@ use Rattle.checker.proofs.Lowered.{lowered-none, lowered-same, lowered-
 
 -- ---- where there is something to send, and where not
 
-module _ (c : Code) (est : List ℕ) (s : Sending) {t : Bool} (f : t ≡ found c est (rowAt (2 * s .d)) (sendable c)) where
-  pub nothing-sent : not t ≡ true → {below : ℕ} → Lowered (AskedToSend c (sets c est) s) below below
+module _ (c : Code) (est : List ℕ) (p d r : ℕ) {t : Bool} (f : t ≡ found c est (rowAt (2 * d)) (sendable c)) where
+  pub nothing-sent : not t ≡ true → {below : ℕ} → Lowered (AskedToSend c (sets c est) p d r) below below
   nothing-sent q = lowered-none (λ w h. (
-    λ z. idle (on-value c est {k = each (c .blocks) (toBlock c s)} f) q .yes tt,
-    λ m. idle (on-value c est {k = toSender c s w} f) q .yes tt,
+    λ z. idle (on-value c est {k = each (c .blocks) (toBlock c p d r)} f) q .yes tt,
+    λ m. idle (on-value c est {k = toSender c p r w} f) q .yes tt,
   ))
 
-  pub something-sent : not t ≡ false → {below r : ℕ} → Lowered (Among (c .blocks) (AskedFor c (sets c est) s)) below r
-      → Lowered (AskedToSend c (sets c est) s) below r
+  pub something-sent : not t ≡ false → {below n : ℕ} → Lowered (Among (c .blocks) (AskedFor c (sets c est) p d r)) below n
+      → Lowered (AskedToSend c (sets c est) p d r) below n
   something-sent q x =
       let so : T t = subst T (sym (not-false t q)) tt in
       lowered-same
       (λ w h a. (λ z v t i b m. a b m .0 z, λ m v t i. a w m .1 refl))
       (λ w h a b m. (
-        λ z. on-value c est {k = each (c .blocks) (toBlock c s)} f .asks (a .0 z) so b m,
-        λ z. on-value c est {k = toSender c s b} f .asks (subst (λ (u : ℕ). Obeys (sets c est) (known c s u)) z (a .1 (subst (λ (u : ℕ). List·Memᴰ u (c .blocks)) (sym z) m))) so,
+        λ z. on-value c est {k = each (c .blocks) (toBlock c p d r)} f .asks (a .0 z) so b m,
+        λ z. on-value c est {k = toSender c p r b} f .asks (subst (λ (u : ℕ). Obeys (sets c est) (some (C d) (sendable c) (toSender c p r u))) z (a .1 (subst (λ (u : ℕ). List·Memᴰ u (c .blocks)) (sym z) m))) so,
       ))
       x
 
@@ -96,7 +95,7 @@ module _ {ws links masks est : List ℕ} {l : Layout} {p : ℕ} (g : At ws links
 
 -- ---- a send
 
-module _ (c : Code) (e : Sets) (p : ℕ) {v a d : ℕ} (i : c .node p ≡ two (send v) a d) (ρ : ℕ) where
+module _ (c : Code) (e : Sets) (p : ℕ) {d r : ℕ} (i : c .node p ≡ two (send r) (p + 1) d) (ρ : ℕ) where
   no-entry : Obeys e (entry c ρ p)
   unfolding entry guarded
   no-entry x = absurd (subst (λ (m : Node). T (guarded m ρ)) i x)
@@ -110,21 +109,17 @@ module _ (c : Code) (e : Sets) (p : ℕ) {v a d : ℕ} (i : c .node p ≡ two (s
       off : T (e (L p) 0) → ⊥
       off x = subst T (sym live ∙ not-true t q) x
 
-module _ (c : Code) (e : Sets) (s : Sending) (i : c .node (s .p) ≡ two (send (s .required .bits)) (s .p + 1) (s .d)) (ρ : ℕ) where
-  abbrev p : ℕ
-  p = s .p
-
-  pub send-live : {t : Bool} → t ≡ e (L p) 0 → not t ≡ false → {below m r : ℕ} → Lowered (AskedToSend c e s) below m
-      → Lowered (λ w. w ≡ p → Obeys e ((part p (p + 1) and part p (s .d)) and put (C p) unit)) m r → Lowered (AskedBy c e ρ p) below r
+  pub send-live : {t : Bool} → t ≡ e (L p) 0 → not t ≡ false → {below m n : ℕ} → Lowered (AskedToSend c e p d r) below m
+      → Lowered (λ w. w ≡ p → Obeys e ((part p (p + 1) and part p d) and put (C p) unit)) m n → Lowered (AskedBy c e ρ p) below n
   unfolding sender twoSender flow twoRule
   send-live {t} live q x y =
       let on : T (e (L p) 0) = subst T (sym (sym live ∙ not-false t q)) tt in
       lowered-same
       (λ w h a. (
-        λ z. (no-entry c e p i ρ, λ u. let o = a .1 z in subst (λ (n : Node). Obeys e (flow c p n)) (sym i) (o .0 .0, (o .0 .1, (o .1, a .0 .0 z)))),
+        λ z. (no-entry, λ u. let o = a .1 z in subst (λ (n : Node). Obeys e (flow c p n)) (sym i) (o .0 .0, (o .0 .1, (o .1, a .0 .0 z)))),
         λ m. subst (λ (n : Node). Obeys e (sender c w p n)) (sym i) (λ u. a .0 .1 m),
       ))
-      (λ w h a. let f : w ≡ p → Obeys e (flow c p (two (send (s .required .bits)) (p + 1) (s .d))) = λ z. subst (λ (n : Node). Obeys e (flow c p n)) i (a .0 z .1 on) in (
+      (λ w h a. let f : w ≡ p → Obeys e (flow c p (two (send r) (p + 1) d)) = λ z. subst (λ (n : Node). Obeys e (flow c p n)) i (a .0 z .1 on) in (
         (λ z. f z .1 .1 .1, λ m. subst (λ (n : Node). Obeys e (sender c w p n)) i (a .1 m) on),
         λ z. ((f z .0, f z .1 .0), f z .1 .1 .0),
       ))

@@ -54,7 +54,6 @@ send-spec =
     (λ c κs. let g = c .before .before .before .before .before .before .before .before .before .before .before .before .before .pre .0 in (sizes g, g .inside, omega (arith, sizes g .lead)))
     (λ lowered-requires κs. search needs)
     (λ c. λ ρ. let s = c .before .before .before .before .before .before .before .before .before .before .before .before .before .before .before in let g = s .pre .0 in let o = g .ready .laid in
-    send-live _ _ (record { p = _; d = _; home = 0; required = _; own = record { bits = 0 } })
-    (node-here g refl (s .pre .1) refl (c .before .before .before .before .before .before .before .before .end .ensures .0) refl ∙ ap (λ (v : ℕ). two (send v) (s .args .p + 1) (c .before .before .before .before .before .before .before .before .end .result)) (sym (c .before .before .before .before .before .argument-of .ensures))) ρ
+    send-live _ _ _ (node-here g refl (s .pre .1) refl (c .before .before .before .before .before .before .before .before .end .ensures .0) refl ∙ ap (λ (v : ℕ). two (send v) (s .args .p + 1) (c .before .before .before .before .before .before .before .before .end .result)) (sym (c .before .before .before .before .before .argument-of .ensures))) ρ
     (c .before .before .before .before .before .before .before .before .before .before .is-live .ensures _ o) (c .before .before .before .before .before .before .before .before .before .if1 .left) (c .before .before .before .to-blocks .ensures)
     (c .lowered .ensures _ _ (both (c .before .before .parts .ensures _ o (g .well)) (put-is (c .before .in-value .ensures _ o))))))

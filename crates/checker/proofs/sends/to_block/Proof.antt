@@ -22,10 +22,10 @@ returns-2 c =
     let s = c .before .before .before .before .before .before .before .before .before .before .before .before .before .before in let a = s .args in let k = code (a .words .now) in let e = sets k (a .est .now) in let h = s .pre .0 in let o = h .laid in
     let x = c .before .before .before .before .before .before .before .before .before .before .starts .ensures k o in
     lowered-then
-    (c .before .before .before .before .lowered .ensures e (toBlock k (a .s) (a .b)) (due (on-started h (a .b) (s .pre .1) (s .pre .2) x) (c .before .before .before .before .before .before .before .before .before .if1 .left)
+    (c .before .before .before .before .lowered .ensures e (toBlock k (a .s .p) (a .s .d) (a .s .required .bits) (a .b)) (due (on-started h (a .b) (s .pre .1) (s .pre .2) x) (c .before .before .before .before .before .before .before .before .before .if1 .left)
     (both (put-is (c .before .before .before .before .before .before .before .before .is-live .ensures k o))
     (both (rw (row-C (a .s .d), row-B (a .b)) at (c .before .before .before .before .before .before .passed-by .ensures k (linked (a .words .now) (h .readable)) o (h .well) (h .masked))) (c .before .before .before .before .before .lifted .ensures k o (h .well))))))
-    (c .lowered2 .ensures e (toSender k (a .s) (a .b)) (due (on-started h (a .b) (s .pre .1) (s .pre .2) x) (c .before .before .before .before .before .before .before .before .before .if1 .left)
+    (c .lowered2 .ensures e (toSender k (a .s .p) (a .s .required .bits) (a .b)) (due (on-started h (a .b) (s .pre .1) (s .pre .2) x) (c .before .before .before .before .before .before .before .before .before .if1 .left)
     (put-is (c .before .in-value .ensures k o ∙ ap₂ (λ (y z : ℕ). e (C (a .b)) (y + z)) (sym (o .lead)) (h .home)))))
 
 pub to-block-spec : {M : Type 1} → statement M

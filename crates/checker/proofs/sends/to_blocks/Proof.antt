@@ -15,7 +15,7 @@ use Rattle.checker.proofs.sends.to_blocks.Statement.{statement}
 use Rattle.checker.proofs.sends.to_blocks.Tie as tie
 
 abbrev Inv-loop : tie.InvT-loop
-Inv-loop words links masks est l s below lowest₀ b₀ lowest b = Looked words (AskedFor (code words) (sets (code words) est) s) below b lowest
+Inv-loop words links masks est l s below lowest₀ b₀ lowest b = Looked words (AskedFor (code words) (sets (code words) est) (s .p) (s .d) (s .required .bits)) below b lowest
 
 abbrev μ-loop : tie.MeasureT-loop
 μ-loop words links masks est l s below lowest₀ b₀ lowest b = length words - b
@@ -30,7 +30,7 @@ to-blocks-spec =
     (λ mul-has-some. search needs)
     (λ has-some-requires κs. search needs)
     (λ c. let s = c .before .before .before .before .before .before .before in let h = s .pre .0 in
-    nothing-sent _ (s .args .est .now) (s .args .s) (c .before .has-some .ensures _ (sortAt 3 _) (h .laid) (h .well) (h .masked .mask 3 (omega arith))) (c .if1 .taken))
+    nothing-sent _ (s .args .est .now) _ _ _ (c .before .has-some .ensures _ (sortAt 3 _) (h .laid) (h .well) (h .masked .mask 3 (omega arith))) (c .if1 .taken))
     (λ c. looked-start _ (c .before .before .before .before .before .before .before .pre .0 .readable) _)
     (λ c κs. let s = c .before .before .before .before .before .before .before .before .before in
     (s .pre .0, c .loop-test .taken, named-there _ (s .pre .0 .readable) _ (c .before .loop .inv .0) (c .loop-test .taken)))
@@ -42,5 +42,5 @@ to-blocks-spec =
     (λ c. let s = c .before .before .before .before .before .before .before .before .before .before .before in
     looked-next _ (s .pre .0 .readable) _ (c .before .before .before .loop .inv) (c .before .before .loop-test .taken) (s .pre .1) (c .link-at .ensures) (c .before .to-block .ensures) .0)
     (λ c. let s = c .before .before .before .before .before .before .before .before .before in let h = s .pre .0 in
-    something-sent _ (s .args .est .now) (s .args .s) (c .before .before .before .has-some .ensures _ (sortAt 3 _) (h .laid) (h .well) (h .masked .mask 3 (omega arith)))
+    something-sent _ (s .args .est .now) _ _ _ (c .before .before .before .has-some .ensures _ (sortAt 3 _) (h .laid) (h .well) (h .masked .mask 3 (omega arith)))
     (c .before .before .if1 .left) (looked-all _ (h .readable) _ (c .before .loop .inv) (c .loop-test .left))))
