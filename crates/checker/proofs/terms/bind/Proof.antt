@@ -20,4 +20,4 @@ bind-spec =
     (λ mul-passed-3. search needs)
     (λ mul-passed-4. search needs)
     (λ passed-requires-2 κs. search needs)
-    (λ c. λ k o w. let a = c .before .before .before .before .args in parted (both (c .before .before .parts .ensures k o w) (both (CB (c .before .passed .ensures k o w)) (CC (c .passed2 .ensures k o w))))))
+    (λ c. λ k o w. parted (both (c .before .before .parts .ensures k o w) (both (CB (c .before .passed .ensures k o w)) (CC (c .passed2 .ensures k o w))))))

@@ -25,6 +25,6 @@ branch-spec =
     (λ mul-passed-3. search needs)
     (λ mul-passed-4. search needs)
     (λ passed-requires-2 κs. search needs)
-    (λ c. λ k o w. let a = c .before .before .before .before .before .before .before .before .args in
+    (λ c. λ k o w.
     both (c .before .before .before .before .before .before .part .ensures k o w) (both (c .before .before .before .before .before .lifted .ensures k o w) (both (c .before .before .before .before .lifted2 .ensures k o w) (both (c .before .before .before .wakes .ensures k o w)
     (both (c .before .before .wakes2 .ensures k o w) (both (CC (c .before .passed .ensures k o w)) (CC (c .passed2 .ensures k o w)))))))))

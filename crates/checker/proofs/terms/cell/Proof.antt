@@ -22,4 +22,4 @@ cell-spec =
     (λ mul-passed-2. search needs)
     (λ add-passed-2. search needs)
     (λ passed-requires κs. search needs)
-    (λ c. λ k o w. let a = c .before .before .before .before .before .args in both (c .before .before .before .part .ensures k o w) (both (own-is o (c .before .in-value .ensures k o)) (CB (c .passed .ensures k o w)))))
+    (λ c. λ k o w. both (c .before .before .before .part .ensures k o w) (both (own-is o (c .before .in-value .ensures k o)) (CB (c .passed .ensures k o w)))))
