@@ -1,67 +1,40 @@
 -- The loop over the things of a value set: what it has found so far, and what that says of the rule for each of them.
 use Prim.Native.Nat.{ℕ, zero, suc, _+_, _-_, _*_, _/_, _%_, _≤_, _<_}
 use mathlib.Core.Path.{_≡_, sym, ap, ap₂, _∙_, subst}
-use mathlib.Core.Bool.{Bool, true, false, _&&_, _||_, true≢false}
+use mathlib.Core.Bool.{Bool, true, false, not, _&&_, _||_, true≢false}
 use mathlib.Core.List.{List}
 use native.Mathlib.Decide.{decLt, ℕ-discrete}
-use native.Mathlib.Numerals.{add-one}
 use native.Mathlib.Omega.{arith}
-use borrow.Author.Tests.{ne-eqb}
+use borrow.Author.Tests.{ne-eqb, not-true, not-false}
 use lib.Dec.{T, leb, le→leb}
 use lib.ListN.{getD}
 use Rattle.permset.specs.Sets.{member}
 use Rattle.permset.proofs.Laws.{member-and}
 use Rattle.table.specs.Code.{Code}
-use Rattle.calculus.specs.Elements.{plain, made, opponentRecord, Making, isFunction, isRecord, isCell, makes, making, anyRecord}
-use Rattle.calculus.specs.Constraint.{C, B, P, L, Sets, Rule, Obeys, sub, _and_}
-use Rattle.calculus.specs.Rules.{live, eachMade}
+use Rattle.calculus.specs.Elements.{plain, elements, made, opponentRecord, Making, isFunction, isRecord, isCell, makes, making, anyRecord}
+use Rattle.calculus.specs.Constraint.{C, Rule, Obeys}
+use Rattle.calculus.specs.Rules.{eachMade}
 use Rattle.calculus.specs.Layout.{bit, sets, WellFormed}
 use Rattle.calculus.proofs.Digits.{T-and, T-fst, T-snd, T-true}
 use Rattle.calculus.proofs.Fitting.{body-lt}
 use Rattle.calculus.proofs.Ranges.{below-in, in-below}
 use Rattle.rows.specs.declared.layout.Layout.{Layout}
-use Rattle.rows.specs.Laid.{LaidOut, Sized}
+use Rattle.rows.specs.Laid.{LaidOut}
 use Rattle.rows.specs.Mask.{madeAs}
 use Rattle.rows.proofs.Laws.{getD-row}
-use Rattle.clauses.specs.Asks.{rowAt, sortAt, thingAt}
-use Rattle.clauses.proofs.Sorts.{row-B}
+use Rattle.clauses.specs.Asks.{sortAt, thingAt}
 use Rattle.queries.specs.Passes.{Masked}
 use Rattle.queries.specs.Things.{both, Next, Searched}
 use Rattle.queries.proofs.Laws.{row-in, mask-in, has-is, C-sets}
 use Rattle.checker.specs.declared.things.Action.{Action}
 use Rattle.checker.specs.declared.things.Action.the-variants as actions
-use Rattle.checker.specs.Decides.{Decides, MasksOf, Term}
-use Rattle.checker.specs.Things.{asked, Suits}
-use Rattle.checker.proofs.Laws.{decided, put-decides, both as both-rules}
-use Rattle.checker.proofs.Laid.{CC}
+use Rattle.checker.specs.Decides.{Checked, CheckedBy, MasksOf, Term}
+use Rattle.checker.specs.Things.{Suits}
 
-pub suits-three : (a : Action) (m : ℕ) → Suits a m → m < 3
-suits-three actions.Call m h = omega arith
-suits-three actions.Take m h = h
-suits-three actions.Hand m h = h
-
-pub suits-call : (a : Action) (m : ℕ) → Suits a m → a ≡ actions.Call → m ≡ 0
-suits-call actions.Call m h e = h
-suits-call actions.Take m h e = absurd (let z : _≡_ {A = ℕ} 0 1 = cc in omega arith)
-suits-call actions.Hand m h e = absurd (let z : _≡_ {A = ℕ} 0 1 = cc in omega arith)
-
--- ---- what is asked for one thing
-
-module _ (e : Sets) (p y f : ℕ) where
-  pub called-is : {r s t u : Bool} → r ≡ e (L (f + 1)) 0 → Decides e (sub (rowAt y) (rowAt (2 * f + 1))) s
-      → Decides e (sub (rowAt (2 * (f + 1))) (rowAt (2 * p))) t → Decides e (sub (P (f + 1)) (P p)) u → Decides e (asked actions.Call p y f) (r && (s && (t && u)))
-  unfolding asked
-  called-is {r} {s} {t} {u} q a b d =
-      subst (λ (g : ℕ). Decides e (live g and sub (rowAt y) (B f) and sub (C g) (C p) and sub (P g) (P p)) (r && (s && (t && u)))) (add-one f)
-      (both-rules e (decided e q (put-decides e (L (f + 1)) 0)) (both-rules e (rw (row-B f) at a) (both-rules e (CC e (f + 1) p b) d)))
-
-  pub taken-is : {r : Bool} → Decides e (sub (rowAt (2 * f + 1)) (rowAt y)) r → Decides e (asked actions.Take p y f) r
-  unfolding asked
-  taken-is d = rw (row-B f) at d
-
-  pub handed-is : {r : Bool} → Decides e (sub (rowAt y) (rowAt (2 * f + 1))) r → Decides e (asked actions.Hand p y f) r
-  unfolding asked
-  handed-is d = rw (row-B f) at d
+pub suits : (a : Action) (m : ℕ) → Suits a m → (m < 3) × (a ≡ actions.Call → m ≡ 0)
+suits actions.Call m h = (omega arith, λ e. h)
+suits actions.Take m h = (h, λ e. absurd (let z : _≡_ {A = ℕ} 0 1 = cc in omega arith))
+suits actions.Hand m h = (h, λ e. absurd (let z : _≡_ {A = ℕ} 0 1 = cc in omega arith))
 
 -- ---- things by their digits
 
@@ -81,107 +54,83 @@ thing-sort c (suc zero) f h =
 thing-sort c (suc (suc zero)) f h = made-sort c isCell f
 thing-sort c (suc (suc (suc m))) f h = absurd (omega arith)
 
--- ---- a digit of a mask, and of a row
+-- ---- the search in the value set of the first part of p, by the mask m
 
-module _ (l : Layout) (wide : l .size + 32 * l .lead ≤ 32 * l .row) (c : Code) (o : LaidOut c l) (f : ℕ) (h : f < l .size) where
-  word-of : made c f / 32 ≡ l .lead + f / 32
-  word-of = omega (arith, o .lead)
+-- the thing f is in the value set and in the mask
+abbrev here : Layout → (est masks : List ℕ) → (p m f : ℕ) → Bool
+here l est masks p m f = both est masks (l .lead) (2 * (p + 1) * l .row) (m * l .row) f
 
-  digit-of : made c f % 32 ≡ f % 32
-  digit-of = omega (arith, o .lead)
+abbrev Step : Layout → (est masks : List ℕ) → (p m i f : ℕ) → Type 0
+Step l est masks p m i f = Next est masks (l .lead) (2 * (p + 1) * l .row) (m * l .row) (l .size) i f
 
-  in-mask : (masks : List ℕ) → Masked c l masks → (m : ℕ) → m < 3
-      → member (getD masks (m * l .row + (l .lead + f / 32)) 0) (f % 32) ≡ thingAt m (makes (c .node f))
-  unfolding bit
-  in-mask masks k m i =
-      ap₂ (λ (x y : ℕ). member (getD masks (m * l .row + x) 0) y) (sym word-of) (sym digit-of)
-      ∙ ap (λ (x : ℕ). member x (made c f % 32)) (sym (getD-row masks (m * l .row) (l .row) (made c f / 32) (omega (arith, o .lead))))
-      ∙ k .mask m (omega arith) .digits (made c f) (omega (arith, o .size))
-      ∙ thing-sort c m f i
+-- f is the next thing or none, and what k asks for each thing before it holds
+pub record Looked (l : Layout) (est masks : List ℕ) (p m : ℕ) (k : ℕ → Rule) (f : ℕ) : Type 0 where
+  pub passed : (c : Code) → LaidOut c l → WellFormed c est → (g : ℕ) → g < f → here l est masks p m g ≡ true → Obeys (sets c est) (k g)
+  pub found : f < l .size → here l est masks p m f ≡ true
 
-  in-row : (est : List ℕ) (a : ℕ) → a < l .size → member (getD est (2 * a * l .row + (l .lead + f / 32)) 0) (f % 32) ≡ sets c est (C a) (made c f)
-  in-row est a i =
-      ap₂ (λ (x y : ℕ). member (getD est (2 * a * l .row + x) 0) y) (sym word-of) (sym digit-of)
-      ∙ has-is c l o est (2 * a) (made c f) (omega arith) (omega (arith, o .size)) ∙ C-sets c est a (made c f)
+module _ {l : Layout} {est masks : List ℕ} {p m : ℕ} {k : ℕ → Rule} where
+  pub looked-start : {f : ℕ} → Step l est masks p m 0 f → Looked l est masks p m k f
+  looked-start n = record { passed = λ c o w g h b. absurd (true≢false (sym b ∙ n .none g (omega arith) h)); found = n .found }
 
-  both-is : (est masks : List ℕ) → Masked c l masks → (a m : ℕ) → a < l .size → m < 3
-      → both est masks (l .lead) (2 * a * l .row) (m * l .row) f ≡ sets c est (C a) (made c f) && thingAt m (makes (c .node f))
-  both-is est masks k a m i j =
-      member-and (getD est (2 * a * l .row + (l .lead + f / 32)) 0) (getD masks (m * l .row + (l .lead + f / 32)) 0) (f % 32)
-      ∙ ap₂ (λ (x y : Bool). x && y) (in-row est a i) (in-mask masks k m j)
-
--- the body of a function that is found
-pub body-in : (l : Layout) (est masks : List ℕ) → Sized l est → MasksOf l masks → (a : ℕ) → a < l .size → (m : ℕ) → m ≡ 0 → (f : ℕ) → f < l .size
-    → both est masks (l .lead) (2 * a * l .row) (m * l .row) f ≡ true → f + 1 < l .size
-unfolding thingAt
-body-in l est masks s y a ha m z f h b =
-    let c = y .code in
-    let g : T (isFunction (makes (c .node f))) =
-    T-snd (sets c est (C a) (made c f)) (isFunction (makes (c .node f)))
-    (subst T
-    (sym (ap (λ (n : ℕ). both est masks (l .lead) (2 * a * l .row) (n * l .row) f) (sym z) ∙ b)
-    ∙ both-is l (s .wide) c (y .laid) f h est masks (y .masked) a 0 ha (omega arith))
-    tt)
-    in
-    omega (arith, body-lt c (y .linked) f (omega (arith, y .laid .size)) g, y .laid .size)
-
--- what the search asks
-pub may-search : (l : Layout) (est masks : List ℕ) (p : ℕ) → Term l est p → MasksOf l masks → (m : ℕ) → m < 3 → Searched l est masks (2 * (p + 1)) m
-may-search l est masks p t y m h =
-    record {
-      size = t .sized .size;
-      wide = t .sized .wide;
-      most = t .sized .most;
-      row = row-in (t .sized) (2 * (p + 1)) (omega (arith, t .first));
-      mask = mask-in _ (l .row) m (y .masked .long) (omega arith);
-    }
-
--- ---- the things passed
-
-module _ (l : Layout) (est masks : List ℕ) (a m : ℕ) (k : ℕ → Rule) where
-  abbrev here : ℕ → Bool
-  here f = both est masks (l .lead) (2 * a * l .row) (m * l .row) f
-
-  -- what is asked for each thing below f holds
-  abbrev pub Passed : ℕ → Type 0
-  Passed f =
-      (c : Code) → LaidOut c l → WellFormed c est → (g : ℕ) → g < f → here g ≡ true → Obeys (sets c est) (k g)
-
-  abbrev Step : ℕ → ℕ → Type 0
-  Step i f = Next est masks (l .lead) (2 * a * l .row) (m * l .row) (l .size) i f
-
-  pub passed-start : (f : ℕ) → Step 0 f → Passed f
-  passed-start f n c o w g h b = absurd (true≢false (sym b ∙ n .none g (omega arith) h))
-
-  pub passed-more : (f i : ℕ) → Passed f → ((c : Code) → LaidOut c l → WellFormed c est → Decides (sets c est) (k f) true) → Step (f + 1) i → Passed i
-  passed-more f i p d n c o w g h b = go (decLt g f) (ℕ-discrete g f)
+  pub looked-more : {f i : ℕ} {r : Bool} → Looked l est masks p m k f → Checked l est (λ c. k f) r → not r ≡ false → Step l est masks p m (f + 1) i → Looked l est masks p m k i
+  looked-more {f} {i} {r} x d q n = record { passed = λ c o w g h b. go c o w g h b (decLt g f) (ℕ-discrete g f); found = n .found }
     where
-      go : Dec (g < f) → Dec (g ≡ f) → Obeys (sets c est) (k g)
-      go (yes j) e = p c o w g j b
-      go (no j) (yes e) = subst (λ (x : ℕ). Obeys (sets c est) (k x)) (sym e) (d c o w .yes tt)
-      go (no j) (no e) = absurd (true≢false (sym b ∙ n .none g (omega arith) h))
+      go : (c : Code) → LaidOut c l → WellFormed c est → (g : ℕ) → g < i → here l est masks p m g ≡ true → Dec (g < f) → Dec (g ≡ f) → Obeys (sets c est) (k g)
+      go c o w g h b (yes j) e = x .passed c o w g j b
+      go c o w g h b (no j) (yes e) = subst (λ (y : ℕ). Obeys (sets c est) (k y)) (sym e) (d c o w .yes (subst T (sym (not-false r q)) tt))
+      go c o w g h b (no j) (no e) = absurd (true≢false (sym b ∙ n .none g (omega arith) h))
 
-  module _ (s : Sized l est) (ha : a < l .size) (hm : m < 3) (c : Code) (o : LaidOut c l) (w : WellFormed c est) (q : Masked c l masks) where
-    abbrev all : Rule
-    all = eachMade c (thingAt m) (C a) k
+module _ {l : Layout} {est masks : List ℕ} {p : ℕ} (t : Term l est p) {m : ℕ} (hm : m < 3) where
+  -- what the search asks
+  pub may-search : MasksOf l masks → Searched l est masks (2 * (p + 1)) m
+  may-search y =
+      record {
+        size = t .sized .size;
+        wide = t .sized .wide;
+        most = t .sized .most;
+        row = row-in (t .sized) (2 * (p + 1)) (omega (arith, t .first));
+        mask = mask-in _ (l .row) m (y .masked .long) (omega arith);
+      }
 
-    shown : (f : ℕ) → f < l .size → here f ≡ sets c est (C a) (made c f) && thingAt m (makes (c .node f))
-    shown f h = both-is l (s .wide) c o f h est masks q a m ha hm
+  -- a digit of the row and of the mask
+  here-is : (c : Code) → LaidOut c l → Masked c l masks → (f : ℕ) → f < l .size
+      → here l est masks p m f ≡ sets c est (C (p + 1)) (made c f) && thingAt m (makes (c .node f))
+  unfolding bit
+  here-is c o k f h =
+      let i : made c f / 32 ≡ l .lead + f / 32 = omega (arith, o .lead) in
+      let j : made c f % 32 ≡ f % 32 = omega (arith, o .lead) in
+      let g : made c f < elements c = omega (arith, o .size) in
+      member-and (getD est (2 * (p + 1) * l .row + (l .lead + f / 32)) 0) (getD masks (m * l .row + (l .lead + f / 32)) 0) (f % 32)
+      ∙ rw (← i, ← j)
+      (ap₂ (λ (x y : Bool). x && y)
+      (has-is c l o est (2 * (p + 1)) (made c f) (omega (arith, t .first)) g ∙ C-sets c est (p + 1) (made c f))
+      (ap (λ (x : ℕ). member x (made c f % 32)) (sym (getD-row masks (m * l .row) (l .row) (made c f / 32) (omega (arith, t .sized .wide, o .lead))))
+      ∙ k .mask m (omega arith) .digits (made c f) g ∙ thing-sort c m f hm))
 
-    pub all-passed : (f : ℕ) → l .size ≤ f → Passed f → Decides (sets c est) all true
-    all-passed f h p =
+  -- the body of a function that is found
+  pub body-in : MasksOf l masks → m ≡ 0 → (f : ℕ) → f < l .size → here l est masks p m f ≡ true → f + 1 < l .size
+  unfolding thingAt
+  body-in y z f h b =
+      let c = y .code in
+      let g = T-snd (sets c est (C (p + 1)) (made c f)) (thingAt m (makes (c .node f))) (subst T (sym b ∙ here-is c (y .laid) (y .masked) f h) tt) in
+      omega (arith, body-lt c (y .linked) f (omega (arith, y .laid .size)) (subst (λ (n : ℕ). T (thingAt n (makes (c .node f)))) z g), y .laid .size)
+
+  -- ---- what is asked for all things
+
+  module _ {k : ℕ → Rule} {f : ℕ} (x : Looked l est masks p m k f) where
+    pub all-passed : l .size ≤ f → CheckedBy l est masks (λ c. eachMade c (thingAt m) (C (p + 1)) k) true
+    all-passed h c j o w q =
         record {
-          yes = λ t g i x y. let j : g < l .size = omega (arith, in-below i, o .size) in
-              p c o w g (omega arith)
-              (shown g j ∙ T-true (sets c est (C a) (made c g) && thingAt m (makes (c .node g))) (T-and (sets c est (C a) (made c g)) (thingAt m (makes (c .node g))) y x));
+          yes = λ u g i a b. let z : g < l .size = omega (arith, in-below i, o .size) in
+              x .passed c o w g (omega arith) (here-is c o q g z ∙ T-true (sets c est (C (p + 1)) (made c g) && thingAt m (makes (c .node g))) (T-and (sets c est (C (p + 1)) (made c g)) (thingAt m (makes (c .node g))) b a));
           no = λ z. tt;
         }
 
-    pub one-fails : (f : ℕ) → f < l .size → here f ≡ true → Decides (sets c est) (k f) false → Decides (sets c est) all false
-    one-fails f h b d =
-        let t : T (sets c est (C a) (made c f) && thingAt m (makes (c .node f))) = subst T (sym b ∙ shown f h) tt in
+    pub one-fails : {r : Bool} → f < l .size → Checked l est (λ c. k f) r → not r ≡ true → CheckedBy l est masks (λ c. eachMade c (thingAt m) (C (p + 1)) k) false
+    one-fails {r} h d n c j o w q =
+        let u : T (sets c est (C (p + 1)) (made c f) && thingAt m (makes (c .node f))) = subst T (sym (x .found h) ∙ here-is c o q f h) tt in
         record {
           yes = λ z. absurd z;
-          no = λ z. d .no (z f (below-in (omega (arith, o .size))) (T-snd (sets c est (C a) (made c f)) (thingAt m (makes (c .node f))) t)
-              (T-fst (sets c est (C a) (made c f)) (thingAt m (makes (c .node f))) t));
+          no = λ z. subst T (not-true r n) (d c o w .no (z f (below-in (omega (arith, o .size))) (T-snd (sets c est (C (p + 1)) (made c f)) (thingAt m (makes (c .node f))) u)
+              (T-fst (sets c est (C (p + 1)) (made c f)) (thingAt m (makes (c .node f))) u)));
         }

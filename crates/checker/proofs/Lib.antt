@@ -3,7 +3,6 @@ pub mod Asking
 pub mod Blocks
 pub mod Found
 pub mod Guards
-pub mod Laid
 pub mod Laws
 pub mod Lowered
 pub mod Placed

@@ -2,12 +2,11 @@
 use Prim.Native.Nat.{ℕ, _+_, _<_}
 use mathlib.Core.Path.{_≡_}
 use mathlib.Core.List.{List, List·Memᴰ}
-use Rattle.delivery.specs.Delivery.{delivered}
 use Rattle.table.specs.Scan.{accepted, reading}
-use Rattle.table.specs.Code.{Code, two, send, code}
-use Rattle.calculus.specs.Elements.{made, nameElement, sendable}
-use Rattle.calculus.specs.Constraint.{C, B, P, Sets, Rule, Obeys, put, sub, given, some, only, each, _and_}
-use Rattle.calculus.specs.Rules.{nameOf, deliveryTo, live, pass, flow}
+use Rattle.table.specs.Code.{Code, code}
+use Rattle.calculus.specs.Elements.{made, sendable}
+use Rattle.calculus.specs.Constraint.{C, B, P, Sets, Rule, Obeys, put, sub, some, each, _and_}
+use Rattle.calculus.specs.Rules.{permissions, delivering, live, pass}
 use Rattle.calculus.specs.Layout.{WellFormed}
 use Rattle.rows.specs.declared.layout.Layout.{Layout}
 use Rattle.rows.specs.Laid.{LaidOut, Sized}
@@ -18,43 +17,23 @@ use Rattle.checker.specs.declared.sends.Sending.{Sending}
 abbrev pub delivery : Code → (p d b : ℕ) → Rule
 delivery c p d b = live b and pass c (C d) (sendable c) (B b) and sub (P b) (P p)
 
--- k where it starts the block b
-abbrev pub toStarted : Code → Sending → ℕ → Rule → Rule
-toStarted c s b k =
-    only (delivered (deliveryTo (nameOf (c .node b)) (s .required .bits) (s .own .bits) (c .node b)))
-    (given (C (s .p + 1)) (nameElement (nameOf (c .node b))) k)
-
--- for the block b
-abbrev pub toBlock : Code → Sending → ℕ → Rule
-toBlock c s b = toStarted c s b (delivery c (s .p) (s .d) b)
+-- of a send at p with its message at d, which requires r: for the block b, where it starts it
+abbrev pub toBlock : Code → (p d r b : ℕ) → Rule
+toBlock c p d r b = delivering c p r (p + 1) b (delivery c p d b)
 
 -- the block of the send is in C(b), where the send starts b
-abbrev pub toSender : Code → Sending → ℕ → Rule
-toSender c s b = toStarted c s b (put (C b) (made c (s .home)))
+abbrev pub toSender : Code → (p r b : ℕ) → Rule
+toSender c p r b = delivering c p r (p + 1) b (put (C b) (made c (c .home p)))
 
--- for each block, where there is something to send
-abbrev pub sent : Code → Sending → Rule
-sent c s = some (C (s .d)) (sendable c) (each (c .blocks) (toBlock c s))
-
--- the block b has the block of the send, where there is something to send
-abbrev pub known : Code → Sending → ℕ → Rule
-known c s b = some (C (s .d)) (sendable c) (toSender c s b)
-
--- what the send asks of the word q: for the block b; for every block; where there is something to send; in all
-module _ (c : Code) (e : Sets) (s : Sending) where
+-- what the send asks of the word q: for the block b; for every block, where there is something to send
+module _ (c : Code) (e : Sets) (p d r : ℕ) where
   abbrev pub AskedFor : (b q : ℕ) → Type 0
-  AskedFor b q = (q ≡ s .p → Obeys e (toBlock c s b)) × (q ≡ b → Obeys e (toSender c s b))
-
-  abbrev pub AskedForEach : ℕ → Type 0
-  AskedForEach q = (b : ℕ) → List·Memᴰ b (c .blocks) → AskedFor b q
+  AskedFor b q = (q ≡ p → Obeys e (toBlock c p d r b)) × (q ≡ b → Obeys e (toSender c p r b))
 
   abbrev pub AskedToSend : ℕ → Type 0
-  AskedToSend q = (q ≡ s .p → Obeys e (sent c s)) × (List·Memᴰ q (c .blocks) → Obeys e (known c s q))
-
-  abbrev pub AskedBySend : ℕ → Type 0
-  AskedBySend q =
-      (q ≡ s .p → Obeys e (flow c (s .p) (two (send (s .required .bits)) (s .p + 1) (s .d))))
-      × (List·Memᴰ q (c .blocks) → Obeys e (known c s q))
+  AskedToSend q =
+      (q ≡ p → Obeys e (some (C d) (sendable c) (each (c .blocks) (toBlock c p d r))))
+      × (List·Memᴰ q (c .blocks) → Obeys e (some (C d) (sendable c) (toSender c p r q)))
 
 -- what the tests of a send are handed
 pub record Sent (ws masks est : List ℕ) (l : Layout) (s : Sending) : Type 0 where
@@ -66,3 +45,5 @@ pub record Sent (ws masks est : List ℕ) (l : Layout) (s : Sending) : Type 0 wh
   pub target : s .p + 1 < l .size
   pub message : s .d < l .size
   pub homed : s .home < l .size
+  pub home : s .home ≡ code ws .home (s .p)
+  pub own : s .own .bits ≡ permissions (code ws) (s .p)

@@ -4,7 +4,6 @@ mod terms;
 mod tests;
 mod things;
 
-use crate::sends::Sending;
 use crate::sends::send;
 use crate::terms::apply;
 use crate::terms::assign;
@@ -35,9 +34,8 @@ use queries::is_live;
 use rows::layout::Layout;
 use table::argument_of;
 use table::kind_of;
-use table_links::link_at;
 ghost use mathlib.Core.Path.{_≡_};
-ghost use Prim.Native.Nat.{ℕ, _+_, _<_};
+ghost use Prim.Native.Nat.{_+_, _<_};
 ghost use lib.ListN.{getD};
 ghost use Rattle.table.specs.Words.{kind as Kind};
 ghost use Rattle.table.specs.Code.{code};
@@ -45,35 +43,8 @@ ghost use Rattle.calculus.specs.Rules.{guarded, flow as Flow, entry as Entry};
 ghost use Rattle.calculus.specs.Layout.{WellFormed};
 ghost use Rattle.queries.specs.Ready.{Ready, At};
 ghost use Rattle.checker.specs.Obeyed.{firstBroken};
-ghost use Rattle.checker.specs.Words.{Accepted, Obeyed, SendingAt, Unknown, WordLowered, ownRule};
+ghost use Rattle.checker.specs.Words.{Accepted, Obeyed, WordLowered, ownRule};
 ghost use Rattle.rows.specs.Laid.{Sized};
-
-// What the send at p, with its message at d and this argument, sends.
-fn sending(words: &[u32], links: &[u32], p: usize, d: usize, a: u32) -> Sending
-    ensures { λ r. ⌜ SendingAt (now (words .entry)) (now (links .entry)) p d a r ⌝ }
-{
-    let home = link_at(links, p).home;
-    let required = PermSet { bits: a };
-    let own = permissions_of(words, links, p);
-    Sending {
-        p,
-        d,
-        home,
-        required,
-        own,
-    }
-}
-
-// A word of no kind of document 01, which no accepted table has: a term counts as a record.
-fn other(est: &[u32], l: Layout, kind: u32, p: usize) -> bool
-    requires { ⌜ Sized l (now est) × (p < l .size) ⌝ }
-    ensures { λ r. ⌜ Unknown l (now (est .entry)) kind p r ⌝ }
-{
-    if kind < 16 {
-        return true;
-    }
-    in_value(est, l, p, 32 * l.lead + p)
-}
 
 // Whether what the word p, which is no send, asks where it is live is obeyed.
 fn flow(words: &[u32], links: &[u32], masks: &[u32], est: &[u32], l: Layout, p: usize) -> bool
@@ -82,28 +53,29 @@ fn flow(words: &[u32], links: &[u32], masks: &[u32], est: &[u32], l: Layout, p: 
 {
     let w = words[p];
     let a = argument_of(w);
-    let kind = kind_of(w);
-    match kind {
+    let first = p + 1;
+    let own = 32 * l.lead + p;
+    match kind_of(w) {
         2 => part(est, l, p, p + 3),
         16 => in_value(est, l, p, constant_element(a)),
         17 => in_value(est, l, p, sign_element(a)),
         18 => in_value(est, l, p, 9 + a as usize),
         19 => in_value(est, l, p, 32 + a as usize),
         20 => passed(est, l, 2 * binder_of(links, p) + 1, 2 * p),
-        21 => in_value(est, l, p, 32 * l.lead + p),
-        22 => apply(est, masks, l, p, end(links, p + 1)),
-        23 => bind(est, l, p, end(links, p + 1)),
-        24 => sequence(est, l, p, end(links, p + 1)),
-        25 => branch(est, l, p, end(links, p + 1), next_end(links, p + 1)),
-        26 => repeat(est, l, p, end(links, p + 1)),
-        27 => operation(est, l, p, end(links, p + 1), a),
-        28 => in_value(est, l, p, 32 * l.lead + p),
-        29 => get(est, masks, l, p, end(links, p + 1)),
-        30 => set(est, masks, l, p, end(links, p + 1), next_end(links, p + 1)),
-        31 => delete(est, masks, l, p, end(links, p + 1)),
+        21 => in_value(est, l, p, own),
+        22 => apply(est, masks, l, p, end(links, first)),
+        23 => bind(est, l, p, end(links, first)),
+        24 => sequence(est, l, p, end(links, first)),
+        25 => branch(est, l, p, end(links, first), next_end(links, first)),
+        26 => repeat(est, l, p, end(links, first)),
+        27 => operation(est, l, p, end(links, first), a),
+        28 => in_value(est, l, p, own),
+        29 => get(est, masks, l, p, end(links, first)),
+        30 => set(est, masks, l, p, end(links, first), next_end(links, first)),
+        31 => delete(est, masks, l, p, end(links, first)),
         32 => cell(est, l, p),
         33 => read(est, masks, l, p),
-        34 => assign(est, masks, l, p, end(links, p + 1)),
+        34 => assign(est, masks, l, p, end(links, first)),
         36 => exercise(
             est,
             l,
@@ -111,7 +83,7 @@ fn flow(words: &[u32], links: &[u32], masks: &[u32], est: &[u32], l: Layout, p: 
             PermSet { bits: a },
             permissions_of(words, links, p),
         ),
-        _ => other(est, l, kind, p),
+        _ => true,
     }
 }
 
@@ -160,27 +132,6 @@ fn own(
     flow(words, links, masks, est, l, p)
 }
 
-// `below`, or the lowest word that does not obey what the send at p asks of it.
-fn send_at(
-    words: &[u32],
-    links: &[u32],
-    masks: &[u32],
-    est: &[u32],
-    l: Layout,
-    p: usize,
-    below: usize,
-) -> usize
-    requires { ⌜ At (now words) (now links) (now masks) (now est) l p × (Kind (getD (now words) p 0) ≡ 35) ⌝ }
-    ensures { λ r. ⌜ ((ρ : ℕ) → WordLowered (now (words .entry)) (now (est .entry)) ρ p below r) ⌝ }
-{
-    if !is_live(est, l, p) {
-        return below;
-    }
-    let a = argument_of(words[p]);
-    let s = sending(words, links, p, end(links, p + 1), a);
-    send(words, links, masks, est, l, s, below)
-}
-
 // `below`, or the lowest word that does not obey what the word p asks: of itself its own rule, of a block to know its sender.
 fn word(
     words: &[u32],
@@ -196,7 +147,7 @@ fn word(
     ensures { λ r. ⌜ WordLowered (now (words .entry)) (now (est .entry)) (rho .bits) p below r ⌝ }
 {
     if kind_of(words[p]) == 35 {
-        return send_at(words, links, masks, est, l, p, below);
+        return send(words, links, masks, est, l, p, below);
     }
     lowered(below, p, own(words, links, masks, est, l, rho, p))
 }

@@ -4,24 +4,27 @@ use crate::tests::in_value;
 use crate::tests::lifted;
 use crate::tests::lowered;
 use crate::tests::passed_by;
+use clauses::make::end;
+use clauses::make::permissions_of;
 use permset::PermSet;
 use queries::has_some;
 use queries::is_live;
 use queries::starts;
 use rows::layout::Layout;
+use table::argument_of;
 use table_links::link_at;
 ghost use mathlib.Core.Path.{_≡_};
-ghost use Prim.Native.Nat.{_+_, _*_, _<_, _≤_};
-ghost use lib.ListN.{length};
+ghost use Prim.Native.Nat.{ℕ, _<_};
+ghost use lib.ListN.{length, getD};
+ghost use Rattle.table.specs.Words.{kind as Kind};
 ghost use Rattle.table.specs.Scan.{name};
 ghost use Rattle.table.specs.Code.{code, taskAt};
 ghost use Rattle.table.specs.Links.{LinksOf};
 ghost use Rattle.calculus.specs.Layout.{sets};
-ghost use Rattle.rows.specs.Laid.{Sized};
-ghost use Rattle.checker.specs.Decides.{CheckedBy};
+ghost use Rattle.queries.specs.Ready.{At};
 ghost use Rattle.checker.specs.Lowered.{Lowered};
-ghost use Rattle.checker.specs.Sends.{delivery, AskedFor, AskedForEach, AskedToSend, Sent};
-ghost use Rattle.checker.specs.Words.{SendLowered};
+ghost use Rattle.checker.specs.Sends.{AskedFor, AskedToSend, Sent};
+ghost use Rattle.checker.specs.Words.{WordLowered};
 
 // The mask of what may be sent.
 const MESSAGES: usize = 3;
@@ -35,15 +38,6 @@ pub struct Sending {
     pub own: PermSet,
 }
 
-// The block b is live, what C(d) has of messages is in B(b), and P(b) is in P(p).
-fn delivered(est: &[u32], masks: &[u32], l: Layout, p: usize, d: usize, b: usize) -> bool
-    requires { ⌜ Sized l (now est) × (p < l .size) × (d < l .size) × (b < l .size) × (4 * l .row ≤ length (now masks)) ⌝ }
-    ensures { λ r. ⌜ CheckedBy l (now (est .entry)) (now (masks .entry)) (λ c. delivery c p d b) r ⌝ }
-{
-    is_live(est, l, b)
-        & (passed_by(est, masks, l, MESSAGES, 2 * d, 2 * b + 1) & lifted(est, l, b, p))
-}
-
 // `below`, or the lowest word that does not obey what the send asks for the block b: of the send itself to deliver, of b to know its sender.
 fn to_block(
     words: &[u32],
@@ -55,16 +49,18 @@ fn to_block(
     below: usize,
 ) -> usize
     requires { ⌜ Sent (now words) (now masks) (now est) l s × (b < length (now words)) × (taskAt (now words) b ≡ name) ⌝ }
-    ensures { λ r. ⌜ Lowered (AskedFor (code (now (words .entry))) (sets (code (now (words .entry))) (now (est .entry))) s b) below r ⌝ }
+    ensures { λ r. ⌜ Lowered (AskedFor (code (now (words .entry))) (sets (code (now (words .entry))) (now (est .entry))) (s .p) (s .d) (s .required .bits) b) below r ⌝ }
 {
     if !starts(words, est, l, s.p, s.required, s.own, b) {
         return below;
     }
-    let sent = lowered(below, s.p, delivered(est, masks, l, s.p, s.d, b));
+    let delivered = is_live(est, l, b)
+        & (passed_by(est, masks, l, MESSAGES, 2 * s.d, 2 * b + 1) & lifted(est, l, b, s.p));
+    let sent = lowered(below, s.p, delivered);
     lowered(sent, b, in_value(est, l, b, 32 * l.lead + s.home))
 }
 
-// The same for all blocks.
+// The same for all blocks, where there is something to send.
 fn to_blocks(
     words: &[u32],
     links: &[u32],
@@ -75,8 +71,11 @@ fn to_blocks(
     below: usize,
 ) -> usize
     requires { ⌜ Sent (now words) (now masks) (now est) l s × LinksOf (now words) (now links) ⌝ }
-    ensures { λ r. ⌜ Lowered (AskedForEach (code (now (words .entry))) (sets (code (now (words .entry))) (now (est .entry))) s) below r ⌝ }
+    ensures { λ r. ⌜ Lowered (AskedToSend (code (now (words .entry))) (sets (code (now (words .entry))) (now (est .entry))) (s .p) (s .d) (s .required .bits)) below r ⌝ }
 {
+    if !has_some(est, masks, l, 2 * s.d, MESSAGES) {
+        return below;
+    }
     let mut lowest = below;
     let mut b = 1;
     while b < words.len() {
@@ -86,42 +85,35 @@ fn to_blocks(
     lowest
 }
 
-// The same, where there is something to send.
-fn messages(
-    words: &[u32],
-    links: &[u32],
-    masks: &[u32],
-    est: &[u32],
-    l: Layout,
-    s: Sending,
-    below: usize,
-) -> usize
-    requires { ⌜ Sent (now words) (now masks) (now est) l s × LinksOf (now words) (now links) ⌝ }
-    ensures { λ r. ⌜ Lowered (AskedToSend (code (now (words .entry))) (sets (code (now (words .entry))) (now (est .entry))) s) below r ⌝ }
-{
-    if !has_some(est, masks, l, 2 * s.d, MESSAGES) {
-        return below;
-    }
-    to_blocks(words, links, masks, est, l, s, below)
-}
-
-// `below`, or the lowest word that does not obey what the send asks of it.
+// `below`, or the lowest word that does not obey what the send at p asks of it.
 pub fn send(
     words: &[u32],
     links: &[u32],
     masks: &[u32],
     est: &[u32],
     l: Layout,
-    s: Sending,
+    p: usize,
     below: usize,
 ) -> usize
-    requires { ⌜ Sent (now words) (now masks) (now est) l s × LinksOf (now words) (now links) ⌝ }
-    ensures { λ r. ⌜ SendLowered (now (words .entry)) (now (est .entry)) s below r ⌝ }
+    requires { ⌜ At (now words) (now links) (now masks) (now est) l p × (Kind (getD (now words) p 0) ≡ 35) ⌝ }
+    ensures { λ r. ⌜ ((ρ : ℕ) → WordLowered (now (words .entry)) (now (est .entry)) ρ p below r) ⌝ }
 {
-    let lowest = messages(words, links, masks, est, l, s, below);
-    lowered(
-        lowest,
-        s.p,
-        parts(est, l, s.p, s.d) & in_value(est, l, s.p, 1),
-    )
+    if !is_live(est, l, p) {
+        return below;
+    }
+    let d = end(links, p + 1);
+    let home = link_at(links, p).home;
+    let required = PermSet {
+        bits: argument_of(words[p]),
+    };
+    let own = permissions_of(words, links, p);
+    let s = Sending {
+        p,
+        d,
+        home,
+        required,
+        own,
+    };
+    let lowest = to_blocks(words, links, masks, est, l, s, below);
+    lowered(lowest, p, parts(est, l, p, d) & in_value(est, l, p, 1))
 }

@@ -5,7 +5,6 @@ use crate::tests::lifted;
 use crate::tests::part;
 use crate::tests::passed;
 use crate::tests::passed_by;
-use crate::tests::permitted;
 use crate::tests::wakes;
 use crate::things::Action;
 use crate::things::things;
@@ -21,12 +20,10 @@ ghost use Rattle.permset.specs.Sets.{width};
 ghost use Rattle.table.specs.Words.{operationOf};
 ghost use Rattle.table.specs.Code.{cell as Cell, read as Read, exercise as Exercise, one, two, bind as Bind, while, branch as Branch, update as Update};
 ghost use Rattle.table.specs.Code.{apply as Apply, sequence as Sequence, get as Get, delete as Delete, assign as Assign, operation as Op};
-ghost use Rattle.calculus.specs.Elements.{falsehood, undefined};
-ghost use Rattle.calculus.specs.Constraint.{C, put, given, _and_};
-ghost use Rattle.calculus.specs.Rules.{part as Part, permissions, leafRule, twoRule, flow};
+ghost use Rattle.calculus.specs.Constraint.{_and_};
+ghost use Rattle.calculus.specs.Rules.{part as Part, permissions, leafRule, flow};
 ghost use Rattle.rows.specs.Laid.{Sized};
 ghost use Rattle.checker.specs.Decides.{Checked, CheckedIf, CheckedBy, MasksOf, Term};
-ghost use Rattle.checker.specs.Things.{taking, making, store};
 
 // The masks, by their numbers.
 const FUNCTIONS: usize = 0;
@@ -50,7 +47,8 @@ pub fn exercise(est: &[u32], l: Layout, p: usize, set: PermSet, own: PermSet) ->
     if !set.within(own) {
         return true;
     }
-    permitted(est, l, p, set) & in_value(est, l, p, 1)
+    let at = l.flags(p);
+    set.within(PermSet::of(est[at])) & in_value(est, l, p, 1)
 }
 
 pub fn apply(est: &[u32], masks: &[u32], l: Layout, p: usize, d: usize) -> bool
@@ -86,26 +84,21 @@ pub fn branch(est: &[u32], l: Layout, p: usize, d: usize, e: usize) -> bool
                         & (passed(est, l, 2 * d, 2 * p) & passed(est, l, 2 * e, 2 * p))))))
 }
 
-// Where the condition may be false, undefined is in C(p).
-fn ends(est: &[u32], l: Layout, p: usize) -> bool
-    requires { ⌜ Term l (now est) p ⌝ }
-    ensures { λ r. ⌜ Checked l (now (est .entry)) (λ c. given (C (p + 1)) falsehood (put (C p) undefined)) r ⌝ }
-{
-    !in_value(est, l, p + 1, 3) | in_value(est, l, p, 0)
-}
-
 pub fn repeat(est: &[u32], l: Layout, p: usize, d: usize) -> bool
     requires { ⌜ Term l (now est) p × (d < l .size) ⌝ }
     ensures { λ r. ⌜ Checked l (now (est .entry)) (λ c. flow c p (while (p + 1) d)) r ⌝ }
 {
-    part(est, l, p, p + 1) & (lifted(est, l, d, p) & (wakes(est, l, p + 1, 2, d) & ends(est, l, p)))
+    part(est, l, p, p + 1)
+        & (lifted(est, l, d, p)
+            & (wakes(est, l, p + 1, 2, d) & (!in_value(est, l, p + 1, 3) | in_value(est, l, p, 0))))
 }
 
-// The results of an operation on C(p + 1) and C(d) are in C(p).
-fn operated(est: &[u32], l: Layout, p: usize, d: usize, a: u32) -> bool
+// The results of the operation on C(p + 1) and C(d) are in C(p).
+pub fn operation(est: &[u32], l: Layout, p: usize, d: usize, a: u32) -> bool
     requires { ⌜ Term l (now est) p × (d < l .size) ⌝ }
-    ensures { λ r. ⌜ Checked l (now (est .entry)) (λ c. twoRule c p (Op (operationOf a)) (p + 1) d) r ⌝ }
+    ensures { λ r. ⌜ Checked l (now (est .entry)) (λ c. flow c p (two (Op (operationOf a)) (p + 1) d)) r ⌝ }
 {
+    let whole = parts(est, l, p, d);
     let to = 2 * p * l.row;
     let results = operate_at(
         est,
@@ -114,92 +107,60 @@ fn operated(est: &[u32], l: Layout, p: usize, d: usize, a: u32) -> bool
         2 * (p + 1) * l.row,
         2 * d * l.row,
     );
-    PermSet::of(results).within(PermSet::of(est[to]))
+    whole & PermSet::of(results).within(PermSet::of(est[to]))
 }
 
-pub fn operation(est: &[u32], l: Layout, p: usize, d: usize, a: u32) -> bool
-    requires { ⌜ Term l (now est) p × (d < l .size) ⌝ }
-    ensures { λ r. ⌜ Checked l (now (est .entry)) (λ c. flow c p (two (Op (operationOf a)) (p + 1) d)) r ⌝ }
-{
-    parts(est, l, p, d) & operated(est, l, p, d, a)
-}
-
-// Where C(p + 1) has a record, undefined and what each record holds is in C(p).
-fn got(est: &[u32], masks: &[u32], l: Layout, p: usize) -> bool
-    requires { ⌜ Term l (now est) p × MasksOf l (now masks) ⌝ }
-    ensures { λ r. ⌜ CheckedBy l (now (est .entry)) (now (masks .entry)) (λ c. taking c p) r ⌝ }
-{
-    if !has_some(est, masks, l, 2 * (p + 1), RECORDS) {
-        return true;
-    }
-    in_value(est, l, p, 0) & things(est, masks, l, Action::Take, RECORDS, p, 2 * p)
-}
-
-// What get asks besides its parts.
-fn gets(est: &[u32], masks: &[u32], l: Layout, p: usize, d: usize) -> bool
-    requires { ⌜ Term l (now est) p × (d < l .size) × MasksOf l (now masks) ⌝ }
-    ensures { λ r. ⌜ CheckedBy l (now (est .entry)) (now (masks .entry)) (λ c. twoRule c p Get (p + 1) d) r ⌝ }
-{
-    if !has_text(est, l, 2 * d) {
-        return true;
-    }
-    fills(est, l, p + 1, 7, 2 * p) & got(est, masks, l, p)
-}
-
+// Where C(d) has a string: for 7 all plain elements, where C(p + 1) has a record undefined, and what each record holds is in C(p).
 pub fn get(est: &[u32], masks: &[u32], l: Layout, p: usize, d: usize) -> bool
     requires { ⌜ Term l (now est) p × (d < l .size) × MasksOf l (now masks) ⌝ }
     ensures { λ r. ⌜ CheckedBy l (now (est .entry)) (now (masks .entry)) (λ c. flow c p (two Get (p + 1) d)) r ⌝ }
 {
-    parts(est, l, p, d) & gets(est, masks, l, p, d)
-}
-
-// Where C(p + 1) has a record or 7: the new record is in C(p), and C(e) and what each record holds is in B(p).
-fn stored(est: &[u32], masks: &[u32], l: Layout, p: usize, e: usize) -> bool
-    requires { ⌜ Term l (now est) p × (e < l .size) × MasksOf l (now masks) ⌝ }
-    ensures { λ r. ⌜ CheckedBy l (now (est .entry)) (now (masks .entry)) (λ c. making c p e) r ⌝ }
-{
-    if !has_some(est, masks, l, 2 * (p + 1), RECORDS) {
-        return true;
-    }
-    in_value(est, l, p, 32 * l.lead + p)
-        & (passed(est, l, 2 * e, 2 * p + 1)
-            & things(est, masks, l, Action::Take, RECORDS, p, 2 * p + 1))
-}
-
-// What set asks besides its parts.
-fn stores(est: &[u32], masks: &[u32], l: Layout, p: usize, d: usize, e: usize) -> bool
-    requires { ⌜ Term l (now est) p × (d < l .size) × (e < l .size) × MasksOf l (now masks) ⌝ }
-    ensures { λ r. ⌜ CheckedBy l (now (est .entry)) (now (masks .entry)) (λ c. store c p d e) r ⌝ }
-{
+    let whole = parts(est, l, p, d);
     if !has_text(est, l, 2 * d) {
-        return true;
+        return whole;
     }
-    fills(est, l, p + 1, 7, 2 * p + 1) & stored(est, masks, l, p, e)
+    let filled = fills(est, l, p + 1, 7, 2 * p);
+    if !has_some(est, masks, l, 2 * (p + 1), RECORDS) {
+        return whole & filled;
+    }
+    whole
+        & (filled
+            & (in_value(est, l, p, 0) & things(est, masks, l, Action::Take, RECORDS, p, 2 * p)))
 }
 
+// Where C(d) has a string: for 7 all plain elements are in B(p), and where C(p + 1) has a record or 7 the new record is in C(p), C(e) and what
+// each record holds in B(p).
 pub fn set(est: &[u32], masks: &[u32], l: Layout, p: usize, d: usize, e: usize) -> bool
     requires { ⌜ Term l (now est) p × (d < l .size) × (e < l .size) × MasksOf l (now masks) ⌝ }
     ensures { λ r. ⌜ CheckedBy l (now (est .entry)) (now (masks .entry)) (λ c. flow c p (Update (p + 1) d e)) r ⌝ }
 {
-    parts(est, l, p, d) & (part(est, l, p, e) & stores(est, masks, l, p, d, e))
-}
-
-// What delete asks besides its parts.
-fn deletes(est: &[u32], masks: &[u32], l: Layout, p: usize, d: usize) -> bool
-    requires { ⌜ Term l (now est) p × (d < l .size) × MasksOf l (now masks) ⌝ }
-    ensures { λ r. ⌜ CheckedBy l (now (est .entry)) (now (masks .entry)) (λ c. twoRule c p Delete (p + 1) d) r ⌝ }
-{
+    let whole = parts(est, l, p, d);
+    let third = part(est, l, p, e);
     if !has_text(est, l, 2 * d) {
-        return true;
+        return whole & third;
     }
-    passed_by(est, masks, l, RECORDS, 2 * (p + 1), 2 * p)
+    let filled = fills(est, l, p + 1, 7, 2 * p + 1);
+    if !has_some(est, masks, l, 2 * (p + 1), RECORDS) {
+        return whole & (third & filled);
+    }
+    whole
+        & (third
+            & (filled
+                & (in_value(est, l, p, 32 * l.lead + p)
+                    & (passed(est, l, 2 * e, 2 * p + 1)
+                        & things(est, masks, l, Action::Take, RECORDS, p, 2 * p + 1)))))
 }
 
+// Where C(d) has a string, records and 7 pass to C(p).
 pub fn delete(est: &[u32], masks: &[u32], l: Layout, p: usize, d: usize) -> bool
     requires { ⌜ Term l (now est) p × (d < l .size) × MasksOf l (now masks) ⌝ }
     ensures { λ r. ⌜ CheckedBy l (now (est .entry)) (now (masks .entry)) (λ c. flow c p (two Delete (p + 1) d)) r ⌝ }
 {
-    parts(est, l, p, d) & deletes(est, masks, l, p, d)
+    let whole = parts(est, l, p, d);
+    if !has_text(est, l, 2 * d) {
+        return whole;
+    }
+    whole & passed_by(est, masks, l, RECORDS, 2 * (p + 1), 2 * p)
 }
 
 pub fn cell(est: &[u32], l: Layout, p: usize) -> bool
@@ -217,18 +178,11 @@ pub fn read(est: &[u32], masks: &[u32], l: Layout, p: usize) -> bool
     part(est, l, p, p + 1) & things(est, masks, l, Action::Take, CELLS, p, 2 * p)
 }
 
-// What assign asks besides its parts.
-fn assigned(est: &[u32], masks: &[u32], l: Layout, p: usize, d: usize) -> bool
-    requires { ⌜ Term l (now est) p × (d < l .size) × MasksOf l (now masks) ⌝ }
-    ensures { λ r. ⌜ CheckedBy l (now (est .entry)) (now (masks .entry)) (λ c. twoRule c p Assign (p + 1) d) r ⌝ }
-{
-    (!has_some(est, masks, l, 2 * (p + 1), CELLS) | passed(est, l, 2 * d, 2 * p))
-        & things(est, masks, l, Action::Hand, CELLS, p, 2 * d)
-}
-
 pub fn assign(est: &[u32], masks: &[u32], l: Layout, p: usize, d: usize) -> bool
     requires { ⌜ Term l (now est) p × (d < l .size) × MasksOf l (now masks) ⌝ }
     ensures { λ r. ⌜ CheckedBy l (now (est .entry)) (now (masks .entry)) (λ c. flow c p (two Assign (p + 1) d)) r ⌝ }
 {
-    parts(est, l, p, d) & assigned(est, masks, l, p, d)
+    parts(est, l, p, d)
+        & ((!has_some(est, masks, l, 2 * (p + 1), CELLS) | passed(est, l, 2 * d, 2 * p))
+            & things(est, masks, l, Action::Hand, CELLS, p, 2 * d))
 }

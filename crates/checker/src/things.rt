@@ -21,23 +21,17 @@ pub enum Action {
     Hand,
 }
 
-// The body of the function f is live, the row y is in B(f), and what the body gives is in C(p) and P(p).
-fn called(est: &[u32], l: Layout, p: usize, y: usize, f: usize) -> bool
-    requires { ⌜ Sized l (now est) × (p < l .size) × (y < 2 * l .size) × (f + 1 < l .size) ⌝ }
-    ensures { λ r. ⌜ Checked l (now (est .entry)) (λ c. asked actions.Call p y f) r ⌝ }
-{
-    is_live(est, l, f + 1)
-        & (passed(est, l, y, 2 * f + 1)
-            & (passed(est, l, 2 * (f + 1), 2 * p) & lifted(est, l, f + 1, p)))
-}
-
-// What is asked for the thing f.
+// What is asked for the thing f; of a function that its body is live, the row y is in B(f), and what the body gives is in C(p) and P(p).
 fn thing(est: &[u32], l: Layout, action: Action, p: usize, y: usize, f: usize) -> bool
     requires { ⌜ Sized l (now est) × (p < l .size) × (y < 2 * l .size) × (f < l .size) × (action ≡ actions.Call → f + 1 < l .size) ⌝ }
     ensures { λ r. ⌜ Checked l (now (est .entry)) (λ c. asked action p y f) r ⌝ }
 {
     match action {
-        Action::Call => called(est, l, p, y, f),
+        Action::Call => {
+            is_live(est, l, f + 1)
+                & (passed(est, l, y, 2 * f + 1)
+                    & (passed(est, l, 2 * (f + 1), 2 * p) & lifted(est, l, f + 1, p)))
+        }
         Action::Take => passed(est, l, 2 * f + 1, y),
         Action::Hand => passed(est, l, y, 2 * f + 1),
     }

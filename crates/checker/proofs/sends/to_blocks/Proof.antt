@@ -1,72 +1,46 @@
--- `checker::sends::to_blocks` meets its contract. The loop's invariant: b is the next block or the end, and what the blocks below it ask of
--- words has been looked at. Assumes nothing.
+-- `checker::sends::to_blocks` meets its contract. The loop's invariant: b is the next block or the end, and what the blocks from b on ask is
+-- still to be looked at. Assumes nothing.
+use borrow.Author.Needs.{needs}
 use Prim.Native.Nat.{_-_}
-use mathlib.Core.Path.{sym, ap, _∙_, subst}
 use native.Mathlib.Omega.{arith}
 use lib.ListN.{length}
-use Rattle.table.specs.declared.Link.{Link}
 use Rattle.table.specs.Code.{code}
-use Rattle.table.proofs.Blocks.{Follows}
-use Rattle.table.proofs.BlockLoop.{named-there, follows-first, body-inside, next-is, follows-next, next-later}
+use Rattle.table.proofs.BlockLoop.{named-there, body-inside}
 use Rattle.calculus.specs.Layout.{sets}
-use Rattle.checker.specs.Lowered.{Lowered}
+use Rattle.clauses.specs.Asks.{sortAt}
 use Rattle.checker.specs.Sends.{AskedFor}
-use Rattle.checker.proofs.Blocks.{Passed, AskedBefore, passed-start, passed-next, before-start, before-next, before-all}
-use borrow.Author.Needs.{needs}
+use Rattle.checker.proofs.Blocks.{Looked, looked-start, looked-next, looked-all}
+use Rattle.checker.proofs.Sent.{nothing-sent, something-sent}
 use Rattle.checker.proofs.sends.to_blocks.Statement.{statement}
 use Rattle.checker.proofs.sends.to_blocks.Tie as tie
 
 abbrev Inv-loop : tie.InvT-loop
-Inv-loop words links masks est l s below lowest₀ b₀ lowest b =
-    Follows words b × Passed words b × Lowered (AskedBefore words (AskedFor (code words) (sets (code words) est) s) b) below lowest
+Inv-loop words links masks est l s below lowest₀ b₀ lowest b = Looked words (AskedFor (code words) (sets (code words) est) (s .p) (s .d) (s .required .bits)) below b lowest
 
 abbrev μ-loop : tie.MeasureT-loop
 μ-loop words links masks est l s below lowest₀ b₀ lowest b = length words - b
 
-loop-holds : tie.Need-loop-holds Inv-loop μ-loop
-loop-holds c =
-    let s = c .before .before .before .before in let a = s .args in let ws = a .words .now in let q = s .pre .0 .readable in
-    (follows-first ws q, passed-start ws q, before-start ws q (AskedFor (code ws) (sets (code ws) (a .est .now)) (a .s)))
-
-to-block-requires : tie.Need-to-block-requires Inv-loop μ-loop
-to-block-requires c κs =
-    let s = c .before .before .before .before .before .before in let a = s .args in let ws = a .words .now in let q = s .pre .0 .readable in
-    (s .pre .0, c .loop-test .taken, named-there ws q (c .before .loop .b) (c .before .loop .inv .0) (c .loop-test .taken))
-
-add-link-at : tie.Need-add-link-at Inv-loop μ-loop
-add-link-at c =
-    let s = c .before .before .before .before .before .before .before in let a = s .args in let ws = a .words .now in let q = s .pre .0 .readable in let i = c .before .before .loop in let g = c .before .loop-test .taken in
-    omega (arith, body-inside ws q (i .b) g (named-there ws q (i .b) (i .inv .0) g))
-
-loop-less : tie.Need-loop-less Inv-loop μ-loop
-loop-less c =
-    let s = c .before .before .before .before .before .before .before .before in let a = s .args in let ws = a .words .now in let q = s .pre .0 .readable in let i = c .before .before .before .loop in let g = c .before .before .loop-test .taken in let t = named-there ws q (i .b) (i .inv .0) g in
-    omega (arith, ap (λ (x : Link). x .end) (c .link-at .ensures) ∙ next-is ws q (i .b) g t (a .links .now) (s .pre .1), next-later ws q (i .b) g t, g)
-
-loop-again : tie.Need-loop-again Inv-loop μ-loop
-loop-again c =
-    let s = c .before .before .before .before .before .before .before .before in let a = s .args in let ws = a .words .now in let q = s .pre .0 .readable in let i = c .before .before .before .loop in let g = c .before .before .loop-test .taken in let t = named-there ws q (i .b) (i .inv .0) g in
-    let z = ap (λ (x : Link). x .end) (c .link-at .ensures) ∙ next-is ws q (i .b) g t (a .links .now) (s .pre .1) in (
-      subst (Follows ws) (sym z) (follows-next ws q (i .b) g t),
-      passed-next ws q (i .b) g t (i .inv .1) _ z,
-      before-next ws q (i .b) g t (i .inv .1) _ z (AskedFor (code ws) (sets (code ws) (a .est .now)) (a .s)) (i .inv .2) (c .before .to-block .ensures),
-    )
-
-returns : tie.Need-returns Inv-loop μ-loop
-returns c =
-    let s = c .before .before .before .before .before .before in let a = s .args in let ws = a .words .now in let q = s .pre .0 .readable in let i = c .before .loop in
-    before-all ws q (AskedFor (code ws) (sets (code ws) (a .est .now)) (a .s)) (i .b) (i .inv .0) (c .loop-test .left) (i .inv .1) (i .inv .2)
-
 pub to-blocks-spec : {M : Type 1} → statement M
+unfolding sortAt
 to-blocks-spec =
     tie.close
     (tie.spec
     Inv-loop
     μ-loop
-    loop-holds
-    to-block-requires
-    add-link-at
+    (λ mul-has-some. search needs)
+    (λ has-some-requires κs. search needs)
+    (λ c. let s = c .before .before .before .before .before .before .before in let h = s .pre .0 in
+    nothing-sent _ (s .args .est .now) _ _ _ (c .before .has-some .ensures _ (sortAt 3 _) (h .laid) (h .well) (h .masked .mask 3 (omega arith))) (c .if1 .taken))
+    (λ c. looked-start _ (c .before .before .before .before .before .before .before .pre .0 .readable) _)
+    (λ c κs. let s = c .before .before .before .before .before .before .before .before .before in
+    (s .pre .0, c .loop-test .taken, named-there _ (s .pre .0 .readable) _ (c .before .loop .inv .0) (c .loop-test .taken)))
+    (λ c. let s = c .before .before .before .before .before .before .before .before .before .before in let q = s .pre .0 .readable in let i = c .before .before .loop in let g = c .before .loop-test .taken in
+    omega (arith, body-inside _ q (i .b) g (named-there _ q (i .b) (i .inv .0) g)))
     (λ link-at-requires κs. search needs)
-    loop-less
-    loop-again
-    returns)
+    (λ c. let s = c .before .before .before .before .before .before .before .before .before .before .before in let g = c .before .before .loop-test .taken in
+    omega (arith, looked-next _ (s .pre .0 .readable) _ (c .before .before .before .loop .inv) g (s .pre .1) (c .link-at .ensures) (c .before .to-block .ensures) .1, g))
+    (λ c. let s = c .before .before .before .before .before .before .before .before .before .before .before in
+    looked-next _ (s .pre .0 .readable) _ (c .before .before .before .loop .inv) (c .before .before .loop-test .taken) (s .pre .1) (c .link-at .ensures) (c .before .to-block .ensures) .0)
+    (λ c. let s = c .before .before .before .before .before .before .before .before .before in let h = s .pre .0 in
+    something-sent _ (s .args .est .now) _ _ _ (c .before .before .before .has-some .ensures _ (sortAt 3 _) (h .laid) (h .well) (h .masked .mask 3 (omega arith)))
+    (c .before .before .if1 .left) (looked-all _ (h .readable) _ (c .before .loop .inv) (c .loop-test .left))))

@@ -1,18 +1,13 @@
 -- `checker::terms::bind` meets its contract. Assumes nothing.
 use borrow.Author.Needs.{needs}
-use Prim.Native.Nat.{_+_}
 use Rattle.calculus.specs.Rules.{flow}
-use Rattle.checker.proofs.Laws.{both, and-parts}
-use Rattle.checker.proofs.Laid.{CC, CB}
+use Rattle.checker.proofs.Laws.{both, parted}
+use Rattle.checker.proofs.Rows.{CC, CB}
 use Rattle.checker.proofs.terms.bind.Statement.{statement}
 use Rattle.checker.proofs.terms.bind.Tie as tie
 
-returns : tie.Need-returns
-unfolding flow
-returns c =
-    λ k o w. let a = c .before .before .before .before .args in and-parts _ (c .before .before .parts .ensures k o w) (both _ (CB _ (a .p + 1) (a .p) (c .before .passed .ensures k o w)) (CC _ (a .d) (a .p) (c .passed2 .ensures k o w)))
-
 pub bind-spec : {M : Type 1} → statement M
+unfolding flow
 bind-spec =
     tie.close
     (tie.spec
@@ -25,4 +20,4 @@ bind-spec =
     (λ mul-passed-3. search needs)
     (λ mul-passed-4. search needs)
     (λ passed-requires-2 κs. search needs)
-    returns)
+    (λ c. λ k o w. parted (both (c .before .before .parts .ensures k o w) (both (CB (c .before .passed .ensures k o w)) (CC (c .passed2 .ensures k o w))))))

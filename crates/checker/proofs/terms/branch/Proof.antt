@@ -2,18 +2,12 @@
 use borrow.Author.Needs.{needs}
 use Rattle.calculus.specs.Rules.{flow}
 use Rattle.checker.proofs.Laws.{both}
-use Rattle.checker.proofs.Laid.{CC}
+use Rattle.checker.proofs.Rows.{CC}
 use Rattle.checker.proofs.terms.branch.Statement.{statement}
 use Rattle.checker.proofs.terms.branch.Tie as tie
 
-returns : tie.Need-returns
-unfolding flow
-returns c =
-    λ k o w. let a = c .before .before .before .before .before .before .before .before .args in
-    both _ (c .before .before .before .before .before .before .part .ensures k o w) (both _ (c .before .before .before .before .before .lifted .ensures k o w) (both _ (c .before .before .before .before .lifted2 .ensures k o w) (both _ (c .before .before .before .wakes .ensures k o w)
-    (both _ (c .before .before .wakes2 .ensures k o w) (both _ (CC _ (a .d) (a .p) (c .before .passed .ensures k o w)) (CC _ (a .e) (a .p) (c .passed2 .ensures k o w)))))))
-
 pub branch-spec : {M : Type 1} → statement M
+unfolding flow
 branch-spec =
     tie.close
     (tie.spec
@@ -31,4 +25,6 @@ branch-spec =
     (λ mul-passed-3. search needs)
     (λ mul-passed-4. search needs)
     (λ passed-requires-2 κs. search needs)
-    returns)
+    (λ c. λ k o w.
+    both (c .before .before .before .before .before .before .part .ensures k o w) (both (c .before .before .before .before .before .lifted .ensures k o w) (both (c .before .before .before .before .lifted2 .ensures k o w) (both (c .before .before .before .wakes .ensures k o w)
+    (both (c .before .before .wakes2 .ensures k o w) (both (CC (c .before .passed .ensures k o w)) (CC (c .passed2 .ensures k o w)))))))))

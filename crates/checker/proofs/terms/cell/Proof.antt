@@ -1,19 +1,14 @@
 -- `checker::terms::cell` meets its contract. Assumes nothing.
 use borrow.Author.Needs.{needs}
-use Prim.Native.Nat.{_+_}
 use Rattle.calculus.specs.Rules.{flow, oneRule}
 use Rattle.checker.proofs.Laws.{both}
-use Rattle.checker.proofs.Laid.{CB}
+use Rattle.checker.proofs.Rows.{CB}
 use Rattle.checker.proofs.Asking.{own-is}
 use Rattle.checker.proofs.terms.cell.Statement.{statement}
 use Rattle.checker.proofs.terms.cell.Tie as tie
 
-returns : tie.Need-returns
-unfolding flow oneRule
-returns c =
-    λ k o w. let a = c .before .before .before .before .before .args in both _ (c .before .before .before .part .ensures k o w) (both _ (own-is k (a .l) o (a .est .now) (a .p) (c .before .in-value .ensures k o)) (CB _ (a .p + 1) (a .p) (c .passed .ensures k o w)))
-
 pub cell-spec : {M : Type 1} → statement M
+unfolding flow oneRule
 cell-spec =
     tie.close
     (tie.spec
@@ -27,4 +22,4 @@ cell-spec =
     (λ mul-passed-2. search needs)
     (λ add-passed-2. search needs)
     (λ passed-requires κs. search needs)
-    returns)
+    (λ c. λ k o w. both (c .before .before .before .part .ensures k o w) (both (own-is o (c .before .in-value .ensures k o)) (CB (c .passed .ensures k o w)))))

@@ -1,17 +1,27 @@
 -- `checker::terms::exercise` meets its contract. Assumes nothing.
 use borrow.Author.Needs.{needs}
-use Rattle.checker.proofs.Asking.{unexercised, exercised}
+use mathlib.Core.Path.{refl, ap, _∙_}
+use Rattle.permset.specs.Sets.{within}
+use Rattle.calculus.specs.Rules.{leafRule}
+use Rattle.checker.proofs.Laws.{decided, both, put-is, idle, due, on-only}
+use Rattle.checker.proofs.Rows.{permitted-is}
 use Rattle.checker.proofs.terms.exercise.Statement.{statement}
 use Rattle.checker.proofs.terms.exercise.Tie as tie
 
-returns : tie.Need-returns
-returns c = λ k o w q. let a = c .before .before .before .args in unexercised k _ (a .p) (a .set .bits) (a .own .bits) q (c .before .within .ensures) (c .if1 .taken)
-
-returns-2 : tie.Need-returns-2
-returns-2 c =
-    λ k o w q. let a = c .before .before .before .before .before .args in
-    exercised k _ (a .p) (a .set .bits) (a .own .bits) q (c .before .before .before .within .ensures) (c .before .before .if1 .left) (c .before .permitted .ensures k o w) (c .in-value .ensures k o)
-
 pub exercise-spec : {M : Type 1} → statement M
+unfolding leafRule
 exercise-spec =
-    tie.close (tie.spec (λ within-requires κs. search needs) returns (λ permitted-requires κs. search needs) (λ in-value-requires κs. search needs) returns-2)
+    tie.close
+    (tie.spec
+    (λ within-requires κs. search needs)
+    (λ c. λ k o w q. idle (on-only (c .before .within .ensures ∙ ap (within (c .before .before .before .args .set .bits)) q)) (c .if1 .taken))
+    (λ flags-requires κs. search needs)
+    (λ mul-of. search needs)
+    (λ shared-slice-read-of. search needs)
+    (λ of-requires κs. search needs)
+    (λ within-requires-2 κs. search needs)
+    (λ in-value-requires κs. search needs)
+    (λ c. λ k o w q. let s = c .before .before .before .before .before .before .before .before in let a = s .args in
+    due (on-only (c .before .before .before .before .before .before .within .ensures ∙ ap (within (a .set .bits)) q)) (c .before .before .before .before .before .if1 .left)
+    (both (decided (c .before .within2 .ensures ∙ rw (c .before .before .of .ensures, c .before .before .before .before .flags .ensures) refl)
+    (permitted-is (a .l) (a .est .now) (s .pre .0) k o w (a .p) (s .pre .1) (a .set .bits) (s .pre .2))) (put-is (c .in-value .ensures k o)))))

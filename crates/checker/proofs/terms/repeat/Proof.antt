@@ -1,7 +1,7 @@
 -- `checker::terms::repeat` meets its contract. Assumes nothing.
 use borrow.Author.Needs.{needs}
 use Rattle.calculus.specs.Rules.{flow}
-use Rattle.checker.proofs.Laws.{both}
+use Rattle.checker.proofs.Laws.{both, put-is, under-or, on-given}
 use Rattle.checker.proofs.terms.repeat.Statement.{statement}
 use Rattle.checker.proofs.terms.repeat.Tie as tie
 
@@ -15,5 +15,9 @@ repeat-spec =
     (λ lifted-requires κs. search needs)
     (λ add-wakes. search needs)
     (λ wakes-requires κs. search needs)
-    (λ ends-requires κs. search needs)
-    (λ c. λ k o w. both _ (c .before .before .before .part .ensures k o w) (both _ (c .before .before .lifted .ensures k o w) (both _ (c .before .wakes .ensures k o w) (c .ends .ensures k o w)))))
+    (λ add-in-value. search needs)
+    (λ in-value-requires κs. search needs)
+    (λ in-value-requires-2 κs. search needs)
+    (λ c.
+    λ k o w. both (c .before .before .before .before .part .ensures k o w) (both (c .before .before .before .lifted .ensures k o w) (both (c .before .before .wakes .ensures k o w)
+    (under-or (on-given (c .before .in-value .ensures k o)) (put-is (c .in-value2 .ensures k o)))))))

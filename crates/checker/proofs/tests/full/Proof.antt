@@ -5,7 +5,7 @@ use native.Mathlib.Omega.{arith}
 use borrow.Author.Count.{below-more}
 use lib.ListN.{getD}
 use Rattle.queries.proofs.Laws.{row-in}
-use Rattle.checker.proofs.Laid.{full-is, gap-is}
+use Rattle.checker.proofs.Rows.{full-is, gap-is}
 use borrow.Author.Needs.{needs}
 use Rattle.checker.proofs.tests.full.Statement.{statement}
 use Rattle.checker.proofs.tests.full.Tie as tie
@@ -16,27 +16,20 @@ Inv-loop est r at lead k₀ k = (k ≤ lead) × ((i : ℕ) → i < k → getD es
 abbrev μ-loop : tie.MeasureT-loop
 μ-loop est r at lead k₀ k = lead - k
 
-returns : tie.Need-returns Inv-loop μ-loop
-returns c =
-    λ k o w. let s = c .before .before .before .before .before in
-    gap-is (s .args .l) (s .args .est .now) (s .pre .0) k o w (s .args .r) (s .pre .1) (c .before .before .before .loop .k) (c .before .before .loop-test .taken) (c .if1 .taken)
-
-returns-2 : tie.Need-returns-2 Inv-loop μ-loop
-returns-2 c = λ k o w. let s = c .before .before .before in full-is (s .args .l) (s .args .est .now) (s .pre .0) k o w (s .args .r) (s .pre .1) (λ i h. c .before .loop .inv .1 i (omega arith))
-
 pub full-spec : {M : Type 1} → statement M
 full-spec =
     tie.close
     (tie.spec
     Inv-loop
     μ-loop
-    (λ c. let s = c .before in omega (arith, row-in (s .pre .0) (s .args .r) (s .pre .1)))
+    (λ c. omega (arith, row-in (c .before .pre .0) _ (c .before .pre .1)))
     (λ c. (omega arith, λ i h. absurd (omega arith)))
-    (λ c. let s = c .before .before .before in omega (arith, row-in (s .pre .0) (s .args .r) (s .pre .1), s .pre .0 .wide))
-    (λ c. let s = c .before .before .before in omega (arith, row-in (s .pre .0) (s .args .r) (s .pre .1), s .pre .0 .wide))
-    (λ c. let s = c .before .before .before .before in omega (arith, row-in (s .pre .0) (s .args .r) (s .pre .1), s .pre .0 .wide))
-    returns
+    (λ c. let s = c .before .before .before in omega (arith, row-in (s .pre .0) _ (s .pre .1), s .pre .0 .wide))
+    (λ c. let s = c .before .before .before in omega (arith, row-in (s .pre .0) _ (s .pre .1), s .pre .0 .wide))
+    (λ c. let s = c .before .before .before .before in omega (arith, row-in (s .pre .0) _ (s .pre .1), s .pre .0 .wide))
+    (λ c. λ k o w. let s = c .before .before .before .before .before in
+    gap-is _ _ (s .pre .0) k o w _ (s .pre .1) (c .before .before .before .loop .k) (c .before .before .loop-test .taken) (c .if1 .taken))
     (λ add-k. search needs)
     (λ loop-less. search needs)
     (λ c. (search needs, below-more _ _ (c .before .before .before .loop .inv .1) (c .if1 .left)))
-    returns-2)
+    (λ c. λ k o w. let s = c .before .before .before in full-is _ _ (s .pre .0) k o w _ (s .pre .1) (λ i h. c .before .loop .inv .1 i (omega arith))))

@@ -4,21 +4,15 @@ use mathlib.Core.Bool.{not}
 use native.Mathlib.Omega.{arith}
 use Rattle.queries.proofs.Laws.{row-in}
 use Rattle.checker.proofs.Laws.{decided}
-use Rattle.checker.proofs.Laid.{passed-is}
+use Rattle.checker.proofs.Rows.{passed-is}
 use Rattle.checker.proofs.tests.passed.Statement.{statement}
 use Rattle.checker.proofs.tests.passed.Tie as tie
 
-mul-lacks : tie.Need-mul-lacks
-mul-lacks c = let s = c .before .before in omega (arith, row-in (s .pre .0) (s .args .a) (s .pre .1))
-
-mul-lacks-2 : tie.Need-mul-lacks-2
-mul-lacks-2 c = let s = c .before .before .before in omega (arith, row-in (s .pre .0) (s .args .b) (s .pre .2))
-
-lacks-requires : tie.Need-lacks-requires
-lacks-requires c κs = let s = c .before .before .before in (row-in (s .pre .0) (s .args .a) (s .pre .1), row-in (s .pre .0) (s .args .b) (s .pre .2))
-
-returns : tie.Need-returns
-returns c = λ k o w. let s = c .before .before .before .before in decided _ (ap not (c .lacks .ensures)) (passed-is (s .args .l) (s .args .est .now) (s .pre .0) k o w (s .args .a) (s .args .b) (s .pre .1) (s .pre .2))
-
 pub passed-spec : {M : Type 1} → statement M
-passed-spec = tie.close (tie.spec mul-lacks mul-lacks-2 lacks-requires returns)
+passed-spec =
+    tie.close
+    (tie.spec
+    (λ c. omega (arith, row-in (c .before .before .pre .0) _ (c .before .before .pre .1)))
+    (λ c. omega (arith, row-in (c .before .before .before .pre .0) _ (c .before .before .before .pre .2)))
+    (λ c κs. let s = c .before .before .before in (row-in (s .pre .0) _ (s .pre .1), row-in (s .pre .0) _ (s .pre .2)))
+    (λ c. λ k o w. let s = c .before .before .before .before in decided (ap not (c .lacks .ensures)) (passed-is _ _ (s .pre .0) k o w _ _ (s .pre .1) (s .pre .2))))
