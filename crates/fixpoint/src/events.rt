@@ -1,5 +1,8 @@
 // What the worklist chooses, fired.
+use crate::entry::enter;
+use crate::entry::enter_all;
 use firing::step::step;
+use permset::PermSet;
 use rows::layout::Layout;
 use worklist::choice_at;
 use worklist::choice_clause;
@@ -8,12 +11,14 @@ use worklist::choice_target;
 use worklist::count;
 use worklist::next::NOTHING;
 use worklist::next::next;
+use worklist::plan::prepare;
 ghost use mathlib.Core.Path.{_≡_};
 ghost use Prim.Native.Nat.{_<_};
 ghost use Rattle.table.specs.Code.{code};
-ghost use Rattle.calculus.specs.Layout.{WellFormed};
+ghost use Rattle.calculus.specs.Rules.{Estimate};
+ghost use Rattle.calculus.specs.Layout.{WellFormed, sets};
 ghost use Rattle.queries.specs.Ready.{Ready};
-ghost use Rattle.fixpoint.specs.Grown.{Taken, Exhausted, Swept};
+ghost use Rattle.fixpoint.specs.Grown.{Grown, Tried, Taken, Exhausted};
 
 // So many events are followed at most, so that it ends whatever the memory of the worklist holds.
 const EVENTS: usize = 16777216;
@@ -22,7 +27,7 @@ const EVENTS: usize = 16777216;
 const CLAUSES: usize = 5;
 
 // In place of a word: the choices of the list.
-pub const LISTED: usize = 1024;
+const LISTED: usize = 1024;
 
 // A clause of a word, for one target of its effect or (0) for all of them.
 pub struct Choice {
@@ -41,7 +46,7 @@ fn number(out: &[u32], p: usize) -> usize
 // Choice i of them.
 fn pick(out: &[u32], p: usize, i: usize) -> Choice
     requires { ⌜ i < 4294967296 ⌝ }
-    ensures { λ r. ⌜ (p < 1024 → (r .place ≡ p) × (r .clause ≡ i) × (r .target ≡ 0)) ⌝ }
+    ensures { λ r. ⌜ (p < 1024 → r ≡ record { place = p; clause = i; target = 0 }) ⌝ }
 {
     if p < LISTED {
         return Choice {
@@ -91,22 +96,19 @@ fn drain(
     room: usize,
 ) -> usize
     requires { ⌜ Ready (now words) (now links) (now masks) l × WellFormed (code (now words)) (now est) ⌝ }
-    ensures { λ r. ⌜ Exhausted (now (words .entry)) (now (links .entry)) p (now (est .entry)) (now (est .exit)) r ⌝ }
+    ensures { λ r. ⌜ Exhausted (now (words .entry)) (now (links .entry)) (l .size) p (now (est .entry)) (now (est .exit)) r ⌝ }
 {
     let last = number(out, p);
     let mut added = 0;
     let mut i = 0;
-    while i < last {
+    while i < last && added <= room {
         added += take(words, links, masks, est, h, l, pick(out, p, i));
-        if room < added {
-            return added;
-        }
         i += 1;
     }
     added
 }
 
-// All clauses of the word p, or all choices of the list; then events until nothing waits or more than `room` facts are added.
+// The entries, and what the worklist chooses after them, until nothing waits or more than `room` facts are added.
 pub fn follow(
     words: &[u32],
     links: &[u32],
@@ -115,53 +117,46 @@ pub fn follow(
     h: &mut [u32],
     out: &mut [u32],
     l: Layout,
-    p: usize,
+    rho: PermSet,
     room: usize,
 ) -> usize
     requires { ⌜ Ready (now words) (now links) (now masks) l × WellFormed (code (now words)) (now est) ⌝ }
-    ensures { λ r. ⌜ Exhausted (now (words .entry)) (now (links .entry)) p (now (est .entry)) (now (est .exit)) r ⌝ }
+    ensures { λ r. ⌜ Grown (code (now (words .entry))) (rho .bits) (now (est .entry)) (now (est .exit)) r ⌝ }
 {
-    let mut first = p;
-    let mut added = 0;
+    prepare(words, links, h);
+    let mut added = enter_all(words, links, est, h, l, rho);
     let mut turn = 0;
     let mut left = EVENTS;
-    while 0 < left {
-        added += drain(words, links, masks, est, h, out, l, first, room - added);
-        if room < added {
-            return added;
-        }
-        first = LISTED;
+    while 0 < left && turn != NOTHING && added <= room {
         turn = next(words, links, masks, est, h, out, l, turn);
-        if turn == NOTHING {
-            return added;
-        }
+        added += drain(words, links, masks, est, h, out, l, LISTED, room - added);
         left -= 1;
     }
     added
 }
 
-// All clauses of every word, and what follows from them, until more than `room` facts are added.
-pub fn follow_all(
+// The entries and clauses of all words, until more than `room` facts are added.
+pub fn sweep(
     words: &[u32],
     links: &[u32],
     masks: &[u32],
     est: &mut [u32],
     h: &mut [u32],
-    out: &mut [u32],
+    out: &[u32],
     l: Layout,
+    rho: PermSet,
     room: usize,
 ) -> usize
     requires { ⌜ Ready (now words) (now links) (now masks) l × WellFormed (code (now words)) (now est) ⌝ }
-    ensures { λ r. ⌜ Swept (now (words .entry)) (now (links .entry)) (now (est .entry)) (now (est .exit)) r ⌝ }
+    ensures { λ r. ⌜ Tried (code (now (words .entry))) (rho .bits) (λ e. Estimate (code (now (words .entry))) (rho .bits) (sets (code (now (words .entry))) e))
+        (now (est .entry)) (now (est .exit)) r ⌝ }
 {
     let size = l.size;
     let mut added = 0;
     let mut p = 0;
-    while p < size {
-        added += follow(words, links, masks, est, h, out, l, p, room - added);
-        if room < added {
-            return added;
-        }
+    while p < size && added <= room {
+        added += enter(words, est, h, l, rho, p)
+            + drain(words, links, masks, est, h, out, l, p, room);
         p += 1;
     }
     added

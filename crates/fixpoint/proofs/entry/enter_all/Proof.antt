@@ -4,10 +4,9 @@ use mathlib.Core.Path.{_≡_, refl, _∙_}
 use native.Mathlib.Omega.{arith}
 use lib.ListN.{length}
 use Rattle.table.specs.Code.{code}
-use Rattle.table.proofs.Linked.{linked}
 use Rattle.fixpoint.specs.Grown.{Grown}
 use Rattle.firing.proofs.EachThing.{sized-again}
-use Rattle.fixpoint.proofs.Grows.{grown-none, grown-then, entered, few-sized}
+use Rattle.fixpoint.proofs.Grows.{grown-none, grown-then, few}
 use borrow.Author.Needs.{needs}
 use Rattle.fixpoint.proofs.entry.enter_all.Statement.{statement}
 use Rattle.fixpoint.proofs.entry.enter_all.Tie as tie
@@ -21,26 +20,19 @@ abbrev μ-loop : tie.MeasureT-loop
 
 enter-requires : tie.Need-enter-requires Inv-loop μ-loop
 enter-requires c κs =
-    let s = c .before .before .before .before .before .before .before .before in let i = c .before .before .before .loop .inv in
+    let s = c .before .before .before .before .before .before .before .before in
+    let i = c .before .before .before .loop .inv in
     (s .pre .0, sized-again (s .pre .1) (i .0), i .2 .sound .well (s .pre .2), c .before .before .loop-test .taken)
 
 add-added : tie.Need-add-added Inv-loop μ-loop
 add-added c =
-    let s = c .before .before .before .before .before .before .before .before .before .before .before .before .before in let a = s .args in let i = c .before .before .before .before .before .before .before .before .loop in let e = c .before .before .before .before .enter in
-    let step = entered (code (a .words .now)) (a .rho .bits) (linked (a .words .now) (s .pre .0 .readable)) (i .p) (omega (arith, s .pre .0 .laid .size, c .before .before .before .before .before .before .before .loop-test .taken)) (e .ensures) in
-    omega (arith, few-sized (a .l) (a .est .now) _ _ (sized-again (s .pre .1) (e .kept .1 .0 ∙ i .inv .0)) (grown-then (code (a .words .now)) (a .rho .bits) (i .inv .2) step .count))
-
-past-requires : tie.Need-past-requires Inv-loop μ-loop
-past-requires c κs = omega (arith, c .before .before .before .before .before .before .before .before .before .before .before .before .before .pre .1 .size, c .before .before .before .before .before .before .before .loop-test .taken)
+    let s = c .before .before .before .before .before .before .before .before .before .before .before .before .before in omega (arith, few (s .pre .1) (s .pre .2) (grown-then (c .before .before .before .before .before .before .before .before .loop .inv .2) (c .before .before .before .before .enter .ensures .grown)))
 
 loop-again : tie.Need-loop-again Inv-loop μ-loop
 loop-again c =
-    let s = c .before .before .before .before .before .before .before .before .before .before .before .before .before .before in let a = s .args in let i = c .before .before .before .before .before .before .before .before .before .loop in let e = c .before .before .before .before .before .enter in (
-      e .kept .1 .0 ∙ i .inv .0,
-      e .kept .1 .1 .0 ∙ i .inv .1,
-      grown-then (code (a .words .now)) (a .rho .bits) (i .inv .2)
-          (entered (code (a .words .now)) (a .rho .bits) (linked (a .words .now) (s .pre .0 .readable)) (i .p) (omega (arith, s .pre .0 .laid .size, c .before .before .before .before .before .before .before .before .loop-test .taken)) (e .ensures)),
-    )
+    let e = c .before .before .before .before .before .enter in
+    let i = c .before .before .before .before .before .before .before .before .before .loop .inv in
+    (e .kept .1 .0 ∙ i .0, e .kept .1 .1 .0 ∙ i .1, grown-then (i .2) (e .ensures .grown))
 
 pub enter-all-spec : {M : Type 1} → statement M
 enter-all-spec =
@@ -48,11 +40,11 @@ enter-all-spec =
     (tie.spec
     Inv-loop
     μ-loop
-    (λ c. let a = c .before .before .before .before .args in (refl, refl, grown-none (code (a .words .now)) (a .rho .bits) (a .est .now)))
+    (λ c. (refl, refl, grown-none))
     enter-requires
     add-added
     (λ add-past. search needs)
-    past-requires
+    (λ c κs. omega (arith, c .before .before .before .before .before .before .before .before .before .before .before .before .before .pre .1 .size, c .before .before .before .before .before .before .before .loop-test .taken))
     (λ c. omega (arith, c .before .before .before .before .before .before .before .before .loop-test .taken, c .past .ensures))
     loop-again
     (λ c. c .before .loop .inv .0)

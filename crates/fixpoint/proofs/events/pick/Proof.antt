@@ -9,7 +9,7 @@ pub pick-spec : {M : Type 1} → statement M
 pick-spec =
     tie.close
     (tie.spec
-    (λ c. λ h. (refl, refl, refl))
+    (λ c. λ h. refl)
     (λ add-choice-at. search needs)
     (λ choice-at-requires κs. search needs)
     (λ choice-place-requires κs. search needs)
