@@ -1,14 +1,14 @@
 -- What the solver does to the words of an estimate: sound steps, and how many facts they add.
-use Prim.Native.Nat.{ℕ, _+_, _<_, _≤_}
+use Prim.Native.Nat.{ℕ, _+_, _/_, _%_, _<_, _≤_}
 use mathlib.Core.Path.{_≡_}
 use mathlib.Core.List.{List}
+use lib.ListN.{getD}
 use Rattle.table.specs.Code.{Code, code}
 use Rattle.calculus.specs.Constraint.{Sets}
 use Rattle.calculus.specs.Rules.{entry, Estimate}
 use Rattle.calculus.specs.Layout.{WellFormed, LiesIn, sets}
 use Rattle.calculus.specs.Estimate.{fire, facts}
 use Rattle.firing.specs.Step.{stepAt}
-use Rattle.fixpoint.specs.declared.events.Choice.{Choice}
 
 -- what any step of any solver keeps: the layout of the estimate, its elements, and that it lies inside every estimate that obeys the rules
 pub record Sound (c : Code) (ρ : ℕ) (old new : List ℕ) : Type 0 where
@@ -34,14 +34,14 @@ Entered ws ρ p est = fire (code ws) (entry (code ws) ρ p) est ≡ est
 abbrev pub Idle : (ws links : List ℕ) → (p k f : ℕ) → List ℕ → Type 0
 Idle ws links p k f est = fire (code ws) (stepAt ws links p k f) est ≡ est
 
--- a choice was taken, if it is of a word of the table, for any opponent
-abbrev pub Taken : (ws links : List ℕ) (size : ℕ) → Choice → (old new : List ℕ) → ℕ → Type 0
-Taken ws links size x old new added =
-    (ρ : ℕ) → Tried (code ws) ρ (λ est. x .place < size → Idle ws links (x .place) (x .clause) (x .target) est) old new added
+-- the choice w, the clause w / 1048576 of the word w / 1024 % 1024, has nothing to add, if it is of a word of the table
+abbrev pub Spent : (ws links : List ℕ) → (size w : ℕ) → List ℕ → Type 0
+Spent ws links size w est = w / 1024 % 1024 < size → Idle ws links (w / 1024 % 1024) (w / 1048576) (w % 1024) est
 
--- all clauses of p were fired, if it is a word of the table, for any opponent
-abbrev pub Exhausted : (ws links : List ℕ) (size p : ℕ) → (old new : List ℕ) → ℕ → Type 0
-Exhausted ws links size p old new added = (ρ : ℕ) → Tried (code ws) ρ (λ est. p < size → (k : ℕ) → Idle ws links p k 0 est) old new added
+-- all choices of a list were fired, for any opponent
+abbrev pub Exhausted : (ws links : List ℕ) → ℕ → (list old new : List ℕ) → ℕ → Type 0
+Exhausted ws links size list old new added =
+    (ρ : ℕ) → Tried (code ws) ρ (λ est. (i : ℕ) → i < getD list 0 0 → Spent ws links size (getD list (i + 1) 0) est) old new added
 
 -- sound steps to an estimate that obeys every rule, unless they added more facts than there was room for
 pub record Closed (c : Code) (ρ room : ℕ) (old new : List ℕ) (added : ℕ) : Type 0 where

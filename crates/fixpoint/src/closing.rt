@@ -27,7 +27,7 @@ pub fn settle(
 {
     let mut added = follow(words, links, masks, est, h, out, l, rho, room);
     while added <= room && broken(words, links, masks, est, l, rho) < l.size {
-        added += sweep(words, links, masks, est, h, out, l, rho, room - added);
+        added += sweep(words, links, masks, est, h, l, rho, room - added);
     }
     added
 }

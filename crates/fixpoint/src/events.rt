@@ -8,6 +8,7 @@ use worklist::choice_at;
 use worklist::choice_clause;
 use worklist::choice_place;
 use worklist::choice_target;
+use worklist::choice_word;
 use worklist::count;
 use worklist::next::NOTHING;
 use worklist::next::next;
@@ -18,7 +19,7 @@ ghost use Rattle.table.specs.Code.{code};
 ghost use Rattle.calculus.specs.Rules.{Estimate};
 ghost use Rattle.calculus.specs.Layout.{WellFormed, sets};
 ghost use Rattle.queries.specs.Ready.{Ready};
-ghost use Rattle.fixpoint.specs.Grown.{Grown, Tried, Taken, Exhausted};
+ghost use Rattle.fixpoint.specs.Grown.{Grown, Tried, Exhausted};
 
 // So many events are followed at most, so that it ends whatever the memory of the worklist holds.
 const EVENTS: usize = 16777216;
@@ -26,83 +27,45 @@ const EVENTS: usize = 16777216;
 // No word has more clauses.
 const CLAUSES: usize = 5;
 
-// In place of a word: the choices of the list.
-const LISTED: usize = 1024;
-
-// A clause of a word, for one target of its effect or (0) for all of them.
-pub struct Choice {
-    pub place: usize,
-    pub clause: usize,
-    pub target: usize,
-}
-
-// How many choices there are: all clauses of the word p, or those of a list.
-fn number(out: &[u32], p: usize) -> usize
-    ensures { λ r. ⌜ (r < 4294967296) × (p < 1024 → r ≡ 5) ⌝ }
+// The place of a choice; that of word 0 in place of one past the table.
+fn within(p: usize, size: usize) -> usize
+    requires { ⌜ 0 < size ⌝ }
+    ensures { λ r. ⌜ (r < size) × (p < size → r ≡ p) ⌝ }
 {
-    if p < LISTED { CLAUSES } else { count(out) }
+    if p < size { p } else { 0 }
 }
 
-// Choice i of them.
-fn pick(out: &[u32], p: usize, i: usize) -> Choice
-    requires { ⌜ i < 4294967296 ⌝ }
-    ensures { λ r. ⌜ (p < 1024 → r ≡ record { place = p; clause = i; target = 0 }) ⌝ }
-{
-    if p < LISTED {
-        return Choice {
-            place: p,
-            clause: i,
-            target: 0,
-        };
-    }
-    let w = choice_at(out, i + 1);
-    Choice {
-        place: choice_place(w),
-        clause: choice_clause(w),
-        target: choice_target(w),
-    }
-}
-
-// One choice. A word past the table has none.
-fn take(
-    words: &[u32],
-    links: &[u32],
-    masks: &[u32],
-    est: &mut [u32],
-    h: &mut [u32],
-    l: Layout,
-    c: Choice,
-) -> usize
-    requires { ⌜ Ready (now words) (now links) (now masks) l × WellFormed (code (now words)) (now est) ⌝ }
-    ensures { λ r. ⌜ Taken (now (words .entry)) (now (links .entry)) (l .size) c (now (est .entry)) (now (est .exit)) r ⌝ }
-{
-    let p = c.place;
-    if l.size <= p {
-        return 0;
-    }
-    step(words, links, masks, est, h, l, p, c.clause, c.target)
-}
-
-// All clauses of the word p, or all choices of the list, until more than `room` facts are added.
+// All choices of a list, until more than `room` facts are added.
 fn drain(
     words: &[u32],
     links: &[u32],
     masks: &[u32],
     est: &mut [u32],
     h: &mut [u32],
-    out: &[u32],
+    list: &[u32],
     l: Layout,
-    p: usize,
     room: usize,
 ) -> usize
     requires { ⌜ Ready (now words) (now links) (now masks) l × WellFormed (code (now words)) (now est) ⌝ }
-    ensures { λ r. ⌜ Exhausted (now (words .entry)) (now (links .entry)) (l .size) p (now (est .entry)) (now (est .exit)) r ⌝ }
+    ensures { λ r. ⌜ Exhausted (now (words .entry)) (now (links .entry)) (l .size) (now (list .entry)) (now (est .entry)) (now (est .exit)) r ⌝ }
 {
-    let last = number(out, p);
+    let last = count(list);
     let mut added = 0;
     let mut i = 0;
     while i < last && added <= room {
-        added += take(words, links, masks, est, h, l, pick(out, p, i));
+        let w = choice_at(list, i + 1);
+        let p = within(choice_place(w), l.size);
+        added += step(
+            words,
+            links,
+            masks,
+            est,
+            h,
+            l,
+            p,
+            choice_clause(w),
+            choice_target(w),
+        );
         i += 1;
     }
     added
@@ -129,7 +92,7 @@ pub fn follow(
     let mut left = EVENTS;
     while 0 < left && turn != NOTHING && added <= room {
         turn = next(words, links, masks, est, h, out, l, turn);
-        added += drain(words, links, masks, est, h, out, l, LISTED, room - added);
+        added += drain(words, links, masks, est, h, out, l, room - added);
         left -= 1;
     }
     added
@@ -142,7 +105,6 @@ pub fn sweep(
     masks: &[u32],
     est: &mut [u32],
     h: &mut [u32],
-    out: &[u32],
     l: Layout,
     rho: PermSet,
     room: usize,
@@ -151,13 +113,15 @@ pub fn sweep(
     ensures { λ r. ⌜ Tried (code (now (words .entry))) (rho .bits) (λ e. Estimate (code (now (words .entry))) (rho .bits) (sets (code (now (words .entry))) e))
         (now (est .entry)) (now (est .exit)) r ⌝ }
 {
-    let size = l.size;
+    let last = CLAUSES * l.size;
     let mut added = 0;
-    let mut p = 0;
-    while p < size && added <= room {
+    let mut i = 0;
+    while i < last && added <= room {
+        let p = i / CLAUSES;
+        let one = [1u32, choice_word(i % CLAUSES, p, 0)];
         added += enter(words, est, h, l, rho, p)
-            + drain(words, links, masks, est, h, out, l, p, room);
-        p += 1;
+            + drain(words, links, masks, est, h, &one, l, room);
+        i += 1;
     }
     added
 }

@@ -14,7 +14,7 @@ const PLACES: usize = 1024;
 
 const CLAUSES: usize = 4096;
 
-fn choice_word(k: usize, p: usize, f: usize) -> u32
+pub fn choice_word(k: usize, p: usize, f: usize) -> u32
     ensures { λ r. ⌜ r ≡ (k % 4096 * 1024 + p % 1024) * 1024 + f % 1024 ⌝ }
 {
     ((k % CLAUSES * PLACES + p % PLACES) * PLACES + f % PLACES) as u32

@@ -10,9 +10,9 @@ use Rattle.table.specs.Code.{code}
 use Rattle.calculus.specs.Estimate.{facts}
 use Rattle.rows.proofs.Laws.{facts-most}
 use Rattle.checker.proofs.Laws.{unbroken, broken-most, estimate-unbroken}
-use Rattle.queries.proofs.Given.{sized}
 use Rattle.fixpoint.specs.Grown.{Grown}
-use Rattle.fixpoint.proofs.Grows.{grown-then, few}
+use Rattle.fixpoint.proofs.Grows.{grown-then}
+use Rattle.fixpoint.proofs.Tried.{few-of}
 use borrow.Author.Needs.{needs}
 use Rattle.fixpoint.proofs.closing.settle.Statement.{statement}
 use Rattle.fixpoint.proofs.closing.settle.Tie as tie
@@ -29,23 +29,23 @@ broken-requires : tie.Need-broken-requires Inv-loop μ-loop
 broken-requires c κs = let i = c .before .before in let s = i .before .before .before .before .before .before .before .before .before .before .before .before .before .before .before .before .before in (s .pre .0, i .loop .inv .2 _ (i .before .before .before .before .before .before .before .follow .ensures) .sound .well (s .pre .1))
 
 sweep-requires : tie.Need-sweep-requires Inv-loop μ-loop
-sweep-requires c κs = let i = c .before .before .before .before .before .before .before .before in let s = i .before .before .before .before .before .before .before .before .before .before .before .before .before .before .before .before .before in (s .pre .0, i .loop .inv .2 _ (i .before .before .before .before .before .before .before .follow .ensures) .sound .well (s .pre .1))
+sweep-requires c κs = let i = c .before .before .before .before .before .before .before in let s = i .before .before .before .before .before .before .before .before .before .before .before .before .before .before .before .before .before in (s .pre .0, i .loop .inv .2 _ (i .before .before .before .before .before .before .before .follow .ensures) .sound .well (s .pre .1))
 
 loop-again : tie.Need-loop-again Inv-loop μ-loop
 loop-again c =
     let w = c .before .before .before .before .sweep in
-    let i = c .before .before .before .before .before .before .before .before .before .before .before .before .before .loop .inv in
+    let i = c .before .before .before .before .before .before .before .before .before .before .before .before .loop .inv in
     (w .kept .1 .1 .1 .0 ∙ i .0, w .kept .1 .1 .1 .1 .0 ∙ i .1, λ old g. grown-then (i .2 old g) (w .ensures .grown))
 
 loop-less : tie.Need-loop-less Inv-loop μ-loop
 loop-less c =
     let w = c .before .before .before .before .sweep in
-    let b = c .before .before .before .before .before .before .before .before .before .before in
+    let b = c .before .before .before .before .before .before .before .before .before in
     let i = b .before .before .before in
     let s = i .before .before .before .before .before .before .before .before .before .before .before .before .before .before .before .before .before in
     let v = i .loop .inv .2 _ (i .before .before .before .before .before .before .before .follow .ensures) .sound .well (s .pre .1) in
     let m : w .result ≡ 0 → ⊥ =
-    λ z. omega (arith, estimate-unbroken _ _ _ (w .ensures .nothing v z), b .broken .ensures, ltb-true (b .broken .result) (s .args .l .size) (c .before .before .before .before .before .before .before .before .if1 .taken), s .pre .0 .laid .size) in
+    λ z. omega (arith, estimate-unbroken _ _ _ (w .ensures .nothing v z), b .broken .ensures, ltb-true (b .broken .result) (s .args .l .size) (c .before .before .before .before .before .before .before .if1 .taken), s .pre .0 .laid .size) in
     omega (arith, w .ensures .grown .count, w .kept .1 .1 .1 .0, facts-most (w .last .1 .1 .1 .0))
 
 returns : tie.Need-returns Inv-loop μ-loop
@@ -70,7 +70,7 @@ settle-spec =
     (λ c. (refl, refl, λ old g. g))
     broken-requires
     sweep-requires
-    (λ c. let s = c .before .before .before .before .before .before .before .before .before .before .before .before .before .before .before .before .before .before .before .before .before .before .before .before .before .before .before .before .before .before in omega (arith, few (sized (s .pre .0) (s .pre .1)) (s .pre .1) (loop-again c .2 _ (c .before .before .before .before .before .before .before .before .before .before .before .before .before .before .before .before .before .before .before .before .follow .ensures))))
+    (λ c. let s = c .before .before .before .before .before .before .before .before .before .before .before .before .before .before .before .before .before .before .before .before .before .before .before .before .before .before .before .before .before in omega (arith, few-of (s .pre .0) (s .pre .1) (loop-again c .2 _ (c .before .before .before .before .before .before .before .before .before .before .before .before .before .before .before .before .before .before .before .follow .ensures))))
     loop-less
     loop-again
     (λ same-length. search needs)

@@ -8,8 +8,8 @@ use Prim.Native.Nat.{ℕ}
 use Rattle.table.specs.Code.{code}
 use Rattle.queries.proofs.Given.{sized}
 use Rattle.fixpoint.specs.Grown.{Grown}
-use Rattle.fixpoint.proofs.Grows.{grown-then, few}
-use Rattle.fixpoint.proofs.Tried.{accepted-of}
+use Rattle.fixpoint.proofs.Grows.{grown-then}
+use Rattle.fixpoint.proofs.Tried.{accepted-of, few-of}
 use borrow.Author.Needs.{needs}
 use Rattle.fixpoint.proofs.events.follow.Statement.{statement}
 use Rattle.fixpoint.proofs.events.follow.Tie as tie
@@ -48,7 +48,7 @@ follow-spec =
     (λ next-requires κs. search needs)
     (λ c. leb-true _ _ (c .before .before .before .before .before .before .before .before .before .before .before .if2 .taken))
     drain-requires
-    (λ c. let s = c .before .before .before .before .before .before .before .before .before .before .before .before .before .before .before .before .before .before .before .before .before .before .before .before .before .before .before .before .before .before .before .before .before .before .before .before .before in omega (arith, few (sized (s .pre .0) (s .pre .1)) (s .pre .1) (loop-again c .3 _ _ (c .before .before .before .before .before .before .before .before .before .before .before .before .before .before .before .before .before .before .before .before .before .before .before .before .enter-all .ensures))))
+    (λ c. let s = c .before .before .before .before .before .before .before .before .before .before .before .before .before .before .before .before .before .before .before .before .before .before .before .before .before .before .before .before .before .before .before .before .before .before .before .before .before in omega (arith, few-of (s .pre .0) (s .pre .1) (loop-again c .3 _ _ (c .before .before .before .before .before .before .before .before .before .before .before .before .before .before .before .before .before .before .before .before .before .before .before .before .enter-all .ensures))))
     (λ c. omega (arith, c .before .before .before .before .before .before .before .before .before .before .before .before .before .before .before .before .before .before .loop-test .taken))
     (λ c. omega (arith, c .before .before .before .before .before .before .before .before .before .before .before .before .before .before .before .before .before .before .loop-test .taken))
     loop-again
