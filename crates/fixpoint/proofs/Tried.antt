@@ -1,20 +1,18 @@
 -- All clauses of a word and of all words, tried one after another: where nothing was added, every rule is obeyed.
 use Prim.Native.Nat.{ℕ, _+_, _*_, _/_, _%_, _≤_, _<_}
-use mathlib.Core.Path.{_≡_, refl, ap, _∙_}
+use mathlib.Core.Path.{_≡_, refl}
 use mathlib.Core.Bool.{Bool, true, false}
 use mathlib.Core.List.{List}
 use native.Mathlib.Decide.{decLt}
 use native.Mathlib.Omega.{arith}
 use Rattle.table.specs.Code.{code}
 use Rattle.table.proofs.Blocks.{head-word}
-use Rattle.calculus.specs.Constraint.{L, given}
+use Rattle.calculus.specs.Constraint.{L}
 use Rattle.calculus.specs.Elements.{plain}
 use Rattle.calculus.specs.Rules.{Estimate}
 use Rattle.calculus.specs.Layout.{sets, WellFormed}
 use Rattle.calculus.specs.Estimate.{fire}
-use Rattle.clauses.specs.declared.Clause.{Clause}
 use Rattle.clauses.specs.Asks.{asks, under}
-use Rattle.clauses.specs.Clauses.{never}
 use Rattle.clauses.proofs.Few.{few-clauses}
 use Rattle.rows.specs.declared.layout.Layout.{Layout}
 use Rattle.queries.specs.Ready.{Ready}
@@ -37,9 +35,7 @@ all-idle ws links p est t k = go (decLt k 5)
 
     go : Dec (k < 5) → Idle ws links p k 0 est
     go (yes b) = t k b
-    go (no b) =
-        ap (λ (x : Clause). fire (code ws) (given (L p) 0 (asks (code ws) x 0)) est) (few-clauses ws links (plain (code ws)) p k (omega arith))
-        ∙ never-adds (sets (code ws) est (L p) 0)
+    go (no b) = rw (few-clauses ws links (plain (code ws)) p k (omega arith)) (never-adds (sets (code ws) est (L p) 0))
 
 -- the entry of the word i / 5 and its clause i % 5 have nothing to add
 abbrev pub Quiet : (ws links : List ℕ) (ρ i : ℕ) → List ℕ → Type 0

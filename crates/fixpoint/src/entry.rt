@@ -5,13 +5,12 @@ use firing::mark;
 use firing::wake;
 use permset::PermSet;
 use rows::layout::Layout;
-use worklist::past;
 ghost use Prim.Native.Nat.{_<_};
 ghost use Rattle.table.specs.Code.{code};
 ghost use Rattle.calculus.specs.Layout.{WellFormed};
 ghost use Rattle.rows.specs.Laid.{Sized};
 ghost use Rattle.checker.specs.Words.{Accepted};
-ghost use Rattle.fixpoint.specs.Grown.{Grown, Tried, Entered};
+ghost use Rattle.fixpoint.specs.Grown.{Tried, Entered};
 
 // The element of C(p) that says that the opponent may send to the block at p.
 const OPPONENT: usize = 7;
@@ -34,26 +33,4 @@ pub fn enter(
     let started = wake(est, h, l, p);
     let filled = fill(est, h, l, 2 * p + 1);
     started + (filled + mark(est, l, 2 * p, OPPONENT))
-}
-
-// The entries of all blocks.
-pub fn enter_all(
-    words: &[u32],
-    links: &[u32],
-    est: &mut [u32],
-    h: &mut [u32],
-    l: Layout,
-    rho: PermSet,
-) -> usize
-    requires { ⌜ Accepted (now words) l × Sized l (now est) × WellFormed (code (now words)) (now est) ⌝ }
-    ensures { λ r. ⌜ Grown (code (now (words .entry))) (rho .bits) (now (est .entry)) (now (est .exit)) r ⌝ }
-{
-    let size = l.size;
-    let mut added = 0;
-    let mut p = 1;
-    while p < size {
-        added += enter(words, est, h, l, rho, p);
-        p = past(links, p + 3);
-    }
-    added
 }

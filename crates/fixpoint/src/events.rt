@@ -1,6 +1,5 @@
 // What the worklist chooses, fired.
 use crate::entry::enter;
-use crate::entry::enter_all;
 use firing::step::step;
 use permset::PermSet;
 use rows::layout::Layout;
@@ -12,6 +11,7 @@ use worklist::choice_word;
 use worklist::count;
 use worklist::next::NOTHING;
 use worklist::next::next;
+use worklist::past;
 use worklist::plan::prepare;
 ghost use mathlib.Core.Path.{_≡_};
 ghost use Prim.Native.Nat.{_<_};
@@ -71,7 +71,7 @@ fn drain(
     added
 }
 
-// The entries, and what the worklist chooses after them, until nothing waits or more than `room` facts are added.
+// The entries of all blocks, and what the worklist chooses after them, until nothing waits or more than `room` facts are added.
 pub fn follow(
     words: &[u32],
     links: &[u32],
@@ -87,7 +87,13 @@ pub fn follow(
     ensures { λ r. ⌜ Grown (code (now (words .entry))) (rho .bits) (now (est .entry)) (now (est .exit)) r ⌝ }
 {
     prepare(words, links, h);
-    let mut added = enter_all(words, links, est, h, l, rho);
+    let size = l.size;
+    let mut added = 0;
+    let mut p = 1;
+    while p < size {
+        added += enter(words, est, h, l, rho, p);
+        p = past(links, p + 3);
+    }
     let mut turn = 0;
     let mut left = EVENTS;
     while 0 < left && turn != NOTHING && added <= room {
