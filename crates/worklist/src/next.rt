@@ -6,10 +6,11 @@ use crate::events::woke;
 use crate::memory::LIVE;
 use crate::memory::MOST;
 use crate::memory::PERMISSIONS;
+use crate::memory::ROW;
 use crate::memory::TURN;
 use crate::memory::TURNS;
+use crate::memory::get;
 use crate::memory::put;
-use crate::memory::row_of;
 use crate::sets::NONE;
 use crate::sets::take_high;
 use crate::sets::take_low;
@@ -48,7 +49,7 @@ pub fn next(
     }
     let t = take_turn(h, from);
     if t < TURNS {
-        let r = row_of(h, t);
+        let r = get(h, ROW + 3 * t) % TURNS;
         put(h, TURN + 3 * r, TURNS + t);
         row_grew(words, links, masks, est, h, out, l, r);
         return t + 1;

@@ -7,12 +7,11 @@ use crate::memory::ROW;
 use crate::memory::TURN;
 use crate::memory::TURNS;
 use crate::memory::USE;
-use crate::memory::parent;
+use crate::memory::planned;
 use crate::memory::put;
-use crate::memory::use_of;
-use crate::view::binder;
 use crate::view::close;
 use crate::view::kind_within;
+use crate::view::link;
 ghost use Prim.Native.Nat.{_<_, _≤_};
 ghost use lib.ListN.{length};
 ghost use Rattle.worklist.specs.Memory.{Kept};
@@ -42,18 +41,12 @@ fn give_if(h: &mut [u32], t: usize, r: usize, due: bool) -> usize
 
 // Whether a word of a kind holds what it makes, in B.
 fn holds(kind: u32) -> bool {
-    match kind {
-        kinds::RECORD | kinds::SET | kinds::CELL => true,
-        _ => false,
-    }
+    kind == kinds::RECORD || kind == kinds::SET || kind == kinds::CELL
 }
 
 // Whether what a word of a kind binds comes from outside, before its body.
 fn opens(kind: u32) -> bool {
-    match kind {
-        kinds::BLOCK | kinds::FUNCTION => true,
-        _ => false,
-    }
+    kind == kinds::BLOCK || kind == kinds::FUNCTION
 }
 
 // The word q is done.
@@ -69,7 +62,7 @@ fn outer(h: &[u32], q: usize) -> usize
     requires { ⌜ (0 < q) × (q < 1024) ⌝ }
     ensures { λ r. ⌜ r < q ⌝ }
 {
-    let p = parent(h, q);
+    let p = planned(h, PARENT, q);
     if p < q { p } else { 0 }
 }
 
@@ -95,8 +88,8 @@ fn add_use(words: &[u32], links: &[u32], h: &mut [u32], p: usize)
     requires { ⌜ (p < length (now words)) × (length (now words) ≤ 1024) ⌝ }
 {
     if kind_within(words, p) == kinds::VARIABLE {
-        let b = binder(links, p);
-        let before = use_of(h, b);
+        let b = link(links, p).binder;
+        let before = planned(h, USE, b);
         put(h, USE + 6 * p, before);
         put(h, USE + 6 * b, p);
     }

@@ -23,7 +23,6 @@ meet-new-spec =
     (λ row-at-requires κs. search needs)
     (λ mask-of-requires κs. search needs)
     (λ row-at-requires-2 κs. search needs)
-    (λ lead-requires κs. search needs)
     (λ width-requires κs. search needs)
     (λ add-if1. search needs)
     (λ returns. search needs)
