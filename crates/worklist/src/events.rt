@@ -55,11 +55,7 @@ fn is_branch(words: &[u32], h: &[u32], p: usize) -> bool
 {
     let q = planned(h, PARENT, p);
     let kind = kind_at(words, q);
-    if kind == kinds::IF || kind == kinds::WHILE {
-        p != q + 1
-    } else {
-        false
-    }
+    (kind == kinds::IF || kind == kinds::WHILE) && p != q + 1
 }
 
 // The next word after p that may be live with it: past the body of a function.
@@ -171,10 +167,7 @@ fn send_part(h: &[u32], out: &mut [u32], d: usize, p: usize)
     requires { ⌜ (d < 2048) × (p < 1024) ⌝ }
 {
     let b = get(h, RECEIVER + 6 * p);
-    if waits(h, 2 * (p + 1)) {
-        return;
-    }
-    if b < MOST {
+    if b < MOST && !waits(h, 2 * (p + 1)) {
         choose_unless(h, out, 2 * d, kinds::SEND_SEND, p, b);
     }
 }

@@ -99,11 +99,7 @@ fn add_use(words: &[u32], links: &[u32], h: &mut [u32], p: usize)
 fn is_body(words: &[u32], q: usize, p: usize) -> bool
     requires { ⌜ q < length (now words) ⌝ }
 {
-    if kind_within(words, q) == kinds::LET {
-        p != q + 1
-    } else {
-        false
-    }
+    kind_within(words, q) == kinds::LET && p != q + 1
 }
 
 // The word p, a part of q.
@@ -133,10 +129,7 @@ pub fn prepare(words: &[u32], links: &[u32], h: &mut [u32])
     ensures { λ _. ⌜ Kept (now (h .entry)) (now (h .exit)) ⌝ }
 {
     let n = words.len();
-    if n == 0 {
-        return;
-    }
-    if MOST < n {
+    if n == 0 || MOST < n {
         return;
     }
     let mut place = Place { turn: 0, word: 0 };

@@ -121,10 +121,7 @@ pub fn waits(h: &[u32], r: usize) -> bool
     requires { ⌜ r < 65536 ⌝ }
 {
     let turn = get(h, TURN + 3 * r);
-    if turn < TURNS {
-        return true;
-    }
-    has_bit(h, ROWS + TURN_TOPS, turn - TURNS)
+    turn < TURNS || has_bit(h, ROWS + TURN_TOPS, turn - TURNS)
 }
 
 // The word p follows f, a thing or a block; whether that is new.

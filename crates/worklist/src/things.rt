@@ -111,10 +111,7 @@ pub fn meet_new(
     let mask = row_at(l, mask_of(kind));
     let first = l.lead;
     let end = width(l);
-    if est.len() < at + end {
-        return;
-    }
-    if masks.len() < mask + end {
+    if est.len() < at + end || masks.len() < mask + end {
         return;
     }
     let row = &est[at..at + end];
