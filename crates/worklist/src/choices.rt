@@ -2,7 +2,6 @@
 // counts them. A full list takes no more; `choiceWords` of specs/Memory.antt are enough for what an event calls for.
 use crate::memory::LIMIT;
 use crate::memory::get;
-use crate::memory::put;
 use crate::memory::word;
 use crate::sets::waits;
 ghost use mathlib.Core.Path.{_≡_};
@@ -50,10 +49,6 @@ pub fn choice_at(out: &[u32], i: usize) -> u32
     ensures { λ r. ⌜ r ≡ getD (now (out .entry)) i 0 ⌝ }
 {
     word(out, i)
-}
-
-pub fn clear(out: &mut [u32]) {
-    put(out, 0, 0);
 }
 
 pub fn choose(out: &mut [u32], k: usize, p: usize, f: usize) {

@@ -37,12 +37,9 @@ fn start(words: &[u32], links: &[u32], h: &[u32], out: &mut [u32], p: usize)
     let kind = kind_within(words, p);
     match kind {
         kinds::VARIABLE => choose_unless(h, out, 2 * link(links, p).binder + 1, kinds::VALUE, p, 0),
-        kinds::CELL | kinds::SEND | kinds::EXERCISE => choose_some(
-            out,
-            kinds::PARTS,
-            kinds::OWN_END,
-            p,
-        ),
+        kinds::CELL | kinds::SEND | kinds::EXERCISE => {
+            choose_some(out, kinds::PARTS, kinds::OWN_END, p);
+        }
         _ => if kinds::has_rows(kind) {
             choose(out, kinds::PARTS, p, 0);
         },

@@ -1,5 +1,4 @@
 // The next event: live words first, the lowest of them; then rows by their turns, going round; then permissions, the highest word first.
-use crate::choices::clear;
 use crate::events::permissions_grew;
 use crate::events::row_grew;
 use crate::events::woke;
@@ -38,7 +37,7 @@ pub fn next(
     ensures choices { λ _. ⌜ Kept (now (out .entry)) (now (out .exit)) ⌝ }
 {
     let from = turn % TURNS;
-    clear(out);
+    put(out, 0, 0);
     if h.len() < TURN {
         return NOTHING;
     }

@@ -39,21 +39,13 @@ fn give_if(h: &mut [u32], t: usize, r: usize, due: bool) -> usize
     if due { give(h, t, r) } else { t }
 }
 
-// Whether a word of a kind holds what it makes, in B.
-fn holds(kind: u32) -> bool {
-    kind == kinds::RECORD || kind == kinds::SET || kind == kinds::CELL
-}
-
-// Whether what a word of a kind binds comes from outside, before its body.
-fn opens(kind: u32) -> bool {
-    kind == kinds::BLOCK || kind == kinds::FUNCTION
-}
-
-// The word q is done.
+// The word q is done. A record or a cell holds what it makes, in B.
 fn leave(words: &[u32], h: &mut [u32], t: usize, q: usize) -> usize
     requires { ⌜ (q < length (now words)) × (length (now words) ≤ 1024) ⌝ }
 {
-    let turn = give_if(h, t, 2 * q + 1, holds(kind_within(words, q)));
+    let kind = kind_within(words, q);
+    let held = kind == kinds::RECORD || kind == kinds::SET || kind == kinds::CELL;
+    let turn = give_if(h, t, 2 * q + 1, held);
     give(h, turn, 2 * q)
 }
 
@@ -95,21 +87,21 @@ fn add_use(words: &[u32], links: &[u32], h: &mut [u32], p: usize)
     }
 }
 
-// Whether p is the second part of q, a let, which has its value then.
-fn is_body(words: &[u32], q: usize, p: usize) -> bool
-    requires { ⌜ q < length (now words) ⌝ }
-{
-    kind_within(words, q) == kinds::LET && p != q + 1
-}
-
-// The word p, a part of q.
+// The word p, a part of q. A let has its value before its second part; what a block or a function binds comes from outside, before its body.
 fn enter(words: &[u32], links: &[u32], h: &mut [u32], t: usize, q: usize, p: usize) -> usize
     requires { ⌜ (q < length (now words)) × (p < length (now words)) × (length (now words) ≤ 1024) ⌝ }
 {
     put(h, PARENT + 6 * p, q);
     add_use(words, links, h, p);
-    let turn = give_if(h, t, 2 * q + 1, is_body(words, q, p));
-    give_if(h, turn, 2 * p + 1, opens(kind_within(words, p)))
+    let bound = kind_within(words, q) == kinds::LET && p != q + 1;
+    let turn = give_if(h, t, 2 * q + 1, bound);
+    let kind = kind_within(words, p);
+    give_if(
+        h,
+        turn,
+        2 * p + 1,
+        kind == kinds::BLOCK || kind == kinds::FUNCTION,
+    )
 }
 
 fn prepare_word(words: &[u32], links: &[u32], h: &mut [u32], place: Place, p: usize) -> Place
