@@ -46,15 +46,6 @@ fn start(words: &[u32], links: &[u32], h: &[u32], out: &mut [u32], p: usize)
     }
 }
 
-// Whether p is a branch of an if or the body of a while, which is not live with it.
-fn is_branch(words: &[u32], h: &[u32], p: usize) -> bool
-    requires { ⌜ p < 2048 ⌝ }
-{
-    let q = planned(h, PARENT, p);
-    let kind = kind_at(words, q);
-    (kind == kinds::IF || kind == kinds::WHILE) && p != q + 1
-}
-
 // The next word after p that may be live with it: past the body of a function.
 fn after(words: &[u32], links: &[u32], p: usize) -> usize
     requires { ⌜ (p < length (now words)) × (p < 2048) ⌝ }
@@ -67,12 +58,14 @@ fn after(words: &[u32], links: &[u32], p: usize) -> usize
     }
 }
 
-// The word p, if it is live with the words before it. Answers the next word that may be.
+// The word p, if it is live with the words before it: no branch of an if and no body of a while is. Answers the next word that may be.
 fn visit(words: &[u32], links: &[u32], h: &[u32], out: &mut [u32], p: usize) -> usize
     requires { ⌜ (p < length (now words)) × (p < 2048) ⌝ }
     ensures { λ r. ⌜ p < r ⌝ }
 {
-    if is_branch(words, h, p) {
+    let q = planned(h, PARENT, p);
+    let kind = kind_at(words, q);
+    if (kind == kinds::IF || kind == kinds::WHILE) && p != q + 1 {
         return past(links, p);
     }
     start(words, links, h, out, p);

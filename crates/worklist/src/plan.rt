@@ -49,15 +49,6 @@ fn leave(words: &[u32], h: &mut [u32], t: usize, q: usize) -> usize
     give(h, turn, 2 * q)
 }
 
-// The word around q, which stands before it.
-fn outer(h: &[u32], q: usize) -> usize
-    requires { ⌜ (0 < q) × (q < 1024) ⌝ }
-    ensures { λ r. ⌜ r < q ⌝ }
-{
-    let p = planned(h, PARENT, q);
-    if p < q { p } else { 0 }
-}
-
 // Leaves the words that are done before p.
 fn leave_all(words: &[u32], links: &[u32], h: &mut [u32], place: Place, p: usize) -> Place
     requires { ⌜ (place .word < length (now words)) × (length (now words) ≤ 1024) ⌝ }
@@ -70,7 +61,8 @@ fn leave_all(words: &[u32], links: &[u32], h: &mut [u32], place: Place, p: usize
             return Place { turn, word: q };
         }
         turn = leave(words, h, turn, q);
-        q = outer(h, q);
+        let around = planned(h, PARENT, q);
+        q = if around < q { around } else { 0 };
     }
     Place { turn, word: 0 }
 }
