@@ -1,4 +1,4 @@
-// What the worklist chooses, fired.
+// Choices fired: what the worklist chooses, and in a sweep the clauses of all words.
 use crate::entry::enter;
 use firing::step::step;
 use permset::PermSet;
@@ -55,17 +55,9 @@ fn drain(
     while i < last && added <= room {
         let w = choice_at(list, i + 1);
         let p = within(choice_place(w), l.size);
-        added += step(
-            words,
-            links,
-            masks,
-            est,
-            h,
-            l,
-            p,
-            choice_clause(w),
-            choice_target(w),
-        );
+        let k = choice_clause(w);
+        let f = choice_target(w);
+        added += step(words, links, masks, est, h, l, p, k, f);
         i += 1;
     }
     added

@@ -88,12 +88,8 @@ fn enter(words: &[u32], links: &[u32], h: &mut [u32], t: usize, q: usize, p: usi
     let bound = kind_within(words, q) == kinds::LET && p != q + 1;
     let turn = give_if(h, t, 2 * q + 1, bound);
     let kind = kind_within(words, p);
-    give_if(
-        h,
-        turn,
-        2 * p + 1,
-        kind == kinds::BLOCK || kind == kinds::FUNCTION,
-    )
+    let opened = kind == kinds::BLOCK || kind == kinds::FUNCTION;
+    give_if(h, turn, 2 * p + 1, opened)
 }
 
 fn prepare_word(words: &[u32], links: &[u32], h: &mut [u32], place: Place, p: usize) -> Place

@@ -36,7 +36,7 @@ loop-again c =
       t .step .kept .1 .1 .1 .0 ∙ i .loop .inv .0,
       t .step .kept .1 .1 .1 .1 .0 ∙ i .loop .inv .1,
       λ ρ. tried-more (λ k xs. Spent (a .words .now) (a .links .now) (a .l .size) (getD (a .list .now) (k + 1) 0) xs) _ (i .loop .inv .2 ρ)
-          (tried-as (λ x h. rw (v .within .ensures .1 (omega (arith, h, place, at)), place, t .before .before .choice-clause .ensures .0, t .before .choice-target .ensures .0, at) at x)
+          (tried-as (λ x h. rw (v .within .ensures .1 (omega (arith, h, place, at)), place, t .before .before .before .before .choice-clause .ensures .0, t .before .before .before .choice-target .ensures .0, at) at x)
           (stepped (s .pre .0) _ _ _ (v .within .ensures .0) (t .step .ensures .0) ρ)),
     )
 
