@@ -5,42 +5,17 @@ use firing::mark;
 use firing::wake;
 use permset::PermSet;
 use rows::layout::Layout;
-use worklist::past;
-ghost use Prim.Native.Nat.{_+_, _*_, _<_};
+ghost use Prim.Native.Nat.{_<_};
 ghost use Rattle.table.specs.Code.{code};
-ghost use Rattle.calculus.specs.Constraint.{put as Put, _and_};
-ghost use Rattle.calculus.specs.Rules.{live, fill as Fill, entry as Entry};
 ghost use Rattle.calculus.specs.Layout.{WellFormed};
 ghost use Rattle.rows.specs.Laid.{Sized};
-ghost use Rattle.clauses.specs.Asks.{rowAt};
 ghost use Rattle.checker.specs.Words.{Accepted};
-ghost use Rattle.firing.specs.Fired.{Fired, FiredFor};
-ghost use Rattle.fixpoint.specs.Grown.{Grown};
+ghost use Rattle.fixpoint.specs.Grown.{Tried, Entered};
 
 // The element of C(p) that says that the opponent may send to the block at p.
 const OPPONENT: usize = 7;
 
-// The opponent's data is in B(p), and the opponent is a sender of p.
-fn admit(est: &mut [u32], h: &mut [u32], l: Layout, p: usize) -> usize
-    requires { ⌜ Sized l (now est) × (p < l .size) ⌝ }
-    ensures { λ r. ⌜ FiredFor l (λ c. WellFormed c (now (est .entry))) (λ c. Fill c (rowAt (2 * p + 1)) and Put (rowAt (2 * p)) 7) (now (est .entry))
-        (now (est .exit)) r ⌝ }
-{
-    let filled = fill(est, h, l, 2 * p + 1);
-    filled + mark(est, l, 2 * p, OPPONENT)
-}
-
-// The block at p is live, and admits the opponent.
-fn let_in(est: &mut [u32], h: &mut [u32], l: Layout, p: usize) -> usize
-    requires { ⌜ Sized l (now est) × (p < l .size) ⌝ }
-    ensures { λ r. ⌜ FiredFor l (λ c. WellFormed c (now (est .entry))) (λ c. live p and Fill c (rowAt (2 * p + 1)) and Put (rowAt (2 * p)) 7)
-        (now (est .entry)) (now (est .exit)) r ⌝ }
-{
-    let started = wake(est, h, l, p);
-    started + admit(est, h, l, p)
-}
-
-// The entry of the word p, if it is a block that lets the opponent in.
+// The entry of the word p, if it is a block that lets the opponent in: it is live, the opponent's data is in B(p), and the opponent is a sender.
 pub fn enter(
     words: &[u32],
     est: &mut [u32],
@@ -50,32 +25,12 @@ pub fn enter(
     p: usize,
 ) -> usize
     requires { ⌜ Accepted (now words) l × Sized l (now est) × WellFormed (code (now words)) (now est) × (p < l .size) ⌝ }
-    ensures { λ r. ⌜ Fired (code (now (words .entry))) (Entry (code (now (words .entry))) (rho .bits) p) (now (est .entry)) (now (est .exit)) r ⌝ }
+    ensures { λ r. ⌜ Tried (code (now (words .entry))) (rho .bits) (Entered (now (words .entry)) (rho .bits) p) (now (est .entry)) (now (est .exit)) r ⌝ }
 {
     if !opens(words, l, rho, p) {
         return 0;
     }
-    let_in(est, h, l, p)
-}
-
-// The entries of all blocks.
-pub fn enter_all(
-    words: &[u32],
-    links: &[u32],
-    est: &mut [u32],
-    h: &mut [u32],
-    l: Layout,
-    rho: PermSet,
-) -> usize
-    requires { ⌜ Accepted (now words) l × Sized l (now est) × WellFormed (code (now words)) (now est) ⌝ }
-    ensures { λ r. ⌜ Grown (code (now (words .entry))) (rho .bits) (now (est .entry)) (now (est .exit)) r ⌝ }
-{
-    let size = l.size;
-    let mut added = 0;
-    let mut p = 1;
-    while p < size {
-        added += enter(words, est, h, l, rho, p);
-        p = past(links, p + 3);
-    }
-    added
+    let started = wake(est, h, l, p);
+    let filled = fill(est, h, l, 2 * p + 1);
+    started + (filled + mark(est, l, 2 * p, OPPONENT))
 }

@@ -16,11 +16,9 @@ pub rows : (r w : ℕ) → r < 4096 → w < 64 → r * w ≤ 4095 * 63
 rows r w h k = mul-le-mul {n₂ = 4095} {m₂ = 63} (omega arith) (omega arith)
 
 -- the fields of a link
-module _ (l : Link) (ls : List ℕ) (p : ℕ) (e : l ≡ linkAt ls p) where
-  pub end-small : l .end < 2048
-  unfolding linkAt unpack
-  end-small = omega (arith, ap (λ (k : Link). k .end) e)
-
-  pub binder-small : l .binder < 2048
-  unfolding linkAt unpack
-  binder-small = omega (arith, ap (λ (k : Link). k .binder) e)
+pub small : (l : Link) (ls : List ℕ) (p : ℕ) → l ≡ linkAt ls p → (l .end ≡ linkAt ls p .end) × (l .end < 2048) × (l .binder < 2048)
+unfolding linkAt unpack
+small l ls p e =
+    let end = ap (λ (k : Link). k .end) e in
+    let binder = ap (λ (k : Link). k .binder) e in
+    (end, omega arith, omega arith)

@@ -2,7 +2,6 @@
 // counts them. A full list takes no more; `choiceWords` of specs/Memory.antt are enough for what an event calls for.
 use crate::memory::LIMIT;
 use crate::memory::get;
-use crate::memory::put;
 use crate::memory::word;
 use crate::sets::waits;
 ghost use mathlib.Core.Path.{_≡_};
@@ -14,7 +13,7 @@ const PLACES: usize = 1024;
 
 const CLAUSES: usize = 4096;
 
-fn choice_word(k: usize, p: usize, f: usize) -> u32
+pub fn choice_word(k: usize, p: usize, f: usize) -> u32
     ensures { λ r. ⌜ r ≡ (k % 4096 * 1024 + p % 1024) * 1024 + f % 1024 ⌝ }
 {
     ((k % CLAUSES * PLACES + p % PLACES) * PLACES + f % PLACES) as u32
@@ -50,10 +49,6 @@ pub fn choice_at(out: &[u32], i: usize) -> u32
     ensures { λ r. ⌜ r ≡ getD (now (out .entry)) i 0 ⌝ }
 {
     word(out, i)
-}
-
-pub fn clear(out: &mut [u32]) {
-    put(out, 0, 0);
 }
 
 pub fn choose(out: &mut [u32], k: usize, p: usize, f: usize) {

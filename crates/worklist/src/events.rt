@@ -4,21 +4,21 @@ use crate::choices::choose_some;
 use crate::choices::choose_unless;
 use crate::kinds;
 use crate::memory::MOST;
+use crate::memory::PARENT;
 use crate::memory::RECEIVER;
+use crate::memory::USE;
 use crate::memory::get;
-use crate::memory::parent;
-use crate::memory::use_of;
+use crate::memory::planned;
 use crate::memory::word;
 use crate::sets::waits;
 use crate::things::follow_names;
 use crate::things::meet_new;
 use crate::things::notify;
 use crate::things::tell;
-use crate::view::binder;
 use crate::view::close;
-use crate::view::end;
 use crate::view::kind_at;
 use crate::view::kind_within;
+use crate::view::link;
 use crate::view::past;
 use crate::view::row_at;
 use rows::layout::Layout;
@@ -36,29 +36,13 @@ fn start(words: &[u32], links: &[u32], h: &[u32], out: &mut [u32], p: usize)
 {
     let kind = kind_within(words, p);
     match kind {
-        kinds::VARIABLE => choose_unless(h, out, 2 * binder(links, p) + 1, kinds::VALUE, p, 0),
-        kinds::CELL | kinds::SEND | kinds::EXERCISE => choose_some(
-            out,
-            kinds::PARTS,
-            kinds::OWN_END,
-            p,
-        ),
+        kinds::VARIABLE => choose_unless(h, out, 2 * link(links, p).binder + 1, kinds::VALUE, p, 0),
+        kinds::CELL | kinds::SEND | kinds::EXERCISE => {
+            choose_some(out, kinds::PARTS, kinds::OWN_END, p);
+        }
         _ => if kinds::has_rows(kind) {
             choose(out, kinds::PARTS, p, 0);
         },
-    }
-}
-
-// Whether p is a branch of an if or the body of a while, which is not live with it.
-fn is_branch(words: &[u32], h: &[u32], p: usize) -> bool
-    requires { ⌜ p < 2048 ⌝ }
-{
-    let q = parent(h, p);
-    let kind = kind_at(words, q);
-    if kind == kinds::IF || kind == kinds::WHILE {
-        p != q + 1
-    } else {
-        false
     }
 }
 
@@ -74,12 +58,14 @@ fn after(words: &[u32], links: &[u32], p: usize) -> usize
     }
 }
 
-// The word p, if it is live with the words before it. Answers the next word that may be.
+// The word p, if it is live with the words before it: no branch of an if and no body of a while is. Answers the next word that may be.
 fn visit(words: &[u32], links: &[u32], h: &[u32], out: &mut [u32], p: usize) -> usize
     requires { ⌜ (p < length (now words)) × (p < 2048) ⌝ }
     ensures { λ r. ⌜ p < r ⌝ }
 {
-    if is_branch(words, h, p) {
+    let q = planned(h, PARENT, p);
+    let kind = kind_at(words, q);
+    if (kind == kinds::IF || kind == kinds::WHILE) && p != q + 1 {
         return past(links, p);
     }
     start(words, links, h, out, p);
@@ -171,29 +157,9 @@ fn send_part(h: &[u32], out: &mut [u32], d: usize, p: usize)
     requires { ⌜ (d < 2048) × (p < 1024) ⌝ }
 {
     let b = get(h, RECEIVER + 6 * p);
-    if waits(h, 2 * (p + 1)) {
-        return;
-    }
-    if b < MOST {
+    if b < MOST && !waits(h, 2 * (p + 1)) {
         choose_unless(h, out, 2 * d, kinds::SEND_SEND, p, b);
     }
-}
-
-// The names that the send at p sends to, which may have new blocks.
-fn names_grew(
-    words: &[u32],
-    links: &[u32],
-    est: &[u32],
-    h: &mut [u32],
-    out: &mut [u32],
-    l: Layout,
-    d: usize,
-    p: usize,
-)
-    requires { ⌜ (d < 2048) × (p < 1024) ⌝ }
-{
-    follow_names(words, links, est, h, l, p);
-    send_part(h, out, d, p);
 }
 
 // The value of i, a part of p, has grown.
@@ -209,10 +175,10 @@ fn part_grew(
 )
     requires { ⌜ i < 1024 ⌝ }
 {
-    let p = parent(h, i);
+    let p = planned(h, PARENT, i);
     let kind = kind_at(words, p);
     let first = i == p + 1;
-    let d = end(links, p + 1);
+    let d = link(links, p + 1).end;
     match kind {
         kinds::FUNCTION => notify(words, h, out, l.size, p),
         kinds::APPLY => if first {
@@ -231,7 +197,8 @@ fn part_grew(
             }
         }
         kinds::SEND => if first {
-            names_grew(words, links, est, h, out, l, d, p);
+            follow_names(words, links, est, h, l, p);
+            send_part(h, out, d, p);
         } else {
             send_part(h, out, d, p);
         },
@@ -243,10 +210,10 @@ fn part_grew(
 fn uses(h: &[u32], out: &mut [u32], i: usize)
     requires { ⌜ i < 1024 ⌝ }
 {
-    let mut v = use_of(h, i);
+    let mut v = planned(h, USE, i);
     while 0 < v {
         choose(out, kinds::VALUE, v, 0);
-        let before = use_of(h, v);
+        let before = planned(h, USE, v);
         v = if before < v { before } else { 0 };
     }
 }
@@ -284,7 +251,7 @@ pub fn permissions_grew(words: &[u32], est: &[u32], h: &[u32], out: &mut [u32], 
         tell(est, h, out, l, kinds::SEND_SEND, i, i);
         return;
     }
-    let q = parent(h, i);
+    let q = planned(h, PARENT, i);
     if kind_at(words, q) == kinds::FUNCTION {
         tell(est, h, out, l, kinds::APPLY_LOWER, q, i);
     } else {

@@ -17,5 +17,6 @@ pub use crate::choices::choice_at;
 pub use crate::choices::choice_clause;
 pub use crate::choices::choice_place;
 pub use crate::choices::choice_target;
+pub use crate::choices::choice_word;
 pub use crate::choices::count;
 pub use crate::view::past;

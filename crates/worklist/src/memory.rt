@@ -57,22 +57,18 @@ pub fn word(h: &[u32], i: usize) -> u32
     if i < h.len() { h[i] } else { 0 }
 }
 
-// Writes a word; nothing past the end.
-pub fn put_word(h: &mut [u32], i: usize, w: u32) {
-    if i < h.len() {
-        h[i] = w;
-    }
-}
-
-// The same as numbers.
+// The same as a number.
 pub fn get(h: &[u32], i: usize) -> usize
     ensures { λ r. ⌜ (r ≡ getD (now (h .entry)) i 0) × (r < 4294967296) ⌝ }
 {
     word(h, i) as usize
 }
 
+// Writes a number; nothing past the end.
 pub fn put(h: &mut [u32], i: usize, v: usize) {
-    put_word(h, i, (v % LIMIT) as u32);
+    if i < h.len() {
+        h[i] = (v % LIMIT) as u32;
+    }
 }
 
 // Bit i of the words from a place on.
@@ -102,33 +98,10 @@ pub fn highest(w: u32) -> usize
     (31 - u32::leading_zeros(w) % 32) as usize
 }
 
-// The word that p is a part of.
-pub fn parent(h: &[u32], p: usize) -> usize
-    requires { ⌜ p < 2048 ⌝ }
+// The word at PARENT or USE of p.
+pub fn planned(h: &[u32], part: usize, p: usize) -> usize
+    requires { ⌜ (part < 2048) × (p < 2048) ⌝ }
     ensures { λ r. ⌜ r < 1024 ⌝ }
 {
-    get(h, PARENT + 6 * p) % MOST
-}
-
-// The last use of the binder p, or the use before the use p.
-pub fn use_of(h: &[u32], p: usize) -> usize
-    requires { ⌜ p < 2048 ⌝ }
-    ensures { λ r. ⌜ r < 1024 ⌝ }
-{
-    get(h, USE + 6 * p) % MOST
-}
-
-// The turn of the row r, and the row of the turn t.
-pub fn turn_of(h: &[u32], r: usize) -> usize
-    requires { ⌜ r < 65536 ⌝ }
-    ensures { λ t. ⌜ t < 2048 ⌝ }
-{
-    get(h, TURN + 3 * r) % TURNS
-}
-
-pub fn row_of(h: &[u32], t: usize) -> usize
-    requires { ⌜ t < 2048 ⌝ }
-    ensures { λ r. ⌜ r < 2048 ⌝ }
-{
-    get(h, ROW + 3 * t) % TURNS
+    get(h, part + 6 * p) % MOST
 }

@@ -1,15 +1,15 @@
 // The next event: live words first, the lowest of them; then rows by their turns, going round; then permissions, the highest word first.
-use crate::choices::clear;
 use crate::events::permissions_grew;
 use crate::events::row_grew;
 use crate::events::woke;
 use crate::memory::LIVE;
 use crate::memory::MOST;
 use crate::memory::PERMISSIONS;
+use crate::memory::ROW;
 use crate::memory::TURN;
 use crate::memory::TURNS;
+use crate::memory::get;
 use crate::memory::put;
-use crate::memory::row_of;
 use crate::sets::NONE;
 use crate::sets::take_high;
 use crate::sets::take_low;
@@ -37,7 +37,7 @@ pub fn next(
     ensures choices { λ _. ⌜ Kept (now (out .entry)) (now (out .exit)) ⌝ }
 {
     let from = turn % TURNS;
-    clear(out);
+    put(out, 0, 0);
     if h.len() < TURN {
         return NOTHING;
     }
@@ -48,7 +48,7 @@ pub fn next(
     }
     let t = take_turn(h, from);
     if t < TURNS {
-        let r = row_of(h, t);
+        let r = get(h, ROW + 3 * t) % TURNS;
         put(h, TURN + 3 * r, TURNS + t);
         row_grew(words, links, masks, est, h, out, l, r);
         return t + 1;

@@ -7,7 +7,7 @@ use crate::memory::TOPS;
 use crate::memory::TURN;
 use crate::memory::TURN_TOPS;
 use crate::memory::TURNS;
-use crate::memory::turn_of;
+use crate::memory::get;
 use crate::sets::add;
 ghost use Rattle.worklist.specs.Memory.{Kept};
 
@@ -17,7 +17,7 @@ pub fn note_row(h: &mut [u32], r: usize)
 {
     let row = r % TURNS;
     if TURN + 3 * row < h.len() {
-        let turn = turn_of(h, row);
+        let turn = get(h, TURN + 3 * row) % TURNS;
         add(h, ROWS, TURN_TOPS, turn);
     }
 }

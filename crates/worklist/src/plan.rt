@@ -7,12 +7,11 @@ use crate::memory::ROW;
 use crate::memory::TURN;
 use crate::memory::TURNS;
 use crate::memory::USE;
-use crate::memory::parent;
+use crate::memory::planned;
 use crate::memory::put;
-use crate::memory::use_of;
-use crate::view::binder;
 use crate::view::close;
 use crate::view::kind_within;
+use crate::view::link;
 ghost use Prim.Native.Nat.{_<_, _≤_};
 ghost use lib.ListN.{length};
 ghost use Rattle.worklist.specs.Memory.{Kept};
@@ -40,37 +39,14 @@ fn give_if(h: &mut [u32], t: usize, r: usize, due: bool) -> usize
     if due { give(h, t, r) } else { t }
 }
 
-// Whether a word of a kind holds what it makes, in B.
-fn holds(kind: u32) -> bool {
-    match kind {
-        kinds::RECORD | kinds::SET | kinds::CELL => true,
-        _ => false,
-    }
-}
-
-// Whether what a word of a kind binds comes from outside, before its body.
-fn opens(kind: u32) -> bool {
-    match kind {
-        kinds::BLOCK | kinds::FUNCTION => true,
-        _ => false,
-    }
-}
-
-// The word q is done.
+// The word q is done. A record or a cell holds what it makes, in B.
 fn leave(words: &[u32], h: &mut [u32], t: usize, q: usize) -> usize
     requires { ⌜ (q < length (now words)) × (length (now words) ≤ 1024) ⌝ }
 {
-    let turn = give_if(h, t, 2 * q + 1, holds(kind_within(words, q)));
+    let kind = kind_within(words, q);
+    let held = kind == kinds::RECORD || kind == kinds::SET || kind == kinds::CELL;
+    let turn = give_if(h, t, 2 * q + 1, held);
     give(h, turn, 2 * q)
-}
-
-// The word around q, which stands before it.
-fn outer(h: &[u32], q: usize) -> usize
-    requires { ⌜ (0 < q) × (q < 1024) ⌝ }
-    ensures { λ r. ⌜ r < q ⌝ }
-{
-    let p = parent(h, q);
-    if p < q { p } else { 0 }
 }
 
 // Leaves the words that are done before p.
@@ -85,7 +61,8 @@ fn leave_all(words: &[u32], links: &[u32], h: &mut [u32], place: Place, p: usize
             return Place { turn, word: q };
         }
         turn = leave(words, h, turn, q);
-        q = outer(h, q);
+        let around = planned(h, PARENT, q);
+        q = if around < q { around } else { 0 };
     }
     Place { turn, word: 0 }
 }
@@ -95,32 +72,24 @@ fn add_use(words: &[u32], links: &[u32], h: &mut [u32], p: usize)
     requires { ⌜ (p < length (now words)) × (length (now words) ≤ 1024) ⌝ }
 {
     if kind_within(words, p) == kinds::VARIABLE {
-        let b = binder(links, p);
-        let before = use_of(h, b);
+        let b = link(links, p).binder;
+        let before = planned(h, USE, b);
         put(h, USE + 6 * p, before);
         put(h, USE + 6 * b, p);
     }
 }
 
-// Whether p is the second part of q, a let, which has its value then.
-fn is_body(words: &[u32], q: usize, p: usize) -> bool
-    requires { ⌜ q < length (now words) ⌝ }
-{
-    if kind_within(words, q) == kinds::LET {
-        p != q + 1
-    } else {
-        false
-    }
-}
-
-// The word p, a part of q.
+// The word p, a part of q. A let has its value before its second part; what a block or a function binds comes from outside, before its body.
 fn enter(words: &[u32], links: &[u32], h: &mut [u32], t: usize, q: usize, p: usize) -> usize
     requires { ⌜ (q < length (now words)) × (p < length (now words)) × (length (now words) ≤ 1024) ⌝ }
 {
     put(h, PARENT + 6 * p, q);
     add_use(words, links, h, p);
-    let turn = give_if(h, t, 2 * q + 1, is_body(words, q, p));
-    give_if(h, turn, 2 * p + 1, opens(kind_within(words, p)))
+    let bound = kind_within(words, q) == kinds::LET && p != q + 1;
+    let turn = give_if(h, t, 2 * q + 1, bound);
+    let kind = kind_within(words, p);
+    let opened = kind == kinds::BLOCK || kind == kinds::FUNCTION;
+    give_if(h, turn, 2 * p + 1, opened)
 }
 
 fn prepare_word(words: &[u32], links: &[u32], h: &mut [u32], place: Place, p: usize) -> Place
@@ -140,10 +109,7 @@ pub fn prepare(words: &[u32], links: &[u32], h: &mut [u32])
     ensures { λ _. ⌜ Kept (now (h .entry)) (now (h .exit)) ⌝ }
 {
     let n = words.len();
-    if n == 0 {
-        return;
-    }
-    if MOST < n {
+    if n == 0 || MOST < n {
         return;
     }
     let mut place = Place { turn: 0, word: 0 };

@@ -95,19 +95,6 @@ fn word_from(h: &[u32], k: usize) -> usize
     TURN_WORDS
 }
 
-// The same, going round.
-fn word_round(h: &[u32], k: usize) -> usize
-    requires { ⌜ 2 ≤ length (now h) ⌝ }
-    ensures { λ r. ⌜ r ≤ 96 ⌝ }
-{
-    let next = word_from(h, k);
-    if next < TURN_WORDS {
-        next
-    } else {
-        word_from(h, 0)
-    }
-}
-
 // Takes the next turn that waits from t on, going round; NONE if nothing waits.
 pub fn take_turn(h: &mut [u32], t: usize) -> usize
     requires { ⌜ (t < 2048) × (66 ≤ length (now h)) ⌝ }
@@ -118,7 +105,10 @@ pub fn take_turn(h: &mut [u32], t: usize) -> usize
     if ahead != 0 {
         return take(h, ROWS, TURN_TOPS, k, t % BITS + lowest(ahead));
     }
-    let next = word_round(h, k + 1);
+    let mut next = word_from(h, k + 1);
+    if TURN_WORDS <= next {
+        next = word_from(h, 0);
+    }
     if next < TURN_WORDS {
         let bits = h[ROWS + TURN_TOPS + next];
         return take(h, ROWS, TURN_TOPS, next, lowest(bits));
@@ -131,10 +121,7 @@ pub fn waits(h: &[u32], r: usize) -> bool
     requires { ⌜ r < 65536 ⌝ }
 {
     let turn = get(h, TURN + 3 * r);
-    if turn < TURNS {
-        return true;
-    }
-    has_bit(h, ROWS + TURN_TOPS, turn - TURNS)
+    turn < TURNS || has_bit(h, ROWS + TURN_TOPS, turn - TURNS)
 }
 
 // The word p follows f, a thing or a block; whether that is new.

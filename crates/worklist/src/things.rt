@@ -14,7 +14,6 @@ use crate::sets::follow;
 use crate::sets::next_follower;
 use crate::view::flags;
 use crate::view::kind_at;
-use crate::view::lead;
 use crate::view::past;
 use crate::view::row_at;
 use crate::view::width;
@@ -60,8 +59,7 @@ fn mask_of(kind: u32) -> usize
 {
     match kind {
         kinds::APPLY => FUNCTIONS,
-        kinds::GET => RECORDS,
-        kinds::SET => RECORDS,
+        kinds::GET | kinds::SET => RECORDS,
         _ => CELLS,
     }
 }
@@ -111,12 +109,9 @@ pub fn meet_new(
 {
     let at = row_at(l, 2 * (p + 1));
     let mask = row_at(l, mask_of(kind));
-    let first = lead(l);
+    let first = l.lead;
     let end = width(l);
-    if est.len() < at + end {
-        return;
-    }
-    if masks.len() < mask + end {
+    if est.len() < at + end || masks.len() < mask + end {
         return;
     }
     let row = &est[at..at + end];

@@ -4,6 +4,7 @@ use crate::memory::MOST;
 use crate::memory::TURNS;
 use crate::memory::word;
 use rows::layout::Layout;
+use table::Link;
 use table::kind_of;
 use table_links::link_at;
 ghost use mathlib.Core.Path.{_≡_};
@@ -25,25 +26,19 @@ pub fn kind_within(words: &[u32], p: usize) -> u32
     kind_of(words[p])
 }
 
-pub fn binder(links: &[u32], p: usize) -> usize
-    ensures { λ r. ⌜ r < 2048 ⌝ }
+// The binder of the word p and the word after the term at p are small, whatever the links say.
+pub fn link(links: &[u32], p: usize) -> Link
+    ensures { λ r. ⌜ (r .end ≡ linkAt (now (links .entry)) p .end) × (r .end < 2048) × (r .binder < 2048) ⌝ }
 {
-    link_at(links, p).binder
+    link_at(links, p)
 }
 
-// The word after the term at p.
-pub fn end(links: &[u32], p: usize) -> usize
-    ensures { λ r. ⌜ (r ≡ linkAt (now (links .entry)) p .end) × (r < 2048) ⌝ }
-{
-    link_at(links, p).end
-}
-
-// The same, but later than p whatever the links say.
+// The word after the term at p, but later than p whatever the links say.
 pub fn past(links: &[u32], p: usize) -> usize
     requires { ⌜ p < 4096 ⌝ }
     ensures { λ r. ⌜ r ≡ max (p + 1) (linkAt (now (links .entry)) p .end) ⌝ }
 {
-    let e = end(links, p);
+    let e = link(links, p).end;
     if p < e { e } else { p + 1 }
 }
 
@@ -53,15 +48,10 @@ pub fn close(words: &[u32], links: &[u32], p: usize) -> usize
     ensures { λ r. ⌜ r < 2048 ⌝ }
 {
     if kind_within(words, p) == kinds::BLOCK {
-        end(links, p + 3)
+        link(links, p + 3).end
     } else {
-        end(links, p)
+        link(links, p).end
     }
-}
-
-// How many words of a row the elements of plain data fill; made things come after them.
-pub fn lead(l: Layout) -> usize {
-    l.lead
 }
 
 // How many words a row has, which are fewer than WIDEST in every estimate.

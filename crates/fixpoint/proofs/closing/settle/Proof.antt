@@ -1,38 +1,83 @@
--- `fixpoint::closing::settle` meets its contract. Assumes nothing.
+-- `fixpoint::closing::settle` meets its contract. The loop's invariant: what was sound and counted before it still is. A sweep where a rule is
+-- broken adds a fact, so that less is left to add. Assumes nothing.
+use Prim.Native.Nat.{ℕ, _-_, _*_}
+use mathlib.Core.Path.{_≡_, refl, _∙_}
+use mathlib.Core.List.{List}
 use native.Mathlib.Omega.{arith}
+use borrow.Author.Tests.{ltb-true, ltb-false}
+use lib.ListN.{length}
 use Rattle.table.specs.Code.{code}
-use Rattle.fixpoint.proofs.Grows.{grown-then, few-facts}
+use Rattle.calculus.specs.Estimate.{facts}
+use Rattle.rows.proofs.Laws.{facts-most}
+use Rattle.checker.proofs.Laws.{unbroken, broken-most, estimate-unbroken}
+use Rattle.fixpoint.specs.Grown.{Grown}
+use Rattle.fixpoint.proofs.Grows.{grown-then}
+use Rattle.fixpoint.proofs.Tried.{few-of}
 use borrow.Author.Needs.{needs}
 use Rattle.fixpoint.proofs.closing.settle.Statement.{statement}
 use Rattle.fixpoint.proofs.closing.settle.Tie as tie
 
-close-requires : tie.Need-close-requires
-close-requires c κs =
-    (c .before .before .before .before .before .before .before .before .before .before .before .before .before .before .before .before .before .before .before .before .pre .0, c .before .before .before .before .before .before .before .before .before .before .begin .ensures .sound .well (c .before .before .before .before .before .before .before .before .before .before .before .before .before .before .before .before .before .before .before .before .pre .1))
+abbrev Inv-loop : tie.InvT-loop
+Inv-loop words links masks est₀ h₀ out l rho room added₀ est h added =
+    (length est ≡ length est₀) × (length h ≡ length h₀)
+    × ((old : List ℕ) → Grown (code words) (rho .bits) old est₀ added₀ → Grown (code words) (rho .bits) old est added)
 
-add-result : tie.Need-add-result
-add-result c =
-    let s = c .before .before .before .before .before .before .before .before .before .before .before .before .before .before .before .before .before .before .before .before .before .before .before .before .before .before .before in
+abbrev μ-loop : tie.MeasureT-loop
+μ-loop words links masks est₀ h₀ out l rho room added₀ est h added = 32 * length est - facts est
+
+broken-requires : tie.Need-broken-requires Inv-loop μ-loop
+broken-requires c κs = let i = c .before .before in let s = i .before .before .before .before .before .before .before .before .before .before .before .before .before .before .before .before .before in (s .pre .0, i .loop .inv .2 _ (i .before .before .before .before .before .before .before .follow .ensures) .sound .well (s .pre .1))
+
+sweep-requires : tie.Need-sweep-requires Inv-loop μ-loop
+sweep-requires c κs = let i = c .before .before .before .before .before .before .before in let s = i .before .before .before .before .before .before .before .before .before .before .before .before .before .before .before .before .before in (s .pre .0, i .loop .inv .2 _ (i .before .before .before .before .before .before .before .follow .ensures) .sound .well (s .pre .1))
+
+loop-again : tie.Need-loop-again Inv-loop μ-loop
+loop-again c =
+    let w = c .before .before .before .before .sweep in
+    let i = c .before .before .before .before .before .before .before .before .before .before .before .before .loop .inv in
+    (w .kept .1 .1 .1 .0 ∙ i .0, w .kept .1 .1 .1 .1 .0 ∙ i .1, λ old g. grown-then (i .2 old g) (w .ensures .grown))
+
+loop-less : tie.Need-loop-less Inv-loop μ-loop
+loop-less c =
+    let w = c .before .before .before .before .sweep in
+    let b = c .before .before .before .before .before .before .before .before .before in
+    let i = b .before .before .before in
+    let s = i .before .before .before .before .before .before .before .before .before .before .before .before .before .before .before .before .before in
+    let v = i .loop .inv .2 _ (i .before .before .before .before .before .before .before .follow .ensures) .sound .well (s .pre .1) in
+    let m : w .result ≡ 0 → ⊥ =
+    λ z. omega (arith, estimate-unbroken _ _ _ (w .ensures .nothing v z), b .broken .ensures, ltb-true (b .broken .result) (s .args .l .size) (c .before .before .before .before .before .before .before .if1 .taken), s .pre .0 .laid .size) in
+    omega (arith, w .ensures .grown .count, w .kept .1 .1 .1 .0, facts-most (w .last .1 .1 .1 .0))
+
+returns : tie.Need-returns Inv-loop μ-loop
+returns c =
+    let i = c .before .before .before .before .before in
+    let s = i .before .before .before .before .before .before .before .before .before .before .before .before .before .before .before .before .before in
     let a = s .args in
-    let g = grown-then (code (a .words .now)) (a .rho .bits) (c .before .before .before .before .before .before .before .before .before .before .before .before .before .before .before .before .before .begin .ensures) (c .before .before .before .before .before .before .close .ensures .grown) in
-    omega (arith, few-facts (s .pre .0) (a .est .now) _ (g .sound .well (s .pre .1)) (g .count))
-
-returns-2 : tie.Need-returns-2
-returns-2 c =
-    record { grown = grown-then (code (c .before .before .before .before .before .before .before .before .before .before .before .before .before .before .before .before .before .before .before .before .before .before .before .before .before .before .before .args .words .now)) (c .before .before .before .before .before .before .before .before .before .before .before .before .before .before .before .before .before .before .before .before .before .before .before .before .before .before .before .args .rho .bits) (c .before .before .before .before .before .before .before .before .before .before .before .before .before .before .before .before .before .begin .ensures) (c .before .before .before .before .before .before .close .ensures .grown); obeyed = λ z. c .before .before .before .before .before .before .close .ensures .obeyed (omega arith) }
+    record {
+      grown = i .loop .inv .2 _ (i .before .before .before .before .before .before .before .follow .ensures);
+      obeyed =
+          λ z. unbroken (code (a .words .now)) (a .rho .bits) (i .loop .est)
+          (omega (arith, c .before .before .broken .ensures, broken-most (code (a .words .now)) (a .rho .bits) (i .loop .est), ltb-false (c .before .before .broken .result) (a .l .size) (c .if1 .left), s .pre .0 .laid .size));
+    }
 
 pub settle-spec : {M : Type 1} → statement M
 settle-spec =
     tie.close
     (tie.spec
-    (λ begin-requires κs. search needs)
+    Inv-loop
+    μ-loop
+    (λ follow-requires κs. search needs)
+    (λ c. (refl, refl, λ old g. g))
+    broken-requires
+    sweep-requires
+    (λ c. let s = c .before .before .before .before .before .before .before .before .before .before .before .before .before .before .before .before .before .before .before .before .before .before .before .before .before .before .before .before .before in omega (arith, few-of (s .pre .0) (s .pre .1) (loop-again c .2 _ (c .before .before .before .before .before .before .before .before .before .before .before .before .before .before .before .before .before .before .before .follow .ensures))))
+    loop-less
+    loop-again
     (λ same-length. search needs)
     (λ same-length-2. search needs)
     (λ same-length-3. search needs)
-    (λ c. record { grown = c .before .before .before .before .before .before .before .begin .ensures; obeyed = λ z. absurd (omega (arith, c .if1 .taken)) })
-    close-requires
-    add-result
+    returns
     (λ same-length-4. search needs)
     (λ same-length-5. search needs)
     (λ same-length-6. search needs)
-    returns-2)
+    (λ c. record { grown = c .before .loop .inv .2 _ (c .before .before .before .before .before .before .before .before .follow .ensures); obeyed = λ z. absurd (omega (arith, c .loop-test .left)) }))

@@ -4,11 +4,5 @@ use native.Mathlib.Omega.{arith}
 use Rattle.worklist.proofs.memory.lowest.Statement.{statement}
 use Rattle.worklist.proofs.memory.lowest.Tie as tie
 
-cast-result : tie.Need-cast-result
-cast-result c = omega (arith, trailing-le 32 (c .args .w))
-
-returns : tie.Need-returns
-returns c = omega (arith, trailing-le 32 (c .args .w))
-
 pub lowest-spec : {M : Type 1} → statement M
-lowest-spec = tie.close (tie.spec cast-result returns)
+lowest-spec = tie.close (tie.spec (λ c. omega (arith, trailing-le 32 (c .args .w))) (λ c. omega (arith, trailing-le 32 (c .args .w))))

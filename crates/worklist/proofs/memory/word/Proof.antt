@@ -5,8 +5,11 @@ use borrow.Author.Needs.{needs}
 use Rattle.worklist.proofs.memory.word.Statement.{statement}
 use Rattle.worklist.proofs.memory.word.Tie as tie
 
-returns-2 : tie.Need-returns-2
-returns-2 c = sym (List·getD-eq-default (c .before .args .h .now) 0 (c .if1 .left))
-
 pub word-spec : {M : Type 1} → statement M
-word-spec = tie.close (tie.spec (λ mul-result. search needs) (λ shared-slice-read-result. search needs) (λ returns. search needs) returns-2)
+word-spec =
+    tie.close
+    (tie.spec
+    (λ mul-result. search needs)
+    (λ shared-slice-read-result. search needs)
+    (λ returns. search needs)
+    (λ c. sym (List·getD-eq-default (c .before .args .h .now) 0 (c .if1 .left))))

@@ -19,7 +19,6 @@ prepare-spec =
     Inv-loop
     μ-loop
     (λ returns. search needs)
-    (λ returns-2. search needs)
     (λ loop-holds. search needs)
     (λ prepare-word-requires κs. search needs)
     (λ add-p. search needs)
@@ -27,4 +26,4 @@ prepare-spec =
     (λ loop-again. search needs)
     (λ leave-all-requires κs. search needs)
     (λ same-length. search needs)
-    (λ returns-3. search needs))
+    (λ returns-2. search needs))
