@@ -18,6 +18,7 @@ use Rattle.rows.specs.declared.layout.Layout.{Layout}
 use Rattle.queries.specs.Ready.{Ready}
 use Rattle.queries.proofs.Given.{size-is, sized}
 use Rattle.checker.specs.Words.{Accepted}
+use Rattle.worklist.specs.Memory.{choiceOf, placeOf, clauseOf, targetOf}
 use Rattle.firing.specs.Fired.{Fired}
 use Rattle.firing.specs.Step.{stepAt}
 use Rattle.firing.proofs.Steps.{step-well, step-inside, steps-rules}
@@ -52,12 +53,12 @@ module _ {ws links masks : List ℕ} {l : Layout} (y : Ready ws links masks l) w
   few-of w g = few (sized y w) w g
 
   -- the choice of a clause of a word
-  pub chosen : (p k w : ℕ) (est : List ℕ) → p < l .size → l .size ≤ 1024 → k < 5 → w ≡ (k % 4096 * 1024 + p % 1024) * 1024 + 0 → Spent ws links (l .size) w est
+  pub chosen : (p k w : ℕ) (est : List ℕ) → p < l .size → l .size ≤ 1024 → k < 5 → w ≡ choiceOf k p 0 → Spent ws links (l .size) w est
       → Idle ws links p k 0 est
   chosen p k w est h n m e x =
-      let a : w / 1024 % 1024 ≡ p = omega arith in
-      let b : w / 1048576 ≡ k = omega arith in
-      let d : w % 1024 ≡ 0 = omega arith in
+      let a : placeOf w ≡ p = omega arith in
+      let b : clauseOf w ≡ k = omega arith in
+      let d : targetOf w ≡ 0 = omega arith in
       rw (a, b, d) at (x (omega arith))
 
   pub stepped : (p k f : ℕ) → p < l .size → {old new : List ℕ} {n : ℕ} → Fired (code ws) (stepAt ws links p k f) old new n → (ρ : ℕ)

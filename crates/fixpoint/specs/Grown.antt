@@ -1,5 +1,5 @@
 -- What the solver does to the words of an estimate: sound steps, and how many facts they add.
-use Prim.Native.Nat.{ℕ, _+_, _/_, _%_, _<_, _≤_}
+use Prim.Native.Nat.{ℕ, _+_, _<_, _≤_}
 use mathlib.Core.Path.{_≡_}
 use mathlib.Core.List.{List}
 use lib.ListN.{getD}
@@ -8,6 +8,7 @@ use Rattle.calculus.specs.Constraint.{Sets}
 use Rattle.calculus.specs.Rules.{entry, Estimate}
 use Rattle.calculus.specs.Layout.{WellFormed, LiesIn, sets}
 use Rattle.calculus.specs.Estimate.{fire, facts}
+use Rattle.worklist.specs.Memory.{placeOf, clauseOf, targetOf}
 use Rattle.firing.specs.Step.{stepAt}
 
 -- what any step of any solver keeps: the layout of the estimate, its elements, and that it lies inside every estimate that obeys the rules
@@ -34,9 +35,9 @@ Entered ws ρ p est = fire (code ws) (entry (code ws) ρ p) est ≡ est
 abbrev pub Idle : (ws links : List ℕ) → (p k f : ℕ) → List ℕ → Type 0
 Idle ws links p k f est = fire (code ws) (stepAt ws links p k f) est ≡ est
 
--- the choice w, the clause w / 1048576 of the word w / 1024 % 1024, has nothing to add, if it is of a word of the table
+-- the choice w has nothing to add, if it is of a word of the table
 abbrev pub Spent : (ws links : List ℕ) → (size w : ℕ) → List ℕ → Type 0
-Spent ws links size w est = w / 1024 % 1024 < size → Idle ws links (w / 1024 % 1024) (w / 1048576) (w % 1024) est
+Spent ws links size w est = placeOf w < size → Idle ws links (placeOf w) (clauseOf w) (targetOf w) est
 
 -- all choices of a list were fired, for any opponent
 abbrev pub Exhausted : (ws links : List ℕ) → ℕ → (list old new : List ℕ) → ℕ → Type 0

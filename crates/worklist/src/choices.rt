@@ -5,8 +5,9 @@ use crate::memory::get;
 use crate::memory::word;
 use crate::sets::waits;
 ghost use mathlib.Core.Path.{_≡_};
-ghost use Prim.Native.Nat.{_+_, _*_, _/_, _%_, _<_};
+ghost use Prim.Native.Nat.{_<_};
 ghost use lib.ListN.{getD};
+ghost use Rattle.worklist.specs.Memory.{choiceOf, clauseOf, placeOf, targetOf};
 
 // A choice has room for targets and words below PLACES, and for clauses below CLAUSES.
 const PLACES: usize = 1024;
@@ -14,25 +15,25 @@ const PLACES: usize = 1024;
 const CLAUSES: usize = 4096;
 
 pub fn choice_word(k: usize, p: usize, f: usize) -> u32
-    ensures { λ r. ⌜ r ≡ (k % 4096 * 1024 + p % 1024) * 1024 + f % 1024 ⌝ }
+    ensures { λ r. ⌜ r ≡ choiceOf k p f ⌝ }
 {
     ((k % CLAUSES * PLACES + p % PLACES) * PLACES + f % PLACES) as u32
 }
 
 pub fn choice_clause(w: u32) -> usize
-    ensures { λ r. ⌜ (r ≡ w / 1048576) × (r < 4096) ⌝ }
+    ensures { λ r. ⌜ (r ≡ clauseOf w) × (r < 4096) ⌝ }
 {
     w as usize / (PLACES * PLACES)
 }
 
 pub fn choice_place(w: u32) -> usize
-    ensures { λ r. ⌜ (r ≡ w / 1024 % 1024) × (r < 1024) ⌝ }
+    ensures { λ r. ⌜ (r ≡ placeOf w) × (r < 1024) ⌝ }
 {
     w as usize / PLACES % PLACES
 }
 
 pub fn choice_target(w: u32) -> usize
-    ensures { λ r. ⌜ (r ≡ w % 1024) × (r < 1024) ⌝ }
+    ensures { λ r. ⌜ (r ≡ targetOf w) × (r < 1024) ⌝ }
 {
     w as usize % PLACES
 }
