@@ -85,6 +85,14 @@ module _ {c : Code} {ρ : ℕ} where
             λ w z. (t .nothing w (omega arith), subst Q (grown-same w (t .grown) (omega arith)) (u .nothing (t .grown .sound .well w) (omega arith)));
       }
 
+  pub tried-after : {P : List ℕ → Type 0} {old mid new : List ℕ} {m n : ℕ} → Tried c ρ P old mid m → Grown c ρ mid new n → Tried c ρ P old new (m + n)
+  tried-after t g = record { grown = grown-then (t .grown) g; nothing = λ w z. t .nothing w (omega arith) }
+
+  -- the first of several steps: nothing was done before it
+  pub tried-first : (P : List ℕ → List ℕ → Type 0) {list first est old new : List ℕ} {m n : ℕ} → m ≡ 0 → est ≡ old → list ≡ first → Tried c ρ (P list) est new n
+      → Tried c ρ (P first) old new (m + n)
+  tried-first P {m = m} {n} z e o t = let k : m + n ≡ n = omega arith in rw (k, ← e, ← o) t
+
   pub tried-as : {P Q : List ℕ → Type 0} {old new : List ℕ} {n : ℕ} → (P old → Q old) → Tried c ρ P old new n → Tried c ρ Q old new n
   tried-as f t = record { grown = t .grown; nothing = λ w z. f (t .nothing w z) }
 

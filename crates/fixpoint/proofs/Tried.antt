@@ -1,10 +1,12 @@
 -- All clauses of a word and of all words, tried one after another: where nothing was added, every rule is obeyed.
 use Prim.Native.Nat.{ℕ, _+_, _*_, _/_, _%_, _≤_, _<_}
-use mathlib.Core.Path.{_≡_, refl}
+use mathlib.Core.Path.{_≡_, refl, _∙_}
 use mathlib.Core.Bool.{Bool, true, false}
 use mathlib.Core.List.{List}
 use native.Mathlib.Decide.{decLt}
 use native.Mathlib.Omega.{arith}
+use lib.ListN.{length, getD, set, length-set}
+use lib.Seq.{getD-set-same, getD-set-other}
 use Rattle.table.specs.Code.{code}
 use Rattle.table.proofs.Blocks.{head-word}
 use Rattle.calculus.specs.Constraint.{L}
@@ -22,7 +24,7 @@ use Rattle.worklist.specs.Memory.{choiceOf, placeOf, clauseOf, targetOf}
 use Rattle.firing.specs.Fired.{Fired}
 use Rattle.firing.specs.Step.{stepAt}
 use Rattle.firing.proofs.Steps.{step-well, step-inside, steps-rules}
-use Rattle.fixpoint.specs.Grown.{Grown, Tried, Entered, Idle, Spent}
+use Rattle.fixpoint.specs.Grown.{Grown, Tried, Entered, Idle, Spent, AllSpent}
 use Rattle.fixpoint.proofs.Grows.{few, fired, entry-obeyed}
 
 -- all clauses of p have nothing to add where the first five have not
@@ -52,14 +54,17 @@ module _ {ws links masks : List ℕ} {l : Layout} (y : Ready ws links masks l) w
   pub few-of : {ρ : ℕ} {old new : List ℕ} {n : ℕ} → WellFormed (code ws) old → Grown (code ws) ρ old new n → n ≤ 2392064
   few-of w g = few (sized y w) w g
 
-  -- the choice of a clause of a word
-  pub chosen : (p k w : ℕ) (est : List ℕ) → p < l .size → l .size ≤ 1024 → k < 5 → w ≡ choiceOf k p 0 → Spent ws links (l .size) w est
-      → Idle ws links p k 0 est
-  chosen p k w est h n m e x =
+  -- a list of one choice, a clause of a word
+  pub chosen : (p k w : ℕ) (out est : List ℕ) → 1 < length out → p < l .size → l .size ≤ 1024 → k < 5 → w ≡ choiceOf k p 0
+      → AllSpent ws links (l .size) (set (set out 0 1) 1 w) est → Idle ws links p k 0 est
+  chosen p k w out est g h n m e x =
+      let j : 1 < length (set out 0 1) = simp length-set (omega arith) in
+      let i : getD (set (set out 0 1) 1 w) 0 0 ≡ 1 = getD-set-other (set out 0 1) 1 0 w 0 (λ z. omega arith) ∙ getD-set-same out 0 1 0 (omega arith) in
+      let y : Spent ws links (l .size) w est = rw (getD-set-same (set out 0 1) 1 w 0 j) at (x 0 (omega arith)) in
       let a : placeOf w ≡ p = omega arith in
       let b : clauseOf w ≡ k = omega arith in
       let d : targetOf w ≡ 0 = omega arith in
-      rw (a, b, d) at (x (omega arith))
+      rw (a, b, d) at (y (omega arith))
 
   pub stepped : (p k f : ℕ) → p < l .size → {old new : List ℕ} {n : ℕ} → Fired (code ws) (stepAt ws links p k f) old new n → (ρ : ℕ)
       → Tried (code ws) ρ (Idle ws links p k f) old new n

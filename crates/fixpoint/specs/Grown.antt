@@ -39,10 +39,13 @@ Idle ws links p k f est = fire (code ws) (stepAt ws links p k f) est ≡ est
 abbrev pub Spent : (ws links : List ℕ) → (size w : ℕ) → List ℕ → Type 0
 Spent ws links size w est = placeOf w < size → Idle ws links (placeOf w) (clauseOf w) (targetOf w) est
 
+-- all choices of a list have nothing to add
+abbrev pub AllSpent : (ws links : List ℕ) → ℕ → List ℕ → List ℕ → Type 0
+AllSpent ws links size list est = (i : ℕ) → i < getD list 0 0 → Spent ws links size (getD list (i + 1) 0) est
+
 -- all choices of a list were fired, for any opponent
 abbrev pub Exhausted : (ws links : List ℕ) → ℕ → (list old new : List ℕ) → ℕ → Type 0
-Exhausted ws links size list old new added =
-    (ρ : ℕ) → Tried (code ws) ρ (λ est. (i : ℕ) → i < getD list 0 0 → Spent ws links size (getD list (i + 1) 0) est) old new added
+Exhausted ws links size list old new added = (ρ : ℕ) → Tried (code ws) ρ (AllSpent ws links size list) old new added
 
 -- sound steps to an estimate that obeys every rule, unless they added more facts than there was room for
 pub record Closed (c : Code) (ρ room : ℕ) (old new : List ℕ) (added : ℕ) : Type 0 where

@@ -4,6 +4,8 @@ use crate::events::sweep;
 use checker::broken;
 use permset::PermSet;
 use rows::layout::Layout;
+ghost use Prim.Native.Nat.{_<_};
+ghost use lib.ListN.{length};
 ghost use Rattle.table.specs.Code.{code};
 ghost use Rattle.calculus.specs.Layout.{WellFormed};
 ghost use Rattle.queries.specs.Ready.{Ready};
@@ -22,12 +24,12 @@ pub fn settle(
     rho: PermSet,
     room: usize,
 ) -> usize
-    requires { ⌜ Ready (now words) (now links) (now masks) l × WellFormed (code (now words)) (now est) ⌝ }
+    requires { ⌜ Ready (now words) (now links) (now masks) l × WellFormed (code (now words)) (now est) × (1 < length (now out)) ⌝ }
     ensures { λ r. ⌜ Closed (code (now (words .entry))) (rho .bits) room (now (est .entry)) (now (est .exit)) r ⌝ }
 {
     let mut added = follow(words, links, masks, est, h, out, l, rho, room);
     while added <= room && broken(words, links, masks, est, l, rho) < l.size {
-        added += sweep(words, links, masks, est, h, l, rho, room - added);
+        added += sweep(words, links, masks, est, h, out, l, rho, room - added);
     }
     added
 }

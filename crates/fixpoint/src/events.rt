@@ -1,4 +1,4 @@
-// Choices fired: what the worklist chooses, and in a sweep the clauses of all words.
+// Choices fired: what the worklist chooses, and in a sweep the clauses of all words. One place drains a list, into which the compiler puts a whole step.
 use crate::entry::enter;
 use firing::step::step;
 use permset::PermSet;
@@ -15,6 +15,7 @@ use worklist::past;
 use worklist::plan::prepare;
 ghost use mathlib.Core.Path.{_≡_};
 ghost use Prim.Native.Nat.{_<_};
+ghost use lib.ListN.{length};
 ghost use Rattle.table.specs.Code.{code};
 ghost use Rattle.calculus.specs.Rules.{Estimate};
 ghost use Rattle.calculus.specs.Layout.{WellFormed, sets};
@@ -63,7 +64,32 @@ fn drain(
     added
 }
 
-// The entries of all blocks, and what the worklist chooses after them, until nothing waits or more than `room` facts are added.
+// The choices of a list, then what the worklist chooses, until nothing waits or more than `room` facts are added.
+fn events(
+    words: &[u32],
+    links: &[u32],
+    masks: &[u32],
+    est: &mut [u32],
+    h: &mut [u32],
+    out: &mut [u32],
+    l: Layout,
+    room: usize,
+) -> usize
+    requires { ⌜ Ready (now words) (now links) (now masks) l × WellFormed (code (now words)) (now est) ⌝ }
+    ensures { λ r. ⌜ Exhausted (now (words .entry)) (now (links .entry)) (l .size) (now (out .entry)) (now (est .entry)) (now (est .exit)) r ⌝ }
+{
+    let mut added = 0;
+    let mut turn = 0;
+    let mut left = EVENTS;
+    while 0 < left && turn != NOTHING && added <= room {
+        added += drain(words, links, masks, est, h, out, l, room - added);
+        turn = next(words, links, masks, est, h, out, l, turn);
+        left -= 1;
+    }
+    added
+}
+
+// The entries of all blocks, and what follows from them, until nothing waits or more than `room` facts are added.
 pub fn follow(
     words: &[u32],
     links: &[u32],
@@ -86,28 +112,25 @@ pub fn follow(
         added += enter(words, est, h, l, rho, p);
         p = past(links, p + 3);
     }
-    let mut turn = 0;
-    let mut left = EVENTS;
-    while 0 < left && turn != NOTHING && added <= room {
-        turn = next(words, links, masks, est, h, out, l, turn);
-        added += drain(words, links, masks, est, h, out, l, room - added);
-        left -= 1;
+    if room < added {
+        return added;
     }
-    added
+    added + events(words, links, masks, est, h, out, l, room - added)
 }
 
-// The entries and clauses of all words, until more than `room` facts are added.
+// The entries and clauses of all words, and what follows from them, until more than `room` facts are added.
 pub fn sweep(
     words: &[u32],
     links: &[u32],
     masks: &[u32],
     est: &mut [u32],
     h: &mut [u32],
+    out: &mut [u32],
     l: Layout,
     rho: PermSet,
     room: usize,
 ) -> usize
-    requires { ⌜ Ready (now words) (now links) (now masks) l × WellFormed (code (now words)) (now est) ⌝ }
+    requires { ⌜ Ready (now words) (now links) (now masks) l × WellFormed (code (now words)) (now est) × (1 < length (now out)) ⌝ }
     ensures { λ r. ⌜ Tried (code (now (words .entry))) (rho .bits) (λ e. Estimate (code (now (words .entry))) (rho .bits) (sets (code (now (words .entry))) e))
         (now (est .entry)) (now (est .exit)) r ⌝ }
 {
@@ -116,9 +139,10 @@ pub fn sweep(
     let mut i = 0;
     while i < last && added <= room {
         let p = i / CLAUSES;
-        let one = [1u32, choice_word(i % CLAUSES, p, 0)];
+        out[0] = 1;
+        out[1] = choice_word(i % CLAUSES, p, 0);
         added += enter(words, est, h, l, rho, p)
-            + drain(words, links, masks, est, h, &one, l, room);
+            + events(words, links, masks, est, h, out, l, room);
         i += 1;
     }
     added
