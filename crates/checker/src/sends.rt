@@ -49,7 +49,8 @@ fn to_block(
     below: usize,
 ) -> usize
     requires { ⌜ Sent (now words) (now masks) (now est) l s × (b < length (now words)) × (taskAt (now words) b ≡ name) ⌝ }
-    ensures { λ r. ⌜ Lowered (AskedFor (code (now (words .entry))) (sets (code (now (words .entry))) (now (est .entry))) (s .p) (s .d) (s .required .bits) b) below r ⌝ }
+    ensures { λ r. ⌜ Lowered (AskedFor (code (now (words .entry))) (sets (code (now (words .entry))) (now (est .entry))) (s .p) (s .d) (s .required .bits) b)
+        below r ⌝ }
 {
     if !starts(words, est, l, s.p, s.required, s.own, b) {
         return below;
@@ -71,7 +72,8 @@ fn to_blocks(
     below: usize,
 ) -> usize
     requires { ⌜ Sent (now words) (now masks) (now est) l s × LinksOf (now words) (now links) ⌝ }
-    ensures { λ r. ⌜ Lowered (AskedToSend (code (now (words .entry))) (sets (code (now (words .entry))) (now (est .entry))) (s .p) (s .d) (s .required .bits)) below r ⌝ }
+    ensures { λ r. ⌜ Lowered (AskedToSend (code (now (words .entry))) (sets (code (now (words .entry))) (now (est .entry))) (s .p) (s .d) (s .required .bits))
+        below r ⌝ }
 {
     if !has_some(est, masks, l, 2 * s.d, MESSAGES) {
         return below;

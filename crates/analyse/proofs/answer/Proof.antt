@@ -13,11 +13,5 @@ slice-aggregate-text c =
 
 pub answer-spec : {M : Type 1} → statement M
 answer-spec =
-    tie.close
-    (tie.spec
-    (λ slice-aggregate-print. search needs)
-    (λ print-requires κs. search needs)
-    (λ array-share-prefix-out. search needs)
-    slice-aggregate-text
-    (λ text-requires κs. search needs)
-    (λ returns. search needs))
+    tie.close (tie.spec (λ slice-aggregate-print. search needs) (λ print-requires κs. search needs) (λ array-share-prefix-out. search needs)
+    slice-aggregate-text (λ text-requires κs. search needs) (λ returns. search needs))

@@ -11,14 +11,6 @@ slice-aggregate-bench-words c = sym (length-take-le _ _ (omega (arith, c .before
 
 pub bench-spec : {M : Type 1} → statement M
 bench-spec =
-    tie.close
-    (tie.spec
-    (λ feeder-fault-requires κs. search needs)
-    (λ refusal-requires κs. search needs)
-    (λ returns. search needs)
-    (λ slice-aggregate-words-of. search needs)
-    (λ words-of-requires κs. search needs)
-    (λ array-share-prefix-words. search needs)
-    slice-aggregate-bench-words
-    (λ bench-words-requires κs. search needs)
-    (λ returns-2. search needs))
+    tie.close (tie.spec (λ feeder-fault-requires κs. search needs) (λ refusal-requires κs. search needs) (λ returns. search needs)
+    (λ slice-aggregate-words-of. search needs) (λ words-of-requires κs. search needs) (λ array-share-prefix-words. search needs) slice-aggregate-bench-words
+    (λ bench-words-requires κs. search needs) (λ returns-2. search needs))

@@ -13,14 +13,6 @@ abbrev μ-loop : tie.MeasureT-loop
 
 pub number-spec : {M : Type 1} → statement M
 number-spec =
-    tie.close
-    (tie.spec Inv-loop μ-loop
-    (λ loop-holds. search needs)
-    (λ mul-n. search needs)
-    (λ shared-slice-read-digit. search needs)
-    (λ digit-requires κs. search needs)
-    (λ add-n. search needs)
-    (λ add-i. search needs)
-    (λ loop-less. search needs)
-    (λ loop-again. search needs)
+    tie.close (tie.spec Inv-loop μ-loop (λ loop-holds. search needs) (λ mul-n. search needs) (λ shared-slice-read-digit. search needs)
+    (λ digit-requires κs. search needs) (λ add-n. search needs) (λ add-i. search needs) (λ loop-less. search needs) (λ loop-again. search needs)
     (λ returns. search needs))

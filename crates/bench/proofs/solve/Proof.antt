@@ -14,16 +14,6 @@ abbrev μ-loop : tie.MeasureT-loop
 
 pub solve-spec : {M : Type 1} → statement M
 solve-spec =
-    tie.close
-    (tie.spec
-    Inv-loop
-    μ-loop
-    (λ analyse-within-requires κs. search needs)
-    (λ loop-holds. search needs)
-    (λ analyse-within-requires-2 κs. search needs)
-    (λ add-i. search needs)
-    (λ loop-less. search needs)
-    (λ loop-again. search needs)
-    (λ same-length. search needs)
-    (λ same-length-2. search needs)
+    tie.close (tie.spec Inv-loop μ-loop (λ analyse-within-requires κs. search needs) (λ loop-holds. search needs) (λ analyse-within-requires-2 κs. search needs)
+    (λ add-i. search needs) (λ loop-less. search needs) (λ loop-again. search needs) (λ same-length. search needs) (λ same-length-2. search needs)
     (λ returns. search needs))

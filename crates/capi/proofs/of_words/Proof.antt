@@ -26,5 +26,5 @@ returns c =
 
 pub of-words-spec : {M : Type 1} → statement M
 of-words-spec =
-    tie.close
-    (tie.spec (λ with-bytes-requires κs. search needs) answer-number-requires (λ same-length. search needs) (λ same-length-2. search needs) returns)
+    tie.close (tie.spec
+    (λ with-bytes-requires κs. search needs) answer-number-requires (λ same-length. search needs) (λ same-length-2. search needs) returns)

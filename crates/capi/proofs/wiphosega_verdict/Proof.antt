@@ -25,15 +25,5 @@ returns-2 c =
 
 pub wiphosega-verdict-spec : {M : Type 1} → statement M
 wiphosega-verdict-spec =
-    tie.close
-    (tie.spec
-    (λ system-fault-requires κs. search needs)
-    (λ cast-result. search needs)
-    (λ mul-result. search needs)
-    (λ add-result. search needs)
-    returns
-    (λ slice-aggregate-of-system. search needs)
-    of-system-requires
-    (λ same-length. search needs)
-    (λ same-length-2. search needs)
-    returns-2)
+    tie.close (tie.spec (λ system-fault-requires κs. search needs) (λ cast-result. search needs) (λ mul-result. search needs) (λ add-result. search needs)
+    returns (λ slice-aggregate-of-system. search needs) of-system-requires (λ same-length. search needs) (λ same-length-2. search needs) returns-2)

@@ -34,5 +34,5 @@ returns-2 c =
 
 pub put-words-spec : {M : Type 1} → statement M
 put-words-spec =
-    tie.close
-    (tie.spec (λ mul-result. search needs) (λ add-result. search needs) returns slice-aggregate-bytes-of (λ bytes-of-requires κs. search needs) (λ mul-result-2. search needs) (λ same-length. search needs) returns-2)
+    tie.close (tie.spec
+    (λ mul-result. search needs) (λ add-result. search needs) returns slice-aggregate-bytes-of (λ bytes-of-requires κs. search needs) (λ mul-result-2. search needs) (λ same-length. search needs) returns-2)

@@ -56,15 +56,6 @@ returns-2 c =
 
 pub wiphosega-listing-read-spec : {M : Type 1} → statement M
 wiphosega-listing-read-spec =
-    tie.close
-    (tie.spec
-    (λ slice-aggregate-read. search needs)
-    (λ read-requires κs. search needs)
-    (λ enum-known-count. search needs)
-    (λ slice-aggregate-put-words. search needs)
-    put-words-requires
-    (λ enum-known-r. search needs)
-    refusal-answer-requires
-    (λ same-length. search needs)
-    returns
+    tie.close (tie.spec (λ slice-aggregate-read. search needs) (λ read-requires κs. search needs) (λ enum-known-count. search needs)
+    (λ slice-aggregate-put-words. search needs) put-words-requires (λ enum-known-r. search needs) refusal-answer-requires (λ same-length. search needs) returns
     returns-2)

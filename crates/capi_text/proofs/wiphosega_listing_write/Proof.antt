@@ -62,18 +62,6 @@ returns-3 c =
 
 pub wiphosega-listing-write-spec : {M : Type 1} → statement M
 wiphosega-listing-write-spec =
-    tie.close
-    (tie.spec
-    returns
-    (λ slice-aggregate-words-of. search needs)
-    (λ words-of-requires κs. search needs)
-    (λ array-share-prefix-words. search needs)
-    slice-aggregate-write
-    (λ write-requires κs. search needs)
-    (λ enum-known-count. search needs)
-    (λ enum-known-r. search needs)
-    refusal-answer-requires
-    (λ same-length. search needs)
-    returns-2
-    (λ same-length-2. search needs)
-    returns-3)
+    tie.close (tie.spec returns (λ slice-aggregate-words-of. search needs) (λ words-of-requires κs. search needs) (λ array-share-prefix-words. search needs)
+    slice-aggregate-write (λ write-requires κs. search needs) (λ enum-known-count. search needs) (λ enum-known-r. search needs) refusal-answer-requires
+    (λ same-length. search needs) returns-2 (λ same-length-2. search needs) returns-3)

@@ -31,5 +31,5 @@ returns c =
 
 pub broken-spec : {M : Type 1} → statement M
 broken-spec =
-    tie.close
-    (tie.spec Inv-loop μ-loop (λ c. (omega arith, lowered-none (λ q h x i. absurd (omega arith)))) (λ word-requires κs. search needs) (λ add-p. search needs) (λ loop-less. search needs) loop-again returns)
+    tie.close (tie.spec
+    Inv-loop μ-loop (λ c. (omega arith, lowered-none (λ q h x i. absurd (omega arith)))) (λ word-requires κs. search needs) (λ add-p. search needs) (λ loop-less. search needs) loop-again returns)

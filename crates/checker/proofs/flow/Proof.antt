@@ -21,11 +21,7 @@ use Rattle.checker.proofs.flow.Tie as tie
 pub flow-spec : {M : Type 1} → statement M
 unfolding byKind termsByKind termNode flow leafRule code
 flow-spec =
-    tie.close
-    (tie.spec
-    (λ mul-w. search (needs, in-words))
-    (λ mul-w. search (needs, in-words))
-    (λ argument-of-requires κs. search needs)
+    tie.close (tie.spec (λ mul-w. search (needs, in-words)) (λ mul-w. search (needs, in-words)) (λ argument-of-requires κs. search needs)
     (λ add-first. search needs)
     (λ c. omega (arith, sizes (c .before .before .before .before .before .before .before .pre .0) .wide, sizes (c .before .before .before .before .before .before .before .pre .0) .most))
     (λ c. let z = sizes (c .before .before .before .before .before .before .before .pre .0) in omega (arith, z .size, z .wide, z .most, c .before .before .before .before .before .before .before .pre .0 .inside))
@@ -40,22 +36,17 @@ flow-spec =
     (λ sign-element-requires κs. search needs)
     (λ c κs. let g = c .before .before .before .before .before .before .before .before .before .before .pre .0 in
     (sizes g, g .inside, omega (arith, c .sign-element .ensures, sign-lt (c .before .before .before .before .argument-of .result), sizes g .lead)))
-    (λ cast-in-value. search needs)
-    (λ add-in-value. search needs)
+    (λ cast-in-value. search needs) (λ add-in-value. search needs)
     (λ c κs. let g = c .before .before .before .before .before .before .before .before .before .pre .0 in
     (sizes g, g .inside, omega (arith, linked-here g (c .before .kind-of .ensures) (c .match .keys4) refl refl refl, c .before .before .before .argument-of .ensures, sizes g .lead)))
-    (λ cast-in-value-2. search needs)
-    (λ add-in-value-2. search needs)
+    (λ cast-in-value-2. search needs) (λ add-in-value-2. search needs)
     (λ c κs. let g = c .before .before .before .before .before .before .before .before .before .pre .0 in
     (sizes g, g .inside, omega (arith, linked-here g (c .before .kind-of .ensures) (c .match .keys5) refl refl refl, c .before .before .before .argument-of .ensures, g .ready .laid .lead)))
-    (λ binder-of-requires κs. search needs)
-    (λ mul-passed. search needs)
-    (λ add-passed. search needs)
+    (λ binder-of-requires κs. search needs) (λ mul-passed. search needs) (λ add-passed. search needs)
     (λ c. omega (arith, sizes (c .before .before .before .before .before .before .before .before .before .before .pre .0) .size, c .before .before .before .before .before .before .before .before .before .before .pre .0 .inside))
     (λ c κs. let g = c .before .before .before .before .before .before .before .before .before .before .pre .0 in
     (sizes g, omega (arith, binder-in g (there g (c .before .before .kind-of .ensures) (c .before .match .keys6) refl) (c .binder-of .ensures .0) (linked-here g (c .before .before .kind-of .ensures) (c .before .match .keys6) refl refl refl)), omega (arith, g .inside)))
-    (λ in-value-requires κs. search (needs, sizes))
-    (λ end-requires κs. search needs)
+    (λ in-value-requires κs. search (needs, sizes)) (λ end-requires κs. search needs)
     (λ c κs. let g = c .before .before .before .before .before .before .before .before .before .before .pre .0 in
     let x = linked-here g (c .before .before .kind-of .ensures) (c .before .match .keys8) refl (c .end .ensures .0) refl in (term-at g (x .1), part-at g (x .2), masks-of (g .ready)))
     (λ end-requires κs. search needs)
@@ -64,8 +55,7 @@ flow-spec =
     (λ end-requires κs. search needs)
     (λ c κs. let g = c .before .before .before .before .before .before .before .before .before .before .pre .0 in
     let x = linked-here g (c .before .before .kind-of .ensures) (c .before .match .keys10) refl (c .end3 .ensures .0) refl in (term-at g (x .1), part-at g (x .2)))
-    (λ end-requires κs. search needs)
-    (λ next-end-requires κs. search needs)
+    (λ end-requires κs. search needs) (λ next-end-requires κs. search needs)
     (λ c κs. let g = c .before .before .before .before .before .before .before .before .before .before .before .pre .0 in
     let x = linked-here g (c .before .before .before .kind-of .ensures) (c .before .before .match .keys11) refl (c .before .end4 .ensures .0) (c .next-end .ensures .0) in
     (term-at g (x .0), part-at g (x .1), part-at g (x .2)))
@@ -75,12 +65,10 @@ flow-spec =
     (λ end-requires κs. search needs)
     (λ c κs. let g = c .before .before .before .before .before .before .before .before .before .before .pre .0 in
     let x = linked-here g (c .before .before .kind-of .ensures) (c .before .match .keys13) refl (c .end6 .ensures .0) refl in (term-at g (x .1), part-at g (x .2)))
-    (λ in-value-requires κs. search (needs, sizes))
-    (λ end-requires κs. search needs)
+    (λ in-value-requires κs. search (needs, sizes)) (λ end-requires κs. search needs)
     (λ c κs. let g = c .before .before .before .before .before .before .before .before .before .before .pre .0 in
     let x = linked-here g (c .before .before .kind-of .ensures) (c .before .match .keys15) refl (c .end7 .ensures .0) refl in (term-at g (x .1), part-at g (x .2), masks-of (g .ready)))
-    (λ end-requires κs. search needs)
-    (λ next-end-requires κs. search needs)
+    (λ end-requires κs. search needs) (λ next-end-requires κs. search needs)
     (λ c κs. let g = c .before .before .before .before .before .before .before .before .before .before .before .pre .0 in
     let x = linked-here g (c .before .before .before .kind-of .ensures) (c .before .before .match .keys16) refl (c .before .end8 .ensures .0) (c .next-end2 .ensures .0) in
     (term-at g (x .0), part-at g (x .1), part-at g (x .2), masks-of (g .ready)))

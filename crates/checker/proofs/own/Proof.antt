@@ -7,8 +7,7 @@ use Rattle.checker.proofs.own.Tie as tie
 
 pub own-spec : {M : Type 1} → statement M
 own-spec =
-    tie.close
-    (tie.spec
+    tie.close (tie.spec
     (λ entry-requires κs. search (needs, accepted-at, sizes))
     (λ c. and-no (c .if1 .taken) (c .before .entry .ensures))
     (λ is-live-requires κs. search (needs, sizes))

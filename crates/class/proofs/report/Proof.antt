@@ -14,17 +14,6 @@ abbrev μ-loop : tie.MeasureT-loop
 
 pub report-spec : {M : Type 1} → statement M
 report-spec =
-    tie.close
-    (tie.spec
-    Inv-loop
-    μ-loop
-    (λ new-requires κs. search needs)
-    (λ loop-holds. search needs)
-    (λ turn-requires κs. search needs)
-    (λ same-length. search needs)
-    (λ returns. search needs)
-    (λ sub-turns. search needs)
-    (λ loop-less. search needs)
-    (λ loop-again. search needs)
-    (λ same-length-2. search needs)
-    (λ returns-2. search needs))
+    tie.close (tie.spec Inv-loop μ-loop (λ new-requires κs. search needs) (λ loop-holds. search needs) (λ turn-requires κs. search needs)
+    (λ same-length. search needs) (λ returns. search needs) (λ sub-turns. search needs) (λ loop-less. search needs) (λ loop-again. search needs)
+    (λ same-length-2. search needs) (λ returns-2. search needs))

@@ -14,10 +14,5 @@ returns c =
 
 pub block-text-spec : {M : Type 1} → statement M
 block-text-spec =
-    tie.close
-    (tie.spec
-    (λ value-of-requires κs. search needs)
-    (λ value-of-requires-2 κs. search needs)
-    (λ key-text-requires κs. search needs)
-    (λ same-length. search needs)
-    returns)
+    tie.close (tie.spec (λ value-of-requires κs. search needs) (λ value-of-requires-2 κs. search needs) (λ key-text-requires κs. search needs)
+    (λ same-length. search needs) returns)

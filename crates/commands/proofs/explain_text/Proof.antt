@@ -16,14 +16,5 @@ returns-2 c = reworded (ap valueText (sym (c .before .before .before .before .en
 
 pub explain-text-spec : {M : Type 1} → statement M
 explain-text-spec =
-    tie.close
-    (tie.spec
-    (λ value-of-requires κs. search needs)
-    (λ enum-known-n. search needs)
-    (λ sentence-requires κs. search needs)
-    (λ enum-told. search needs)
-    (λ help-requires κs. search needs)
-    (λ same-length. search needs)
-    returns
-    (λ same-length-2. search needs)
-    returns-2)
+    tie.close (tie.spec (λ value-of-requires κs. search needs) (λ enum-known-n. search needs) (λ sentence-requires κs. search needs) (λ enum-told. search needs)
+    (λ help-requires κs. search needs) (λ same-length. search needs) returns (λ same-length-2. search needs) returns-2)

@@ -27,18 +27,6 @@ returns-3 c =
 
 pub key-text-spec : {M : Type 1} → statement M
 key-text-spec =
-    tie.close
-    (tie.spec
-    (λ enum-known-name. search needs)
-    (λ enum-known-perms. search needs)
-    (λ found-text-requires κs. search needs)
-    (λ enum-told. search needs)
-    (λ help-requires κs. search needs)
-    (λ enum-told-2. search needs)
-    (λ help-requires-2 κs. search needs)
-    (λ same-length. search needs)
-    returns
-    (λ same-length-2. search needs)
-    returns-2
-    (λ same-length-3. search needs)
-    returns-3)
+    tie.close (tie.spec (λ enum-known-name. search needs) (λ enum-known-perms. search needs) (λ found-text-requires κs. search needs)
+    (λ enum-told. search needs) (λ help-requires κs. search needs) (λ enum-told-2. search needs) (λ help-requires-2 κs. search needs)
+    (λ same-length. search needs) returns (λ same-length-2. search needs) returns-2 (λ same-length-3. search needs) returns-3)

@@ -31,24 +31,8 @@ returns-4 c =
 
 pub other-text-spec : {M : Type 1} → statement M
 other-text-spec =
-    tie.close
-    (tie.spec
-    (λ slice-aggregate-same. search needs)
-    (λ same-requires κs. search needs)
-    (λ value-of-requires κs. search needs)
-    (λ packed-for-requires κs. search needs)
-    (λ same-length. search needs)
-    returns
-    (λ slice-aggregate-same-2. search needs)
-    (λ same-requires-2 κs. search needs)
-    (λ convert-text-requires κs. search needs)
-    (λ same-length-2. search needs)
-    returns-2
-    (λ slice-aggregate-same-3. search needs)
-    (λ same-requires-3 κs. search needs)
-    (λ convert-text-requires-2 κs. search needs)
-    (λ same-length-3. search needs)
-    returns-3
-    (λ help-requires κs. search needs)
-    (λ same-length-4. search needs)
-    returns-4)
+    tie.close (tie.spec (λ slice-aggregate-same. search needs) (λ same-requires κs. search needs) (λ value-of-requires κs. search needs)
+    (λ packed-for-requires κs. search needs) (λ same-length. search needs) returns (λ slice-aggregate-same-2. search needs) (λ same-requires-2 κs. search needs)
+    (λ convert-text-requires κs. search needs) (λ same-length-2. search needs) returns-2 (λ slice-aggregate-same-3. search needs)
+    (λ same-requires-3 κs. search needs) (λ convert-text-requires-2 κs. search needs) (λ same-length-3. search needs) returns-3
+    (λ help-requires κs. search needs) (λ same-length-4. search needs) returns-4)

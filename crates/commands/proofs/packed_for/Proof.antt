@@ -21,13 +21,5 @@ returns-2 c =
 
 pub packed-for-spec : {M : Type 1} → statement M
 packed-for-spec =
-    tie.close
-    (tie.spec
-    (λ enum-known-rho. search needs)
-    (λ pack-text-requires κs. search needs)
-    (λ enum-told. search needs)
-    (λ help-requires κs. search needs)
-    (λ same-length. search needs)
-    returns
-    (λ same-length-2. search needs)
-    returns-2)
+    tie.close (tie.spec (λ enum-known-rho. search needs) (λ pack-text-requires κs. search needs) (λ enum-told. search needs) (λ help-requires κs. search needs)
+    (λ same-length. search needs) returns (λ same-length-2. search needs) returns-2)

@@ -48,43 +48,13 @@ returns-8 c =
 
 pub print-spec : {M : Type 1} → statement M
 print-spec =
-    tie.close
-    (tie.spec
-    (λ slice-aggregate-same. search needs)
-    (λ same-requires κs. search needs)
-    (λ text-text-requires κs. search needs)
-    (λ same-length. search needs)
-    returns
-    (λ slice-aggregate-same-2. search needs)
-    (λ same-requires-2 κs. search needs)
-    (λ words-text-requires κs. search needs)
-    (λ same-length-2. search needs)
-    returns-2
-    (λ slice-aggregate-same-3. search needs)
-    (λ same-requires-3 κs. search needs)
-    (λ join-text-requires κs. search needs)
-    (λ same-length-3. search needs)
-    returns-3
-    (λ slice-aggregate-same-4. search needs)
-    (λ same-requires-4 κs. search needs)
-    (λ block-text-requires κs. search needs)
-    (λ same-length-4. search needs)
-    returns-4
-    (λ slice-aggregate-same-5. search needs)
-    (λ same-requires-5 κs. search needs)
-    (λ manifest-text-requires κs. search needs)
-    (λ same-length-5. search needs)
-    returns-5
-    (λ slice-aggregate-same-6. search needs)
-    (λ same-requires-6 κs. search needs)
-    (λ explain-text-requires κs. search needs)
-    (λ same-length-6. search needs)
-    returns-6
-    (λ slice-aggregate-same-7. search needs)
-    (λ same-requires-7 κs. search needs)
-    (λ check-text-requires κs. search needs)
-    (λ same-length-7. search needs)
-    returns-7
-    (λ other-text-requires κs. search needs)
-    (λ same-length-8. search needs)
+    tie.close (tie.spec (λ slice-aggregate-same. search needs) (λ same-requires κs. search needs) (λ text-text-requires κs. search needs)
+    (λ same-length. search needs) returns (λ slice-aggregate-same-2. search needs) (λ same-requires-2 κs. search needs) (λ words-text-requires κs. search needs)
+    (λ same-length-2. search needs) returns-2 (λ slice-aggregate-same-3. search needs) (λ same-requires-3 κs. search needs)
+    (λ join-text-requires κs. search needs) (λ same-length-3. search needs) returns-3 (λ slice-aggregate-same-4. search needs)
+    (λ same-requires-4 κs. search needs) (λ block-text-requires κs. search needs) (λ same-length-4. search needs) returns-4
+    (λ slice-aggregate-same-5. search needs) (λ same-requires-5 κs. search needs) (λ manifest-text-requires κs. search needs) (λ same-length-5. search needs)
+    returns-5 (λ slice-aggregate-same-6. search needs) (λ same-requires-6 κs. search needs) (λ explain-text-requires κs. search needs)
+    (λ same-length-6. search needs) returns-6 (λ slice-aggregate-same-7. search needs) (λ same-requires-7 κs. search needs)
+    (λ check-text-requires κs. search needs) (λ same-length-7. search needs) returns-7 (λ other-text-requires κs. search needs) (λ same-length-8. search needs)
     returns-8)

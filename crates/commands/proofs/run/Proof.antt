@@ -18,11 +18,4 @@ returns-3 c = let s = c .before .before .before .before .before .before .before 
 
 pub run-spec : {M : Type 1} → statement M
 run-spec =
-    tie.close
-    (tie.spec
-    returns
-    (λ sub-if2. search needs)
-    returns-2
-    (λ print-requires κs. search needs)
-    (λ same-length. search needs)
-    returns-3)
+    tie.close (tie.spec returns (λ sub-if2. search needs) returns-2 (λ print-requires κs. search needs) (λ same-length. search needs) returns-3)

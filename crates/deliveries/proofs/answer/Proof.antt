@@ -12,15 +12,6 @@ returns c =
 
 pub answer-spec : {M : Type 1} → statement M
 answer-spec =
-    tie.close
-    (tie.spec
-    (λ handler-at-requires κs. search needs)
-    (λ handler-at-requires-2 κs. search needs)
-    (λ word-at-requires κs. search needs)
-    (λ argument-of-requires κs. search needs)
-    (λ of-requires κs. search needs)
-    (λ add-word-at. search needs)
-    (λ word-at-requires-2 κs. search needs)
-    (λ name-for-requires κs. search needs)
-    (λ judge-requires κs. search needs)
-    returns)
+    tie.close (tie.spec (λ handler-at-requires κs. search needs) (λ handler-at-requires-2 κs. search needs) (λ word-at-requires κs. search needs)
+    (λ argument-of-requires κs. search needs) (λ of-requires κs. search needs) (λ add-word-at. search needs) (λ word-at-requires-2 κs. search needs)
+    (λ name-for-requires κs. search needs) (λ judge-requires κs. search needs) returns)

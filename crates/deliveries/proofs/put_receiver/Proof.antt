@@ -20,13 +20,5 @@ returns-2 c =
 
 pub put-receiver-spec : {M : Type 1} → statement M
 put-receiver-spec =
-    tie.close
-    (tie.spec
-    (λ mul-kind-of. search needs)
-    (λ shared-slice-read-kind-of. search needs)
-    (λ kind-of-requires κs. search needs)
-    (λ answer-requires κs. search needs)
-    (λ add-line-requires κs. search needs)
-    (λ same-length. search needs)
-    returns
-    returns-2)
+    tie.close (tie.spec (λ mul-kind-of. search needs) (λ shared-slice-read-kind-of. search needs) (λ kind-of-requires κs. search needs)
+    (λ answer-requires κs. search needs) (λ add-line-requires κs. search needs) (λ same-length. search needs) returns returns-2)

@@ -31,17 +31,6 @@ returns c = let i = c .before .loop .inv in (filled-end _ _ i (c .loop-test .lef
 
 pub put-receivers-spec : {M : Type 1} → statement M
 put-receivers-spec =
-    tie.close
-    (tie.spec
-    Inv-loop
-    μ-loop
-    loop-holds
-    (λ put-receiver-requires κs. search needs)
-    (λ mul-counted. search needs)
-    (λ shared-slice-read-counted. search needs)
-    (λ counted-requires κs. search needs)
-    (λ add-q. search needs)
-    (λ loop-less. search needs)
-    loop-again
-    same-length
+    tie.close (tie.spec Inv-loop μ-loop loop-holds (λ put-receiver-requires κs. search needs) (λ mul-counted. search needs)
+    (λ shared-slice-read-counted. search needs) (λ counted-requires κs. search needs) (λ add-q. search needs) (λ loop-less. search needs) loop-again same-length
     returns)

@@ -19,12 +19,5 @@ returns-2 c =
 
 pub put-word-spec : {M : Type 1} → statement M
 put-word-spec =
-    tie.close
-    (tie.spec
-    (λ mul-kind-of. search needs)
-    (λ shared-slice-read-kind-of. search needs)
-    (λ kind-of-requires κs. search needs)
-    (λ put-receivers-requires κs. search needs)
-    (λ same-length. search needs)
-    returns
-    returns-2)
+    tie.close (tie.spec (λ mul-kind-of. search needs) (λ shared-slice-read-kind-of. search needs) (λ kind-of-requires κs. search needs)
+    (λ put-receivers-requires κs. search needs) (λ same-length. search needs) returns returns-2)

@@ -61,21 +61,6 @@ returns c =
 
 pub put-words-spec : {M : Type 1} → statement M
 put-words-spec =
-    tie.close
-    (tie.spec
-    Inv-loop
-    μ-loop
-    loop-holds
-    (λ last-requires κs. search needs)
-    put-word-requires
-    (λ mul-block-of. search needs)
-    (λ shared-slice-read-block-of. search needs)
-    (λ block-of-requires κs. search needs)
-    (λ mul-counted. search needs)
-    (λ shared-slice-read-counted. search needs)
-    counted-requires
-    (λ add-p. search needs)
-    (λ loop-less. search needs)
-    loop-again
-    same-length
-    returns)
+    tie.close (tie.spec Inv-loop μ-loop loop-holds (λ last-requires κs. search needs) put-word-requires (λ mul-block-of. search needs)
+    (λ shared-slice-read-block-of. search needs) (λ block-of-requires κs. search needs) (λ mul-counted. search needs)
+    (λ shared-slice-read-counted. search needs) counted-requires (λ add-p. search needs) (λ loop-less. search needs) loop-again same-length returns)

@@ -35,13 +35,5 @@ returns-2 c =
 
 pub write-accepted-spec : {M : Type 1} → statement M
 write-accepted-spec =
-    tie.close
-    (tie.spec
-    (λ slice-relend-prefix-put-words. search needs)
-    (λ slice-aggregate-put-words. search needs)
-    put-words-requires
-    (λ same-length. search needs)
-    returns
-    put-words-requires-2
-    (λ same-length-2. search needs)
-    returns-2)
+    tie.close (tie.spec (λ slice-relend-prefix-put-words. search needs) (λ slice-aggregate-put-words. search needs) put-words-requires
+    (λ same-length. search needs) returns put-words-requires-2 (λ same-length-2. search needs) returns-2)

@@ -29,13 +29,5 @@ returns-4 c =
 
 pub judge-spec : {M : Type 1} → statement M
 judge-spec =
-    tie.close
-    (tie.spec
-    returns
-    (λ within-requires κs. search needs)
-    (λ difference-requires κs. search needs)
-    returns-2
-    (λ within-requires-2 κs. search needs)
-    (λ difference-requires-2 κs. search needs)
-    returns-3
-    returns-4)
+    tie.close (tie.spec returns (λ within-requires κs. search needs) (λ difference-requires κs. search needs) returns-2 (λ within-requires-2 κs. search needs)
+    (λ difference-requires-2 κs. search needs) returns-3 returns-4)

@@ -46,14 +46,5 @@ returns c =
 
 pub fingerprint-spec : {M : Type 1} → statement M
 fingerprint-spec =
-    tie.close
-    (tie.spec
-    Inv-loop
-    μ-loop
-    loop-holds
-    (λ shared-slice-read-step. search needs)
-    (λ step-requires κs. search needs)
-    (λ add-i. search needs)
-    (λ loop-less. search needs)
-    loop-again
-    returns)
+    tie.close (tie.spec Inv-loop μ-loop loop-holds (λ shared-slice-read-step. search needs) (λ step-requires κs. search needs) (λ add-i. search needs)
+    (λ loop-less. search needs) loop-again returns)

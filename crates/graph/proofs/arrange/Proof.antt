@@ -67,16 +67,6 @@ returns-3 c =
 
 pub arrange-spec : {M : Type 1} → statement M
 arrange-spec =
-    tie.close
-    (tie.spec
-    (λ places-requires κs. search needs)
-    returns
-    (λ below-requires κs. search needs)
-    loop-length-requires
-    (λ write-order-requires κs. search needs)
-    (λ same-length. search needs)
-    returns-2
-    loop-start-requires
-    write-loop-requires
-    (λ same-length-2. search needs)
+    tie.close (tie.spec (λ places-requires κs. search needs) returns (λ below-requires κs. search needs) loop-length-requires
+    (λ write-order-requires κs. search needs) (λ same-length. search needs) returns-2 loop-start-requires write-loop-requires (λ same-length-2. search needs)
     returns-3)

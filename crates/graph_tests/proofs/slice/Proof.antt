@@ -13,15 +13,5 @@ abbrev μ-loop : tie.MeasureT-loop
 
 pub slice-spec : {M : Type 1} → statement M
 slice-spec =
-    tie.close
-    (tie.spec
-    Inv-loop
-    μ-loop
-    (λ loop-holds. search needs)
-    (λ mul-position. search needs)
-    (λ shared-slice-read-position. search needs)
-    (λ position-requires κs. search needs)
-    (λ add-i. search needs)
-    (λ loop-less. search needs)
-    (λ loop-again. search needs)
-    (λ returns. search needs))
+    tie.close (tie.spec Inv-loop μ-loop (λ loop-holds. search needs) (λ mul-position. search needs) (λ shared-slice-read-position. search needs)
+    (λ position-requires κs. search needs) (λ add-i. search needs) (λ loop-less. search needs) (λ loop-again. search needs) (λ returns. search needs))

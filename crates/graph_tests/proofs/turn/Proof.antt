@@ -14,20 +14,6 @@ abbrev μ-loop : tie.MeasureT-loop
 
 pub turn-spec : {M : Type 1} → statement M
 turn-spec =
-    tie.close
-    (tie.spec
-    Inv-loop
-    μ-loop
-    (λ loop-holds. search needs)
-    (λ add-rows. search needs)
-    (λ rem-rows. search needs)
-    (λ cast-rows. search needs)
-    (λ cast-rows-2. search needs)
-    (λ shl-rows. search needs)
-    (λ mul-rows. search needs)
-    (λ slice-write-rows. search needs)
-    (λ add-t. search needs)
-    (λ loop-less. search needs)
-    (λ loop-again. search needs)
-    (λ same-length. search needs)
-    (λ returns. search needs))
+    tie.close (tie.spec Inv-loop μ-loop (λ loop-holds. search needs) (λ add-rows. search needs) (λ rem-rows. search needs) (λ cast-rows. search needs)
+    (λ cast-rows-2. search needs) (λ shl-rows. search needs) (λ mul-rows. search needs) (λ slice-write-rows. search needs) (λ add-t. search needs)
+    (λ loop-less. search needs) (λ loop-again. search needs) (λ same-length. search needs) (λ returns. search needs))

@@ -30,15 +30,5 @@ returns-3 c = sym (ap number (c .before .before .before .v3 .given .1))
 
 pub answer-number-spec : {M : Type 1} → statement M
 answer-number-spec =
-    tie.close
-    (tie.spec
-    (λ enum-known-v. search needs)
-    fault-answer-requires
-    (λ enum-known-v-2. search needs)
-    (λ cast-result. search needs)
-    (λ enum-known-v-3. search needs)
-    (λ cast-result-2. search needs)
-    (λ add-result. search needs)
-    returns
-    returns-2
-    returns-3)
+    tie.close (tie.spec (λ enum-known-v. search needs) fault-answer-requires (λ enum-known-v-2. search needs) (λ cast-result. search needs)
+    (λ enum-known-v-3. search needs) (λ cast-result-2. search needs) (λ add-result. search needs) returns returns-2 returns-3)

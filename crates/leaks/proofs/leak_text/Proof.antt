@@ -19,11 +19,5 @@ returns c =
 
 pub leak-text-spec : {M : Type 1} → statement M
 leak-text-spec =
-    tie.close
-    (tie.spec
-    (λ value-of-requires κs. search needs)
-    (λ value-or-requires κs. search needs)
-    (λ value-or-requires-2 κs. search needs)
-    (λ values-text-requires κs. search needs)
-    (λ same-length. search needs)
-    returns)
+    tie.close (tie.spec (λ value-of-requires κs. search needs) (λ value-or-requires κs. search needs) (λ value-or-requires-2 κs. search needs)
+    (λ values-text-requires κs. search needs) (λ same-length. search needs) returns)

@@ -57,19 +57,7 @@ returns-2 c =
 
 pub listing-leak-spec : {M : Type 1} → statement M
 listing-leak-spec =
-    tie.close
-    (tie.spec
-    (λ slice-aggregate-read. search needs)
-    (λ read-requires κs. search needs)
-    (λ enum-known-n. search needs)
-    array-share-prefix-words
-    slice-aggregate-system-leak
-    system-leak-requires
-    (λ enum-known-r. search needs)
-    (λ refusal-number-requires κs. search needs)
-    (λ refusal-place-requires κs. search needs)
-    (λ refusal-line-requires κs. search needs)
-    (λ same-length. search needs)
-    returns
-    (λ same-length-2. search needs)
+    tie.close (tie.spec (λ slice-aggregate-read. search needs) (λ read-requires κs. search needs) (λ enum-known-n. search needs) array-share-prefix-words
+    slice-aggregate-system-leak system-leak-requires (λ enum-known-r. search needs) (λ refusal-number-requires κs. search needs)
+    (λ refusal-place-requires κs. search needs) (λ refusal-line-requires κs. search needs) (λ same-length. search needs) returns (λ same-length-2. search needs)
     returns-2)

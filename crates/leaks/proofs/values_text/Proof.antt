@@ -27,23 +27,7 @@ returns-4 c =
 
 pub values-text-spec : {M : Type 1} → statement M
 values-text-spec =
-    tie.close
-    (tie.spec
-    (λ enum-known-rho. search needs)
-    (λ enum-known-bound. search needs)
-    (λ enum-known-ceiling. search needs)
-    (λ listing-leak-requires κs. search needs)
-    (λ enum-told. search needs)
-    (λ help-requires κs. search needs)
-    (λ enum-told-2. search needs)
-    (λ help-requires-2 κs. search needs)
-    (λ enum-told-3. search needs)
-    (λ help-requires-3 κs. search needs)
-    (λ same-length. search needs)
-    returns
-    (λ same-length-2. search needs)
-    returns-2
-    (λ same-length-3. search needs)
-    returns-3
-    (λ same-length-4. search needs)
-    returns-4)
+    tie.close (tie.spec (λ enum-known-rho. search needs) (λ enum-known-bound. search needs) (λ enum-known-ceiling. search needs)
+    (λ listing-leak-requires κs. search needs) (λ enum-told. search needs) (λ help-requires κs. search needs) (λ enum-told-2. search needs)
+    (λ help-requires-2 κs. search needs) (λ enum-told-3. search needs) (λ help-requires-3 κs. search needs) (λ same-length. search needs) returns
+    (λ same-length-2. search needs) returns-2 (λ same-length-3. search needs) returns-3 (λ same-length-4. search needs) returns-4)

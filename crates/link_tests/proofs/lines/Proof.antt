@@ -14,5 +14,5 @@ abbrev μ-loop : tie.MeasureT-loop
 
 pub lines-spec : {M : Type 1} → statement M
 lines-spec =
-    tie.close
-    (tie.spec Inv-loop μ-loop (λ loop-holds. search needs) (λ line-requires κs. search needs) (λ add-p. search needs) (λ loop-less. search needs) (λ loop-again. search needs) (λ returns. search needs))
+    tie.close (tie.spec
+    Inv-loop μ-loop (λ loop-holds. search needs) (λ line-requires κs. search needs) (λ add-p. search needs) (λ loop-less. search needs) (λ loop-again. search needs) (λ returns. search needs))

@@ -42,18 +42,6 @@ returns c =
 
 pub bytes-of-spec : {M : Type 1} → statement M
 bytes-of-spec =
-    tie.close
-    (tie.spec
-    Inv-loop
-    μ-loop
-    (λ least-requires κs. search needs)
-    loop-holds
-    (λ mul-at. search needs)
-    (λ mul-w. search needs)
-    (λ shared-slice-read-w. search needs)
-    (λ put-requires κs. search needs)
-    (λ add-i. search needs)
-    (λ loop-less. search needs)
-    loop-again
-    (λ same-length. search needs)
-    returns)
+    tie.close (tie.spec Inv-loop μ-loop (λ least-requires κs. search needs) loop-holds (λ mul-at. search needs) (λ mul-w. search needs)
+    (λ shared-slice-read-w. search needs) (λ put-requires κs. search needs) (λ add-i. search needs) (λ loop-less. search needs) loop-again
+    (λ same-length. search needs) returns)

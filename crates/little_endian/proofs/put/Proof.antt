@@ -22,18 +22,6 @@ returns c = rw (add-one, add-two, add-three) (sets-eq (lowBytes 4 (c .args .w)) 
 
 pub put-spec : {M : Type 1} → statement M
 put-spec =
-    tie.close
-    (tie.spec
-    (λ cast-bytes. search needs)
-    (λ slice-write-bytes. search needs)
-    (λ cast-bytes-2. search needs)
-    (λ add-bytes. search needs)
-    slice-write-bytes-2
-    (λ cast-bytes-3. search needs)
-    (λ add-bytes-2. search needs)
-    slice-write-bytes-3
-    (λ cast-bytes-4. search needs)
-    (λ add-bytes-3. search needs)
-    slice-write-bytes-4
-    (λ same-length. search needs)
-    returns)
+    tie.close (tie.spec (λ cast-bytes. search needs) (λ slice-write-bytes. search needs) (λ cast-bytes-2. search needs) (λ add-bytes. search needs)
+    slice-write-bytes-2 (λ cast-bytes-3. search needs) (λ add-bytes-2. search needs) slice-write-bytes-3 (λ cast-bytes-4. search needs)
+    (λ add-bytes-3. search needs) slice-write-bytes-4 (λ same-length. search needs) returns)

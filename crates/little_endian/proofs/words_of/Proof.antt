@@ -43,25 +43,7 @@ returns c =
 
 pub words-of-spec : {M : Type 1} → statement M
 words-of-spec =
-    tie.close
-    (tie.spec
-    Inv-loop
-    μ-loop
-    (λ least-requires κs. search needs)
-    loop-holds
-    (λ mul-at. search needs)
-    (λ shared-slice-read-word. search needs)
-    (λ add-word. search needs)
-    (λ shared-slice-read-word-2. search needs)
-    (λ add-word-2. search needs)
-    (λ shared-slice-read-word-3. search needs)
-    (λ add-word-3. search needs)
-    (λ shared-slice-read-word-4. search needs)
-    (λ word-requires κs. search needs)
-    (λ mul-words. search needs)
-    (λ slice-write-words. search needs)
-    (λ add-i. search needs)
-    (λ loop-less. search needs)
-    loop-again
-    (λ same-length. search needs)
-    returns)
+    tie.close (tie.spec Inv-loop μ-loop (λ least-requires κs. search needs) loop-holds (λ mul-at. search needs) (λ shared-slice-read-word. search needs)
+    (λ add-word. search needs) (λ shared-slice-read-word-2. search needs) (λ add-word-2. search needs) (λ shared-slice-read-word-3. search needs)
+    (λ add-word-3. search needs) (λ shared-slice-read-word-4. search needs) (λ word-requires κs. search needs) (λ mul-words. search needs)
+    (λ slice-write-words. search needs) (λ add-i. search needs) (λ loop-less. search needs) loop-again (λ same-length. search needs) returns)

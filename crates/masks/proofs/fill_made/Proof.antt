@@ -56,18 +56,6 @@ returns c =
 
 pub fill-made-spec : {M : Type 1} → statement M
 fill-made-spec =
-    tie.close
-    (tie.spec
-    Inv-loop
-    μ-loop
-    loop-holds
-    (λ add-set-word. search needs)
-    (λ mul-word-makes. search needs)
-    (λ shared-slice-read-word-makes. search needs)
-    (λ word-makes-requires κs. search needs)
-    set-word-requires
-    (λ add-p. search needs)
-    (λ loop-less. search needs)
-    loop-again
-    (λ same-length. search needs)
-    returns)
+    tie.close (tie.spec Inv-loop μ-loop loop-holds (λ add-set-word. search needs) (λ mul-word-makes. search needs)
+    (λ shared-slice-read-word-makes. search needs) (λ word-makes-requires κs. search needs) set-word-requires (λ add-p. search needs)
+    (λ loop-less. search needs) loop-again (λ same-length. search needs) returns)

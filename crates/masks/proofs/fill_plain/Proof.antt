@@ -20,12 +20,5 @@ returns c = in-turn _ _ _ _ _ (c .before .before .before .before .before .before
 
 pub fill-plain-spec : {M : Type 1} → statement M
 fill-plain-spec =
-    tie.close
-    (tie.spec
-    (λ mul-set-digit. search needs)
-    (λ add-set-digit. search needs)
-    (λ set-digit-requires κs. search needs)
-    (λ mul-set-words. search needs)
-    (λ set-words-requires κs. search needs)
-    (λ same-length. search needs)
-    returns)
+    tie.close (tie.spec (λ mul-set-digit. search needs) (λ add-set-digit. search needs) (λ set-digit-requires κs. search needs) (λ mul-set-words. search needs)
+    (λ set-words-requires κs. search needs) (λ same-length. search needs) returns)

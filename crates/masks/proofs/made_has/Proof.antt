@@ -43,14 +43,5 @@ returns-5 c = message-function _ (c .if1 .left) ∙ arm _ _ sorts.Message (c .be
 
 pub made-has-spec : {M : Type 1} → statement M
 made-has-spec =
-    tie.close
-    (tie.spec
-    (λ enum-told. search needs)
-    (λ enum-told-2. search needs)
-    (λ enum-told-3. search needs)
-    (λ enum-told-4. search needs)
-    returns
-    returns-2
-    returns-3
-    returns-4
-    returns-5)
+    tie.close (tie.spec (λ enum-told. search needs) (λ enum-told-2. search needs) (λ enum-told-3. search needs) (λ enum-told-4. search needs) returns returns-2
+    returns-3 returns-4 returns-5)

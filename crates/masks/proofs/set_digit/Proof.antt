@@ -20,13 +20,5 @@ returns c = one-word _ _ _ (c .digit .ensures)
 
 pub set-digit-spec : {M : Type 1} → statement M
 set-digit-spec =
-    tie.close
-    (tie.spec
-    (λ mul-masks. search needs)
-    (λ slice-read-masks. search needs)
-    (λ cast-digit. search needs)
-    (λ digit-requires κs. search needs)
-    (λ mul-masks-2. search needs)
-    (λ slice-write-masks. search needs)
-    (λ same-length. search needs)
-    returns)
+    tie.close (tie.spec (λ mul-masks. search needs) (λ slice-read-masks. search needs) (λ cast-digit. search needs) (λ digit-requires κs. search needs)
+    (λ mul-masks-2. search needs) (λ slice-write-masks. search needs) (λ same-length. search needs) returns)

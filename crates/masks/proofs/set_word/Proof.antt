@@ -29,17 +29,6 @@ returns c =
 
 pub set-word-spec : {M : Type 1} → statement M
 set-word-spec =
-    tie.close
-    (tie.spec
-    (λ set-sort-requires κs. search needs)
-    (λ mul-set-sort. search needs)
-    (λ add-set-sort. search needs)
-    (λ set-sort-requires-2 κs. search needs)
-    (λ mul-set-sort-2. search needs)
-    (λ add-set-sort-2. search needs)
-    (λ set-sort-requires-3 κs. search needs)
-    (λ mul-set-sort-3. search needs)
-    (λ add-set-sort-3. search needs)
-    (λ set-sort-requires-4 κs. search needs)
-    (λ same-length. search needs)
-    returns)
+    tie.close (tie.spec (λ set-sort-requires κs. search needs) (λ mul-set-sort. search needs) (λ add-set-sort. search needs)
+    (λ set-sort-requires-2 κs. search needs) (λ mul-set-sort-2. search needs) (λ add-set-sort-2. search needs) (λ set-sort-requires-3 κs. search needs)
+    (λ mul-set-sort-3. search needs) (λ add-set-sort-3. search needs) (λ set-sort-requires-4 κs. search needs) (λ same-length. search needs) returns)

@@ -55,15 +55,5 @@ returns c =
 
 pub set-words-spec : {M : Type 1} → statement M
 set-words-spec =
-    tie.close
-    (tie.spec
-    Inv-loop
-    μ-loop
-    loop-holds
-    (λ add-set. search needs)
-    set-requires
-    (λ add-k. search needs)
-    (λ loop-less. search needs)
-    loop-again
-    same-length
-    returns)
+    tie.close (tie.spec Inv-loop μ-loop loop-holds (λ add-set. search needs) set-requires (λ add-k. search needs) (λ loop-less. search needs) loop-again
+    same-length returns)

@@ -39,13 +39,5 @@ returns-3 c = entry (c .before .before .before .args .w) (c .before .before .kin
 
 pub word-makes-spec : {M : Type 1} → statement M
 word-makes-spec =
-    tie.close
-    (tie.spec
-    (λ kind-of-requires κs. search needs)
-    returns
-    returns-2
-    (λ mul-result. search needs)
-    (λ cast-result. search needs)
-    (λ shr-result. search needs)
-    (λ cast-result-2. search needs)
-    returns-3)
+    tie.close (tie.spec (λ kind-of-requires κs. search needs) returns returns-2 (λ mul-result. search needs) (λ cast-result. search needs)
+    (λ shr-result. search needs) (λ cast-result-2. search needs) returns-3)

@@ -18,17 +18,6 @@ slice-aggregate-order-4 c = sym (length-take-le _ _ (omega arith))
 
 pub ask-spec : {M : Type 1} → statement M
 ask-spec =
-    tie.close
-    (tie.spec
-    (λ slice-aggregate-order. search needs)
-    (λ slice-relend-prefix-order. search needs)
-    slice-aggregate-order-2
-    (λ slice-relend-prefix-order-2. search needs)
-    slice-aggregate-order-3
-    (λ slice-relend-prefix-order-3. search needs)
-    slice-aggregate-order-4
-    (λ order-requires κs. search needs)
-    (λ same-length. search needs)
-    (λ same-length-2. search needs)
-    (λ same-length-3. search needs)
-    (λ returns. search needs))
+    tie.close (tie.spec (λ slice-aggregate-order. search needs) (λ slice-relend-prefix-order. search needs) slice-aggregate-order-2
+    (λ slice-relend-prefix-order-2. search needs) slice-aggregate-order-3 (λ slice-relend-prefix-order-3. search needs) slice-aggregate-order-4
+    (λ order-requires κs. search needs) (λ same-length. search needs) (λ same-length-2. search needs) (λ same-length-3. search needs) (λ returns. search needs))

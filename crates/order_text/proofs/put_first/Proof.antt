@@ -26,12 +26,5 @@ put-line-requires-2 c κs =
 
 pub put-first-spec : {M : Type 1} → statement M
 put-first-spec =
-    tie.close
-    (tie.spec
-    (λ put-line-requires κs. search needs)
-    (λ same-length. search needs)
-    returns
-    slice-aggregate-put-line
-    put-line-requires-2
-    (λ same-length-2. search needs)
-    (λ returns-2. search needs))
+    tie.close (tie.spec (λ put-line-requires κs. search needs) (λ same-length. search needs) returns slice-aggregate-put-line put-line-requires-2
+    (λ same-length-2. search needs) (λ returns-2. search needs))

@@ -14,11 +14,5 @@ returns c =
 
 pub put-line-spec : {M : Type 1} → statement M
 put-line-spec =
-    tie.close
-    (tie.spec
-    (λ put-requires κs. search needs)
-    (λ put-positions-requires κs. search needs)
-    (λ slice-aggregate-put. search needs)
-    (λ put-requires-2 κs. search needs)
-    (λ same-length. search needs)
-    returns)
+    tie.close (tie.spec (λ put-requires κs. search needs) (λ put-positions-requires κs. search needs) (λ slice-aggregate-put. search needs)
+    (λ put-requires-2 κs. search needs) (λ same-length. search needs) returns)

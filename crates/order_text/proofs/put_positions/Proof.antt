@@ -39,18 +39,6 @@ returns c = spaced-end (c .before .loop .inv) (c .loop-test .left)
 
 pub put-positions-spec : {M : Type 1} → statement M
 put-positions-spec =
-    tie.close
-    (tie.spec
-    Inv-loop
-    μ-loop
-    loop-holds
-    (λ slice-aggregate-number-field. search needs)
-    (λ mul-number-field. search needs)
-    (λ shared-slice-read-number-field. search needs)
-    cast-number-field
-    number-field-requires
-    (λ add-i. search needs)
-    (λ loop-less. search needs)
-    loop-again
-    same-length
-    returns)
+    tie.close (tie.spec Inv-loop μ-loop loop-holds (λ slice-aggregate-number-field. search needs) (λ mul-number-field. search needs)
+    (λ shared-slice-read-number-field. search needs) cast-number-field number-field-requires (λ add-i. search needs) (λ loop-less. search needs) loop-again
+    same-length returns)

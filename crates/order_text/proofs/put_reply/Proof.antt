@@ -48,29 +48,9 @@ returns-5 c =
 
 pub put-reply-spec : {M : Type 1} → statement M
 put-reply-spec =
-    tie.close
-    (tie.spec
-    (λ enum-known-r. search needs)
-    (λ fault-number-requires κs. search needs)
-    (λ fault-place-requires κs. search needs)
-    (λ refusal-line-requires κs. search needs)
-    (λ enum-told. search needs)
-    (λ refusal-line-requires-2 κs. search needs)
-    (λ enum-known-r-2. search needs)
-    (λ refusal-line-requires-3 κs. search needs)
-    (λ enum-known-r-3. search needs)
-    (λ slice-aggregate-put-first. search needs)
-    (λ put-first-requires κs. search needs)
-    (λ enum-known-r-4. search needs)
-    (λ slice-aggregate-put-first-2. search needs)
-    (λ put-first-requires-2 κs. search needs)
-    (λ same-length. search needs)
-    returns
-    (λ same-length-2. search needs)
-    returns-2
-    (λ same-length-3. search needs)
-    returns-3
-    (λ same-length-4. search needs)
-    returns-4
-    (λ same-length-5. search needs)
-    returns-5)
+    tie.close (tie.spec (λ enum-known-r. search needs) (λ fault-number-requires κs. search needs) (λ fault-place-requires κs. search needs)
+    (λ refusal-line-requires κs. search needs) (λ enum-told. search needs) (λ refusal-line-requires-2 κs. search needs) (λ enum-known-r-2. search needs)
+    (λ refusal-line-requires-3 κs. search needs) (λ enum-known-r-3. search needs) (λ slice-aggregate-put-first. search needs)
+    (λ put-first-requires κs. search needs) (λ enum-known-r-4. search needs) (λ slice-aggregate-put-first-2. search needs)
+    (λ put-first-requires-2 κs. search needs) (λ same-length. search needs) returns (λ same-length-2. search needs) returns-2 (λ same-length-3. search needs)
+    returns-3 (λ same-length-4. search needs) returns-4 (λ same-length-5. search needs) returns-5)

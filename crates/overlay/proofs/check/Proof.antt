@@ -30,14 +30,5 @@ returns-3 c =
 
 pub check-spec : {M : Type 1} → statement M
 check-spec =
-    tie.close
-    (tie.spec
-    (λ read-narrow-requires κs. search needs)
-    (λ enum-known-r. search needs)
-    returns
-    (λ enum-told. search needs)
-    (λ read-narrow-requires-2 κs. search needs)
-    (λ enum-known-r-2. search needs)
-    returns-2
-    (λ enum-told-2. search needs)
-    returns-3)
+    tie.close (tie.spec (λ read-narrow-requires κs. search needs) (λ enum-known-r. search needs) returns (λ enum-told. search needs)
+    (λ read-narrow-requires-2 κs. search needs) (λ enum-known-r-2. search needs) returns-2 (λ enum-told-2. search needs) returns-3)

@@ -15,19 +15,12 @@ rows s = (row-in (s .pre .0) _ (s .pre .1), mask-in _ _ _ (s .pre .2) (s .pre .3
 
 pub has-some-spec : {M : Type 1} → statement M
 has-some-spec =
-    tie.close
-    (tie.spec
-    (λ c. omega (arith, rows (c .before .before)))
-    (λ c. omega (arith, rows (c .before .before)))
-    (λ c. omega (arith, rows (c .before .before)))
-    (λ c. omega (arith, rows (c .before .before)))
-    (λ sub-any. search needs)
-    (λ part-any-start. search needs)
+    tie.close (tie.spec (λ c. omega (arith, rows (c .before .before))) (λ c. omega (arith, rows (c .before .before)))
+    (λ c. omega (arith, rows (c .before .before))) (λ c. omega (arith, rows (c .before .before))) (λ sub-any. search needs) (λ part-any-start. search needs)
     (λ c. omega (arith, rows (c .before .before)))
     (λ c. omega (arith, rows (c .before .before .before)))
     (λ c. omega (arith, rows (c .before .before .before)))
-    (λ sub-any-2. search needs)
-    (λ part-any-start-2. search needs)
+    (λ sub-any-2. search needs) (λ part-any-start-2. search needs)
     (λ c. omega (arith, rows (c .before .before .before)))
     (λ any-requires κs. search needs)
     (λ c k q o w x. simp add-sub-cancel-left at (c .any .ensures) ∙ some-is k _ o _ w _ (c .before .before .before .before .before .pre .1) q _ x))

@@ -6,8 +6,7 @@ use Rattle.queries.proofs.has_text.Tie as tie
 
 pub has-text-spec : {M : Type 1} → statement M
 has-text-spec =
-    tie.close
-    (tie.spec
+    tie.close (tie.spec
     (λ c. omega (arith, row-in (c .before .pre .0) _ (c .before .pre .1)))
     (λ c. omega (arith, row-in (c .before .pre .0) _ (c .before .pre .1)))
     (λ c. omega (arith, row-in (c .before .before .pre .0) _ (c .before .before .pre .1)))

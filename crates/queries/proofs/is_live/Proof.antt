@@ -8,9 +8,5 @@ use Rattle.queries.proofs.is_live.Tie as tie
 pub is-live-spec : {M : Type 1} → statement M
 unfolding member
 is-live-spec =
-    tie.close
-    (tie.spec
-    (λ flags-requires κs. search needs)
-    (λ mul-result. search needs)
-    (λ shared-slice-read-result. search needs)
+    tie.close (tie.spec (λ flags-requires κs. search needs) (λ mul-result. search needs) (λ shared-slice-read-result. search needs)
     (λ c k o. rw (c .before .flags .ensures) (live-is k _ o _ _ (c .before .before .before .pre .1))))

@@ -22,13 +22,5 @@ returns-3 c = guarded-of _ _ _ _ (c .before .before .item-at .ensures) (c .enum-
 
 pub entered-spec : {M : Type 1} → statement M
 entered-spec =
-    tie.close
-    (tie.spec
-    (λ item-at-requires κs. search needs)
-    (λ enum-told. search needs)
-    (λ enum-known-h. search needs)
-    (λ within-requires κs. search needs)
-    (λ enum-told-2. search needs)
-    returns
-    returns-2
-    returns-3)
+    tie.close (tie.spec (λ item-at-requires κs. search needs) (λ enum-told. search needs) (λ enum-known-h. search needs) (λ within-requires κs. search needs)
+    (λ enum-told-2. search needs) returns returns-2 returns-3)

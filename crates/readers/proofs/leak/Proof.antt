@@ -89,14 +89,4 @@ returns c =
 
 pub leak-spec : {M : Type 1} → statement M
 leak-spec =
-    tie.close
-    (tie.spec
-    Inv-loop
-    μ-loop
-    loop-holds
-    leak-at-requires
-    add-link-at
-    (λ link-at-requires κs. search needs)
-    loop-less
-    loop-again
-    returns)
+    tie.close (tie.spec Inv-loop μ-loop loop-holds leak-at-requires add-link-at (λ link-at-requires κs. search needs) loop-less loop-again returns)

@@ -52,5 +52,5 @@ returns-2 c =
 
 pub leak-at-spec : {M : Type 1} → statement M
 leak-at-spec =
-    tie.close
-    (tie.spec (λ entered-requires κs. search needs) returns flags-requires mul-t10 shared-slice-read-t12 returns-2)
+    tie.close (tie.spec
+    (λ entered-requires κs. search needs) returns flags-requires mul-t10 shared-slice-read-t12 returns-2)

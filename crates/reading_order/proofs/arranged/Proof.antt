@@ -57,14 +57,5 @@ returns c =
 
 pub arranged-spec : {M : Type 1} → statement M
 arranged-spec =
-    tie.close
-    (tie.spec
-    (λ of-requires κs. search needs)
-    live-among-requires
-    (λ slice-aggregate-fill-rows. search needs)
-    fill-rows-requires
-    array-share-prefix-rows
-    slice-aggregate-arrange
-    (λ arrange-requires κs. search needs)
-    (λ same-length. search needs)
-    returns)
+    tie.close (tie.spec (λ of-requires κs. search needs) live-among-requires (λ slice-aggregate-fill-rows. search needs) fill-rows-requires
+    array-share-prefix-rows slice-aggregate-arrange (λ arrange-requires κs. search needs) (λ same-length. search needs) returns)

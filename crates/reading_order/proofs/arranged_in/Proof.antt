@@ -31,10 +31,4 @@ returns c =
 
 pub arranged-in-spec : {M : Type 1} → statement M
 arranged-in-spec =
-    tie.close
-    (tie.spec
-    (λ words-needed-requires κs. search needs)
-    slice-aggregate-arranged
-    arranged-requires
-    (λ same-length. search needs)
-    returns)
+    tie.close (tie.spec (λ words-needed-requires κs. search needs) slice-aggregate-arranged arranged-requires (λ same-length. search needs) returns)

@@ -48,15 +48,5 @@ solved-requires c κs =
 
 pub checked-spec : {M : Type 1} → statement M
 checked-spec =
-    tie.close
-    (tie.spec
-    (λ slice-aggregate-list-firsts. search needs)
-    list-firsts-requires
-    returns
-    array-share-prefix-blocks
-    slice-aggregate-solved
-    solved-requires
-    (λ same-length. search needs)
-    (λ same-length-2. search needs)
-    (λ same-length-3. search needs)
-    (λ returns-2. search needs))
+    tie.close (tie.spec (λ slice-aggregate-list-firsts. search needs) list-firsts-requires returns array-share-prefix-blocks slice-aggregate-solved
+    solved-requires (λ same-length. search needs) (λ same-length-2. search needs) (λ same-length-3. search needs) (λ returns-2. search needs))

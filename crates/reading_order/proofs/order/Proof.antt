@@ -29,14 +29,5 @@ returns-2 c =
 
 pub order-spec : {M : Type 1} → statement M
 order-spec =
-    tie.close
-    (tie.spec
-    (λ check-requires κs. search needs)
-    (λ enum-known-f. search needs)
-    (λ enum-told. search needs)
-    checked-requires
-    returns
-    (λ same-length. search needs)
-    (λ same-length-2. search needs)
-    (λ same-length-3. search needs)
-    returns-2)
+    tie.close (tie.spec (λ check-requires κs. search needs) (λ enum-known-f. search needs) (λ enum-told. search needs) checked-requires returns
+    (λ same-length. search needs) (λ same-length-2. search needs) (λ same-length-3. search needs) returns-2)

@@ -40,15 +40,5 @@ returns-2 c =
 
 pub solved-spec : {M : Type 1} → statement M
 solved-spec =
-    tie.close
-    (tie.spec
-    solve-in-requires
-    (λ same-length. search needs)
-    (λ same-length-2. search needs)
-    returns
-    arranged-in-requires
-    (λ answered-requires κs. search needs)
-    (λ same-length-3. search needs)
-    (λ same-length-4. search needs)
-    (λ same-length-5. search needs)
-    returns-2)
+    tie.close (tie.spec solve-in-requires (λ same-length. search needs) (λ same-length-2. search needs) returns arranged-in-requires
+    (λ answered-requires κs. search needs) (λ same-length-3. search needs) (λ same-length-4. search needs) (λ same-length-5. search needs) returns-2)

@@ -30,13 +30,5 @@ returns-2 c =
 
 pub first-field-spec : {M : Type 1} → statement M
 first-field-spec =
-    tie.close
-    (tie.spec
-    (λ slice-aggregate-number-field. search needs)
-    (λ number-field-requires κs. search needs)
-    (λ slice-aggregate-put. search needs)
-    (λ put-requires κs. search needs)
-    (λ same-length. search needs)
-    returns
-    (λ same-length-2. search needs)
-    returns-2)
+    tie.close (tie.spec (λ slice-aggregate-number-field. search needs) (λ number-field-requires κs. search needs) (λ slice-aggregate-put. search needs)
+    (λ put-requires κs. search needs) (λ same-length. search needs) returns (λ same-length-2. search needs) returns-2)

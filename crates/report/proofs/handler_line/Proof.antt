@@ -51,23 +51,9 @@ returns c =
 
 pub handler-line-spec : {M : Type 1} → statement M
 handler-line-spec =
-    tie.close
-    (tie.spec
-    (λ slice-aggregate-number-field. search needs)
-    (λ number-field-requires κs. search needs)
-    (λ slice-aggregate-number-field-2. search needs)
-    (λ number-field-requires-2 κs. search needs)
-    (λ slice-aggregate-word-field. search needs)
-    (λ slice-aggregate-word-field-2. search needs)
-    (λ slice-aggregate-word-field-3. search needs)
-    (λ word-field-requires κs. search needs)
-    (λ slice-aggregate-word-field-4. search needs)
-    (λ slice-aggregate-word-field-5. search needs)
-    (λ slice-aggregate-word-field-6. search needs)
-    (λ word-field-requires-2 κs. search needs)
-    (λ slice-aggregate-set-field. search needs)
-    (λ set-field-requires κs. search needs)
-    (λ slice-aggregate-put. search needs)
-    put-requires
-    same-length
-    returns)
+    tie.close (tie.spec (λ slice-aggregate-number-field. search needs) (λ number-field-requires κs. search needs)
+    (λ slice-aggregate-number-field-2. search needs) (λ number-field-requires-2 κs. search needs) (λ slice-aggregate-word-field. search needs)
+    (λ slice-aggregate-word-field-2. search needs) (λ slice-aggregate-word-field-3. search needs) (λ word-field-requires κs. search needs)
+    (λ slice-aggregate-word-field-4. search needs) (λ slice-aggregate-word-field-5. search needs) (λ slice-aggregate-word-field-6. search needs)
+    (λ word-field-requires-2 κs. search needs) (λ slice-aggregate-set-field. search needs) (λ set-field-requires κs. search needs)
+    (λ slice-aggregate-put. search needs) put-requires same-length returns)

@@ -25,20 +25,8 @@ returns c =
 
 pub verdict-line-spec : {M : Type 1} → statement M
 verdict-line-spec =
-    tie.close
-    (tie.spec
-    (λ slice-aggregate-set-field. search needs)
-    (λ set-field-requires κs. search needs)
-    (λ slice-aggregate-set-field-2. search needs)
-    (λ set-field-requires-2 κs. search needs)
-    (λ slice-aggregate-word-field. search needs)
-    (λ slice-aggregate-word-field-2. search needs)
-    (λ slice-aggregate-word-field-3. search needs)
-    (λ word-field-requires κs. search needs)
-    (λ first-field-requires κs. search needs)
-    (λ slice-aggregate-number-field. search needs)
-    (λ number-field-requires κs. search needs)
-    (λ slice-aggregate-put. search needs)
-    (λ put-requires κs. search needs)
-    (λ same-length. search needs)
-    returns)
+    tie.close (tie.spec (λ slice-aggregate-set-field. search needs) (λ set-field-requires κs. search needs) (λ slice-aggregate-set-field-2. search needs)
+    (λ set-field-requires-2 κs. search needs) (λ slice-aggregate-word-field. search needs) (λ slice-aggregate-word-field-2. search needs)
+    (λ slice-aggregate-word-field-3. search needs) (λ word-field-requires κs. search needs) (λ first-field-requires κs. search needs)
+    (λ slice-aggregate-number-field. search needs) (λ number-field-requires κs. search needs) (λ slice-aggregate-put. search needs)
+    (λ put-requires κs. search needs) (λ same-length. search needs) returns)

@@ -39,17 +39,5 @@ returns-2 c =
 
 pub alike-spec : {M : Type 1} → statement M
 alike-spec =
-    tie.close
-    (tie.spec
-    Inv-loop
-    μ-loop
-    loop-holds
-    (λ mul-if1. search needs)
-    (λ shared-slice-read-if1. search needs)
-    (λ mul-if1-2. search needs)
-    (λ shared-slice-read-if1-2. search needs)
-    returns
-    (λ add-i. search needs)
-    (λ loop-less. search needs)
-    loop-again
-    returns-2)
+    tie.close (tie.spec Inv-loop μ-loop loop-holds (λ mul-if1. search needs) (λ shared-slice-read-if1. search needs) (λ mul-if1-2. search needs)
+    (λ shared-slice-read-if1-2. search needs) returns (λ add-i. search needs) (λ loop-less. search needs) loop-again returns-2)

@@ -41,12 +41,5 @@ returns-3 c =
 
 pub compare-spec : {M : Type 1} → statement M
 compare-spec =
-    tie.close
-    (tie.spec
-    (λ any-element-requires κs. search needs)
-    returns
-    (λ any-element-requires-2 κs. search needs)
-    returns-2
-    (λ same-bits-requires κs. search needs)
-    (λ differ-bits-requires κs. search needs)
-    returns-3)
+    tie.close (tie.spec (λ any-element-requires κs. search needs) returns (λ any-element-requires-2 κs. search needs) returns-2
+    (λ same-bits-requires κs. search needs) (λ differ-bits-requires κs. search needs) returns-3)

@@ -31,5 +31,5 @@ returns-4 c = arm _ constants.False (c .enum-told4 .given .1)
 
 pub constant-bit-spec : {M : Type 1} → statement M
 constant-bit-spec =
-    tie.close
-    (tie.spec (λ enum-told. search needs) (λ enum-told-2. search needs) (λ enum-told-3. search needs) (λ enum-told-4. search needs) returns returns-2 returns-3 returns-4)
+    tie.close (tie.spec
+    (λ enum-told. search needs) (λ enum-told-2. search needs) (λ enum-told-3. search needs) (λ enum-told-4. search needs) returns returns-2 returns-3 returns-4)

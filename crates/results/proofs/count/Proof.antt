@@ -39,15 +39,5 @@ returns c = omega (arith, facts-done (c .before .before .args .words .now) (c .b
 
 pub count-spec : {M : Type 1} → statement M
 count-spec =
-    tie.close
-    (tie.spec
-    Inv-loop
-    μ-loop
-    loop-holds
-    (λ mul-n. search needs)
-    (λ shared-slice-read-n. search needs)
-    add-n
-    (λ add-i. search needs)
-    (λ loop-less. search needs)
-    loop-again
-    returns)
+    tie.close (tie.spec Inv-loop μ-loop loop-holds (λ mul-n. search needs) (λ shared-slice-read-n. search needs) add-n (λ add-i. search needs)
+    (λ loop-less. search needs) loop-again returns)

@@ -78,5 +78,5 @@ returns-4 c =
 
 pub differ-spec : {M : Type 1} → statement M
 differ-spec =
-    tie.close
-    (tie.spec returns returns-2 (λ alike-requires κs. search needs) returns-3 (λ count-requires κs. search needs) add-result returns-4)
+    tie.close (tie.spec
+    returns returns-2 (λ alike-requires κs. search needs) returns-3 (λ count-requires κs. search needs) add-result returns-4)

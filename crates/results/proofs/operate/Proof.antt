@@ -30,14 +30,5 @@ returns-3 c = c .compare .ensures ∙ arm _ _ _ operations.Equal (c .before .enu
 
 pub operate-spec : {M : Type 1} → statement M
 operate-spec =
-    tie.close
-    (tie.spec
-    (λ enum-told. search needs)
-    (λ signs-requires κs. search needs)
-    (λ enum-told-2. search needs)
-    (λ signs-requires-2 κs. search needs)
-    (λ enum-told-3. search needs)
-    (λ compare-requires κs. search needs)
-    returns
-    returns-2
-    returns-3)
+    tie.close (tie.spec (λ enum-told. search needs) (λ signs-requires κs. search needs) (λ enum-told-2. search needs) (λ signs-requires-2 κs. search needs)
+    (λ enum-told-3. search needs) (λ compare-requires κs. search needs) returns returns-2 returns-3)

@@ -19,23 +19,7 @@ returns c =
 
 pub operate-at-spec : {M : Type 1} → statement M
 operate-at-spec =
-    tie.close
-    (tie.spec
-    (λ add-a. search needs)
-    (λ add-b. search needs)
-    (λ add-d. search needs)
-    (λ add-e. search needs)
-    (λ mul-operate. search needs)
-    (λ shared-slice-read-operate. search needs)
-    (λ mul-operate-2. search needs)
-    (λ shared-slice-read-operate-2. search needs)
-    (λ mul-operate-3. search needs)
-    (λ sub-operate. search needs)
-    (λ part-operate-start. search needs)
-    (λ part-operate-end. search needs)
-    (λ mul-operate-4. search needs)
-    (λ sub-operate-2. search needs)
-    (λ part-operate-start-2. search needs)
-    (λ part-operate-end-2. search needs)
-    (λ operate-requires κs. search needs)
-    returns)
+    tie.close (tie.spec (λ add-a. search needs) (λ add-b. search needs) (λ add-d. search needs) (λ add-e. search needs) (λ mul-operate. search needs)
+    (λ shared-slice-read-operate. search needs) (λ mul-operate-2. search needs) (λ shared-slice-read-operate-2. search needs) (λ mul-operate-3. search needs)
+    (λ sub-operate. search needs) (λ part-operate-start. search needs) (λ part-operate-end. search needs) (λ mul-operate-4. search needs)
+    (λ sub-operate-2. search needs) (λ part-operate-start-2. search needs) (λ part-operate-end-2. search needs) (λ operate-requires κs. search needs) returns)

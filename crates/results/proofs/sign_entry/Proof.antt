@@ -41,15 +41,6 @@ returns-3 c =
 
 pub sign-entry-spec : {M : Type 1} → statement M
 sign-entry-spec =
-    tie.close
-    (tie.spec
-    (λ add-has-digit. search needs)
-    (λ cast-has-digit. search needs)
-    (λ has-digit-requires κs. search needs)
-    returns
-    (λ add-has-digit-2. search needs)
-    (λ cast-has-digit-2. search needs)
-    (λ has-digit-requires-2 κs. search needs)
-    returns-2
-    (λ sign-result-requires κs. search needs)
-    returns-3)
+    tie.close (tie.spec (λ add-has-digit. search needs) (λ cast-has-digit. search needs) (λ has-digit-requires κs. search needs) returns
+    (λ add-has-digit-2. search needs) (λ cast-has-digit-2. search needs) (λ has-digit-requires-2 κs. search needs) returns-2
+    (λ sign-result-requires κs. search needs) returns-3)

@@ -92,19 +92,5 @@ returns-8 c = turned _ _ (c .before .if5 .left) (c .if7 .left) ∙ entry _ false
 
 pub sign-result-spec : {M : Type 1} → statement M
 sign-result-spec =
-    tie.close
-    (tie.spec
-    (λ cast-result. search needs)
-    (λ shl-result. search needs)
-    returns
-    (λ cast-result-2. search needs)
-    (λ shl-result-2. search needs)
-    returns-2
-    (λ cast-result-3. search needs)
-    (λ shl-result-3. search needs)
-    returns-3
-    returns-4
-    returns-5
-    returns-6
-    returns-7
-    returns-8)
+    tie.close (tie.spec (λ cast-result. search needs) (λ shl-result. search needs) returns (λ cast-result-2. search needs) (λ shl-result-2. search needs)
+    returns-2 (λ cast-result-3. search needs) (λ shl-result-3. search needs) returns-3 returns-4 returns-5 returns-6 returns-7 returns-8)

@@ -42,5 +42,5 @@ returns c =
 
 pub signs-spec : {M : Type 1} → statement M
 signs-spec =
-    tie.close
-    (tie.spec Inv-loop μ-loop loop-holds (λ sign-entry-requires κs. search needs) (λ add-i. search needs) (λ loop-less. search needs) loop-again returns)
+    tie.close (tie.spec
+    Inv-loop μ-loop loop-holds (λ sign-entry-requires κs. search needs) (λ add-i. search needs) (λ loop-less. search needs) loop-again returns)

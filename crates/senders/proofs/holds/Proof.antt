@@ -23,13 +23,5 @@ returns c =
 
 pub holds-spec : {M : Type 1} → statement M
 holds-spec =
-    tie.close
-    (tie.spec
-    (λ of-requires κs. search needs)
-    (λ mul-word-at. search needs)
-    mul-word-at-2
-    add-word-at
-    (λ word-at-requires κs. search needs)
-    (λ cast-result. search needs)
-    (λ shr-result. search needs)
-    returns)
+    tie.close (tie.spec (λ of-requires κs. search needs) (λ mul-word-at. search needs) mul-word-at-2 add-word-at (λ word-at-requires κs. search needs)
+    (λ cast-result. search needs) (λ shr-result. search needs) returns)

@@ -21,13 +21,5 @@ returns-2 c =
 
 pub put-all-spec : {M : Type 1} → statement M
 put-all-spec =
-    tie.close
-    (tie.spec
-    (λ put-senders-requires κs. search needs)
-    (λ put-opponent-requires κs. search needs)
-    (λ slice-aggregate-put-room. search needs)
-    (λ put-room-requires κs. search needs)
-    (λ same-length. search needs)
-    returns
-    (λ same-length-2. search needs)
-    returns-2)
+    tie.close (tie.spec (λ put-senders-requires κs. search needs) (λ put-opponent-requires κs. search needs) (λ slice-aggregate-put-room. search needs)
+    (λ put-room-requires κs. search needs) (λ same-length. search needs) returns (λ same-length-2. search needs) returns-2)

@@ -31,17 +31,6 @@ returns c = filled-end _ _ (c .before .loop .inv) (c .loop-test .left)
 
 pub put-blocks-spec : {M : Type 1} → statement M
 put-blocks-spec =
-    tie.close
-    (tie.spec
-    Inv-loop
-    μ-loop
-    loop-holds
-    (λ put-block-requires κs. search needs)
-    (λ mul-counted. search needs)
-    (λ shared-slice-read-counted. search needs)
-    (λ counted-requires κs. search needs)
-    (λ add-b. search needs)
-    (λ loop-less. search needs)
-    loop-again
-    same-length
+    tie.close (tie.spec Inv-loop μ-loop loop-holds (λ put-block-requires κs. search needs) (λ mul-counted. search needs)
+    (λ shared-slice-read-counted. search needs) (λ counted-requires κs. search needs) (λ add-b. search needs) (λ loop-less. search needs) loop-again same-length
     returns)

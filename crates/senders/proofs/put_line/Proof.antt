@@ -19,20 +19,8 @@ returns c =
 
 pub put-line-spec : {M : Type 1} → statement M
 put-line-spec =
-    tie.close
-    (tie.spec
-    (λ mul-argument-of. search needs)
-    (λ shared-slice-read-argument-of. search needs)
-    (λ argument-of-requires κs. search needs)
-    (λ slice-aggregate-add-number. search needs)
-    (λ add-number-requires κs. search needs)
-    (λ slice-aggregate-add-number-2. search needs)
-    (λ cast-add-number. search needs)
-    (λ add-number-requires-2 κs. search needs)
-    (λ slice-aggregate-put-room. search needs)
-    (λ put-room-requires κs. search needs)
-    (λ put-all-requires κs. search needs)
-    (λ slice-aggregate-put-room-2. search needs)
-    (λ put-room-requires-2 κs. search needs)
-    (λ same-length. search needs)
-    returns)
+    tie.close (tie.spec (λ mul-argument-of. search needs) (λ shared-slice-read-argument-of. search needs) (λ argument-of-requires κs. search needs)
+    (λ slice-aggregate-add-number. search needs) (λ add-number-requires κs. search needs) (λ slice-aggregate-add-number-2. search needs)
+    (λ cast-add-number. search needs) (λ add-number-requires-2 κs. search needs) (λ slice-aggregate-put-room. search needs)
+    (λ put-room-requires κs. search needs) (λ put-all-requires κs. search needs) (λ slice-aggregate-put-room-2. search needs)
+    (λ put-room-requires-2 κs. search needs) (λ same-length. search needs) returns)

@@ -19,11 +19,5 @@ returns-2 c =
 
 pub put-opponent-spec : {M : Type 1} → statement M
 put-opponent-spec =
-    tie.close
-    (tie.spec
-    (λ holds-requires κs. search needs)
-    (λ slice-aggregate-put-room. search needs)
-    (λ put-room-requires κs. search needs)
-    (λ same-length. search needs)
-    returns
-    returns-2)
+    tie.close (tie.spec (λ holds-requires κs. search needs) (λ slice-aggregate-put-room. search needs) (λ put-room-requires κs. search needs)
+    (λ same-length. search needs) returns returns-2)

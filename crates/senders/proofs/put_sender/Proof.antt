@@ -45,18 +45,6 @@ returns-3 c =
 
 pub put-sender-spec : {M : Type 1} → statement M
 put-sender-spec =
-    tie.close
-    (tie.spec
-    (λ mul-kind-of. search needs)
-    (λ shared-slice-read-kind-of. search needs)
-    (λ kind-of-requires κs. search needs)
-    returns
-    (λ of-requires κs. search needs)
-    mul-first
-    add-holds
-    holds-requires
-    (λ slice-aggregate-add-number. search needs)
-    (λ add-number-requires κs. search needs)
-    (λ same-length. search needs)
-    returns-2
-    returns-3)
+    tie.close (tie.spec (λ mul-kind-of. search needs) (λ shared-slice-read-kind-of. search needs) (λ kind-of-requires κs. search needs) returns
+    (λ of-requires κs. search needs) mul-first add-holds holds-requires (λ slice-aggregate-add-number. search needs) (λ add-number-requires κs. search needs)
+    (λ same-length. search needs) returns-2 returns-3)

@@ -30,17 +30,6 @@ returns c = let i = c .before .loop .inv in (filled-end _ _ i (c .loop-test .lef
 
 pub put-senders-spec : {M : Type 1} → statement M
 put-senders-spec =
-    tie.close
-    (tie.spec
-    Inv-loop
-    μ-loop
-    loop-holds
-    (λ put-sender-requires κs. search needs)
-    (λ mul-counted. search needs)
-    (λ shared-slice-read-counted. search needs)
-    (λ counted-requires κs. search needs)
-    (λ add-s. search needs)
-    (λ loop-less. search needs)
-    loop-again
-    same-length
+    tie.close (tie.spec Inv-loop μ-loop loop-holds (λ put-sender-requires κs. search needs) (λ mul-counted. search needs)
+    (λ shared-slice-read-counted. search needs) (λ counted-requires κs. search needs) (λ add-s. search needs) (λ loop-less. search needs) loop-again same-length
     returns)

@@ -21,12 +21,5 @@ write-accepted-requires c κs = sym (c .before .before .before .read .ensures) �
 
 pub write-spec : {M : Type 1} → statement M
 write-spec =
-    tie.close
-    (tie.spec
-    (λ read-requires κs. search needs)
-    (λ enum-known-r. search needs)
-    returns
-    (λ enum-told. search needs)
-    write-accepted-requires
-    (λ same-length. search needs)
-    (λ returns-2. search needs))
+    tie.close (tie.spec (λ read-requires κs. search needs) (λ enum-known-r. search needs) returns (λ enum-told. search needs) write-accepted-requires
+    (λ same-length. search needs) (λ returns-2. search needs))

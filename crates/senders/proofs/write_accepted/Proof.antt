@@ -35,13 +35,5 @@ returns-2 c =
 
 pub write-accepted-spec : {M : Type 1} → statement M
 write-accepted-spec =
-    tie.close
-    (tie.spec
-    (λ slice-relend-prefix-put-blocks. search needs)
-    (λ slice-aggregate-put-blocks. search needs)
-    put-blocks-requires
-    (λ same-length. search needs)
-    returns
-    put-blocks-requires-2
-    (λ same-length-2. search needs)
-    returns-2)
+    tie.close (tie.spec (λ slice-relend-prefix-put-blocks. search needs) (λ slice-aggregate-put-blocks. search needs) put-blocks-requires
+    (λ same-length. search needs) returns put-blocks-requires-2 (λ same-length-2. search needs) returns-2)

@@ -13,16 +13,6 @@ abbrev μ-loop : tie.MeasureT-loop
 
 pub read-rest-spec : {M : Type 1} → statement M
 read-rest-spec =
-    tie.close
-    (tie.spec
-    Inv-loop
-    μ-loop
-    (λ loop-holds. search needs)
-    (λ read-full-requires κs. search needs)
-    (λ same-length. search needs)
-    (λ returns. search needs)
-    (λ sub-turns. search needs)
-    (λ loop-less. search needs)
-    (λ loop-again. search needs)
-    (λ same-length-2. search needs)
+    tie.close (tie.spec Inv-loop μ-loop (λ loop-holds. search needs) (λ read-full-requires κs. search needs) (λ same-length. search needs)
+    (λ returns. search needs) (λ sub-turns. search needs) (λ loop-less. search needs) (λ loop-again. search needs) (λ same-length-2. search needs)
     (λ returns-2. search needs))

@@ -14,11 +14,5 @@ slice-aggregate-text c =
 
 pub refusal-spec : {M : Type 1} → statement M
 refusal-spec =
-    tie.close
-    (tie.spec
-    (λ slice-aggregate-refusal-line. search needs)
-    (λ refusal-line-requires κs. search needs)
-    (λ array-share-prefix-line. search needs)
-    slice-aggregate-text
-    (λ text-requires κs. search needs)
-    (λ returns. search needs))
+    tie.close (tie.spec (λ slice-aggregate-refusal-line. search needs) (λ refusal-line-requires κs. search needs) (λ array-share-prefix-line. search needs)
+    slice-aggregate-text (λ text-requires κs. search needs) (λ returns. search needs))

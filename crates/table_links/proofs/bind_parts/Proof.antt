@@ -48,18 +48,6 @@ returns c =
 
 pub bind-parts-spec : {M : Type 1} → statement M
 bind-parts-spec =
-    tie.close
-    (tie.spec
-    Inv-loop
-    μ-loop
-    (λ arity-of-requires κs. search needs)
-    (λ add-at. search needs)
-    loop-holds
-    (λ link-at-requires κs. search needs)
-    (λ part-binder-requires κs. search needs)
-    (λ set-binder-requires κs. search needs)
-    (λ add-i. search needs)
-    (λ loop-less. search needs)
-    loop-again
-    (λ same-length. search needs)
-    returns)
+    tie.close (tie.spec Inv-loop μ-loop (λ arity-of-requires κs. search needs) (λ add-at. search needs) loop-holds (λ link-at-requires κs. search needs)
+    (λ part-binder-requires κs. search needs) (λ set-binder-requires κs. search needs) (λ add-i. search needs) (λ loop-less. search needs) loop-again
+    (λ same-length. search needs) returns)

@@ -48,20 +48,7 @@ returns-3 c =
 
 pub bind-word-spec : {M : Type 1} → statement M
 bind-word-spec =
-    tie.close
-    (tie.spec
-    (λ kind-of-requires κs. search needs)
-    (λ add-set-binder. search needs)
-    (λ set-binder-requires κs. search needs)
-    (λ same-length. search needs)
-    returns
-    (λ link-at-requires κs. search needs)
-    (λ argument-of-requires κs. search needs)
-    (λ cast-count-out. search needs)
-    (λ count-out-requires κs. search needs)
-    (λ set-binder-requires-2 κs. search needs)
-    (λ same-length-2. search needs)
-    returns-2
-    (λ bind-parts-requires κs. search needs)
-    (λ same-length-3. search needs)
-    returns-3)
+    tie.close (tie.spec (λ kind-of-requires κs. search needs) (λ add-set-binder. search needs) (λ set-binder-requires κs. search needs)
+    (λ same-length. search needs) returns (λ link-at-requires κs. search needs) (λ argument-of-requires κs. search needs) (λ cast-count-out. search needs)
+    (λ count-out-requires κs. search needs) (λ set-binder-requires-2 κs. search needs) (λ same-length-2. search needs) returns-2
+    (λ bind-parts-requires κs. search needs) (λ same-length-3. search needs) returns-3)

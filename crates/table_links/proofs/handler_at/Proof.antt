@@ -9,13 +9,5 @@ returns c = λ i. record { name = c .before .before .argument-of .ensures i; per
 
 pub handler-at-spec : {M : Type 1} → statement M
 handler-at-spec =
-    tie.close
-    (tie.spec
-    (λ mul-argument-of. search needs)
-    (λ shared-slice-read-argument-of. search needs)
-    (λ argument-of-requires κs. search needs)
-    (λ add-set-at. search needs)
-    (λ set-at-requires κs. search needs)
-    (λ add-set-at-2. search needs)
-    (λ set-at-requires-2 κs. search needs)
-    returns)
+    tie.close (tie.spec (λ mul-argument-of. search needs) (λ shared-slice-read-argument-of. search needs) (λ argument-of-requires κs. search needs)
+    (λ add-set-at. search needs) (λ set-at-requires κs. search needs) (λ add-set-at-2. search needs) (λ set-at-requires-2 κs. search needs) returns)

@@ -22,14 +22,5 @@ returns-4 c = ap items.Term (c .term-of .ensures) ∙ sym (item-term (c .before 
 
 pub item-at-spec : {M : Type 1} → statement M
 item-at-spec =
-    tie.close
-    (tie.spec
-    returns
-    (λ mul-w. search needs)
-    (λ shared-slice-read-w. search needs)
-    (λ kind-of-requires κs. search needs)
-    (λ handler-at-requires κs. search needs)
-    returns-2
-    returns-3
-    (λ term-of-requires κs. search needs)
-    returns-4)
+    tie.close (tie.spec returns (λ mul-w. search needs) (λ shared-slice-read-w. search needs) (λ kind-of-requires κs. search needs)
+    (λ handler-at-requires κs. search needs) returns-2 returns-3 (λ term-of-requires κs. search needs) returns-4)

@@ -15,11 +15,5 @@ returns-2 c = c .unpack2 .ensures ∙ ap unpack (sym (List·getD-eq-default (c .
 
 pub link-at-spec : {M : Type 1} → statement M
 link-at-spec =
-    tie.close
-    (tie.spec
-    (λ mul-unpack. search needs)
-    (λ shared-slice-read-unpack. search needs)
-    (λ unpack-requires κs. search needs)
-    (λ unpack-requires-2 κs. search needs)
-    returns
-    returns-2)
+    tie.close (tie.spec (λ mul-unpack. search needs) (λ shared-slice-read-unpack. search needs) (λ unpack-requires κs. search needs)
+    (λ unpack-requires-2 κs. search needs) returns returns-2)

@@ -47,18 +47,6 @@ returns c =
 
 pub link-binders-spec : {M : Type 1} → statement M
 link-binders-spec =
-    tie.close
-    (tie.spec
-    Inv-loop
-    μ-loop
-    loop-holds
-    (λ mul-w. search needs)
-    (λ shared-slice-read-w. search needs)
-    (λ block-of-requires κs. search needs)
-    (λ bind-word-requires κs. search needs)
-    (λ set-home-requires κs. search needs)
-    (λ add-p. search needs)
-    (λ loop-less. search needs)
-    loop-again
-    (λ same-length. search needs)
-    returns)
+    tie.close (tie.spec Inv-loop μ-loop loop-holds (λ mul-w. search needs) (λ shared-slice-read-w. search needs) (λ block-of-requires κs. search needs)
+    (λ bind-word-requires κs. search needs) (λ set-home-requires κs. search needs) (λ add-p. search needs) (λ loop-less. search needs) loop-again
+    (λ same-length. search needs) returns)

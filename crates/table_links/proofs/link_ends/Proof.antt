@@ -38,20 +38,6 @@ returns c = sym (ends-done (c .before .before .before .before .args .words .now)
 
 pub link-ends-spec : {M : Type 1} → statement M
 link-ends-spec =
-    tie.close
-    (tie.spec
-    Inv-loop
-    μ-loop
-    loop-holds
-    (λ sub-p. search needs)
-    (λ mul-arity-of. search needs)
-    (λ shared-slice-read-arity-of. search needs)
-    (λ arity-of-requires κs. search needs)
-    (λ hop-requires κs. search needs)
-    (λ pack-requires κs. search needs)
-    (λ mul-links. search needs)
-    (λ slice-write-links. search needs)
-    (λ loop-less. search needs)
-    loop-again
-    (λ same-length. search needs)
-    returns)
+    tie.close (tie.spec Inv-loop μ-loop loop-holds (λ sub-p. search needs) (λ mul-arity-of. search needs) (λ shared-slice-read-arity-of. search needs)
+    (λ arity-of-requires κs. search needs) (λ hop-requires κs. search needs) (λ pack-requires κs. search needs) (λ mul-links. search needs)
+    (λ slice-write-links. search needs) (λ loop-less. search needs) loop-again (λ same-length. search needs) returns)

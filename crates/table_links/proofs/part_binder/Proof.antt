@@ -27,8 +27,4 @@ returns-2 c = unmarked (getD (parts _) _ false) _ _ (λ e. c .if1 .left (c .befo
 
 pub part-binder-spec : {M : Type 1} → statement M
 part-binder-spec =
-    tie.close
-    (tie.spec
-    (λ binds-requires κs. search needs)
-    returns
-    returns-2)
+    tie.close (tie.spec (λ binds-requires κs. search needs) returns returns-2)

@@ -14,5 +14,5 @@ returns-2 c = ap setOf (sym (List·getD-eq-default (c .before .before .args .wor
 
 pub set-at-spec : {M : Type 1} → statement M
 set-at-spec =
-    tie.close
-    (tie.spec (λ mul-argument-of. search needs) (λ shared-slice-read-argument-of. search needs) (λ argument-of-requires κs. search needs) returns returns-2)
+    tie.close (tie.spec
+    (λ mul-argument-of. search needs) (λ shared-slice-read-argument-of. search needs) (λ argument-of-requires κs. search needs) returns returns-2)

@@ -22,12 +22,5 @@ returns-2 c = sym (set-out _ _ _ (c .if1 .left))
 
 pub set-home-spec : {M : Type 1} → statement M
 set-home-spec =
-    tie.close
-    (tie.spec
-    (λ link-at-requires κs. search needs)
-    (λ pack-requires κs. search needs)
-    (λ mul-links. search needs)
-    (λ slice-write-links. search needs)
-    (λ same-length. search needs)
-    returns
-    returns-2)
+    tie.close (tie.spec (λ link-at-requires κs. search needs) (λ pack-requires κs. search needs) (λ mul-links. search needs) (λ slice-write-links. search needs)
+    (λ same-length. search needs) returns returns-2)

@@ -38,17 +38,5 @@ returns c = rw (take-all (c .before .loop .i) (now (c .before .before .args .s))
 
 pub put-spec : {M : Type 1} → statement M
 put-spec =
-    tie.close
-    (tie.spec
-    Inv-loop
-    μ-loop
-    loop-holds
-    (λ shared-slice-read-out. search needs)
-    (λ add-out. search needs)
-    (λ slice-write-out. search needs)
-    (λ add-i. search needs)
-    (λ loop-less. search needs)
-    loop-again
-    (λ add-result. search needs)
-    (λ same-length. search needs)
-    returns)
+    tie.close (tie.spec Inv-loop μ-loop loop-holds (λ shared-slice-read-out. search needs) (λ add-out. search needs) (λ slice-write-out. search needs)
+    (λ add-i. search needs) (λ loop-less. search needs) loop-again (λ add-result. search needs) (λ same-length. search needs) returns)

@@ -30,12 +30,5 @@ returns-2 c =
 
 pub word-field-spec : {M : Type 1} → statement M
 word-field-spec =
-    tie.close
-    (tie.spec
-    (λ put-requires κs. search needs)
-    (λ put-requires-2 κs. search needs)
-    (λ put-requires-3 κs. search needs)
-    (λ same-length. search needs)
-    returns
-    (λ same-length-2. search needs)
-    returns-2)
+    tie.close (tie.spec (λ put-requires κs. search needs) (λ put-requires-2 κs. search needs) (λ put-requires-3 κs. search needs) (λ same-length. search needs)
+    returns (λ same-length-2. search needs) returns-2)

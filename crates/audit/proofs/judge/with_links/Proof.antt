@@ -21,10 +21,5 @@ with-masks-requires c κs =
 
 pub with-links-spec : {M : Type 1} → statement M
 with-links-spec =
-    tie.close
-    (tie.spec
-    (λ slice-aggregate-link. search needs)
-    (λ link-requires κs. search needs)
-    (λ slice-aggregate-with-masks. search needs)
-    with-masks-requires
-    (λ returns. search needs))
+    tie.close (tie.spec (λ slice-aggregate-link. search needs) (λ link-requires κs. search needs) (λ slice-aggregate-with-masks. search needs)
+    with-masks-requires (λ returns. search needs))

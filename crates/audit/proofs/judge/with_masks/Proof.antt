@@ -26,10 +26,5 @@ ruled-requires c κs =
 
 pub with-masks-spec : {M : Type 1} → statement M
 with-masks-spec =
-    tie.close
-    (tie.spec
-    (λ slice-aggregate-fill-masks. search needs)
-    fill-masks-requires
-    (λ slice-aggregate-ruled. search needs)
-    ruled-requires
+    tie.close (tie.spec (λ slice-aggregate-fill-masks. search needs) fill-masks-requires (λ slice-aggregate-ruled. search needs) ruled-requires
     (λ returns. search needs))

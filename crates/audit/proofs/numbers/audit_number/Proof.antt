@@ -32,18 +32,5 @@ returns-6 c = sym (ap (λ (x : Audit). numberOf (said x)) (c .enum-told5 .given 
 
 pub audit-number-spec : {M : Type 1} → statement M
 audit-number-spec =
-    tie.close
-    (tie.spec
-    (λ enum-known-a. search needs)
-    (λ refusal-number-requires κs. search needs)
-    (λ enum-told. search needs)
-    (λ enum-told-2. search needs)
-    (λ enum-told-3. search needs)
-    (λ enum-told-4. search needs)
-    (λ enum-told-5. search needs)
-    returns
-    returns-2
-    returns-3
-    returns-4
-    returns-5
-    returns-6)
+    tie.close (tie.spec (λ enum-known-a. search needs) (λ refusal-number-requires κs. search needs) (λ enum-told. search needs) (λ enum-told-2. search needs)
+    (λ enum-told-3. search needs) (λ enum-told-4. search needs) (λ enum-told-5. search needs) returns returns-2 returns-3 returns-4 returns-5 returns-6)

@@ -32,18 +32,5 @@ returns-6 c = sym (ap (λ (x : Audit). placeOf (said x)) (c .enum-told3 .given .
 
 pub audit-place-spec : {M : Type 1} → statement M
 audit-place-spec =
-    tie.close
-    (tie.spec
-    (λ enum-known-a. search needs)
-    (λ refusal-place-requires κs. search needs)
-    (λ enum-told. search needs)
-    (λ enum-told-2. search needs)
-    (λ enum-known-a-2. search needs)
-    (λ enum-known-a-3. search needs)
-    (λ enum-told-3. search needs)
-    returns
-    returns-2
-    returns-3
-    returns-4
-    returns-5
-    returns-6)
+    tie.close (tie.spec (λ enum-known-a. search needs) (λ refusal-place-requires κs. search needs) (λ enum-told. search needs) (λ enum-told-2. search needs)
+    (λ enum-known-a-2. search needs) (λ enum-known-a-3. search needs) (λ enum-told-3. search needs) returns returns-2 returns-3 returns-4 returns-5 returns-6)

@@ -49,13 +49,5 @@ returns-5 c =
 
 pub check-call-spec : {M : Type 1} → statement M
 check-call-spec =
-    tie.close
-    (tie.spec
-    returns
-    (λ stray-bound-requires κs. search needs)
-    returns-2
-    (λ words-needed-requires κs. search needs)
-    returns-3
-    (λ mul-if4. search needs)
-    returns-4
-    returns-5)
+    tie.close (tie.spec returns (λ stray-bound-requires κs. search needs) returns-2 (λ words-needed-requires κs. search needs) returns-3
+    (λ mul-if4. search needs) returns-4 returns-5)

@@ -34,23 +34,7 @@ returns-6 c = sym (ap (λ (x : Audit). checkNumber (said x)) (c .before .before 
 
 pub check-number-spec : {M : Type 1} → statement M
 check-number-spec =
-    tie.close
-    (tie.spec
-    (λ enum-told. search needs)
-    (λ refusal-requires κs. search needs)
-    (λ enum-told-2. search needs)
-    (λ refusal-requires-2 κs. search needs)
-    (λ enum-told-3. search needs)
-    (λ refusal-requires-3 κs. search needs)
-    (λ enum-told-4. search needs)
-    (λ refusal-requires-4 κs. search needs)
-    (λ enum-told-5. search needs)
-    (λ refusal-requires-5 κs. search needs)
-    (λ enum-known-a. search needs)
-    (λ cast-result. search needs)
-    returns
-    returns-2
-    returns-3
-    returns-4
-    returns-5
-    returns-6)
+    tie.close (tie.spec (λ enum-told. search needs) (λ refusal-requires κs. search needs) (λ enum-told-2. search needs) (λ refusal-requires-2 κs. search needs)
+    (λ enum-told-3. search needs) (λ refusal-requires-3 κs. search needs) (λ enum-told-4. search needs) (λ refusal-requires-4 κs. search needs)
+    (λ enum-told-5. search needs) (λ refusal-requires-5 κs. search needs) (λ enum-known-a. search needs) (λ cast-result. search needs) returns returns-2
+    returns-3 returns-4 returns-5 returns-6)

@@ -32,12 +32,5 @@ returns c =
 
 pub of-room-spec : {M : Type 1} → statement M
 of-room-spec =
-    tie.close
-    (tie.spec
-    (λ take-words-requires κs. search needs)
-    (λ slice-reshare-prefix-audit. search needs)
-    slice-aggregate-audit
-    (λ audit-requires κs. search needs)
-    check-number-requires
-    (λ same-length. search needs)
-    returns)
+    tie.close (tie.spec (λ take-words-requires κs. search needs) (λ slice-reshare-prefix-audit. search needs) slice-aggregate-audit
+    (λ audit-requires κs. search needs) check-number-requires (λ same-length. search needs) returns)

@@ -30,11 +30,5 @@ returns c =
 
 pub of-system-spec : {M : Type 1} → statement M
 of-system-spec =
-    tie.close
-    (tie.spec
-    (λ words-of-requires κs. search needs)
-    (λ slice-reshare-prefix-of-words. search needs)
-    slice-aggregate-of-words
-    of-words-requires
-    (λ same-length. search needs)
-    returns)
+    tie.close (tie.spec (λ words-of-requires κs. search needs) (λ slice-reshare-prefix-of-words. search needs) slice-aggregate-of-words of-words-requires
+    (λ same-length. search needs) returns)

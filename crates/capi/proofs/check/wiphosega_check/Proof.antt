@@ -33,13 +33,5 @@ returns-2 c =
 
 pub wiphosega-check-spec : {M : Type 1} → statement M
 wiphosega-check-spec =
-    tie.close
-    (tie.spec
-    (λ system-fault-requires κs. search needs)
-    (λ cast-result. search needs)
-    (λ mul-result. search needs)
-    (λ add-result. search needs)
-    returns
-    (λ slice-aggregate-of-system. search needs)
-    of-system-requires
-    returns-2)
+    tie.close (tie.spec (λ system-fault-requires κs. search needs) (λ cast-result. search needs) (λ mul-result. search needs) (λ add-result. search needs)
+    returns (λ slice-aggregate-of-system. search needs) of-system-requires returns-2)

@@ -39,16 +39,6 @@ returns c =
 
 pub with-own-spec : {M : Type 1} → statement M
 with-own-spec =
-    tie.close
-    (tie.spec
-    (λ words-of-requires κs. search needs)
-    (λ slice-relend-prefix-verdict. search needs)
-    slice-aggregate-verdict
-    (λ verdict-requires κs. search needs)
-    (λ slice-reshare-prefix-bytes-of. search needs)
-    slice-aggregate-bytes-of
-    (λ bytes-of-requires κs. search needs)
-    (λ same-length. search needs)
-    (λ same-length-2. search needs)
-    (λ same-length-3. search needs)
-    returns)
+    tie.close (tie.spec (λ words-of-requires κs. search needs) (λ slice-relend-prefix-verdict. search needs) slice-aggregate-verdict
+    (λ verdict-requires κs. search needs) (λ slice-reshare-prefix-bytes-of. search needs) slice-aggregate-bytes-of (λ bytes-of-requires κs. search needs)
+    (λ same-length. search needs) (λ same-length-2. search needs) (λ same-length-3. search needs) returns)

@@ -40,16 +40,6 @@ returns c =
 
 pub with-room-spec : {M : Type 1} → statement M
 with-room-spec =
-    tie.close
-    (tie.spec
-    (λ words-of-requires κs. search needs)
-    (λ slice-relend-prefix-with-work. search needs)
-    slice-aggregate-with-work
-    (λ with-work-requires κs. search needs)
-    (λ slice-reshare-prefix-bytes-of. search needs)
-    slice-aggregate-bytes-of
-    (λ bytes-of-requires κs. search needs)
-    (λ same-length. search needs)
-    (λ same-length-2. search needs)
-    (λ same-length-3. search needs)
-    returns)
+    tie.close (tie.spec (λ words-of-requires κs. search needs) (λ slice-relend-prefix-with-work. search needs) slice-aggregate-with-work
+    (λ with-work-requires κs. search needs) (λ slice-reshare-prefix-bytes-of. search needs) slice-aggregate-bytes-of (λ bytes-of-requires κs. search needs)
+    (λ same-length. search needs) (λ same-length-2. search needs) (λ same-length-3. search needs) returns)

@@ -68,16 +68,6 @@ returns-3 c =
 
 pub convert-bytes-spec : {M : Type 1} → statement M
 convert-bytes-spec =
-    tie.close
-    (tie.spec
-    returns
-    (λ slice-aggregate-convert-in. search needs)
-    (λ convert-in-requires κs. search needs)
-    (λ enum-known-count. search needs)
-    (λ slice-aggregate-put-words. search needs)
-    put-words-requires
-    (λ enum-known-f. search needs)
-    fault-answer-requires
-    (λ same-length. search needs)
-    returns-2
+    tie.close (tie.spec returns (λ slice-aggregate-convert-in. search needs) (λ convert-in-requires κs. search needs) (λ enum-known-count. search needs)
+    (λ slice-aggregate-put-words. search needs) put-words-requires (λ enum-known-f. search needs) fault-answer-requires (λ same-length. search needs) returns-2
     returns-3)

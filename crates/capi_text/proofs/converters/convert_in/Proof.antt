@@ -29,12 +29,5 @@ returns c =
 
 pub convert-in-spec : {M : Type 1} → statement M
 convert-in-spec =
-    tie.close
-    (tie.spec
-    (λ slice-aggregate-words-of. search needs)
-    (λ words-of-requires κs. search needs)
-    (λ array-share-prefix-words. search needs)
-    slice-aggregate-convert
-    (λ convert-requires κs. search needs)
-    (λ same-length. search needs)
-    returns)
+    tie.close (tie.spec (λ slice-aggregate-words-of. search needs) (λ words-of-requires κs. search needs) (λ array-share-prefix-words. search needs)
+    slice-aggregate-convert (λ convert-requires κs. search needs) (λ same-length. search needs) returns)

@@ -26,5 +26,5 @@ returns-2 c =
 
 pub wiphosega-manifest-spec : {M : Type 1} → statement M
 wiphosega-manifest-spec =
-    tie.close
-    (tie.spec (λ read-requires κs. search needs) (λ enum-known-version. search needs) manifest-answer-requires (λ enum-known-r. search needs) (λ manifest-refusal-requires κs. search needs) returns returns-2)
+    tie.close (tie.spec
+    (λ read-requires κs. search needs) (λ enum-known-version. search needs) manifest-answer-requires (λ enum-known-r. search needs) (λ manifest-refusal-requires κs. search needs) returns returns-2)

@@ -33,15 +33,6 @@ returns c =
 
 pub find-in-spec : {M : Type 1} → statement M
 find-in-spec =
-    tie.close
-    (tie.spec
-    (λ slice-aggregate-words-of. search needs)
-    (λ words-of-requires κs. search needs)
-    (λ slice-aggregate-words-of-2. search needs)
-    (λ words-of-requires-2 κs. search needs)
-    (λ array-share-prefix-under. search needs)
-    slice-aggregate-find
-    (λ array-share-prefix-over. search needs)
-    slice-aggregate-find-2
-    (λ find-requires κs. search needs)
-    returns)
+    tie.close (tie.spec (λ slice-aggregate-words-of. search needs) (λ words-of-requires κs. search needs) (λ slice-aggregate-words-of-2. search needs)
+    (λ words-of-requires-2 κs. search needs) (λ array-share-prefix-under. search needs) slice-aggregate-find (λ array-share-prefix-over. search needs)
+    slice-aggregate-find-2 (λ find-requires κs. search needs) returns)

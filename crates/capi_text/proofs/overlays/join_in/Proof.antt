@@ -37,16 +37,6 @@ returns c =
 
 pub join-in-spec : {M : Type 1} → statement M
 join-in-spec =
-    tie.close
-    (tie.spec
-    (λ slice-aggregate-words-of. search needs)
-    (λ words-of-requires κs. search needs)
-    (λ slice-aggregate-words-of-2. search needs)
-    (λ words-of-requires-2 κs. search needs)
-    (λ array-share-prefix-under. search needs)
-    slice-aggregate-join
-    (λ array-share-prefix-over. search needs)
-    slice-aggregate-join-2
-    (λ join-requires κs. search needs)
-    (λ same-length. search needs)
-    returns)
+    tie.close (tie.spec (λ slice-aggregate-words-of. search needs) (λ words-of-requires κs. search needs) (λ slice-aggregate-words-of-2. search needs)
+    (λ words-of-requires-2 κs. search needs) (λ array-share-prefix-under. search needs) slice-aggregate-join (λ array-share-prefix-over. search needs)
+    slice-aggregate-join-2 (λ join-requires κs. search needs) (λ same-length. search needs) returns)

@@ -15,8 +15,4 @@ returns-3 c = sym (even-both _ _ (c .before .if1 .left) (c .if2 .left))
 
 pub odd-number-spec : {M : Type 1} → statement M
 odd-number-spec =
-    tie.close
-    (tie.spec
-    returns
-    returns-2
-    returns-3)
+    tie.close (tie.spec returns returns-2 returns-3)

@@ -77,19 +77,6 @@ returns-3 c =
 
 pub wiphosega-join-spec : {M : Type 1} → statement M
 wiphosega-join-spec =
-    tie.close
-    (tie.spec
-    (λ odd-number-requires κs. search needs)
-    mul-result
-    add-result
-    returns
-    (λ slice-aggregate-join-in. search needs)
-    (λ join-in-requires κs. search needs)
-    (λ enum-known-count. search needs)
-    (λ slice-aggregate-put-words. search needs)
-    put-words-requires
-    (λ enum-known-f. search needs)
-    fault-answer-requires
-    (λ same-length. search needs)
-    returns-2
-    returns-3)
+    tie.close (tie.spec (λ odd-number-requires κs. search needs) mul-result add-result returns (λ slice-aggregate-join-in. search needs)
+    (λ join-in-requires κs. search needs) (λ enum-known-count. search needs) (λ slice-aggregate-put-words. search needs) put-words-requires
+    (λ enum-known-f. search needs) fault-answer-requires (λ same-length. search needs) returns-2 returns-3)

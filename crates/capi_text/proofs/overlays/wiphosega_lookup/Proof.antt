@@ -70,20 +70,6 @@ returns-4 c =
 
 pub wiphosega-lookup-spec : {M : Type 1} → statement M
 wiphosega-lookup-spec =
-    tie.close
-    (tie.spec
-    (λ odd-number-requires κs. search needs)
-    mul-result
-    add-result
-    returns
-    (λ find-in-requires κs. search needs)
-    (λ enum-known-start. search needs)
-    part-answer-requires
-    (λ enum-known-start-2. search needs)
-    part-answer-requires-2
-    add-result-2
-    (λ enum-known-f. search needs)
-    fault-answer-requires
-    returns-2
-    returns-3
-    returns-4)
+    tie.close (tie.spec (λ odd-number-requires κs. search needs) mul-result add-result returns (λ find-in-requires κs. search needs)
+    (λ enum-known-start. search needs) part-answer-requires (λ enum-known-start-2. search needs) part-answer-requires-2 add-result-2
+    (λ enum-known-f. search needs) fault-answer-requires returns-2 returns-3 returns-4)

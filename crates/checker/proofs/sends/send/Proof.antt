@@ -38,18 +38,10 @@ to-blocks-requires c κs =
 pub send-spec : {M : Type 1} → statement M
 unfolding byKind termsByKind termNode
 send-spec =
-    tie.close
-    (tie.spec
-    (λ is-live-requires κs. search (needs, sizes))
+    tie.close (tie.spec (λ is-live-requires κs. search (needs, sizes))
     (λ c. λ ρ. let s = c .before .before .before .before .before .before in let g = s .pre .0 in send-idle _ _ _ (node-here g refl (s .pre .1) refl refl refl) ρ (c .before .is-live .ensures _ (g .ready .laid)) (c .if1 .taken))
-    (λ add-end. search needs)
-    (λ end-requires κs. search needs)
-    (λ link-at-requires κs. search needs)
-    (λ mul-argument-of. search (needs, in-words))
-    (λ mul-argument-of. search (needs, in-words))
-    (λ argument-of-requires κs. search needs)
-    (λ permissions-of-requires κs. search needs)
-    to-blocks-requires
+    (λ add-end. search needs) (λ end-requires κs. search needs) (λ link-at-requires κs. search needs) (λ mul-argument-of. search (needs, in-words))
+    (λ mul-argument-of. search (needs, in-words)) (λ argument-of-requires κs. search needs) (λ permissions-of-requires κs. search needs) to-blocks-requires
     (λ c κs. let s = c .before .before .before .before .before .before .before .before .before .before .before .before in let g = s .pre .0 in let x = linked-here g refl (s .pre .1) refl (c .before .before .before .before .before .end .ensures .0) refl in (term-at g (x .1), part-at g (x .2)))
     (λ c κs. let g = c .before .before .before .before .before .before .before .before .before .before .before .before .before .pre .0 in (sizes g, g .inside, omega (arith, sizes g .lead)))
     (λ lowered-requires κs. search needs)

@@ -30,8 +30,7 @@ returns-2 c =
 
 pub to-block-spec : {M : Type 1} → statement M
 to-block-spec =
-    tie.close
-    (tie.spec
+    tie.close (tie.spec
     (λ c κs. let s = c .before .before .before in let h = s .pre .0 in (s .pre .1, h .sized, h .target, name-in h _ (s .pre .1) (s .pre .2)))
     (λ c. let s = c .before .before .before .before .before in
     lowered-none (λ q h. unasked (s .pre .0) (s .args .b) (s .pre .1) (s .pre .2) (c .before .starts .ensures _ (s .pre .0 .laid)) (c .if1 .taken) q))
@@ -42,9 +41,7 @@ to-block-spec =
     (λ c κs. let s = c .before .before .before .before .before .before .before in let h = s .pre .0 in
     (h .sized, omega (arith, h .message), omega (arith, size-is h _ (s .pre .1) (s .pre .2), s .pre .1), h .masked .long, omega arith))
     (λ c κs. let s = c .before .before .before .before .before .before .before .before in (s .pre .0 .sized, omega (arith, size-is (s .pre .0) _ (s .pre .1) (s .pre .2), s .pre .1), omega (arith, s .pre .0 .target)))
-    (λ lowered-requires κs. search needs)
-    (λ mul-in-value. search needs)
+    (λ lowered-requires κs. search needs) (λ mul-in-value. search needs)
     (λ c. let h = c .before .before .before .before .before .before .before .before .before .before .before .before .pre .0 in omega (arith, h .sized .wide, h .sized .most, h .sized .size, h .homed))
     (λ c κs. let s = c .before .before .before .before .before .before .before .before .before .before .before .before in (s .pre .0 .sized, omega (arith, size-is (s .pre .0) _ (s .pre .1) (s .pre .2), s .pre .1), omega (arith, s .pre .0 .homed)))
-    (λ lowered-requires-2 κs. search needs)
-    returns-2)
+    (λ lowered-requires-2 κs. search needs) returns-2)

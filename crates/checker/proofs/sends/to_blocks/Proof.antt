@@ -23,12 +23,7 @@ abbrev μ-loop : tie.MeasureT-loop
 pub to-blocks-spec : {M : Type 1} → statement M
 unfolding sortAt
 to-blocks-spec =
-    tie.close
-    (tie.spec
-    Inv-loop
-    μ-loop
-    (λ mul-has-some. search needs)
-    (λ has-some-requires κs. search needs)
+    tie.close (tie.spec Inv-loop μ-loop (λ mul-has-some. search needs) (λ has-some-requires κs. search needs)
     (λ c. let s = c .before .before .before .before .before .before .before in let h = s .pre .0 in
     nothing-sent _ (s .args .est .now) _ _ _ (c .before .has-some .ensures _ (sortAt 3 _) (h .laid) (h .well) (h .masked .mask 3 (omega arith))) (c .if1 .taken))
     (λ c. looked-start _ (c .before .before .before .before .before .before .before .pre .0 .readable) _)

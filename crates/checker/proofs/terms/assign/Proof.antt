@@ -14,16 +14,8 @@ use Rattle.checker.proofs.terms.assign.Tie as tie
 pub assign-spec : {M : Type 1} → statement M
 unfolding flow twoRule sortAt thingAt asked
 assign-spec =
-    tie.close
-    (tie.spec
-    (λ parts-requires κs. search needs)
-    (λ add-has-some. search needs)
-    (λ mul-has-some. search needs)
-    (λ has-some-requires κs. search needs)
-    (λ mul-passed. search needs)
-    (λ mul-passed-2. search needs)
-    (λ passed-requires κs. search needs)
-    (λ mul-things. search needs)
+    tie.close (tie.spec (λ parts-requires κs. search needs) (λ add-has-some. search needs) (λ mul-has-some. search needs) (λ has-some-requires κs. search needs)
+    (λ mul-passed. search needs) (λ mul-passed-2. search needs) (λ passed-requires κs. search needs) (λ mul-things. search needs)
     (λ things-requires κs. search needs)
     (λ c.
     λ k j o w n. let a = c .before .before .before .before .before .before .args in

@@ -10,16 +10,7 @@ use Rattle.checker.proofs.terms.cell.Tie as tie
 pub cell-spec : {M : Type 1} → statement M
 unfolding flow oneRule
 cell-spec =
-    tie.close
-    (tie.spec
-    (λ add-part. search needs)
-    (λ part-requires κs. search needs)
-    (λ mul-in-value. search needs)
-    (λ add-in-value. search needs)
-    (λ in-value-requires κs. search needs)
-    (λ add-passed. search needs)
-    (λ mul-passed. search needs)
-    (λ mul-passed-2. search needs)
-    (λ add-passed-2. search needs)
-    (λ passed-requires κs. search needs)
+    tie.close (tie.spec (λ add-part. search needs) (λ part-requires κs. search needs) (λ mul-in-value. search needs) (λ add-in-value. search needs)
+    (λ in-value-requires κs. search needs) (λ add-passed. search needs) (λ mul-passed. search needs) (λ mul-passed-2. search needs)
+    (λ add-passed-2. search needs) (λ passed-requires κs. search needs)
     (λ c. λ k o w. both (c .before .before .before .part .ensures k o w) (both (own-is o (c .before .in-value .ensures k o)) (CB (c .passed .ensures k o w)))))

@@ -14,14 +14,9 @@ use Rattle.checker.proofs.terms.operation.Tie as tie
 pub operation-spec : {M : Type 1} → statement M
 unfolding flow
 operation-spec =
-    tie.close
-    (tie.spec
-    (λ parts-requires κs. search needs)
-    (λ mul-to. search needs)
+    tie.close (tie.spec (λ parts-requires κs. search needs) (λ mul-to. search needs)
     (λ c. let s = c .before .before .before in omega (arith, side-in (s .pre .0 .sized) (s .args .p) (omega (arith, s .pre .0 .first))))
-    (λ operation-of-requires κs. search needs)
-    (λ add-operate-at. search needs)
-    (λ mul-operate-at. search needs)
+    (λ operation-of-requires κs. search needs) (λ add-operate-at. search needs) (λ mul-operate-at. search needs)
     (λ c. let s = c .before .before .before .before .before in omega (arith, side-in (s .pre .0 .sized) (s .args .p + 1) (s .pre .0 .first)))
     (λ mul-operate-at-3. search needs)
     (λ c. let s = c .before .before .before .before .before .before in omega (arith, side-in (s .pre .0 .sized) (s .args .d) (s .pre .1)))
@@ -30,8 +25,7 @@ operation-spec =
     (λ of-requires κs. search needs)
     (λ c. let s = c .before .before .before .before .before .before .before .before in omega (arith, side-in (s .pre .0 .sized) (s .args .p) (omega (arith, s .pre .0 .first))))
     (λ c. let s = c .before .before .before .before .before .before .before .before .before in omega (arith, side-in (s .pre .0 .sized) (s .args .p) (omega (arith, s .pre .0 .first))))
-    (λ of-requires-2 κs. search needs)
-    (λ within-requires κs. search needs)
+    (λ of-requires-2 κs. search needs) (λ within-requires κs. search needs)
     (λ c. λ k o w. let s = c .before .before .before .before .before .before .before .before .before .before .before in let a = s .args in
     parted (both (c .before .before .before .before .before .before .before .before .before .parts .ensures k o w) (decided
     (c .within .ensures ∙ rw (c .before .of2 .ensures, c .before .before .before .of .ensures, c .before .before .before .before .operate-at .ensures, c .before .before .before .before .before .before .before .operation-of .ensures) refl)

@@ -18,10 +18,7 @@ abbrev μ-loop : tie.MeasureT-loop
 
 pub full-spec : {M : Type 1} → statement M
 full-spec =
-    tie.close
-    (tie.spec
-    Inv-loop
-    μ-loop
+    tie.close (tie.spec Inv-loop μ-loop
     (λ c. omega (arith, row-in (c .before .pre .0) _ (c .before .pre .1)))
     (λ c. (omega arith, λ i h. absurd (omega arith)))
     (λ c. let s = c .before .before .before in omega (arith, row-in (s .pre .0) _ (s .pre .1), s .pre .0 .wide))
@@ -29,7 +26,6 @@ full-spec =
     (λ c. let s = c .before .before .before .before in omega (arith, row-in (s .pre .0) _ (s .pre .1), s .pre .0 .wide))
     (λ c. λ k o w. let s = c .before .before .before .before .before in
     gap-is _ _ (s .pre .0) k o w _ (s .pre .1) (c .before .before .before .loop .k) (c .before .before .loop-test .taken) (c .if1 .taken))
-    (λ add-k. search needs)
-    (λ loop-less. search needs)
+    (λ add-k. search needs) (λ loop-less. search needs)
     (λ c. (search needs, below-more _ _ (c .before .before .before .loop .inv .1) (c .if1 .left)))
     (λ c. λ k o w. let s = c .before .before .before in full-is _ _ (s .pre .0) k o w _ (s .pre .1) (λ i h. c .before .loop .inv .1 i (omega arith))))

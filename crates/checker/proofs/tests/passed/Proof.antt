@@ -10,8 +10,7 @@ use Rattle.checker.proofs.tests.passed.Tie as tie
 
 pub passed-spec : {M : Type 1} → statement M
 passed-spec =
-    tie.close
-    (tie.spec
+    tie.close (tie.spec
     (λ c. omega (arith, row-in (c .before .before .pre .0) _ (c .before .before .pre .1)))
     (λ c. omega (arith, row-in (c .before .before .before .pre .0) _ (c .before .before .before .pre .2)))
     (λ c κs. let s = c .before .before .before in (row-in (s .pre .0) _ (s .pre .1), row-in (s .pre .0) _ (s .pre .2)))

@@ -14,13 +14,11 @@ use Rattle.checker.proofs.tests.passed_by.Tie as tie
 
 pub passed-by-spec : {M : Type 1} → statement M
 passed-by-spec =
-    tie.close
-    (tie.spec
+    tie.close (tie.spec
     (λ c. let s = c .before .before in omega (arith, mask-in _ (s .args .l .row) _ (s .pre .3) (s .pre .4)))
     (λ c. let s = c .before .before in omega (arith, mask-in _ (s .args .l .row) _ (s .pre .3) (s .pre .4)))
     (λ c. let s = c .before .before in omega (arith, mask-in _ (s .args .l .row) _ (s .pre .3) (s .pre .4)))
-    (λ sub-lacks-masked. search needs)
-    (λ part-lacks-masked-start. search needs)
+    (λ sub-lacks-masked. search needs) (λ part-lacks-masked-start. search needs)
     (λ c. let s = c .before .before in omega (arith, mask-in _ (s .args .l .row) _ (s .pre .3) (s .pre .4)))
     (λ c. omega (arith, row-in (c .before .before .before .pre .0) _ (c .before .before .before .pre .1)))
     (λ c. omega (arith, row-in (c .before .before .before .pre .0) _ (c .before .before .before .pre .2)))

@@ -16,20 +16,14 @@ abbrev μ-loop : tie.MeasureT-loop
 
 pub things-spec : {M : Type 1} → statement M
 things-spec =
-    tie.close
-    (tie.spec
-    Inv-loop
-    μ-loop
-    (λ add-next-thing. search needs)
-    (λ mul-next-thing. search needs)
+    tie.close (tie.spec Inv-loop μ-loop (λ add-next-thing. search needs) (λ mul-next-thing. search needs)
     (λ c κs. let s = c .before .before in (may-search (s .pre .0) (suits (s .args .action) (s .args .m) (s .pre .3) .0) (s .pre .2), omega arith))
     (λ c. looked-start (c .next-thing .ensures))
     (λ c κs. let s = c .before .before .before .before .before in let t = s .pre .0 in let u = suits (s .args .action) (s .args .m) (s .pre .3) in let g = c .loop-test .taken in
     (t .sized, omega (arith, t .first), s .pre .1, g, λ e. body-in t (u .0) (s .pre .2) (u .1 e) (c .before .loop .f) g (c .before .loop .inv .found g)))
     (λ c. let s = c .before .before .before .before .before .before .before in
     one-fails (s .pre .0) (suits (s .args .action) (s .args .m) (s .pre .3) .0) (c .before .before .before .loop .inv) (c .before .before .loop-test .taken) (c .before .thing .ensures) (c .if1 .taken))
-    (λ add-next-thing-2. search needs)
-    (λ mul-next-thing-2. search needs)
+    (λ add-next-thing-2. search needs) (λ mul-next-thing-2. search needs)
     (λ c. omega (arith, c .before .before .before .before .before .before .before .pre .0 .sized .size))
     (λ c κs. let s = c .before .before .before .before .before .before .before in (may-search (s .pre .0) (suits (s .args .action) (s .args .m) (s .pre .3) .0) (s .pre .2), omega arith))
     (λ c. omega (arith, c .next-thing2 .ensures .later))

@@ -40,19 +40,6 @@ returns c =
 
 pub counted-spec : {M : Type 1} → statement M
 counted-spec =
-    tie.close
-    (tie.spec
-    Inv-loop
-    μ-loop
-    (λ loop-holds. search needs)
-    (λ cast-at. search needs)
-    (λ has-requires κs. search needs)
-    (λ mul-raised. search needs)
-    (λ array-read-raised. search needs)
-    (λ raised-requires κs. search needs)
-    (λ mul-next. search needs)
-    (λ array-write-next. search needs)
-    (λ add-i. search needs)
-    (λ loop-less. search needs)
-    loop-again
-    returns)
+    tie.close (tie.spec Inv-loop μ-loop (λ loop-holds. search needs) (λ cast-at. search needs) (λ has-requires κs. search needs) (λ mul-raised. search needs)
+    (λ array-read-raised. search needs) (λ raised-requires κs. search needs) (λ mul-next. search needs) (λ array-write-next. search needs)
+    (λ add-i. search needs) (λ loop-less. search needs) loop-again returns)

@@ -18,12 +18,5 @@ returns-2 c =
 
 pub tallied-spec : {M : Type 1} → statement M
 tallied-spec =
-    tie.close
-    (tie.spec
-    (λ enum-known-outcome. search needs)
-    (λ counted-requires κs. search needs)
-    (λ raised-requires κs. search needs)
-    (λ enum-told. search needs)
-    (λ raised-requires-2 κs. search needs)
-    returns
-    returns-2)
+    tie.close (tie.spec (λ enum-known-outcome. search needs) (λ counted-requires κs. search needs) (λ raised-requires κs. search needs)
+    (λ enum-told. search needs) (λ raised-requires-2 κs. search needs) returns returns-2)

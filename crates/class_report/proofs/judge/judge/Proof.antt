@@ -35,11 +35,5 @@ returns c =
 
 pub judge-spec : {M : Type 1} → statement M
 judge-spec =
-    tie.close
-    (tie.spec
-    (λ slice-aggregate-words-of. search needs)
-    (λ words-of-requires κs. search needs)
-    (λ array-share-prefix-words. search needs)
-    slice-aggregate-judge-words
-    judge-words-requires
-    returns)
+    tie.close (tie.spec (λ slice-aggregate-words-of. search needs) (λ words-of-requires κs. search needs) (λ array-share-prefix-words. search needs)
+    slice-aggregate-judge-words judge-words-requires returns)

@@ -24,13 +24,5 @@ returns-3 c = sym (ap (λ (v : Verdict). outcomeOf (answerOf v)) (c .before .bef
 
 pub outcome-of-spec : {M : Type 1} → statement M
 outcome-of-spec =
-    tie.close
-    (tie.spec
-    (λ enum-known-v. search needs)
-    (λ fault-number-requires κs. search needs)
-    (λ fault-place-requires κs. search needs)
-    (λ enum-known-v-2. search needs)
-    (λ enum-known-v-3. search needs)
-    returns
-    returns-2
-    returns-3)
+    tie.close (tie.spec (λ enum-known-v. search needs) (λ fault-number-requires κs. search needs) (λ fault-place-requires κs. search needs)
+    (λ enum-known-v-2. search needs) (λ enum-known-v-3. search needs) returns returns-2 returns-3)

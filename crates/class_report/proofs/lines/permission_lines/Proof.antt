@@ -35,16 +35,5 @@ returns c = listed-all _ _ _ _ (c .loop-test .left) (c .before .loop .inv .2)
 
 pub permission-lines-spec : {M : Type 1} → statement M
 permission-lines-spec =
-    tie.close
-    (tie.spec
-    Inv-loop
-    μ-loop
-    loop-holds
-    (λ mul-permission-line. search needs)
-    (λ shared-slice-read-permission-line. search needs)
-    permission-line-requires
-    (λ add-i. search needs)
-    (λ loop-less. search needs)
-    loop-again
-    (λ same-length. search needs)
-    returns)
+    tie.close (tie.spec Inv-loop μ-loop loop-holds (λ mul-permission-line. search needs) (λ shared-slice-read-permission-line. search needs)
+    permission-line-requires (λ add-i. search needs) (λ loop-less. search needs) loop-again (λ same-length. search needs) returns)

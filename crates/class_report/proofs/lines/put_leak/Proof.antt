@@ -14,11 +14,5 @@ returns c =
 
 pub put-leak-spec : {M : Type 1} → statement M
 put-leak-spec =
-    tie.close
-    (tie.spec
-    (λ slice-aggregate-set-field. search needs)
-    (λ set-field-requires κs. search needs)
-    (λ slice-aggregate-put. search needs)
-    (λ put-requires κs. search needs)
-    (λ same-length. search needs)
-    returns)
+    tie.close (tie.spec (λ slice-aggregate-set-field. search needs) (λ set-field-requires κs. search needs) (λ slice-aggregate-put. search needs)
+    (λ put-requires κs. search needs) (λ same-length. search needs) returns)

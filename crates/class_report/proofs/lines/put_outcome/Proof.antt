@@ -15,13 +15,5 @@ returns-2 c = reworded (sym (ap outcomeText (c .before .before .before .before .
 
 pub put-outcome-spec : {M : Type 1} → statement M
 put-outcome-spec =
-    tie.close
-    (tie.spec
-    (λ enum-known-outcome. search needs)
-    (λ put-leak-requires κs. search needs)
-    (λ enum-known-outcome-2. search needs)
-    (λ refusal-line-requires κs. search needs)
-    (λ same-length. search needs)
-    returns
-    (λ same-length-2. search needs)
-    returns-2)
+    tie.close (tie.spec (λ enum-known-outcome. search needs) (λ put-leak-requires κs. search needs) (λ enum-known-outcome-2. search needs)
+    (λ refusal-line-requires κs. search needs) (λ same-length. search needs) returns (λ same-length-2. search needs) returns-2)

@@ -16,14 +16,6 @@ returns c =
 
 pub system-line-spec : {M : Type 1} → statement M
 system-line-spec =
-    tie.close
-    (tie.spec
-    (λ slice-aggregate-number-field. search needs)
-    (λ number-field-requires κs. search needs)
-    (λ slice-aggregate-hex-field. search needs)
-    (λ hex-field-requires κs. search needs)
-    (λ slice-aggregate-put. search needs)
-    (λ put-requires κs. search needs)
-    (λ put-outcome-requires κs. search needs)
-    (λ same-length. search needs)
-    returns)
+    tie.close (tie.spec (λ slice-aggregate-number-field. search needs) (λ number-field-requires κs. search needs) (λ slice-aggregate-hex-field. search needs)
+    (λ hex-field-requires κs. search needs) (λ slice-aggregate-put. search needs) (λ put-requires κs. search needs) (λ put-outcome-requires κs. search needs)
+    (λ same-length. search needs) returns)

@@ -19,5 +19,5 @@ returns-3 c = c .at-end .ensures ∙ sym (ap (brokenTask (c .before .before .bef
 
 pub broken-task-spec : {M : Type 1} → statement M
 broken-task-spec =
-    tie.close
-    (tie.spec (λ enum-told. search needs) (λ enum-told-2. search needs) (λ enum-told-3. search needs) (λ at-end-requires κs. search needs) returns returns-2 returns-3)
+    tie.close (tie.spec
+    (λ enum-told. search needs) (λ enum-told-2. search needs) (λ enum-told-3. search needs) (λ at-end-requires κs. search needs) returns returns-2 returns-3)

@@ -19,13 +19,5 @@ returns-3 c = sym (ap (frontTask (c .before .before .before .args .ended)) (c .b
 
 pub front-task-spec : {M : Type 1} → statement M
 front-task-spec =
-    tie.close
-    (tie.spec
-    (λ enum-told. search needs)
-    (λ at-end-requires κs. search needs)
-    (λ enum-known-front. search needs)
-    (λ broken-task-requires κs. search needs)
-    (λ enum-known-front-2. search needs)
-    returns
-    returns-2
-    returns-3)
+    tie.close (tie.spec (λ enum-told. search needs) (λ at-end-requires κs. search needs) (λ enum-known-front. search needs)
+    (λ broken-task-requires κs. search needs) (λ enum-known-front-2. search needs) returns returns-2 returns-3)

@@ -47,18 +47,6 @@ returns-4 c =
 
 pub step-spec : {M : Type 1} → statement M
 step-spec =
-    tie.close
-    (tie.spec
-    (λ position-requires κs. search needs)
-    (λ task-for-requires κs. search needs)
-    (λ enum-told. search needs)
-    (λ enum-told-2. search needs)
-    (λ totals-step-requires κs. search needs)
-    (λ enum-known-fault. search needs)
-    (λ refusal-step-requires κs. search needs)
-    (λ enum-known-words. search needs)
-    system-step-requires
-    returns
-    returns-2
-    returns-3
-    returns-4)
+    tie.close (tie.spec (λ position-requires κs. search needs) (λ task-for-requires κs. search needs) (λ enum-told. search needs) (λ enum-told-2. search needs)
+    (λ totals-step-requires κs. search needs) (λ enum-known-fault. search needs) (λ refusal-step-requires κs. search needs) (λ enum-known-words. search needs)
+    system-step-requires returns returns-2 returns-3 returns-4)

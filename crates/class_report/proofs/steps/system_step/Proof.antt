@@ -12,17 +12,6 @@ returns c =
 
 pub system-step-spec : {M : Type 1} → statement M
 system-step-spec =
-    tie.close
-    (tie.spec
-    (λ mul-used. search needs)
-    (λ add-used. search needs)
-    (λ sub-bytes. search needs)
-    (λ part-bytes-start. search needs)
-    (λ part-bytes-end. search needs)
-    (λ word-at-requires κs. search needs)
-    (λ judge-requires κs. search needs)
-    (λ position-requires κs. search needs)
-    (λ fingerprint-requires κs. search needs)
-    (λ system-line-requires κs. search needs)
-    (λ tallied-requires κs. search needs)
-    returns)
+    tie.close (tie.spec (λ mul-used. search needs) (λ add-used. search needs) (λ sub-bytes. search needs) (λ part-bytes-start. search needs)
+    (λ part-bytes-end. search needs) (λ word-at-requires κs. search needs) (λ judge-requires κs. search needs) (λ position-requires κs. search needs)
+    (λ fingerprint-requires κs. search needs) (λ system-line-requires κs. search needs) (λ tallied-requires κs. search needs) returns)

@@ -12,14 +12,6 @@ returns c =
 
 pub word-at-spec : {M : Type 1} → statement M
 word-at-spec =
-    tie.close
-    (tie.spec
-    (λ shared-slice-read-word. search needs)
-    (λ add-word. search needs)
-    (λ shared-slice-read-word-2. search needs)
-    (λ add-word-2. search needs)
-    (λ shared-slice-read-word-3. search needs)
-    (λ add-word-3. search needs)
-    (λ shared-slice-read-word-4. search needs)
-    (λ word-requires κs. search needs)
-    returns)
+    tie.close (tie.spec (λ shared-slice-read-word. search needs) (λ add-word. search needs) (λ shared-slice-read-word-2. search needs)
+    (λ add-word-2. search needs) (λ shared-slice-read-word-3. search needs) (λ add-word-3. search needs) (λ shared-slice-read-word-4. search needs)
+    (λ word-requires κs. search needs) returns)

@@ -36,18 +36,6 @@ returns c =
 
 pub keep-spec : {M : Type 1} → statement M
 keep-spec =
-    tie.close
-    (tie.spec
-    Inv-loop
-    μ-loop
-    (λ least-requires κs. search needs)
-    (λ less-requires κs. search needs)
-    loop-holds
-    (λ add-buffer. search needs)
-    (λ slice-read-buffer. search needs)
-    (λ slice-write-buffer. search needs)
-    (λ add-i. search needs)
-    (λ loop-less. search needs)
-    loop-again
-    (λ same-length. search needs)
-    returns)
+    tie.close (tie.spec Inv-loop μ-loop (λ least-requires κs. search needs) (λ less-requires κs. search needs) loop-holds (λ add-buffer. search needs)
+    (λ slice-read-buffer. search needs) (λ slice-write-buffer. search needs) (λ add-i. search needs) (λ loop-less. search needs) loop-again
+    (λ same-length. search needs) returns)

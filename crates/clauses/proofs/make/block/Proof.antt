@@ -7,11 +7,5 @@ use Rattle.clauses.proofs.Arms.{arms}
 pub block-spec : {M : Type 1} → statement M
 unfolding ofBlock
 block-spec =
-    tie.close
-    (tie.spec
-    (λ add-of. search arms)
-    (λ of-requires κs. search arms)
-    (λ free-requires κs. search arms)
-    (λ never-requires κs. search arms)
-    (λ returns. search arms)
-    (λ returns-2. search arms))
+    tie.close (tie.spec (λ add-of. search arms) (λ of-requires κs. search arms) (λ free-requires κs. search arms) (λ never-requires κs. search arms)
+    (λ returns. search arms) (λ returns-2. search arms))

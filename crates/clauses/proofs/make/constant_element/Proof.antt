@@ -12,10 +12,5 @@ use Rattle.clauses.proofs.make.constant_element.Tie as tie
 pub constant-element-spec : {M : Type 1} → statement M
 unfolding constantElement constantOf constantNumber
 constant-element-spec =
-    tie.close
-    (tie.spec
-    (λ c. rw (c .match .keys1))
-    (λ c. rw (c .match .keys2))
-    (λ c. rw (c .match .keys3))
-    (λ c. rw (c .match .keys4))
+    tie.close (tie.spec (λ c. rw (c .match .keys1)) (λ c. rw (c .match .keys2)) (λ c. rw (c .match .keys3)) (λ c. rw (c .match .keys4))
     (λ c. sym (ap constantElement (List·getD-eq-default (Undefined ∷ Unit ∷ True ∷ False ∷ []) Undefined (outside 4 _ (c .match .rest))))))

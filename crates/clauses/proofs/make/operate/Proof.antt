@@ -7,13 +7,5 @@ use Rattle.clauses.proofs.Arms.{arms}
 pub operate-spec : {M : Type 1} → statement M
 unfolding ofOperation
 operate-spec =
-    tie.close
-    (tie.spec
-    (λ of-requires κs. search arms)
-    (λ free-requires κs. search arms)
-    (λ of-requires-2 κs. search arms)
-    (λ free-requires-2 κs. search arms)
-    (λ never-requires κs. search arms)
-    (λ returns. search arms)
-    (λ returns-2. search arms)
-    (λ returns-3. search arms))
+    tie.close (tie.spec (λ of-requires κs. search arms) (λ free-requires κs. search arms) (λ of-requires-2 κs. search arms) (λ free-requires-2 κs. search arms)
+    (λ never-requires κs. search arms) (λ returns. search arms) (λ returns-2. search arms) (λ returns-3. search arms))

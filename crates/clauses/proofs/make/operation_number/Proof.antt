@@ -11,9 +11,5 @@ use Rattle.clauses.proofs.make.operation_number.Tie as tie
 pub operation-number-spec : {M : Type 1} → statement M
 unfolding operationNumber operationOf
 operation-number-spec =
-    tie.close
-    (tie.spec
-    (λ c. rw (c .match .keys1))
-    (λ c. rw (c .match .keys2))
-    (λ c. rw (c .match .keys3))
+    tie.close (tie.spec (λ c. rw (c .match .keys1)) (λ c. rw (c .match .keys2)) (λ c. rw (c .match .keys3))
     (λ c. sym (ap operationNumber (List·getD-eq-default (Add ∷ Less ∷ Equal ∷ []) Add (outside 3 _ (c .match .rest))))))

@@ -8,9 +8,6 @@ use Rattle.clauses.proofs.make.other.Tie as tie
 pub other-spec : {M : Type 1} → statement M
 unfolding ofOther
 other-spec =
-    tie.close
-    (tie.spec
-    (λ never-requires κs. search needs)
-    (λ value-requires κs. search needs)
+    tie.close (tie.spec (λ never-requires κs. search needs) (λ value-requires κs. search needs)
     (λ c. rw (lt-ltb _ 16 (c .before .if1 .taken), ofOther) (c .never .ensures))
     (λ c. rw (le-ltb _ 16 (c .before .if1 .left), ofOther) (c .value .ensures)))

@@ -7,11 +7,5 @@ use Rattle.clauses.proofs.Arms.{arms}
 pub value-spec : {M : Type 1} → statement M
 unfolding ofValue
 value-spec =
-    tie.close
-    (tie.spec
-    (λ mul-put. search arms)
-    (λ put-requires κs. search arms)
-    (λ free-requires κs. search arms)
-    (λ never-requires κs. search arms)
-    (λ returns. search arms)
-    (λ returns-2. search arms))
+    tie.close (tie.spec (λ mul-put. search arms) (λ put-requires κs. search arms) (λ free-requires κs. search arms) (λ never-requires κs. search arms)
+    (λ returns. search arms) (λ returns-2. search arms))

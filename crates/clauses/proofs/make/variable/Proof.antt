@@ -7,13 +7,5 @@ use Rattle.clauses.proofs.Arms.{arms}
 pub variable-spec : {M : Type 1} → statement M
 unfolding ofVariable
 variable-spec =
-    tie.close
-    (tie.spec
-    (λ mul-flow. search arms)
-    (λ add-flow. search arms)
-    (λ mul-flow-2. search arms)
-    (λ flow-requires κs. search arms)
-    (λ free-requires κs. search arms)
-    (λ never-requires κs. search arms)
-    (λ returns. search arms)
-    (λ returns-2. search arms))
+    tie.close (tie.spec (λ mul-flow. search arms) (λ add-flow. search arms) (λ mul-flow-2. search arms) (λ flow-requires κs. search arms)
+    (λ free-requires κs. search arms) (λ never-requires κs. search arms) (λ returns. search arms) (λ returns-2. search arms))

@@ -23,12 +23,4 @@ returns-5 c = (sym (digit-high (c .before .before .before .before .args .b) (ome
 
 pub digit-spec : {M : Type 1} → statement M
 digit-spec =
-    tie.close
-    (tie.spec
-    returns
-    (λ sub-result. search needs)
-    returns-2
-    returns-3
-    (λ sub-result-2. search needs)
-    returns-4
-    returns-5)
+    tie.close (tie.spec returns (λ sub-result. search needs) returns-2 returns-3 (λ sub-result-2. search needs) returns-4 returns-5)

@@ -50,18 +50,5 @@ returns-4 c = let l = c .before .loop in sym (l .inv .1 ∙ folded-end (c .befor
 
 pub value-of-spec : {M : Type 1} → statement M
 value-of-spec =
-    tie.close
-    (tie.spec
-    Inv-loop
-    μ-loop
-    returns
-    returns-2
-    loop-holds
-    (λ shared-slice-read-digit. search needs)
-    (λ digit-requires κs. search needs)
-    returns-3
-    with-digit-requires
-    (λ add-i. search needs)
-    (λ loop-less. search needs)
-    loop-again
-    returns-4)
+    tie.close (tie.spec Inv-loop μ-loop returns returns-2 loop-holds (λ shared-slice-read-digit. search needs) (λ digit-requires κs. search needs) returns-3
+    with-digit-requires (λ add-i. search needs) (λ loop-less. search needs) loop-again returns-4)

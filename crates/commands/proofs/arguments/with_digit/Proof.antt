@@ -13,9 +13,4 @@ add-result c = omega (arith, mul-le-mul-left (c .args .n) (c .pre .0))
 
 pub with-digit-spec : {M : Type 1} → statement M
 with-digit-spec =
-    tie.close
-    (tie.spec
-    mul-result
-    add-result
-    (λ cast-result. search needs)
-    (λ returns. search needs))
+    tie.close (tie.spec mul-result add-result (λ cast-result. search needs) (λ returns. search needs))

@@ -11,11 +11,5 @@ returns c = then (c .before .before .before .before .before .before .before .num
 
 pub accepted-text-spec : {M : Type 1} → statement M
 accepted-text-spec =
-    tie.close
-    (tie.spec
-    (λ slice-aggregate-number-field. search needs)
-    (λ number-field-requires κs. search needs)
-    (λ slice-aggregate-put. search needs)
-    (λ put-requires κs. search needs)
-    (λ same-length. search needs)
-    returns)
+    tie.close (tie.spec (λ slice-aggregate-number-field. search needs) (λ number-field-requires κs. search needs) (λ slice-aggregate-put. search needs)
+    (λ put-requires κs. search needs) (λ same-length. search needs) returns)

@@ -37,17 +37,6 @@ returns-2 c =
 
 pub check-text-spec : {M : Type 1} → statement M
 check-text-spec =
-    tie.close
-    (tie.spec
-    (λ slice-aggregate-read. search needs)
-    (λ read-requires κs. search needs)
-    (λ enum-known-n. search needs)
-    (λ accepted-text-requires κs. search needs)
-    (λ enum-known-r. search needs)
-    (λ refusal-number-requires κs. search needs)
-    (λ refusal-place-requires κs. search needs)
-    refused-text-requires
-    (λ same-length. search needs)
-    returns
-    (λ same-length-2. search needs)
-    returns-2)
+    tie.close (tie.spec (λ slice-aggregate-read. search needs) (λ read-requires κs. search needs) (λ enum-known-n. search needs)
+    (λ accepted-text-requires κs. search needs) (λ enum-known-r. search needs) (λ refusal-number-requires κs. search needs)
+    (λ refusal-place-requires κs. search needs) refused-text-requires (λ same-length. search needs) returns (λ same-length-2. search needs) returns-2)

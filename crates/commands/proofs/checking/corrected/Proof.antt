@@ -20,12 +20,5 @@ returns c =
 
 pub corrected-spec : {M : Type 1} → statement M
 corrected-spec =
-    tie.close
-    (tie.spec
-    (λ slice-aggregate-line-words. search needs)
-    (λ line-words-requires κs. search needs)
-    (λ array-share-prefix-words. search needs)
-    slice-aggregate-right-line
-    (λ right-line-requires κs. search needs)
-    (λ same-length. search needs)
-    returns)
+    tie.close (tie.spec (λ slice-aggregate-line-words. search needs) (λ line-words-requires κs. search needs) (λ array-share-prefix-words. search needs)
+    slice-aggregate-right-line (λ right-line-requires κs. search needs) (λ same-length. search needs) returns)

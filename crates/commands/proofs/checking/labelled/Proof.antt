@@ -21,12 +21,5 @@ returns-2 c =
 
 pub labelled-spec : {M : Type 1} → statement M
 labelled-spec =
-    tie.close
-    (tie.spec
-    returns
-    (λ number-field-requires κs. search needs)
-    (λ slice-aggregate-put. search needs)
-    (λ put-requires κs. search needs)
-    (λ put-first-requires κs. search needs)
-    (λ same-length. search needs)
-    returns-2)
+    tie.close (tie.spec returns (λ number-field-requires κs. search needs) (λ slice-aggregate-put. search needs) (λ put-requires κs. search needs)
+    (λ put-first-requires κs. search needs) (λ same-length. search needs) returns-2)

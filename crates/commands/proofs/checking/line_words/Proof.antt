@@ -51,22 +51,7 @@ returns-2 c =
 
 pub line-words-spec : {M : Type 1} → statement M
 line-words-spec =
-    tie.close
-    (tie.spec
-    Inv-loop
-    μ-loop
-    loop-holds
-    (λ same-length. search needs)
-    returns
-    (λ line-end-requires κs. search needs)
-    (λ sub-word-of-line. search needs)
-    (λ part-word-of-line-start. search needs)
-    (λ part-word-of-line-end. search needs)
-    (λ word-of-line-requires κs. search needs)
-    (λ mul-words. search needs)
-    (λ slice-write-words. search needs)
-    (λ add-n. search needs)
-    (λ loop-less. search needs)
-    loop-again
-    (λ same-length-2. search needs)
-    returns-2)
+    tie.close (tie.spec Inv-loop μ-loop loop-holds (λ same-length. search needs) returns (λ line-end-requires κs. search needs)
+    (λ sub-word-of-line. search needs) (λ part-word-of-line-start. search needs) (λ part-word-of-line-end. search needs)
+    (λ word-of-line-requires κs. search needs) (λ mul-words. search needs) (λ slice-write-words. search needs) (λ add-n. search needs)
+    (λ loop-less. search needs) loop-again (λ same-length-2. search needs) returns-2)

@@ -47,16 +47,5 @@ returns-2 c =
 
 pub put-first-spec : {M : Type 1} → statement M
 put-first-spec =
-    tie.close
-    (tie.spec
-    (λ line-end-requires κs. search needs)
-    slice-aggregate-put
-    put-requires
-    sub-if1
-    (λ shared-slice-read-if1. search needs)
-    (λ same-length. search needs)
-    returns
-    (λ slice-aggregate-put-2. search needs)
-    put-requires-2
-    (λ same-length-2. search needs)
-    returns-2)
+    tie.close (tie.spec (λ line-end-requires κs. search needs) slice-aggregate-put put-requires sub-if1 (λ shared-slice-read-if1. search needs)
+    (λ same-length. search needs) returns (λ slice-aggregate-put-2. search needs) put-requires-2 (λ same-length-2. search needs) returns-2)

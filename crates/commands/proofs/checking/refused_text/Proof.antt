@@ -18,11 +18,5 @@ returns c =
 
 pub refused-text-spec : {M : Type 1} → statement M
 refused-text-spec =
-    tie.close
-    (tie.spec
-    (λ refusal-line-requires κs. search needs)
-    (λ line-of-requires κs. search needs)
-    (λ wrong-line-requires κs. search needs)
-    (λ sentence-requires κs. search needs)
-    (λ same-length. search needs)
-    returns)
+    tie.close (tie.spec (λ refusal-line-requires κs. search needs) (λ line-of-requires κs. search needs) (λ wrong-line-requires κs. search needs)
+    (λ sentence-requires κs. search needs) (λ same-length. search needs) returns)

@@ -64,16 +64,6 @@ returns-2 c =
 
 pub right-line-spec : {M : Type 1} → statement M
 right-line-spec =
-    tie.close
-    (tie.spec
-    (λ slice-aggregate-write. search needs)
-    (λ write-requires κs. search needs)
-    (λ enum-known-n. search needs)
-    (λ slice-aggregate-shown-line. search needs)
-    array-share-prefix-listed
-    slice-aggregate-shown-line-2
-    shown-line-requires
-    (λ enum-told. search needs)
-    (λ same-length. search needs)
-    returns
-    returns-2)
+    tie.close (tie.spec (λ slice-aggregate-write. search needs) (λ write-requires κs. search needs) (λ enum-known-n. search needs)
+    (λ slice-aggregate-shown-line. search needs) array-share-prefix-listed slice-aggregate-shown-line-2 shown-line-requires (λ enum-told. search needs)
+    (λ same-length. search needs) returns returns-2)

@@ -18,13 +18,5 @@ returns c =
 
 pub shown-line-spec : {M : Type 1} → statement M
 shown-line-spec =
-    tie.close
-    (tie.spec
-    (λ behind-requires κs. search needs)
-    (λ add-labelled. search needs)
-    (λ sub-labelled. search needs)
-    (λ part-labelled-start. search needs)
-    (λ part-labelled-end. search needs)
-    (λ labelled-requires κs. search needs)
-    (λ same-length. search needs)
-    returns)
+    tie.close (tie.spec (λ behind-requires κs. search needs) (λ add-labelled. search needs) (λ sub-labelled. search needs) (λ part-labelled-start. search needs)
+    (λ part-labelled-end. search needs) (λ labelled-requires κs. search needs) (λ same-length. search needs) returns)

@@ -20,13 +20,5 @@ returns-2 c =
 
 pub wrong-line-spec : {M : Type 1} → statement M
 wrong-line-spec =
-    tie.close
-    (tie.spec
-    returns
-    (λ slice-aggregate-shown-line. search needs)
-    (λ sub-shown-line. search needs)
-    (λ shown-line-requires κs. search needs)
-    (λ sub-corrected. search needs)
-    (λ corrected-requires κs. search needs)
-    (λ same-length. search needs)
-    returns-2)
+    tie.close (tie.spec returns (λ slice-aggregate-shown-line. search needs) (λ sub-shown-line. search needs) (λ shown-line-requires κs. search needs)
+    (λ sub-corrected. search needs) (λ corrected-requires κs. search needs) (λ same-length. search needs) returns-2)

@@ -30,15 +30,6 @@ returns-2 c =
 
 pub convert-text-spec : {M : Type 1} → statement M
 convert-text-spec =
-    tie.close
-    (tie.spec
-    (λ refusal-line-requires κs. search needs)
-    (λ same-length. search needs)
-    returns
-    (λ slice-aggregate-words-of. search needs)
-    (λ words-of-requires κs. search needs)
-    (λ array-share-prefix-words. search needs)
-    slice-aggregate-converted-text
-    (λ converted-text-requires κs. search needs)
-    (λ same-length-2. search needs)
-    returns-2)
+    tie.close (tie.spec (λ refusal-line-requires κs. search needs) (λ same-length. search needs) returns (λ slice-aggregate-words-of. search needs)
+    (λ words-of-requires κs. search needs) (λ array-share-prefix-words. search needs) slice-aggregate-converted-text
+    (λ converted-text-requires κs. search needs) (λ same-length-2. search needs) returns-2)

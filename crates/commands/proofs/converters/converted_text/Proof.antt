@@ -44,20 +44,7 @@ returns-2 c =
 
 pub converted-text-spec : {M : Type 1} → statement M
 converted-text-spec =
-    tie.close
-    (tie.spec
-    (λ slice-aggregate-convert. search needs)
-    (λ convert-requires κs. search needs)
-    (λ enum-known-n. search needs)
-    array-share-prefix-converted
-    slice-aggregate-bytes-of
-    (λ bytes-of-requires κs. search needs)
-    (λ mul-result. search needs)
-    (λ enum-known-f. search needs)
-    (λ fault-number-requires κs. search needs)
-    (λ fault-place-requires κs. search needs)
-    (λ refusal-line-requires κs. search needs)
-    (λ same-length. search needs)
-    returns
-    (λ same-length-2. search needs)
-    returns-2)
+    tie.close (tie.spec (λ slice-aggregate-convert. search needs) (λ convert-requires κs. search needs) (λ enum-known-n. search needs)
+    array-share-prefix-converted slice-aggregate-bytes-of (λ bytes-of-requires κs. search needs) (λ mul-result. search needs) (λ enum-known-f. search needs)
+    (λ fault-number-requires κs. search needs) (λ fault-place-requires κs. search needs) (λ refusal-line-requires κs. search needs)
+    (λ same-length. search needs) returns (λ same-length-2. search needs) returns-2)

@@ -10,9 +10,4 @@ returns c = c .before .before .put .ensures
 
 pub help-spec : {M : Type 1} → statement M
 help-spec =
-    tie.close
-    (tie.spec
-    (λ slice-aggregate-put. search needs)
-    (λ put-requires κs. search needs)
-    (λ same-length. search needs)
-    returns)
+    tie.close (tie.spec (λ slice-aggregate-put. search needs) (λ put-requires κs. search needs) (λ same-length. search needs) returns)

@@ -13,10 +13,5 @@ returns c = reworded (ap (λ (k : ℕ). lineAt k page) (c .before .before .befor
 
 pub meaning-spec : {M : Type 1} → statement M
 meaning-spec =
-    tie.close
-    (tie.spec
-    (λ row-requires κs. search needs)
-    (λ slice-aggregate-put-line. search needs)
-    (λ put-line-requires κs. search needs)
-    (λ same-length. search needs)
-    returns)
+    tie.close (tie.spec (λ row-requires κs. search needs) (λ slice-aggregate-put-line. search needs) (λ put-line-requires κs. search needs)
+    (λ same-length. search needs) returns)

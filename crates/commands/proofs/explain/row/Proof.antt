@@ -35,15 +35,5 @@ returns-2 c = let l = c .before .loop in omega (arith, l .inv .1, position-end (
 
 pub row-spec : {M : Type 1} → statement M
 row-spec =
-    tie.close
-    (tie.spec
-    Inv-loop
-    μ-loop
-    loop-holds
-    (λ mul-if1. search needs)
-    (λ array-read-if1. search needs)
-    returns
-    (λ add-i. search needs)
-    (λ loop-less. search needs)
-    loop-again
-    returns-2)
+    tie.close (tie.spec Inv-loop μ-loop loop-holds (λ mul-if1. search needs) (λ array-read-if1. search needs) returns (λ add-i. search needs)
+    (λ loop-less. search needs) loop-again returns-2)

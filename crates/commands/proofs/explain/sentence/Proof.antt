@@ -21,14 +21,5 @@ returns-2 c =
 
 pub sentence-spec : {M : Type 1} → statement M
 sentence-spec =
-    tie.close
-    (tie.spec
-    (λ slice-aggregate-put. search needs)
-    (λ put-requires κs. search needs)
-    (λ sub-meaning. search needs)
-    meaning-requires
-    (λ same-length. search needs)
-    returns
-    (λ meaning-requires-2 κs. search needs)
-    (λ same-length-2. search needs)
-    returns-2)
+    tie.close (tie.spec (λ slice-aggregate-put. search needs) (λ put-requires κs. search needs) (λ sub-meaning. search needs) meaning-requires
+    (λ same-length. search needs) returns (λ meaning-requires-2 κs. search needs) (λ same-length-2. search needs) returns-2)

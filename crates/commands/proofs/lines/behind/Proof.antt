@@ -38,13 +38,5 @@ returns c =
 
 pub behind-spec : {M : Type 1} → statement M
 behind-spec =
-    tie.close
-    (tie.spec
-    Inv-loop
-    μ-loop
-    loop-holds
-    (λ line-end-requires κs. search needs)
-    (λ sub-left. search needs)
-    (λ loop-less. search needs)
-    loop-again
+    tie.close (tie.spec Inv-loop μ-loop loop-holds (λ line-end-requires κs. search needs) (λ sub-left. search needs) (λ loop-less. search needs) loop-again
     returns)

@@ -41,13 +41,5 @@ returns c =
 
 pub put-line-spec : {M : Type 1} → statement M
 put-line-spec =
-    tie.close
-    (tie.spec
-    (λ behind-requires κs. search needs)
-    line-end-requires
-    sub-put
-    part-put-start
-    part-put-end
-    put-requires
-    (λ same-length. search needs)
+    tie.close (tie.spec (λ behind-requires κs. search needs) line-end-requires sub-put part-put-start part-put-end put-requires (λ same-length. search needs)
     returns)

@@ -37,13 +37,5 @@ returns c =
 
 pub put-lines-spec : {M : Type 1} → statement M
 put-lines-spec =
-    tie.close
-    (tie.spec
-    (λ behind-requires κs. search needs)
-    behind-requires-2
-    sub-put
-    part-put-start
-    part-put-end
-    put-requires
-    (λ same-length. search needs)
+    tie.close (tie.spec (λ behind-requires κs. search needs) behind-requires-2 sub-put part-put-start part-put-end put-requires (λ same-length. search needs)
     returns)

@@ -32,15 +32,6 @@ returns-2 c =
 
 pub listing-text-spec : {M : Type 1} → statement M
 listing-text-spec =
-    tie.close
-    (tie.spec
-    (λ write-requires κs. search needs)
-    (λ enum-known-n. search needs)
-    (λ enum-known-r. search needs)
-    (λ refusal-number-requires κs. search needs)
-    (λ refusal-place-requires κs. search needs)
-    refusal-line-requires
-    (λ same-length. search needs)
-    returns
-    (λ same-length-2. search needs)
-    returns-2)
+    tie.close (tie.spec (λ write-requires κs. search needs) (λ enum-known-n. search needs) (λ enum-known-r. search needs)
+    (λ refusal-number-requires κs. search needs) (λ refusal-place-requires κs. search needs) refusal-line-requires (λ same-length. search needs) returns
+    (λ same-length-2. search needs) returns-2)

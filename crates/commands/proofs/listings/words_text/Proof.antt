@@ -49,20 +49,7 @@ returns-2 c =
 
 pub words-text-spec : {M : Type 1} → statement M
 words-text-spec =
-    tie.close
-    (tie.spec
-    (λ slice-aggregate-read. search needs)
-    (λ read-requires κs. search needs)
-    (λ enum-known-n. search needs)
-    array-share-prefix-words
-    slice-aggregate-bytes-of
-    (λ bytes-of-requires κs. search needs)
-    mul-result
-    (λ enum-known-r. search needs)
-    (λ refusal-number-requires κs. search needs)
-    (λ refusal-place-requires κs. search needs)
-    (λ refusal-line-requires κs. search needs)
-    (λ same-length. search needs)
-    returns
-    (λ same-length-2. search needs)
+    tie.close (tie.spec (λ slice-aggregate-read. search needs) (λ read-requires κs. search needs) (λ enum-known-n. search needs) array-share-prefix-words
+    slice-aggregate-bytes-of (λ bytes-of-requires κs. search needs) mul-result (λ enum-known-r. search needs) (λ refusal-number-requires κs. search needs)
+    (λ refusal-place-requires κs. search needs) (λ refusal-line-requires κs. search needs) (λ same-length. search needs) returns (λ same-length-2. search needs)
     returns-2)

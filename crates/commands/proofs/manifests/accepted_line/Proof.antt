@@ -28,15 +28,6 @@ returns c = then (then (then (c .before .before .before .before .before .before 
 
 pub accepted-line-spec : {M : Type 1} → statement M
 accepted-line-spec =
-    tie.close
-    (tie.spec
-    (λ slice-aggregate-number-field. search needs)
-    (λ number-field-requires κs. search needs)
-    (λ slice-aggregate-set-field. search needs)
-    set-field-requires
-    (λ slice-aggregate-number-field-2. search needs)
-    number-field-requires-2
-    (λ slice-aggregate-put. search needs)
-    put-requires
-    (λ same-length. search needs)
-    returns)
+    tie.close (tie.spec (λ slice-aggregate-number-field. search needs) (λ number-field-requires κs. search needs) (λ slice-aggregate-set-field. search needs)
+    set-field-requires (λ slice-aggregate-number-field-2. search needs) number-field-requires-2 (λ slice-aggregate-put. search needs) put-requires
+    (λ same-length. search needs) returns)

@@ -22,15 +22,6 @@ returns-2 c =
 
 pub manifest-text-spec : {M : Type 1} → statement M
 manifest-text-spec =
-    tie.close
-    (tie.spec
-    (λ read-requires κs. search needs)
-    (λ enum-known-version. search needs)
-    (λ accepted-line-requires κs. search needs)
-    (λ enum-known-r. search needs)
-    (λ refusal-number-requires κs. search needs)
-    (λ refusal-line-requires κs. search needs)
-    (λ same-length. search needs)
-    returns
-    (λ same-length-2. search needs)
-    returns-2)
+    tie.close (tie.spec (λ read-requires κs. search needs) (λ enum-known-version. search needs) (λ accepted-line-requires κs. search needs)
+    (λ enum-known-r. search needs) (λ refusal-number-requires κs. search needs) (λ refusal-line-requires κs. search needs) (λ same-length. search needs) returns
+    (λ same-length-2. search needs) returns-2)

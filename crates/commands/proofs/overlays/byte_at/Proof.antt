@@ -14,8 +14,4 @@ returns-2 c = sym (past-end (c .before .args .text .now) (c .before .args .i) (o
 
 pub byte-at-spec : {M : Type 1} → statement M
 byte-at-spec =
-    tie.close
-    (tie.spec
-    (λ shared-slice-read-result. search needs)
-    returns
-    returns-2)
+    tie.close (tie.spec (λ shared-slice-read-result. search needs) returns returns-2)

@@ -63,25 +63,8 @@ returns-2 c =
 
 pub found-text-spec : {M : Type 1} → statement M
 found-text-spec =
-    tie.close
-    (tie.spec
-    (λ second-start-requires κs. search needs)
-    slice-aggregate-first
-    (λ sub-second. search needs)
-    (λ part-second-start. search needs)
-    (λ part-second-end. search needs)
-    (λ slice-aggregate-read-pair. search needs)
-    (λ slice-aggregate-read-pair-2. search needs)
-    (λ read-pair-requires κs. search needs)
-    (λ enum-known-m. search needs)
-    array-share-prefix-under
-    slice-aggregate-place-text
-    array-share-prefix-over
-    slice-aggregate-place-text-2
-    place-text-requires
-    (λ enum-known-number. search needs)
-    (λ refusal-line-requires κs. search needs)
-    (λ same-length. search needs)
-    returns
-    (λ same-length-2. search needs)
-    returns-2)
+    tie.close (tie.spec (λ second-start-requires κs. search needs) slice-aggregate-first (λ sub-second. search needs) (λ part-second-start. search needs)
+    (λ part-second-end. search needs) (λ slice-aggregate-read-pair. search needs) (λ slice-aggregate-read-pair-2. search needs)
+    (λ read-pair-requires κs. search needs) (λ enum-known-m. search needs) array-share-prefix-under slice-aggregate-place-text array-share-prefix-over
+    slice-aggregate-place-text-2 place-text-requires (λ enum-known-number. search needs) (λ refusal-line-requires κs. search needs)
+    (λ same-length. search needs) returns (λ same-length-2. search needs) returns-2)

@@ -52,25 +52,9 @@ returns-2 c =
 
 pub join-text-spec : {M : Type 1} → statement M
 join-text-spec =
-    tie.close
-    (tie.spec
-    (λ second-start-requires κs. search needs)
-    slice-aggregate-read-pair
-    (λ sub-read-pair. search needs)
-    (λ part-read-pair-start. search needs)
-    (λ part-read-pair-end. search needs)
-    (λ slice-aggregate-read-pair-2. search needs)
-    (λ slice-aggregate-read-pair-3. search needs)
-    (λ read-pair-requires κs. search needs)
-    (λ enum-known-m. search needs)
-    array-share-prefix-under
-    slice-aggregate-joined-text
-    array-share-prefix-over
-    slice-aggregate-joined-text-2
-    (λ joined-text-requires κs. search needs)
-    (λ enum-known-number. search needs)
-    (λ refusal-line-requires κs. search needs)
-    (λ same-length. search needs)
-    returns
-    (λ same-length-2. search needs)
+    tie.close (tie.spec (λ second-start-requires κs. search needs) slice-aggregate-read-pair (λ sub-read-pair. search needs)
+    (λ part-read-pair-start. search needs) (λ part-read-pair-end. search needs) (λ slice-aggregate-read-pair-2. search needs)
+    (λ slice-aggregate-read-pair-3. search needs) (λ read-pair-requires κs. search needs) (λ enum-known-m. search needs) array-share-prefix-under
+    slice-aggregate-joined-text array-share-prefix-over slice-aggregate-joined-text-2 (λ joined-text-requires κs. search needs)
+    (λ enum-known-number. search needs) (λ refusal-line-requires κs. search needs) (λ same-length. search needs) returns (λ same-length-2. search needs)
     returns-2)

@@ -45,19 +45,7 @@ returns-2 c =
 
 pub joined-text-spec : {M : Type 1} → statement M
 joined-text-spec =
-    tie.close
-    (tie.spec
-    (λ slice-aggregate-join. search needs)
-    (λ join-requires κs. search needs)
-    (λ enum-known-n. search needs)
-    array-share-prefix-words
-    slice-aggregate-listing-text
-    (λ listing-text-requires κs. search needs)
-    (λ enum-known-f. search needs)
-    (λ fault-number-requires κs. search needs)
-    (λ fault-place-requires κs. search needs)
-    (λ refusal-line-requires κs. search needs)
-    (λ same-length. search needs)
-    returns
-    (λ same-length-2. search needs)
+    tie.close (tie.spec (λ slice-aggregate-join. search needs) (λ join-requires κs. search needs) (λ enum-known-n. search needs) array-share-prefix-words
+    slice-aggregate-listing-text (λ listing-text-requires κs. search needs) (λ enum-known-f. search needs) (λ fault-number-requires κs. search needs)
+    (λ fault-place-requires κs. search needs) (λ refusal-line-requires κs. search needs) (λ same-length. search needs) returns (λ same-length-2. search needs)
     returns-2)

@@ -44,22 +44,7 @@ returns-3 c =
 
 pub place-text-spec : {M : Type 1} → statement M
 place-text-spec =
-    tie.close
-    (tie.spec
-    (λ find-requires κs. search needs)
-    (λ enum-known-a. search needs)
-    sub-put-lines
-    (λ put-lines-requires κs. search needs)
-    (λ enum-known-a-2. search needs)
-    sub-put-lines-2
-    (λ put-lines-requires-2 κs. search needs)
-    (λ enum-known-f. search needs)
-    (λ fault-number-requires κs. search needs)
-    (λ fault-place-requires κs. search needs)
-    (λ refusal-line-requires κs. search needs)
-    (λ same-length. search needs)
-    returns
-    (λ same-length-2. search needs)
-    returns-2
-    (λ same-length-3. search needs)
-    returns-3)
+    tie.close (tie.spec (λ find-requires κs. search needs) (λ enum-known-a. search needs) sub-put-lines (λ put-lines-requires κs. search needs)
+    (λ enum-known-a-2. search needs) sub-put-lines-2 (λ put-lines-requires-2 κs. search needs) (λ enum-known-f. search needs)
+    (λ fault-number-requires κs. search needs) (λ fault-place-requires κs. search needs) (λ refusal-line-requires κs. search needs)
+    (λ same-length. search needs) returns (λ same-length-2. search needs) returns-2 (λ same-length-3. search needs) returns-3)

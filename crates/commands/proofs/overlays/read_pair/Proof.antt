@@ -38,24 +38,8 @@ returns-3 c =
 
 pub read-pair-spec : {M : Type 1} → statement M
 read-pair-spec =
-    tie.close
-    (tie.spec
-    (λ read-requires κs. search needs)
-    (λ enum-known-r. search needs)
-    (λ refusal-number-requires κs. search needs)
-    (λ refusal-place-requires κs. search needs)
-    (λ enum-known-m. search needs)
-    (λ read-requires-2 κs. search needs)
-    (λ enum-known-r-2. search needs)
-    (λ refusal-number-requires-2 κs. search needs)
-    add-t20
-    (λ refusal-place-requires-2 κs. search needs)
-    (λ enum-known-n. search needs)
-    (λ same-length. search needs)
-    returns
-    (λ same-length-2. search needs)
-    (λ same-length-3. search needs)
-    returns-2
-    (λ same-length-4. search needs)
-    (λ same-length-5. search needs)
-    returns-3)
+    tie.close (tie.spec (λ read-requires κs. search needs) (λ enum-known-r. search needs) (λ refusal-number-requires κs. search needs)
+    (λ refusal-place-requires κs. search needs) (λ enum-known-m. search needs) (λ read-requires-2 κs. search needs) (λ enum-known-r-2. search needs)
+    (λ refusal-number-requires-2 κs. search needs) add-t20 (λ refusal-place-requires-2 κs. search needs) (λ enum-known-n. search needs)
+    (λ same-length. search needs) returns (λ same-length-2. search needs) (λ same-length-3. search needs) returns-2 (λ same-length-4. search needs)
+    (λ same-length-5. search needs) returns-3)

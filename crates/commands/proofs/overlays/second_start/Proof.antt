@@ -43,15 +43,5 @@ returns-2 c = let l = c .before .loop in (omega (arith, l .inv .1, before-end (c
 
 pub second-start-spec : {M : Type 1} → statement M
 second-start-spec =
-    tie.close
-    (tie.spec
-    Inv-loop
-    μ-loop
-    loop-holds
-    (λ starts-system-requires κs. search needs)
-    returns
-    (λ shared-slice-read-start. search needs)
-    (λ add-i. search needs)
-    (λ loop-less. search needs)
-    loop-again
-    returns-2)
+    tie.close (tie.spec Inv-loop μ-loop loop-holds (λ starts-system-requires κs. search needs) returns (λ shared-slice-read-start. search needs)
+    (λ add-i. search needs) (λ loop-less. search needs) loop-again returns-2)

@@ -24,17 +24,6 @@ returns c =
 
 pub starts-system-spec : {M : Type 1} → statement M
 starts-system-spec =
-    tie.close
-    (tie.spec
-    (λ byte-at-requires κs. search needs)
-    (λ add-byte-at. search needs)
-    (λ byte-at-requires-2 κs. search needs)
-    (λ add-byte-at-2. search needs)
-    (λ byte-at-requires-3 κs. search needs)
-    (λ add-byte-at-3. search needs)
-    (λ byte-at-requires-4 κs. search needs)
-    (λ add-byte-at-4. search needs)
-    (λ byte-at-requires-5 κs. search needs)
-    (λ add-byte-at-5. search needs)
-    (λ byte-at-requires-6 κs. search needs)
-    returns)
+    tie.close (tie.spec (λ byte-at-requires κs. search needs) (λ add-byte-at. search needs) (λ byte-at-requires-2 κs. search needs)
+    (λ add-byte-at-2. search needs) (λ byte-at-requires-3 κs. search needs) (λ add-byte-at-3. search needs) (λ byte-at-requires-4 κs. search needs)
+    (λ add-byte-at-4. search needs) (λ byte-at-requires-5 κs. search needs) (λ add-byte-at-5. search needs) (λ byte-at-requires-6 κs. search needs) returns)

@@ -13,16 +13,6 @@ returns c =
 
 pub put-packed-spec : {M : Type 1} → statement M
 put-packed-spec =
-    tie.close
-    (tie.spec
-    (λ cast-t7. search needs)
-    (λ slice-aggregate-bytes-of. search needs)
-    (λ bytes-of-requires κs. search needs)
-    (λ sub-bytes-of. search needs)
-    (λ part-bytes-of-start. search needs)
-    (λ part-bytes-of-end. search needs)
-    (λ bytes-of-requires-2 κs. search needs)
-    (λ mul-result. search needs)
-    (λ add-result. search needs)
-    (λ same-length. search needs)
-    returns)
+    tie.close (tie.spec (λ cast-t7. search needs) (λ slice-aggregate-bytes-of. search needs) (λ bytes-of-requires κs. search needs)
+    (λ sub-bytes-of. search needs) (λ part-bytes-of-start. search needs) (λ part-bytes-of-end. search needs) (λ bytes-of-requires-2 κs. search needs)
+    (λ mul-result. search needs) (λ add-result. search needs) (λ same-length. search needs) returns)

@@ -17,11 +17,5 @@ returns-2 c =
 
 pub put-system-spec : {M : Type 1} → statement M
 put-system-spec =
-    tie.close
-    (tie.spec
-    (λ refusal-line-requires κs. search needs)
-    (λ same-length. search needs)
-    returns
-    (λ put-packed-requires κs. search needs)
-    (λ same-length-2. search needs)
-    returns-2)
+    tie.close (tie.spec (λ refusal-line-requires κs. search needs) (λ same-length. search needs) returns (λ put-packed-requires κs. search needs)
+    (λ same-length-2. search needs) returns-2)

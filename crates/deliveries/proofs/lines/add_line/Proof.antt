@@ -16,11 +16,5 @@ returns c =
 
 pub add-line-spec : {M : Type 1} → statement M
 add-line-spec =
-    tie.close
-    (tie.spec
-    (λ delivery-line-requires κs. search needs)
-    (λ array-share-prefix-line. search needs)
-    (λ slice-aggregate-put-room. search needs)
-    put-room-requires
-    (λ same-length. search needs)
-    returns)
+    tie.close (tie.spec (λ delivery-line-requires κs. search needs) (λ array-share-prefix-line. search needs) (λ slice-aggregate-put-room. search needs)
+    put-room-requires (λ same-length. search needs) returns)

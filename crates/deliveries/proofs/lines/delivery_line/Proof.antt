@@ -14,13 +14,6 @@ returns c =
 
 pub delivery-line-spec : {M : Type 1} → statement M
 delivery-line-spec =
-    tie.close
-    (tie.spec
-    (λ slice-aggregate-number-field. search needs)
-    (λ number-field-requires κs. search needs)
-    (λ slice-aggregate-number-field-2. search needs)
-    (λ number-field-requires-2 κs. search needs)
-    (λ slice-aggregate-number-field-3. search needs)
-    (λ number-field-requires-3 κs. search needs)
-    (λ put-outcome-requires κs. search needs)
-    returns)
+    tie.close (tie.spec (λ slice-aggregate-number-field. search needs) (λ number-field-requires κs. search needs)
+    (λ slice-aggregate-number-field-2. search needs) (λ number-field-requires-2 κs. search needs) (λ slice-aggregate-number-field-3. search needs)
+    (λ number-field-requires-3 κs. search needs) (λ put-outcome-requires κs. search needs) returns)

@@ -24,25 +24,8 @@ returns-4 c = reworded (sym (ap outcome (c .before .before .before .before .befo
 
 pub put-outcome-spec : {M : Type 1} → statement M
 put-outcome-spec =
-    tie.close
-    (tie.spec
-    (λ enum-told. search needs)
-    (λ slice-aggregate-put. search needs)
-    (λ put-requires κs. search needs)
-    (λ enum-known-d. search needs)
-    (λ slice-aggregate-set-line. search needs)
-    (λ set-line-requires κs. search needs)
-    (λ enum-known-d-2. search needs)
-    (λ slice-aggregate-set-line-2. search needs)
-    (λ set-line-requires-2 κs. search needs)
-    (λ enum-told-2. search needs)
-    (λ slice-aggregate-put-2. search needs)
-    (λ put-requires-2 κs. search needs)
-    (λ same-length. search needs)
-    returns
-    (λ same-length-2. search needs)
-    returns-2
-    (λ same-length-3. search needs)
-    returns-3
-    (λ same-length-4. search needs)
-    returns-4)
+    tie.close (tie.spec (λ enum-told. search needs) (λ slice-aggregate-put. search needs) (λ put-requires κs. search needs) (λ enum-known-d. search needs)
+    (λ slice-aggregate-set-line. search needs) (λ set-line-requires κs. search needs) (λ enum-known-d-2. search needs)
+    (λ slice-aggregate-set-line-2. search needs) (λ set-line-requires-2 κs. search needs) (λ enum-told-2. search needs) (λ slice-aggregate-put-2. search needs)
+    (λ put-requires-2 κs. search needs) (λ same-length. search needs) returns (λ same-length-2. search needs) returns-2 (λ same-length-3. search needs)
+    returns-3 (λ same-length-4. search needs) returns-4)

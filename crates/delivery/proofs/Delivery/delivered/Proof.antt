@@ -22,5 +22,5 @@ returns-4 c = search needs
 
 pub delivered-spec : {M : Type 1} → statement M
 delivered-spec =
-    tie.close
-    (tie.spec (λ enum-told. search needs) (λ enum-told-2. search needs) (λ enum-told-3. search needs) (λ enum-told-4. search needs) returns returns-2 returns-3 returns-4)
+    tie.close (tie.spec
+    (λ enum-told. search needs) (λ enum-told-2. search needs) (λ enum-told-3. search needs) (λ enum-told-4. search needs) returns returns-2 returns-3 returns-4)

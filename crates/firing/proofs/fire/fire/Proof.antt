@@ -27,12 +27,6 @@ returns-2 c =
 
 pub fire-spec : {M : Type 1} → statement M
 fire-spec =
-    tie.close
-    (tie.spec
+    tie.close (tie.spec
     (λ c κs. let s = c .before .before .before .before .before .before .before .before in (sized (s .pre .0) (s .pre .1), s .pre .2 .guard, s .pre .0 .masked .long))
-    (λ add-requires κs. search needs)
-    (λ same-length. search needs)
-    (λ same-length-2. search needs)
-    returns
-    (λ same-length-3. search needs)
-    returns-2)
+    (λ add-requires κs. search needs) (λ same-length. search needs) (λ same-length-2. search needs) returns (λ same-length-3. search needs) returns-2)

@@ -28,22 +28,9 @@ returns c =
 
 pub deliver-spec : {M : Type 1} → statement M
 deliver-spec =
-    tie.close
-    (tie.spec
-    (λ wake-requires κs. search needs)
-    (λ mul-pass. search needs)
-    (λ mul-pass-2. search needs)
-    (λ add-pass. search needs)
-    (λ pass-requires κs. search needs)
-    (λ lift-requires κs. search needs)
-    (λ c. omega (arith, add-delivered-2 c))
-    add-delivered-2
-    (λ mul-mark. search needs)
-    (λ mul-mark-2. search needs)
-    (λ add-mark. search needs)
+    tie.close (tie.spec (λ wake-requires κs. search needs) (λ mul-pass. search needs) (λ mul-pass-2. search needs) (λ add-pass. search needs)
+    (λ pass-requires κs. search needs) (λ lift-requires κs. search needs) (λ c. omega (arith, add-delivered-2 c)) add-delivered-2 (λ mul-mark. search needs)
+    (λ mul-mark-2. search needs) (λ add-mark. search needs)
     (λ c κs. let u = c .before .before .before .before .before .before in let s = u .before .before .before .before .before .before .before .before .before .before .before .before .before .before .before .before .before .before .before .before in
     (omega (arith, value-in (s .pre .0) (s .args .b) (s .pre .3), u .lift .kept .0, u .before .before .before .before .before .before .before .pass .kept .0, u .before .before .before .before .before .before .before .before .before .before .before .before .before .before .wake .kept .0), omega (arith, s .pre .0 .wide, s .pre .5)))
-    add-result
-    (λ same-length. search needs)
-    (λ same-length-2. search needs)
-    returns)
+    add-result (λ same-length. search needs) (λ same-length-2. search needs) returns)

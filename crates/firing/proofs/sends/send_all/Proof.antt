@@ -63,17 +63,8 @@ returns c =
 
 pub send-all-spec : {M : Type 1} → statement M
 send-all-spec =
-    tie.close
-    (tie.spec
-    Inv-loop
-    μ-loop
+    tie.close (tie.spec Inv-loop μ-loop
     (λ c. let s = c .before .before .before .before .before in let r = s .pre .0 .readable in (refl, refl, s .pre .2, follows-first _ r, all-start _ r _ _, omega arith))
-    send-to-requires
-    add-added
+    send-to-requires add-added
     (λ c. let t = c .before .before .before .before .before .before .before in let i = t .before .loop in let r = t .before .before .before .before .before .before .before .pre .0 .readable in let g = t .loop-test .taken in omega (arith, body-inside _ r (i .b) g (named-there _ r (i .b) (i .inv .3) g)))
-    (λ c κs. search needs)
-    loop-less
-    loop-again
-    (λ c. c .before .loop .inv .0)
-    (λ c. c .before .loop .inv .1)
-    returns)
+    (λ c κs. search needs) loop-less loop-again (λ c. c .before .loop .inv .0) (λ c. c .before .loop .inv .1) returns)

@@ -35,13 +35,6 @@ returns-2 c =
 
 pub send-to-spec : {M : Type 1} → statement M
 send-to-spec =
-    tie.close
-    (tie.spec
+    tie.close (tie.spec
     (λ c. let s = c .before .before .before .before .before in omega (arith, s .pre .0 .sending .required))
-    starts-requires
-    (λ same-length. search needs)
-    returns
-    deliver-requires
-    (λ same-length-2. search needs)
-    (λ same-length-3. search needs)
-    returns-2)
+    starts-requires (λ same-length. search needs) returns deliver-requires (λ same-length-2. search needs) (λ same-length-3. search needs) returns-2)

@@ -31,14 +31,9 @@ returns-2 c =
 
 pub step-spec : {M : Type 1} → statement M
 step-spec =
-    tie.close
-    (tie.spec
+    tie.close (tie.spec
     (λ c κs. let s = c .before .before .before .before .before .before in (sized (s .pre .0) (s .pre .1), omega (arith, s .pre .2)))
-    (λ same-length. search needs)
-    returns
+    (λ same-length. search needs) returns
     (λ c. omega (arith, plain-small (c .before .before .before .before .before .before .before .before .before .pre .0)))
     (λ c κs. let s = c .before .before .before .before .before .before .before .before .before in let y = s .pre .0 in (omega (arith, size-is y, s .pre .2), head-word (s .args .words .now) (y .readable) .sized, plain-small y))
-    fire-requires
-    (λ same-length-2. search needs)
-    (λ same-length-3. search needs)
-    returns-2)
+    fire-requires (λ same-length-2. search needs) (λ same-length-3. search needs) returns-2)

@@ -36,17 +36,10 @@ returns c =
 
 pub fill-spec : {M : Type 1} → statement M
 fill-spec =
-    tie.close
-    (tie.spec
-    Inv-loop
-    μ-loop
-    (λ c. (refl, omega arith, none-yet _ _))
+    tie.close (tie.spec Inv-loop μ-loop (λ c. (refl, omega arith, none-yet _ _))
     (λ c κs. let s = c .before .before .before .before .before in (omega (arith, row-in (s .pre .0) (s .args .r) (s .pre .1), c .before .before .loop .inv .0), omega (arith, c .before .loop-test .taken, s .pre .0 .wide, s .pre .0 .lead)))
-    add-added
-    (λ c. search needs)
+    add-added (λ c. search needs)
     (λ c. omega (arith, c .before .before .before .before .loop-test .taken))
-    loop-again
-    (λ c κs. search needs)
+    loop-again (λ c κs. search needs)
     (λ c. c .before .before .before .before .before .loop .inv .0)
-    (λ c. search needs)
-    returns)
+    (λ c. search needs) returns)

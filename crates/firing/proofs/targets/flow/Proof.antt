@@ -24,24 +24,10 @@ returns-2 c =
 
 pub flow-spec : {M : Type 1} → statement M
 flow-spec =
-    tie.close
-    (tie.spec
-    (λ mul-to. search needs)
-    (λ mul-lacked. search needs)
-    (λ slice-aggregate-lacked. search needs)
-    (λ lacked-requires κs. search needs)
-    (λ same-length. search needs)
-    returns
-    (λ add-join. search needs)
-    (λ mul-join. search needs)
-    (λ sub-join. search needs)
-    (λ part-join-start. search needs)
-    (λ part-join-end. search needs)
-    (λ array-share-prefix-new. search needs)
+    tie.close (tie.spec (λ mul-to. search needs) (λ mul-lacked. search needs) (λ slice-aggregate-lacked. search needs) (λ lacked-requires κs. search needs)
+    (λ same-length. search needs) returns (λ add-join. search needs) (λ mul-join. search needs) (λ sub-join. search needs) (λ part-join-start. search needs)
+    (λ part-join-end. search needs) (λ array-share-prefix-new. search needs)
     (λ c. let t = c .before .before .before .before in let u = t .before .before .before .before .before in sym (length-take-le (u .args .l .row) _ (omega (arith, u .pre, t .lacked .kept .1 .1 .1 .1 .0))))
     (λ c κs. let s = c .before .before .before .before .before .before .before .before .before in let row = s .args .l .row in let part = length-part (s .args .est .now) (s .args .b * row) row (s .pre .1) in
     (length-take-le row _ (omega (arith, s .pre, c .before .before .before .before .lacked .kept .1 .1 .1 .1 .0)) ∙ sym part, omega (arith, part, s .pre)))
-    (λ grew-row-requires κs. search needs)
-    (λ same-length-2. search needs)
-    (λ same-length-3. search needs)
-    returns-2)
+    (λ grew-row-requires κs. search needs) (λ same-length-2. search needs) (λ same-length-3. search needs) returns-2)

@@ -12,11 +12,6 @@ add-result c =
 
 pub part-spec : {M : Type 1} → statement M
 part-spec =
-    tie.close
-    (tie.spec
-    (λ start-requires κs. search needs)
-    (λ lift-requires κs. search needs)
-    add-result
-    (λ same-length. search needs)
+    tie.close (tie.spec (λ start-requires κs. search needs) (λ lift-requires κs. search needs) add-result (λ same-length. search needs)
     (λ same-length-2. search needs)
     (λ c. and-in (c .before .before .before .before .before .before .before .before .before .start .ensures) (c .before .before .before .before .lift .ensures)))

@@ -30,31 +30,24 @@ returns-2 c =
 
 pub pass-spec : {M : Type 1} → statement M
 pass-spec =
-    tie.close
-    (tie.spec
+    tie.close (tie.spec
     (λ c. let s = c .before .before .before in omega (arith, mask-in _ (s .args .l .row) (s .args .m) (s .pre .4) (s .pre .3)))
     (λ c. let s = c .before .before .before in omega (arith, row-in (s .pre .0) (s .args .b) (s .pre .2)))
     (λ c. let s = c .before .before .before .before in omega (arith, mask-in _ (s .args .l .row) (s .args .m) (s .pre .4) (s .pre .3)))
     (λ c. let s = c .before .before .before .before in omega (arith, mask-in _ (s .args .l .row) (s .args .m) (s .pre .4) (s .pre .3)))
-    (λ sub-lacked-masked. search needs)
-    (λ part-lacked-masked-start. search needs)
+    (λ sub-lacked-masked. search needs) (λ part-lacked-masked-start. search needs)
     (λ c. let s = c .before .before .before .before in omega (arith, mask-in _ (s .args .l .row) (s .args .m) (s .pre .4) (s .pre .3)))
     (λ c. let s = c .before .before .before .before .before in omega (arith, row-in (s .pre .0) (s .args .a) (s .pre .1)))
     (λ slice-aggregate-lacked-masked. search needs)
     (λ c κs. let s = c .before .before .before .before .before .before in let a = s .args in let row = a .l .row in
     (row-in (s .pre .0) (a .a) (s .pre .1), row-in (s .pre .0) (a .b) (s .pre .2), s .pre .0 .most, length-part (a .masks .now) (a .m * row) row (mask-in _ row (a .m) (s .pre .4) (s .pre .3))))
-    (λ same-length. search needs)
-    returns
+    (λ same-length. search needs) returns
     (λ c. let s = c .before .before .before .before .before .before .before .before .before in omega (arith, row-in (s .pre .0) (s .args .b) (s .pre .2)))
     (λ c. let s = c .before .before .before .before .before .before .before .before .before in omega (arith, row-in (s .pre .0) (s .args .b) (s .pre .2)))
-    (λ sub-join. search needs)
-    (λ part-join-start. search needs)
+    (λ sub-join. search needs) (λ part-join-start. search needs)
     (λ c. let s = c .before .before .before .before .before .before .before .before .before in omega (arith, row-in (s .pre .0) (s .args .b) (s .pre .2)))
     (λ c. let s = c .before .before .before .before .before .before .before .before .before .before in omega (arith, s .pre .0 .most))
     (λ c. let s = c .before .before .before .before .before .before .before .before .before .before .before in sym (length-take-le (s .args .l .row) _ (omega (arith, s .pre .0 .most, c .before .before .before .before .lacked-masked .kept .1 .1 .1 .1 .1 .0))))
     (λ c κs. let s = c .before .before .before .before .before .before .before .before .before .before .before in let row = s .args .l .row in let part = length-part (s .args .est .now) (s .args .b * row) row (row-in (s .pre .0) (s .args .b) (s .pre .2)) in
     (length-take-le row _ (omega (arith, s .pre .0 .most, c .before .before .before .before .lacked-masked .kept .1 .1 .1 .1 .1 .0)) ∙ sym part, omega (arith, part, s .pre .0 .most)))
-    (λ grew-row-requires κs. search needs)
-    (λ same-length-2. search needs)
-    (λ same-length-3. search needs)
-    returns-2)
+    (λ grew-row-requires κs. search needs) (λ same-length-2. search needs) (λ same-length-3. search needs) returns-2)

@@ -13,14 +13,6 @@ add-result-2 c =
 
 pub parts-spec : {M : Type 1} → statement M
 parts-spec =
-    tie.close
-    (tie.spec
-    (λ add-part. search needs)
-    (λ part-requires κs. search needs)
-    (λ part-if-requires κs. search needs)
-    (λ part-if-requires-2 κs. search needs)
-    (λ c. omega (arith, add-result-2 c))
-    add-result-2
-    (λ same-length. search needs)
-    (λ same-length-2. search needs)
+    tie.close (tie.spec (λ add-part. search needs) (λ part-requires κs. search needs) (λ part-if-requires κs. search needs)
+    (λ part-if-requires-2 κs. search needs) (λ c. omega (arith, add-result-2 c)) add-result-2 (λ same-length. search needs) (λ same-length-2. search needs)
     (λ c. let t = c .before .before .before .before .before .before .before .before .before .before .before in and-in (t .before .before .before .before .before .before .before .part .ensures) (and-in (t .part-if .ensures) (c .before .before .before .before .part-if2 .ensures))))

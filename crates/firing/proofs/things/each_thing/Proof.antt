@@ -57,20 +57,8 @@ returns c =
 
 pub each-thing-spec : {M : Type 1} → statement M
 each-thing-spec =
-    tie.close
-    (tie.spec
-    Inv-loop
-    μ-loop
-    (λ add-r. search needs)
-    (λ mul-r. search needs)
+    tie.close (tie.spec Inv-loop μ-loop (λ add-r. search needs) (λ mul-r. search needs)
     (λ c κs. let s = c .before .before .before .before in (searched (s .pre .1) (s .pre .0), omega arith))
-    loop-holds
-    for-thing-requires
-    add-added
-    (λ add-next-thing. search needs)
-    next-thing-requires-2
+    loop-holds for-thing-requires add-added (λ add-next-thing. search needs) next-thing-requires-2
     (λ c. omega (arith, c .next-thing2 .ensures .later, c .before .before .before .before .before .before .before .before .before .loop-test .taken))
-    loop-again
-    (λ c. c .before .loop .inv .0)
-    (λ c. c .before .loop .inv .1)
-    returns)
+    loop-again (λ c. c .before .loop .inv .0) (λ c. c .before .loop .inv .1) returns)

@@ -44,19 +44,8 @@ returns-4 c =
 
 pub fire-things-spec : {M : Type 1} → statement M
 fire-things-spec =
-    tie.close
-    (tie.spec
-    (λ each-thing-requires κs. search needs)
-    (λ same-length. search needs)
-    (λ same-length-2. search needs)
-    returns
-    returns-2
-    (λ add-has-thing. search needs)
-    (λ mul-has-thing. search needs)
+    tie.close (tie.spec (λ each-thing-requires κs. search needs) (λ same-length. search needs) (λ same-length-2. search needs) returns returns-2
+    (λ add-has-thing. search needs) (λ mul-has-thing. search needs)
     (λ c κs. let s = c .before .before .before .before .before .before .before in (searched (s .pre .1) (s .pre .0), c .before .if2 .left))
     (λ c κs. let t = c .before .before in let i = t .before .before .before in let s = i .before .before .before .before .before .before in (s .pre .0, placed (s .pre .1) (s .args .est .now) (s .args .f) (i .if2 .left) (sym (t .before .has-thing .ensures) ∙ t .if3 .taken)))
-    (λ same-length-3. search needs)
-    (λ same-length-4. search needs)
-    returns-3
-    (λ same-length-5. search needs)
-    returns-4)
+    (λ same-length-3. search needs) (λ same-length-4. search needs) returns-3 (λ same-length-5. search needs) returns-4)

@@ -66,22 +66,8 @@ returns c =
 
 pub settle-spec : {M : Type 1} → statement M
 settle-spec =
-    tie.close
-    (tie.spec
-    Inv-loop
-    μ-loop
-    (λ follow-requires κs. search needs)
-    (λ c. (refl, refl, refl, λ old g. g))
-    broken-requires
-    sweep-requires
+    tie.close (tie.spec Inv-loop μ-loop (λ follow-requires κs. search needs) (λ c. (refl, refl, refl, λ old g. g)) broken-requires sweep-requires
     (λ c. let s = c .before .before .before .before .before .before .before .before .before .before .before .before .before .before .before .before .before .before .before .before .before .before .before .before .before .before .before .before .before .before .before .before in omega (arith, few-of (s .pre .0) (s .pre .1) (loop-again c .3 _ (c .before .before .before .before .before .before .before .before .before .before .before .before .before .before .before .before .before .before .before .before .before .before .follow .ensures))))
-    loop-less
-    loop-again
-    (λ same-length. search needs)
-    (λ same-length-2. search needs)
-    (λ same-length-3. search needs)
-    returns
-    (λ same-length-4. search needs)
-    (λ same-length-5. search needs)
-    (λ same-length-6. search needs)
+    loop-less loop-again (λ same-length. search needs) (λ same-length-2. search needs) (λ same-length-3. search needs) returns (λ same-length-4. search needs)
+    (λ same-length-5. search needs) (λ same-length-6. search needs)
     (λ c. record { grown = c .before .loop .inv .3 _ (c .before .before .before .before .before .before .before .before .follow .ensures); obeyed = λ z. absurd (omega (arith, c .loop-test .left)) }))

@@ -27,18 +27,8 @@ returns-2 c =
 
 pub enter-spec : {M : Type 1} → statement M
 enter-spec =
-    tie.close
-    (tie.spec
-    (λ opens-requires κs. search needs)
-    returns
-    (λ wake-requires κs. search needs)
-    (λ mul-fill. search needs)
-    (λ add-fill. search needs)
-    (λ fill-requires κs. search needs)
-    (λ mul-mark. search needs)
-    mark-requires
+    tie.close (tie.spec (λ opens-requires κs. search needs) returns (λ wake-requires κs. search needs) (λ mul-fill. search needs) (λ add-fill. search needs)
+    (λ fill-requires κs. search needs) (λ mul-mark. search needs) mark-requires
     (λ c. let s = c .before .before .before .before .before .before .before .before .before .before .before .before .before .before .before .before .before .before .before .before .before .before .before in omega (arith, few (s .pre .1) (s .pre .2) (returns-2 c .grown)))
     (λ c. let s = c .before .before .before .before .before .before .before .before .before .before .before .before .before .before .before .before .before .before .before .before .before .before .before in omega (arith, few (s .pre .1) (s .pre .2) (returns-2 c .grown)))
-    (λ same-length. search needs)
-    (λ same-length-2. search needs)
-    returns-2)
+    (λ same-length. search needs) (λ same-length-2. search needs) returns-2)

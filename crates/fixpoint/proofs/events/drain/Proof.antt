@@ -42,26 +42,16 @@ loop-again c =
 
 pub drain-spec : {M : Type 1} → statement M
 drain-spec =
-    tie.close
-    (tie.spec
-    Inv-loop
-    μ-loop
-    (λ count-requires κs. search needs)
+    tie.close (tie.spec Inv-loop μ-loop (λ count-requires κs. search needs)
     (λ c. (refl, refl, λ ρ. record { grown = grown-none; nothing = λ w z k h. absurd (omega arith) }))
     (λ c. omega (arith, c .before .loop-test .taken, c .before .before .before .count .ensures .1))
-    (λ choice-at-requires κs. search needs)
-    (λ choice-place-requires κs. search needs)
+    (λ choice-at-requires κs. search needs) (λ choice-place-requires κs. search needs)
     (λ c κs. some-word (c .before .before .before .before .before .before .before .before .before .before .before .before .pre .0))
-    (λ choice-clause-requires κs. search needs)
-    (λ choice-target-requires κs. search needs)
-    step-requires
+    (λ choice-clause-requires κs. search needs) (λ choice-target-requires κs. search needs) step-requires
     (λ c. let s = c .before .before .before .before .before .before .before .before .before .before .before .before .before .before .before .before .before .before .before .before .before .before in omega (arith, few-of (s .pre .0) (s .pre .1) (loop-again c .2 0 .grown)))
     (λ c. omega (arith, c .before .before .before .before .before .before .before .before .before .before .before .before .before .loop-test .taken, c .before .before .before .before .before .before .before .before .before .before .before .before .before .before .before .count .ensures .1))
     (λ c. omega (arith, c .before .before .before .before .before .before .before .before .before .before .before .before .before .loop-test .taken))
-    loop-again
-    (λ c. c .before .before .loop .inv .0)
-    (λ c. c .before .before .loop .inv .1)
+    loop-again (λ c. c .before .before .loop .inv .0) (λ c. c .before .before .loop .inv .1)
     (λ c ρ. record { grown = c .before .before .loop .inv .2 ρ .grown; nothing = λ w z. absurd (omega (arith, leb-false)) })
-    (λ c. c .before .loop .inv .0)
-    (λ c. c .before .loop .inv .1)
+    (λ c. c .before .loop .inv .0) (λ c. c .before .loop .inv .1)
     (λ c ρ. tried-as (λ x k h. x k (omega (arith, h, c .loop-test .left, c .before .before .count .ensures .0))) (c .before .loop .inv .2 ρ)))

@@ -74,27 +74,6 @@ returns-3 c ρ = ⊎-elim (λ b. absurd (omega (arith, b, c .loop-test .left))) 
 
 pub events-spec : {M : Type 1} → statement M
 events-spec =
-    tie.close
-    (tie.spec
-    Inv-loop
-    μ-loop
-    loop-holds
-    sub-drain
-    drain-requires
-    add-added
-    next-requires
-    sub-left
-    loop-less
-    loop-again
-    same-length
-    same-length-2
-    same-length-3
-    returns
-    (λ same-length-4. search needs)
-    (λ same-length-5. search needs)
-    (λ same-length-6. search needs)
-    returns-2
-    (λ same-length-7. search needs)
-    (λ same-length-8. search needs)
-    (λ same-length-9. search needs)
-    returns-3)
+    tie.close (tie.spec Inv-loop μ-loop loop-holds sub-drain drain-requires add-added next-requires sub-left loop-less loop-again same-length same-length-2
+    same-length-3 returns (λ same-length-4. search needs) (λ same-length-5. search needs) (λ same-length-6. search needs) returns-2
+    (λ same-length-7. search needs) (λ same-length-8. search needs) (λ same-length-9. search needs) returns-3)

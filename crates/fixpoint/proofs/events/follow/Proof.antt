@@ -33,24 +33,13 @@ loop-again c =
 
 pub follow-spec : {M : Type 1} → statement M
 follow-spec =
-    tie.close
-    (tie.spec
-    Inv-loop
-    μ-loop
-    (λ prepare-requires κs. search needs)
-    (λ c. (refl, refl, grown-none))
-    enter-requires
+    tie.close (tie.spec Inv-loop μ-loop (λ prepare-requires κs. search needs) (λ c. (refl, refl, grown-none)) enter-requires
     (λ c. let s = c .before .before .before .before .before .before .before .before .before .before .before .before .before .before .before .before .before .before .before in omega (arith, few-of (s .pre .0) (s .pre .1) (grown-then (c .before .before .before .before .before .before .before .before .loop .inv .2) (c .before .before .before .before .enter .ensures .grown))))
     (λ c. let s = c .before .before .before .before .before .before .before .before .before .before .before .before .before .before .before .before .before .before .before in omega (arith, sized (s .pre .0) (s .pre .1) .size, c .before .before .before .before .before .before .before .loop-test .taken))
     (λ c κs. let s = c .before .before .before .before .before .before .before .before .before .before .before .before .before .before .before .before .before .before .before in omega (arith, sized (s .pre .0) (s .pre .1) .size, c .before .before .before .before .before .before .before .loop-test .taken))
     (λ c. omega (arith, c .before .before .before .before .before .before .before .before .loop-test .taken, c .past .ensures))
-    loop-again
-    (λ same-length. search needs)
-    (λ same-length-2. search needs)
-    (λ c. c .before .before .loop .inv .2)
+    loop-again (λ same-length. search needs) (λ same-length-2. search needs) (λ c. c .before .before .loop .inv .2)
     (λ c κs. let s = c .before .before .before .before .before .before .before .before .before .before .before .before .before .before .before .before in (s .pre .0, c .before .before .before .before .before .loop .inv .2 .sound .well (s .pre .1)))
     (λ c. let s = c .before .before .before .before .before .before .before .before .before .before .before .before .before .before .before .before .before .before .before .before .before .before .before in omega (arith, few-of (s .pre .0) (s .pre .1) (grown-then (c .before .before .before .before .before .before .before .before .before .before .before .before .loop .inv .2) (c .before .before .before .before .before .before .events .ensures _ .grown))))
-    (λ same-length-3. search needs)
-    (λ same-length-4. search needs)
-    (λ same-length-5. search needs)
+    (λ same-length-3. search needs) (λ same-length-4. search needs) (λ same-length-5. search needs)
     (λ c. grown-then (c .before .before .before .before .before .before .before .before .before .before .before .before .loop .inv .2) (c .before .before .before .before .before .before .events .ensures _ .grown)))

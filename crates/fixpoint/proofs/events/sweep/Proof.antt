@@ -80,27 +80,9 @@ returns-2 c =
 
 pub sweep-spec : {M : Type 1} → statement M
 sweep-spec =
-    tie.close
-    (tie.spec
-    Inv-loop
-    μ-loop
-    mul-last
-    loop-holds
-    slice-write-out
-    (λ choice-word-requires κs. search needs)
-    slice-write-out-2
-    enter-requires
+    tie.close (tie.spec Inv-loop μ-loop mul-last loop-holds slice-write-out (λ choice-word-requires κs. search needs) slice-write-out-2 enter-requires
     events-requires
     (λ c. let s = c .before .before .before .before .before .before .before .before .before .before .before .before .before .before .before .before .before .before .before .before .before .before .before .before .before .before .before .before in omega (arith, few-of (s .pre .0) (s .pre .1) (loop-again c .3 .grown)))
     (λ c. let s = c .before .before .before .before .before .before .before .before .before .before .before .before .before .before .before .before .before .before .before .before .before .before .before .before .before .before .before .before in omega (arith, few-of (s .pre .0) (s .pre .1) (loop-again c .3 .grown)))
-    add-i
-    loop-less
-    loop-again
-    (λ same-length. search needs)
-    (λ same-length-2. search needs)
-    (λ same-length-3. search needs)
-    returns
-    (λ same-length-4. search needs)
-    (λ same-length-5. search needs)
-    (λ same-length-6. search needs)
-    returns-2)
+    add-i loop-less loop-again (λ same-length. search needs) (λ same-length-2. search needs) (λ same-length-3. search needs) returns
+    (λ same-length-4. search needs) (λ same-length-5. search needs) (λ same-length-6. search needs) returns-2)

@@ -71,16 +71,5 @@ returns-2 c =
 
 pub closing-spec : {M : Type 1} → statement M
 closing-spec =
-    tie.close
-    (tie.spec
-    Inv-loop
-    μ-loop
-    (λ only-requires κs. search needs)
-    loop-holds
-    senders-requires
-    (λ has-requires κs. search needs)
-    returns
-    (λ add-m. search needs)
-    (λ loop-less. search needs)
-    loop-again
-    returns-2)
+    tie.close (tie.spec Inv-loop μ-loop (λ only-requires κs. search needs) loop-holds senders-requires (λ has-requires κs. search needs) returns
+    (λ add-m. search needs) (λ loop-less. search needs) loop-again returns-2)

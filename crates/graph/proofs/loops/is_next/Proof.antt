@@ -24,5 +24,5 @@ returns-2 c =
 
 pub is-next-spec : {M : Type 1} → statement M
 is-next-spec =
-    tie.close
-    (tie.spec (λ has-requires κs. search needs) (λ mul-has. search needs) (λ shared-slice-read-has. search needs) (λ has-requires-2 κs. search needs) returns returns-2)
+    tie.close (tie.spec
+    (λ has-requires κs. search needs) (λ mul-has. search needs) (λ shared-slice-read-has. search needs) (λ has-requires-2 κs. search needs) returns returns-2)

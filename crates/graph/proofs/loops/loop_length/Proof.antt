@@ -39,14 +39,5 @@ returns c =
 
 pub loop-length-spec : {M : Type 1} → statement M
 loop-length-spec =
-    tie.close
-    (tie.spec
-    Inv-loop
-    μ-loop
-    (λ add-shortest. search needs)
-    loop-holds
-    closing-requires
-    (λ add-t. search needs)
-    (λ loop-less. search needs)
-    loop-again
-    returns)
+    tie.close (tie.spec Inv-loop μ-loop (λ add-shortest. search needs) loop-holds closing-requires (λ add-t. search needs) (λ loop-less. search needs)
+    loop-again returns)

@@ -44,14 +44,5 @@ returns-2 c =
 
 pub loop-start-spec : {M : Type 1} → statement M
 loop-start-spec =
-    tie.close
-    (tie.spec
-    Inv-loop
-    μ-loop
-    loop-holds
-    (λ is-closing-requires κs. search needs)
-    returns
-    (λ add-t. search needs)
-    (λ loop-less. search needs)
-    loop-again
-    returns-2)
+    tie.close (tie.spec Inv-loop μ-loop loop-holds (λ is-closing-requires κs. search needs) returns (λ add-t. search needs) (λ loop-less. search needs)
+    loop-again returns-2)

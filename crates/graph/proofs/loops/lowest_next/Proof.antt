@@ -44,14 +44,5 @@ returns-2 c =
 
 pub lowest-next-spec : {M : Type 1} → statement M
 lowest-next-spec =
-    tie.close
-    (tie.spec
-    Inv-loop
-    μ-loop
-    loop-holds
-    (λ is-next-requires κs. search needs)
-    returns
-    (λ add-z. search needs)
-    (λ loop-less. search needs)
-    loop-again
+    tie.close (tie.spec Inv-loop μ-loop loop-holds (λ is-next-requires κs. search needs) returns (λ add-z. search needs) (λ loop-less. search needs) loop-again
     returns-2)

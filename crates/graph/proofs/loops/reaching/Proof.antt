@@ -40,14 +40,5 @@ returns c =
 
 pub reaching-spec : {M : Type 1} → statement M
 reaching-spec =
-    tie.close
-    (tie.spec
-    Inv-loop
-    μ-loop
-    (λ only-requires κs. search needs)
-    loop-holds
-    senders-requires
-    (λ add-i. search needs)
-    (λ loop-less. search needs)
-    loop-again
-    returns)
+    tie.close (tie.spec Inv-loop μ-loop (λ only-requires κs. search needs) loop-holds senders-requires (λ add-i. search needs) (λ loop-less. search needs)
+    loop-again returns)

@@ -98,15 +98,4 @@ returns c =
 
 pub senders-spec : {M : Type 1} → statement M
 senders-spec =
-    tie.close
-    (tie.spec
-    Inv-loop
-    μ-loop
-    loop-holds
-    cast-p
-    mul-found
-    shared-slice-read-found
-    without-requires
-    loop-less
-    loop-again
-    returns)
+    tie.close (tie.spec Inv-loop μ-loop loop-holds cast-p mul-found shared-slice-read-found without-requires loop-less loop-again returns)

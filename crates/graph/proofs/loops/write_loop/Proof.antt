@@ -54,19 +54,6 @@ returns c =
 
 pub write-loop-spec : {M : Type 1} → statement M
 write-loop-spec =
-    tie.close
-    (tie.spec
-    Inv-loop
-    μ-loop
-    loop-holds
-    (λ cast-positions. search needs)
-    (λ mul-positions. search needs)
-    slice-write-positions
-    (λ add-i. search needs)
-    (λ sub-reaching. search needs)
-    (λ reaching-requires κs. search needs)
-    (λ lowest-next-requires κs. search needs)
-    (λ loop-less. search needs)
-    loop-again
-    same-length
-    returns)
+    tie.close (tie.spec Inv-loop μ-loop loop-holds (λ cast-positions. search needs) (λ mul-positions. search needs) slice-write-positions
+    (λ add-i. search needs) (λ sub-reaching. search needs) (λ reaching-requires κs. search needs) (λ lowest-next-requires κs. search needs)
+    (λ loop-less. search needs) loop-again same-length returns)

@@ -44,14 +44,5 @@ returns-2 c =
 
 pub lowest-free-spec : {M : Type 1} → statement M
 lowest-free-spec =
-    tie.close
-    (tie.spec
-    Inv-loop
-    μ-loop
-    loop-holds
-    (λ is-free-requires κs. search needs)
-    returns
-    (λ add-p. search needs)
-    (λ loop-less. search needs)
-    loop-again
+    tie.close (tie.spec Inv-loop μ-loop loop-holds (λ is-free-requires κs. search needs) returns (λ add-p. search needs) (λ loop-less. search needs) loop-again
     returns-2)

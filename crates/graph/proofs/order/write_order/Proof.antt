@@ -76,20 +76,6 @@ returns-2 c =
 
 pub write-order-spec : {M : Type 1} → statement M
 write-order-spec =
-    tie.close
-    (tie.spec
-    Inv-loop
-    μ-loop
-    loop-holds
-    (λ lowest-free-requires κs. search needs)
-    same-length
-    returns
-    (λ cast-positions. search needs)
-    (λ mul-positions. search needs)
-    slice-write-positions
-    (λ without-requires κs. search needs)
-    (λ add-count. search needs)
-    (λ loop-less. search needs)
-    loop-again
-    same-length-2
-    returns-2)
+    tie.close (tie.spec Inv-loop μ-loop loop-holds (λ lowest-free-requires κs. search needs) same-length returns (λ cast-positions. search needs)
+    (λ mul-positions. search needs) slice-write-positions (λ without-requires κs. search needs) (λ add-count. search needs) (λ loop-less. search needs)
+    loop-again same-length-2 returns-2)

@@ -42,14 +42,4 @@ returns c =
 
 pub space-spec : {M : Type 1} → statement M
 space-spec =
-    tie.close
-    (tie.spec
-    Inv-loop
-    μ-loop
-    loop-holds
-    byte-requires
-    is-space-requires
-    add-p
-    loop-less
-    loop-again
-    returns)
+    tie.close (tie.spec Inv-loop μ-loop loop-holds byte-requires is-space-requires add-p loop-less loop-again returns)

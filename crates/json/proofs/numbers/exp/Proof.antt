@@ -32,12 +32,5 @@ returns-2 c =
 
 pub exp-spec : {M : Type 1} → statement M
 exp-spec =
-    tie.close
-    (tie.spec
-    (λ byte-requires κs. search needs)
-    (λ is-either-requires κs. search needs)
-    add-sign
-    (λ sign-requires κs. search needs)
-    (λ some-digits-requires κs. search needs)
-    returns
-    returns-2)
+    tie.close (tie.spec (λ byte-requires κs. search needs) (λ is-either-requires κs. search needs) add-sign (λ sign-requires κs. search needs)
+    (λ some-digits-requires κs. search needs) returns returns-2)

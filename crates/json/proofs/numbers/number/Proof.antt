@@ -27,16 +27,5 @@ returns-3 c =
 
 pub number-spec : {M : Type 1} → statement M
 number-spec =
-    tie.close
-    (tie.spec
-    (λ minus-requires κs. search needs)
-    (λ int-requires κs. search needs)
-    (λ enum-known-p. search needs)
-    (λ enum-told. search needs)
-    returns
-    (λ frac-requires κs. search needs)
-    (λ enum-known-q. search needs)
-    (λ enum-told-2. search needs)
-    returns-2
-    (λ exp-requires κs. search needs)
-    returns-3)
+    tie.close (tie.spec (λ minus-requires κs. search needs) (λ int-requires κs. search needs) (λ enum-known-p. search needs) (λ enum-told. search needs) returns
+    (λ frac-requires κs. search needs) (λ enum-known-q. search needs) (λ enum-told-2. search needs) returns-2 (λ exp-requires κs. search needs) returns-3)

@@ -30,5 +30,5 @@ returns-2 c =
 
 pub some-digits-spec : {M : Type 1} → statement M
 some-digits-spec =
-    tie.close
-    (tie.spec (λ byte-requires κs. search needs) (λ is-within-requires κs. search needs) add-digits (λ digits-requires κs. search needs) returns returns-2)
+    tie.close (tie.spec
+    (λ byte-requires κs. search needs) (λ is-within-requires κs. search needs) add-digits (λ digits-requires κs. search needs) returns returns-2)

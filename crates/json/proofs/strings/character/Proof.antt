@@ -65,17 +65,5 @@ returns-5 c =
 
 pub character-spec : {M : Type 1} → statement M
 character-spec =
-    tie.close
-    (tie.spec
-    (λ byte-requires κs. search needs)
-    add-t5
-    returns
-    add-escaped
-    (λ escaped-requires κs. search needs)
-    returns-2
-    returns-3
-    add-t7
-    returns-4
-    (λ point-of-requires κs. search needs)
-    (λ units-of-requires κs. search needs)
-    returns-5)
+    tie.close (tie.spec (λ byte-requires κs. search needs) add-t5 returns add-escaped (λ escaped-requires κs. search needs) returns-2 returns-3 add-t7 returns-4
+    (λ point-of-requires κs. search needs) (λ units-of-requires κs. search needs) returns-5)

@@ -50,16 +50,5 @@ returns-3 c =
 
 pub continued-spec : {M : Type 1} → statement M
 continued-spec =
-    tie.close
-    (tie.spec
-    (λ enum-told. search needs)
-    (λ enum-known-s. search needs)
-    (λ byte-requires κs. search needs)
-    (λ is-within-requires κs. search needs)
-    mul-t11
-    sub-t12
-    add-t13
-    add-t14
-    returns
-    returns-2
-    returns-3)
+    tie.close (tie.spec (λ enum-told. search needs) (λ enum-known-s. search needs) (λ byte-requires κs. search needs) (λ is-within-requires κs. search needs)
+    mul-t11 sub-t12 add-t13 add-t14 returns returns-2 returns-3)

@@ -43,13 +43,5 @@ returns-3 c =
 
 pub escaped-spec : {M : Type 1} → statement M
 escaped-spec =
-    tie.close
-    (tie.spec
-    (λ byte-requires κs. search needs)
-    add-hex-unit
-    (λ hex-unit-requires κs. search needs)
-    returns
-    (λ escape-of-requires κs. search needs)
-    returns-2
-    add-t7
-    returns-3)
+    tie.close (tie.spec (λ byte-requires κs. search needs) add-hex-unit (λ hex-unit-requires κs. search needs) returns (λ escape-of-requires κs. search needs)
+    returns-2 add-t7 returns-3)

@@ -31,15 +31,5 @@ returns-4 c = sym (hex-none _ (sym (c .before .before .before .before .before .i
 
 pub hex-of-spec : {M : Type 1} → statement M
 hex-of-spec =
-    tie.close
-    (tie.spec
-    (λ is-within-requires κs. search needs)
-    sub-result
-    returns
-    (λ is-within-requires-2 κs. search needs)
-    sub-result-2
-    returns-2
-    (λ is-within-requires-3 κs. search needs)
-    sub-result-3
-    returns-3
-    returns-4)
+    tie.close (tie.spec (λ is-within-requires κs. search needs) sub-result returns (λ is-within-requires-2 κs. search needs) sub-result-2 returns-2
+    (λ is-within-requires-3 κs. search needs) sub-result-3 returns-3 returns-4)

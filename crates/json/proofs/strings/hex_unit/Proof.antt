@@ -15,11 +15,5 @@ returns c =
 
 pub hex-unit-spec : {M : Type 1} → statement M
 hex-unit-spec =
-    tie.close
-    (tie.spec
-    (λ hexed-requires κs. search needs)
-    (λ hexed-requires-2 κs. search needs)
-    (λ hexed-requires-3 κs. search needs)
-    (λ hexed-requires-4 κs. search needs)
-    (λ units-of-requires κs. search needs)
-    returns)
+    tie.close (tie.spec (λ hexed-requires κs. search needs) (λ hexed-requires-2 κs. search needs) (λ hexed-requires-3 κs. search needs)
+    (λ hexed-requires-4 κs. search needs) (λ units-of-requires κs. search needs) returns)

@@ -36,15 +36,5 @@ returns-3 c =
 
 pub hexed-spec : {M : Type 1} → statement M
 hexed-spec =
-    tie.close
-    (tie.spec
-    (λ enum-told. search needs)
-    (λ enum-known-s. search needs)
-    (λ byte-requires κs. search needs)
-    (λ hex-of-requires κs. search needs)
-    mul-t10
-    add-t11
-    add-t12
-    returns
-    returns-2
-    returns-3)
+    tie.close (tie.spec (λ enum-told. search needs) (λ enum-known-s. search needs) (λ byte-requires κs. search needs) (λ hex-of-requires κs. search needs)
+    mul-t10 add-t11 add-t12 returns returns-2 returns-3)

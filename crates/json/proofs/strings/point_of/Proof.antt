@@ -49,19 +49,6 @@ returns-4 c =
 
 pub point-of-spec : {M : Type 1} → statement M
 point-of-spec =
-    tie.close
-    (tie.spec
-    (λ byte-requires κs. search needs)
-    (λ is-within-requires κs. search needs)
-    second-requires
-    returns
-    (λ is-within-requires-2 κs. search needs)
-    second-requires-2
-    (λ continued-requires κs. search needs)
-    returns-2
-    (λ is-within-requires-3 κs. search needs)
-    second-requires-3
-    (λ continued-requires-2 κs. search needs)
-    (λ continued-requires-3 κs. search needs)
-    returns-3
-    returns-4)
+    tie.close (tie.spec (λ byte-requires κs. search needs) (λ is-within-requires κs. search needs) second-requires returns
+    (λ is-within-requires-2 κs. search needs) second-requires-2 (λ continued-requires κs. search needs) returns-2 (λ is-within-requires-3 κs. search needs)
+    second-requires-3 (λ continued-requires-2 κs. search needs) (λ continued-requires-3 κs. search needs) returns-3 returns-4)

@@ -27,5 +27,5 @@ returns c =
 
 pub second-spec : {M : Type 1} → statement M
 second-spec =
-    tie.close
-    (tie.spec (λ byte-requires κs. search needs) (λ low-requires κs. search needs) (λ high-requires κs. search needs) (λ sub-t7. search needs) add-t8 (λ continued-requires κs. search needs) returns)
+    tie.close (tie.spec
+    (λ byte-requires κs. search needs) (λ low-requires κs. search needs) (λ high-requires κs. search needs) (λ sub-t7. search needs) add-t8 (λ continued-requires κs. search needs) returns)

@@ -46,19 +46,5 @@ returns-2 c =
 
 pub string-spec : {M : Type 1} → statement M
 string-spec =
-    tie.close
-    (tie.spec
-    Inv-loop
-    μ-loop
-    loop-holds
-    character-requires
-    (λ enum-told. search needs)
-    returns
-    (λ enum-known-q. search needs)
-    loop-less
-    loop-again
-    (λ enum-known-q-2. search needs)
-    loop-less-2
-    loop-again-2
-    (λ enum-known-q-3. search needs)
-    returns-2)
+    tie.close (tie.spec Inv-loop μ-loop loop-holds character-requires (λ enum-told. search needs) returns (λ enum-known-q. search needs) loop-less loop-again
+    (λ enum-known-q-2. search needs) loop-less-2 loop-again-2 (λ enum-known-q-3. search needs) returns-2)

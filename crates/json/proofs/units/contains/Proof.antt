@@ -41,16 +41,5 @@ loop-again c =
 
 pub contains-spec : {M : Type 1} → statement M
 contains-spec =
-    tie.close
-    (tie.spec
-    Inv-loop
-    μ-loop
-    loop-holds
-    matches-requires
-    returns
-    unit-requires
-    (λ enum-told. search needs)
-    returns-2
-    (λ enum-known-q. search needs)
-    loop-less
-    loop-again)
+    tie.close (tie.spec Inv-loop μ-loop loop-holds matches-requires returns unit-requires (λ enum-told. search needs) returns-2 (λ enum-known-q. search needs)
+    loop-less loop-again)

@@ -46,17 +46,5 @@ returns c =
 
 pub hash-spec : {M : Type 1} → statement M
 hash-spec =
-    tie.close
-    (tie.spec
-    Inv-loop
-    μ-loop
-    loop-holds
-    unit-requires
-    (λ enum-known-u. search needs)
-    mul-n
-    cast-n
-    add-n
-    loop-less
-    loop-again
-    (λ enum-told. search needs)
-    returns)
+    tie.close (tie.spec Inv-loop μ-loop loop-holds unit-requires (λ enum-known-u. search needs) mul-n cast-n add-n loop-less loop-again
+    (λ enum-told. search needs) returns)

@@ -66,24 +66,5 @@ returns-5 c =
 
 pub matches-spec : {M : Type 1} → statement M
 matches-spec =
-    tie.close
-    (tie.spec
-    Inv-loop
-    μ-loop
-    loop-holds
-    unit-requires
-    (λ enum-told. search needs)
-    returns
-    (λ enum-known-u. search needs)
-    shared-slice-read-if1
-    cast-if1
-    returns-2
-    add-i
-    loop-less
-    loop-again
-    returns-3
-    unit-requires-2
-    (λ enum-told-2. search needs)
-    (λ enum-told-3. search needs)
-    returns-4
-    returns-5)
+    tie.close (tie.spec Inv-loop μ-loop loop-holds unit-requires (λ enum-told. search needs) returns (λ enum-known-u. search needs) shared-slice-read-if1
+    cast-if1 returns-2 add-i loop-less loop-again returns-3 unit-requires-2 (λ enum-told-2. search needs) (λ enum-told-3. search needs) returns-4 returns-5)

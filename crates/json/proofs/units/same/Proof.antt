@@ -54,23 +54,6 @@ returns-4 c =
 
 pub same-spec : {M : Type 1} → statement M
 same-spec =
-    tie.close
-    (tie.spec
-    Inv-loop
-    μ-loop
-    loop-holds
-    unit-requires
-    (λ enum-known-u. search needs)
-    unit-requires-2
-    (λ enum-known-v. search needs)
-    (λ enum-told. search needs)
-    returns
-    returns-2
-    loop-less
-    loop-again
-    (λ enum-told-2. search needs)
-    unit-requires-3
-    (λ enum-told-3. search needs)
-    (λ enum-told-4. search needs)
-    returns-3
-    returns-4)
+    tie.close (tie.spec Inv-loop μ-loop loop-holds unit-requires (λ enum-known-u. search needs) unit-requires-2 (λ enum-known-v. search needs)
+    (λ enum-told. search needs) returns returns-2 loop-less loop-again (λ enum-told-2. search needs) unit-requires-3 (λ enum-told-3. search needs)
+    (λ enum-told-4. search needs) returns-3 returns-4)

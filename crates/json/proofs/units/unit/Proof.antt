@@ -41,15 +41,5 @@ returns-5 c =
 
 pub unit-spec : {M : Type 1} → statement M
 unit-spec =
-    tie.close
-    (tie.spec
-    returns
-    (λ character-requires κs. search needs)
-    (λ enum-told. search needs)
-    (λ enum-known-u. search needs)
-    (λ enum-known-u-2. search needs)
-    (λ enum-told-2. search needs)
-    returns-2
-    returns-3
-    returns-4
-    returns-5)
+    tie.close (tie.spec returns (λ character-requires κs. search needs) (λ enum-told. search needs) (λ enum-known-u. search needs)
+    (λ enum-known-u-2. search needs) (λ enum-told-2. search needs) returns-2 returns-3 returns-4 returns-5)

@@ -25,12 +25,5 @@ returns-2 c =
 
 pub is-text-spec : {M : Type 1} → statement M
 is-text-spec =
-    tie.close
-    (tie.spec
-    (λ space-requires κs. search needs)
-    (λ value-requires κs. search needs)
-    (λ enum-told. search needs)
-    (λ enum-known-p. search needs)
-    (λ space-requires-2 κs. search needs)
-    returns
-    returns-2)
+    tie.close (tie.spec (λ space-requires κs. search needs) (λ value-requires κs. search needs) (λ enum-told. search needs) (λ enum-known-p. search needs)
+    (λ space-requires-2 κs. search needs) returns returns-2)

@@ -55,17 +55,4 @@ returns-2 c =
 
 pub literal-spec : {M : Type 1} → statement M
 literal-spec =
-    tie.close
-    (tie.spec
-    Inv-loop
-    μ-loop
-    loop-holds
-    byte-requires
-    shared-slice-read-if1
-    cast-if1
-    returns
-    add-p
-    add-i
-    loop-less
-    loop-again
-    returns-2)
+    tie.close (tie.spec Inv-loop μ-loop loop-holds byte-requires shared-slice-read-if1 cast-if1 returns add-p add-i loop-less loop-again returns-2)

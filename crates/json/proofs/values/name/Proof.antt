@@ -45,16 +45,5 @@ returns-4 c =
 
 pub name-spec : {M : Type 1} → statement M
 name-spec =
-    tie.close
-    (tie.spec
-    returns
-    (λ byte-requires κs. search needs)
-    returns-2
-    add-string
-    (λ string-requires κs. search needs)
-    (λ enum-known-p. search needs)
-    (λ enum-told. search needs)
-    returns-3
-    (λ space-requires κs. search needs)
-    (λ mark-requires κs. search needs)
-    returns-4)
+    tie.close (tie.spec returns (λ byte-requires κs. search needs) returns-2 add-string (λ string-requires κs. search needs) (λ enum-known-p. search needs)
+    (λ enum-told. search needs) returns-3 (λ space-requires κs. search needs) (λ mark-requires κs. search needs) returns-4)

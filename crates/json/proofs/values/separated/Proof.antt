@@ -43,13 +43,5 @@ returns-3 c =
 
 pub separated-spec : {M : Type 1} → statement M
 separated-spec =
-    tie.close
-    (tie.spec
-    (λ byte-requires κs. search needs)
-    add-space
-    (λ space-requires κs. search needs)
-    returns
-    (λ closing-requires κs. search needs)
-    add-t9
-    returns-2
-    returns-3)
+    tie.close (tie.spec (λ byte-requires κs. search needs) add-space (λ space-requires κs. search needs) returns (λ closing-requires κs. search needs) add-t9
+    returns-2 returns-3)

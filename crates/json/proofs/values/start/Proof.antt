@@ -100,27 +100,7 @@ returns-7 c =
 
 pub start-spec : {M : Type 1} → statement M
 start-spec =
-    tie.close
-    (tie.spec
-    (λ byte-requires κs. search needs)
-    add-literal
-    (λ slice-aggregate-literal. search needs)
-    (λ literal-requires κs. search needs)
-    returns
-    add-literal-2
-    (λ slice-aggregate-literal-2. search needs)
-    (λ literal-requires-2 κs. search needs)
-    returns-2
-    add-literal-3
-    (λ slice-aggregate-literal-3. search needs)
-    (λ literal-requires-3 κs. search needs)
-    returns-3
-    add-t20
-    returns-4
-    add-t21
-    returns-5
-    add-string
-    (λ string-requires κs. search needs)
-    returns-6
-    (λ number-requires κs. search needs)
-    returns-7)
+    tie.close (tie.spec (λ byte-requires κs. search needs) add-literal (λ slice-aggregate-literal. search needs) (λ literal-requires κs. search needs) returns
+    add-literal-2 (λ slice-aggregate-literal-2. search needs) (λ literal-requires-2 κs. search needs) returns-2 add-literal-3
+    (λ slice-aggregate-literal-3. search needs) (λ literal-requires-3 κs. search needs) returns-3 add-t20 returns-4 add-t21 returns-5 add-string
+    (λ string-requires κs. search needs) returns-6 (λ number-requires κs. search needs) returns-7)

@@ -74,20 +74,6 @@ returns c =
 
 pub find-depths-spec : {M : Type 1} → statement M
 find-depths-spec =
-    tie.close
-    (tie.spec
-    Inv-loop
-    μ-loop
-    loop-holds
-    array-read-d
-    (λ mul-w. search needs)
-    (λ shared-slice-read-w. search needs)
-    (λ slice-write-depths. search needs)
-    (λ slice-aggregate-push-left. search needs)
-    (λ add-push-left. search needs)
-    push-left-requires
-    (λ add-i. search needs)
-    (λ loop-less. search needs)
-    loop-again
-    (λ same-length. search needs)
-    returns)
+    tie.close (tie.spec Inv-loop μ-loop loop-holds array-read-d (λ mul-w. search needs) (λ shared-slice-read-w. search needs)
+    (λ slice-write-depths. search needs) (λ slice-aggregate-push-left. search needs) (λ add-push-left. search needs) push-left-requires (λ add-i. search needs)
+    (λ loop-less. search needs) loop-again (λ same-length. search needs) returns)

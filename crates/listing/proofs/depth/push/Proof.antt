@@ -39,15 +39,5 @@ returns c =
 
 pub push-spec : {M : Type 1} → statement M
 push-spec =
-    tie.close
-    (tie.spec
-    Inv-loop
-    μ-loop
-    loop-holds
-    (λ sub-at. search needs)
-    (λ slice-write-stack. search needs)
-    (λ sub-left. search needs)
-    (λ loop-less. search needs)
-    loop-again
-    (λ same-length. search needs)
-    returns)
+    tie.close (tie.spec Inv-loop μ-loop loop-holds (λ sub-at. search needs) (λ slice-write-stack. search needs) (λ sub-left. search needs)
+    (λ loop-less. search needs) loop-again (λ same-length. search needs) returns)

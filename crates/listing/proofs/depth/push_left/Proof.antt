@@ -71,21 +71,6 @@ returns-4 c =
 
 pub push-left-spec : {M : Type 1} → statement M
 push-left-spec =
-    tie.close
-    (tie.spec
-    (λ kind-of-requires κs. search needs)
-    (λ argument-of-requires κs. search needs)
-    (λ cast-push. search needs)
-    push-requires
-    (λ same-length. search needs)
-    returns
-    push-requires-2
-    push-requires-3
-    (λ same-length-2. search needs)
-    returns-2
-    returns-3
-    (λ arity-of-requires κs. search needs)
-    (λ add-push. search needs)
-    push-requires-4
-    (λ same-length-3. search needs)
-    returns-4)
+    tie.close (tie.spec (λ kind-of-requires κs. search needs) (λ argument-of-requires κs. search needs) (λ cast-push. search needs) push-requires
+    (λ same-length. search needs) returns push-requires-2 push-requires-3 (λ same-length-2. search needs) returns-2 returns-3
+    (λ arity-of-requires κs. search needs) (λ add-push. search needs) push-requires-4 (λ same-length-3. search needs) returns-4)

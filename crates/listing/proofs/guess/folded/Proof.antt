@@ -57,17 +57,5 @@ returns-2 c =
 
 pub folded-spec : {M : Type 1} → statement M
 folded-spec =
-    tie.close
-    (tie.spec
-    Inv-loop
-    μ-loop
-    loop-holds
-    (λ shared-slice-read-b. search needs)
-    returns
-    mul-v
-    (λ digit-requires κs. search needs)
-    add-v
-    (λ add-i. search needs)
-    (λ loop-less. search needs)
-    loop-again
-    returns-2)
+    tie.close (tie.spec Inv-loop μ-loop loop-holds (λ shared-slice-read-b. search needs) returns mul-v (λ digit-requires κs. search needs) add-v
+    (λ add-i. search needs) (λ loop-less. search needs) loop-again returns-2)

@@ -36,14 +36,5 @@ returns-4 c =
 
 pub guessed-argument-spec : {M : Type 1} → statement M
 guessed-argument-spec =
-    tie.close
-    (tie.spec
-    (λ add-folded. search needs)
-    (λ folded-requires κs. search needs)
-    (λ add-folded-2. search needs)
-    (λ folded-requires-2 κs. search needs)
-    (λ signed-argument-requires κs. search needs)
-    returns
-    returns-2
-    returns-3
-    returns-4)
+    tie.close (tie.spec (λ add-folded. search needs) (λ folded-requires κs. search needs) (λ add-folded-2. search needs) (λ folded-requires-2 κs. search needs)
+    (λ signed-argument-requires κs. search needs) returns returns-2 returns-3 returns-4)

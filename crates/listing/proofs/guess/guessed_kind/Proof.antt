@@ -41,14 +41,5 @@ returns-2 c =
 
 pub guessed-kind-spec : {M : Type 1} → statement M
 guessed-kind-spec =
-    tie.close
-    (tie.spec
-    Inv-loop
-    μ-loop
-    loop-holds
-    (λ has-keyword-requires κs. search needs)
-    returns
-    (λ add-k. search needs)
-    (λ loop-less. search needs)
-    loop-again
-    returns-2)
+    tie.close (tie.spec Inv-loop μ-loop loop-holds (λ has-keyword-requires κs. search needs) returns (λ add-k. search needs) (λ loop-less. search needs)
+    loop-again returns-2)

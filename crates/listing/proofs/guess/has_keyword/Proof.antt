@@ -35,15 +35,5 @@ returns-2 c =
 
 pub has-keyword-spec : {M : Type 1} → statement M
 has-keyword-spec =
-    tie.close
-    (tie.spec
-    (λ keyword-size-requires κs. search needs)
-    returns
-    (λ mul-from. search needs)
-    (λ add-from. search needs)
-    add-to
-    (λ sub-starts-with. search needs)
-    (λ part-starts-with-start. search needs)
-    part-starts-with-end
-    (λ starts-with-requires κs. search needs)
-    returns-2)
+    tie.close (tie.spec (λ keyword-size-requires κs. search needs) returns (λ mul-from. search needs) (λ add-from. search needs) add-to
+    (λ sub-starts-with. search needs) (λ part-starts-with-start. search needs) part-starts-with-end (λ starts-with-requires κs. search needs) returns-2)

@@ -65,20 +65,6 @@ returns-4 c =
 
 pub line-word-spec : {M : Type 1} → statement M
 line-word-spec =
-    tie.close
-    (tie.spec
-    (λ guessed-kind-requires κs. search needs)
-    returns
-    (λ keyword-size-requires κs. search needs)
-    (λ style-at-requires κs. search needs)
-    (λ cast-w. search needs)
-    (λ mul-w. search needs)
-    guessed-argument-requires
-    (λ add-w. search needs)
-    (λ spell-requires κs. search needs)
-    returns-2
-    (λ array-share-prefix-line. search needs)
-    (λ slice-aggregate-starts-with. search needs)
-    (λ starts-with-requires κs. search needs)
-    returns-3
-    returns-4)
+    tie.close (tie.spec (λ guessed-kind-requires κs. search needs) returns (λ keyword-size-requires κs. search needs) (λ style-at-requires κs. search needs)
+    (λ cast-w. search needs) (λ mul-w. search needs) guessed-argument-requires (λ add-w. search needs) (λ spell-requires κs. search needs) returns-2
+    (λ array-share-prefix-line. search needs) (λ slice-aggregate-starts-with. search needs) (λ starts-with-requires κs. search needs) returns-3 returns-4)

@@ -24,13 +24,5 @@ returns-2 c =
 
 pub signed-argument-spec : {M : Type 1} → statement M
 signed-argument-spec =
-    tie.close
-    (tie.spec
-    (λ add-first. search needs)
-    (λ shared-slice-read-if2. search needs)
-    (λ add-folded. search needs)
-    (λ folded-requires κs. search needs)
-    (λ sub-result. search needs)
-    returns
-    (λ folded-requires-2 κs. search needs)
-    returns-2)
+    tie.close (tie.spec (λ add-first. search needs) (λ shared-slice-read-if2. search needs) (λ add-folded. search needs) (λ folded-requires κs. search needs)
+    (λ sub-result. search needs) returns (λ folded-requires-2 κs. search needs) returns-2)

@@ -46,16 +46,5 @@ returns-3 c =
 
 pub starts-with-spec : {M : Type 1} → statement M
 starts-with-spec =
-    tie.close
-    (tie.spec
-    Inv-loop
-    μ-loop
-    loop-holds
-    returns
-    (λ shared-slice-read-if2. search needs)
-    (λ shared-slice-read-if2-2. search needs)
-    returns-2
-    (λ add-i. search needs)
-    (λ loop-less. search needs)
-    loop-again
-    returns-3)
+    tie.close (tie.spec Inv-loop μ-loop loop-holds returns (λ shared-slice-read-if2. search needs) (λ shared-slice-read-if2-2. search needs) returns-2
+    (λ add-i. search needs) (λ loop-less. search needs) loop-again returns-3)

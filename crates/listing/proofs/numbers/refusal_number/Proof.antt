@@ -27,14 +27,5 @@ returns-4 c =
 
 pub refusal-number-spec : {M : Type 1} → statement M
 refusal-number-spec =
-    tie.close
-    (tie.spec
-    (λ enum-known-r. search needs)
-    (λ refusal-number-requires κs. search needs)
-    (λ enum-told. search needs)
-    (λ enum-told-2. search needs)
-    (λ enum-told-3. search needs)
-    returns
-    returns-2
-    returns-3
-    returns-4)
+    tie.close (tie.spec (λ enum-known-r. search needs) (λ refusal-number-requires κs. search needs) (λ enum-told. search needs) (λ enum-told-2. search needs)
+    (λ enum-told-3. search needs) returns returns-2 returns-3 returns-4)

@@ -56,31 +56,8 @@ returns-3 c =
 
 pub decode-spec : {M : Type 1} → statement M
 decode-spec =
-    tie.close
-    (tie.spec
-    Inv-loop
-    μ-loop
-    loop-holds
-    (λ same-length. search needs)
-    (λ same-length-2. search needs)
-    returns
-    (λ line-end-requires κs. search needs)
-    (λ sub-l. search needs)
-    (λ part-l-start. search needs)
-    (λ part-l-end. search needs)
-    (λ indent-requires κs. search needs)
-    (λ word-in-requires κs. search needs)
-    (λ add-t15. search needs)
-    (λ same-length-3. search needs)
-    (λ same-length-4. search needs)
-    returns-2
-    (λ mul-words. search needs)
-    (λ slice-write-words. search needs)
-    (λ mul-spaces. search needs)
-    (λ slice-write-spaces. search needs)
-    (λ add-n. search needs)
-    (λ loop-less. search needs)
-    loop-again
-    (λ same-length-5. search needs)
-    (λ same-length-6. search needs)
-    returns-3)
+    tie.close (tie.spec Inv-loop μ-loop loop-holds (λ same-length. search needs) (λ same-length-2. search needs) returns (λ line-end-requires κs. search needs)
+    (λ sub-l. search needs) (λ part-l-start. search needs) (λ part-l-end. search needs) (λ indent-requires κs. search needs)
+    (λ word-in-requires κs. search needs) (λ add-t15. search needs) (λ same-length-3. search needs) (λ same-length-4. search needs) returns-2
+    (λ mul-words. search needs) (λ slice-write-words. search needs) (λ mul-spaces. search needs) (λ slice-write-spaces. search needs) (λ add-n. search needs)
+    (λ loop-less. search needs) loop-again (λ same-length-5. search needs) (λ same-length-6. search needs) returns-3)

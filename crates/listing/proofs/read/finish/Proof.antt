@@ -63,15 +63,5 @@ returns-3 c =
 
 pub finish-spec : {M : Type 1} → statement M
 finish-spec =
-    tie.close
-    (tie.spec
-    (λ misspelled-requires κs. search needs)
-    returns
-    (λ shared-slice-read-too-many. search needs)
-    (λ too-many-requires κs. search needs)
-    returns-2
-    slice-aggregate-place
-    slice-aggregate-place-2
-    (λ place-requires κs. search needs)
-    (λ same-length. search needs)
-    returns-3)
+    tie.close (tie.spec (λ misspelled-requires κs. search needs) returns (λ shared-slice-read-too-many. search needs) (λ too-many-requires κs. search needs)
+    returns-2 slice-aggregate-place slice-aggregate-place-2 (λ place-requires κs. search needs) (λ same-length. search needs) returns-3)

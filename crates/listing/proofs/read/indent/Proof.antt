@@ -37,14 +37,5 @@ returns-2 c =
 
 pub indent-spec : {M : Type 1} → statement M
 indent-spec =
-    tie.close
-    (tie.spec
-    Inv-loop
-    μ-loop
-    loop-holds
-    (λ shared-slice-read-if1. search needs)
-    returns
-    (λ add-i. search needs)
-    (λ loop-less. search needs)
-    loop-again
-    returns-2)
+    tie.close (tie.spec Inv-loop μ-loop loop-holds (λ shared-slice-read-if1. search needs) returns (λ add-i. search needs) (λ loop-less. search needs)
+    loop-again returns-2)

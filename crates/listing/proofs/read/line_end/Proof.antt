@@ -37,15 +37,5 @@ returns-2 c =
 
 pub line-end-spec : {M : Type 1} → statement M
 line-end-spec =
-    tie.close
-    (tie.spec
-    Inv-loop
-    μ-loop
-    loop-holds
-    (λ shared-slice-read-if1. search needs)
-    (λ add-result. search needs)
-    returns
-    (λ add-i. search needs)
-    (λ loop-less. search needs)
-    loop-again
-    returns-2)
+    tie.close (tie.spec Inv-loop μ-loop loop-holds (λ shared-slice-read-if1. search needs) (λ add-result. search needs) returns (λ add-i. search needs)
+    (λ loop-less. search needs) loop-again returns-2)

@@ -46,20 +46,6 @@ returns-3 c =
 
 pub misplaced-spec : {M : Type 1} → statement M
 misplaced-spec =
-    tie.close
-    (tie.spec
-    Inv-loop
-    μ-loop
-    loop-holds
-    returns
-    (λ mul-if2. search needs)
-    (λ shared-slice-read-if2. search needs)
-    (λ shared-slice-read-wide. search needs)
-    (λ wide-requires κs. search needs)
-    (λ mul-if2-2. search needs)
-    (λ add-result. search needs)
-    returns-2
-    (λ add-i. search needs)
-    (λ loop-less. search needs)
-    loop-again
-    returns-3)
+    tie.close (tie.spec Inv-loop μ-loop loop-holds returns (λ mul-if2. search needs) (λ shared-slice-read-if2. search needs)
+    (λ shared-slice-read-wide. search needs) (λ wide-requires κs. search needs) (λ mul-if2-2. search needs) (λ add-result. search needs) returns-2
+    (λ add-i. search needs) (λ loop-less. search needs) loop-again returns-3)

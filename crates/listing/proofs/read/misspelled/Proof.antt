@@ -54,19 +54,6 @@ returns-2 c =
 
 pub misspelled-spec : {M : Type 1} → statement M
 misspelled-spec =
-    tie.close
-    (tie.spec
-    Inv-loop
-    μ-loop
-    loop-holds
-    (λ line-end-requires κs. search needs)
-    (λ sub-l. search needs)
-    (λ part-l-start. search needs)
-    (λ part-l-end. search needs)
-    (λ indent-requires κs. search needs)
-    (λ add-n. search needs)
-    (λ word-in-requires κs. search needs)
-    returns
-    loop-less
-    loop-again
+    tie.close (tie.spec Inv-loop μ-loop loop-holds (λ line-end-requires κs. search needs) (λ sub-l. search needs) (λ part-l-start. search needs)
+    (λ part-l-end. search needs) (λ indent-requires κs. search needs) (λ add-n. search needs) (λ word-in-requires κs. search needs) returns loop-less loop-again
     returns-2)

@@ -22,12 +22,5 @@ place-accepted-requires c κs =
 
 pub place-spec : {M : Type 1} → statement M
 place-spec =
-    tie.close
-    (tie.spec
-    (λ read-narrow-requires κs. search needs)
-    (λ enum-known-r. search needs)
-    returns
-    (λ enum-told. search needs)
-    place-accepted-requires
-    (λ same-length. search needs)
-    (λ returns-2. search needs))
+    tie.close (tie.spec (λ read-narrow-requires κs. search needs) (λ enum-known-r. search needs) returns (λ enum-told. search needs) place-accepted-requires
+    (λ same-length. search needs) (λ returns-2. search needs))

@@ -53,15 +53,5 @@ returns-3 c =
 
 pub place-accepted-spec : {M : Type 1} → statement M
 place-accepted-spec =
-    tie.close
-    (tie.spec
-    (λ slice-aggregate-find-depths. search needs)
-    find-depths-requires
-    array-share-prefix-depths
-    slice-aggregate-misplaced
-    (λ misplaced-requires κs. search needs)
-    returns
-    returns-2
-    (λ put-words-requires κs. search needs)
-    (λ same-length. search needs)
-    returns-3)
+    tie.close (tie.spec (λ slice-aggregate-find-depths. search needs) find-depths-requires array-share-prefix-depths slice-aggregate-misplaced
+    (λ misplaced-requires κs. search needs) returns returns-2 (λ put-words-requires κs. search needs) (λ same-length. search needs) returns-3)

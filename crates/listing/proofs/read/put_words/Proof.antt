@@ -43,17 +43,5 @@ returns c =
 
 pub put-words-spec : {M : Type 1} → statement M
 put-words-spec =
-    tie.close
-    (tie.spec
-    Inv-loop
-    μ-loop
-    loop-holds
-    (λ mul-out. search needs)
-    (λ shared-slice-read-out. search needs)
-    (λ mul-out-2. search needs)
-    (λ slice-write-out. search needs)
-    (λ add-i. search needs)
-    (λ loop-less. search needs)
-    loop-again
-    (λ same-length. search needs)
-    returns)
+    tie.close (tie.spec Inv-loop μ-loop loop-holds (λ mul-out. search needs) (λ shared-slice-read-out. search needs) (λ mul-out-2. search needs)
+    (λ slice-write-out. search needs) (λ add-i. search needs) (λ loop-less. search needs) loop-again (λ same-length. search needs) returns)

@@ -53,19 +53,6 @@ returns-3 c =
 
 pub read-spec : {M : Type 1} → statement M
 read-spec =
-    tie.close
-    (tie.spec
-    returns
-    (λ slice-aggregate-decode. search needs)
-    (λ slice-aggregate-decode-2. search needs)
-    (λ slice-aggregate-decode-3. search needs)
-    decode-requires
-    (λ enum-known-n. search needs)
-    (λ enum-known-n-2. search needs)
-    (λ slice-aggregate-finish. search needs)
-    (λ slice-aggregate-finish-2. search needs)
-    (λ slice-aggregate-finish-3. search needs)
-    finish-requires
-    returns-2
-    (λ same-length. search needs)
-    returns-3)
+    tie.close (tie.spec returns (λ slice-aggregate-decode. search needs) (λ slice-aggregate-decode-2. search needs) (λ slice-aggregate-decode-3. search needs)
+    decode-requires (λ enum-known-n. search needs) (λ enum-known-n-2. search needs) (λ slice-aggregate-finish. search needs)
+    (λ slice-aggregate-finish-2. search needs) (λ slice-aggregate-finish-3. search needs) finish-requires returns-2 (λ same-length. search needs) returns-3)

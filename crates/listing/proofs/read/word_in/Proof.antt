@@ -19,5 +19,5 @@ returns c =
 
 pub word-in-spec : {M : Type 1} → statement M
 word-in-spec =
-    tie.close
-    (tie.spec (λ sub-line-word. search needs) (λ part-line-word-start. search needs) (λ part-line-word-end. search needs) (λ line-word-requires κs. search needs) returns)
+    tie.close (tie.spec
+    (λ sub-line-word. search needs) (λ part-line-word-start. search needs) (λ part-line-word-end. search needs) (λ line-word-requires κs. search needs) returns)

@@ -35,17 +35,6 @@ returns-4 c =
 
 pub argument-field-spec : {M : Type 1} → statement M
 argument-field-spec =
-    tie.close
-    (tie.spec
-    (λ slice-aggregate-set-field. search needs)
-    (λ set-field-requires κs. search needs)
-    (λ slice-aggregate-number-field. search needs)
-    (λ number-field-requires κs. search needs)
-    (λ signed-field-requires κs. search needs)
-    returns
-    (λ same-length. search needs)
-    returns-2
-    (λ same-length-2. search needs)
-    returns-3
-    (λ same-length-3. search needs)
-    returns-4)
+    tie.close (tie.spec (λ slice-aggregate-set-field. search needs) (λ set-field-requires κs. search needs) (λ slice-aggregate-number-field. search needs)
+    (λ number-field-requires κs. search needs) (λ signed-field-requires κs. search needs) returns (λ same-length. search needs) returns-2
+    (λ same-length-2. search needs) returns-3 (λ same-length-3. search needs) returns-4)

@@ -31,15 +31,5 @@ returns c =
 
 pub keyword-field-spec : {M : Type 1} → statement M
 keyword-field-spec =
-    tie.close
-    (tie.spec
-    (λ mul-from. search needs)
-    (λ add-from. search needs)
-    (λ keyword-size-requires κs. search needs)
-    add-to
-    (λ sub-put. search needs)
-    (λ part-put-start. search needs)
-    part-put-end
-    put-requires
-    (λ same-length. search needs)
-    returns)
+    tie.close (tie.spec (λ mul-from. search needs) (λ add-from. search needs) (λ keyword-size-requires κs. search needs) add-to (λ sub-put. search needs)
+    (λ part-put-start. search needs) part-put-end put-requires (λ same-length. search needs) returns)

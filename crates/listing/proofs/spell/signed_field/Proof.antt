@@ -18,15 +18,6 @@ returns-2 c =
 
 pub signed-field-spec : {M : Type 1} → statement M
 signed-field-spec =
-    tie.close
-    (tie.spec
-    (λ slice-aggregate-number-field. search needs)
-    (λ number-field-requires κs. search needs)
-    (λ slice-aggregate-number-field-2. search needs)
-    (λ sub-number-field. search needs)
-    (λ cast-number-field. search needs)
-    (λ number-field-requires-2 κs. search needs)
-    (λ same-length. search needs)
-    returns
-    (λ same-length-2. search needs)
-    returns-2)
+    tie.close (tie.spec (λ slice-aggregate-number-field. search needs) (λ number-field-requires κs. search needs)
+    (λ slice-aggregate-number-field-2. search needs) (λ sub-number-field. search needs) (λ cast-number-field. search needs)
+    (λ number-field-requires-2 κs. search needs) (λ same-length. search needs) returns (λ same-length-2. search needs) returns-2)

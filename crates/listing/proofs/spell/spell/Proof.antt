@@ -20,14 +20,6 @@ returns c =
 
 pub spell-spec : {M : Type 1} → statement M
 spell-spec =
-    tie.close
-    (tie.spec
-    (λ kind-of-requires κs. search needs)
-    (λ cast-k. search needs)
-    (λ keyword-field-requires κs. search needs)
-    (λ style-at-requires κs. search needs)
-    (λ argument-of-requires κs. search needs)
-    (λ argument-field-requires κs. search needs)
-    (λ slice-aggregate-put. search needs)
-    (λ put-requires κs. search needs)
-    returns)
+    tie.close (tie.spec (λ kind-of-requires κs. search needs) (λ cast-k. search needs) (λ keyword-field-requires κs. search needs)
+    (λ style-at-requires κs. search needs) (λ argument-of-requires κs. search needs) (λ argument-field-requires κs. search needs)
+    (λ slice-aggregate-put. search needs) (λ put-requires κs. search needs) returns)

@@ -33,14 +33,5 @@ returns c =
 
 pub put-line-spec : {M : Type 1} → statement M
 put-line-spec =
-    tie.close
-    (tie.spec
-    (λ spell-requires κs. search needs)
-    (λ wide-requires κs. search needs)
-    (λ mul-put-spaces. search needs)
-    put-spaces-requires
-    (λ array-share-prefix-line. search needs)
-    (λ slice-aggregate-put. search needs)
-    put-requires
-    (λ same-length. search needs)
-    returns)
+    tie.close (tie.spec (λ spell-requires κs. search needs) (λ wide-requires κs. search needs) (λ mul-put-spaces. search needs) put-spaces-requires
+    (λ array-share-prefix-line. search needs) (λ slice-aggregate-put. search needs) put-requires (λ same-length. search needs) returns)

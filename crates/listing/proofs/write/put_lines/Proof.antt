@@ -71,17 +71,5 @@ returns c =
 
 pub put-lines-spec : {M : Type 1} → statement M
 put-lines-spec =
-    tie.close
-    (tie.spec
-    Inv-loop
-    μ-loop
-    loop-holds
-    (λ mul-put-line. search needs)
-    (λ shared-slice-read-put-line. search needs)
-    shared-slice-read-put-line-2
-    put-line-requires
-    (λ add-i. search needs)
-    (λ loop-less. search needs)
-    loop-again
-    (λ same-length. search needs)
-    returns)
+    tie.close (tie.spec Inv-loop μ-loop loop-holds (λ mul-put-line. search needs) (λ shared-slice-read-put-line. search needs) shared-slice-read-put-line-2
+    put-line-requires (λ add-i. search needs) (λ loop-less. search needs) loop-again (λ same-length. search needs) returns)

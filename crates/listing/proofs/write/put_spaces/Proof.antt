@@ -40,16 +40,5 @@ returns c =
 
 pub put-spaces-spec : {M : Type 1} → statement M
 put-spaces-spec =
-    tie.close
-    (tie.spec
-    Inv-loop
-    μ-loop
-    loop-holds
-    (λ add-out. search needs)
-    (λ slice-write-out. search needs)
-    (λ add-i. search needs)
-    (λ loop-less. search needs)
-    loop-again
-    (λ add-result. search needs)
-    (λ same-length. search needs)
-    returns)
+    tie.close (tie.spec Inv-loop μ-loop loop-holds (λ add-out. search needs) (λ slice-write-out. search needs) (λ add-i. search needs)
+    (λ loop-less. search needs) loop-again (λ add-result. search needs) (λ same-length. search needs) returns)

@@ -54,20 +54,6 @@ returns c =
 
 pub text-size-spec : {M : Type 1} → statement M
 text-size-spec =
-    tie.close
-    (tie.spec
-    Inv-loop
-    μ-loop
-    loop-holds
-    shared-slice-read-wide
-    (λ wide-requires κs. search needs)
-    (λ mul-n. search needs)
-    (λ mul-spell. search needs)
-    (λ shared-slice-read-spell. search needs)
-    spell-requires
-    (λ add-n. search needs)
-    (λ add-n-2. search needs)
-    (λ add-i. search needs)
-    (λ loop-less. search needs)
-    loop-again
-    returns)
+    tie.close (tie.spec Inv-loop μ-loop loop-holds shared-slice-read-wide (λ wide-requires κs. search needs) (λ mul-n. search needs) (λ mul-spell. search needs)
+    (λ shared-slice-read-spell. search needs) spell-requires (λ add-n. search needs) (λ add-n-2. search needs) (λ add-i. search needs)
+    (λ loop-less. search needs) loop-again returns)

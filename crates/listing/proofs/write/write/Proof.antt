@@ -30,12 +30,5 @@ returns-2 c =
 
 pub write-spec : {M : Type 1} → statement M
 write-spec =
-    tie.close
-    (tie.spec
-    (λ read-narrow-requires κs. search needs)
-    (λ enum-known-r. search needs)
-    returns
-    (λ enum-told. search needs)
-    write-accepted-requires
-    (λ same-length. search needs)
-    returns-2)
+    tie.close (tie.spec (λ read-narrow-requires κs. search needs) (λ enum-known-r. search needs) returns (λ enum-told. search needs) write-accepted-requires
+    (λ same-length. search needs) returns-2)

@@ -55,17 +55,6 @@ returns-3 c =
 
 pub write-accepted-spec : {M : Type 1} → statement M
 write-accepted-spec =
-    tie.close
-    (tie.spec
-    (λ slice-aggregate-find-depths. search needs)
-    find-depths-requires
-    (λ slice-aggregate-text-size. search needs)
-    (λ slice-aggregate-text-size-2. search needs)
-    text-size-requires
-    returns
-    returns-2
-    (λ slice-aggregate-put-lines. search needs)
-    (λ slice-aggregate-put-lines-2. search needs)
-    put-lines-requires
-    (λ same-length. search needs)
-    returns-3)
+    tie.close (tie.spec (λ slice-aggregate-find-depths. search needs) find-depths-requires (λ slice-aggregate-text-size. search needs)
+    (λ slice-aggregate-text-size-2. search needs) text-size-requires returns returns-2 (λ slice-aggregate-put-lines. search needs)
+    (λ slice-aggregate-put-lines-2. search needs) put-lines-requires (λ same-length. search needs) returns-3)

@@ -64,17 +64,5 @@ returns-4 c =
 
 pub element-spec : {M : Type 1} → statement M
 element-spec =
-    tie.close
-    (tie.spec
-    (λ enum-known-tally. search needs)
-    (λ enum-told. search needs)
-    returns
-    (λ byte-requires κs. search needs)
-    returns-2
-    add-set-of
-    (λ set-of-requires κs. search needs)
-    (λ is-empty-requires κs. search needs)
-    add-t14
-    (λ union-requires κs. search needs)
-    returns-3
-    returns-4)
+    tie.close (tie.spec (λ enum-known-tally. search needs) (λ enum-told. search needs) returns (λ byte-requires κs. search needs) returns-2 add-set-of
+    (λ set-of-requires κs. search needs) (λ is-empty-requires κs. search needs) add-t14 (λ union-requires κs. search needs) returns-3 returns-4)

@@ -79,17 +79,5 @@ returns-2 c =
 
 pub elements-spec : {M : Type 1} → statement M
 elements-spec =
-    tie.close
-    (tie.spec
-    Inv-loop
-    μ-loop
-    loop-holds
-    element-requires
-    item-requires
-    (λ enum-told. search needs)
-    returns
-    (λ enum-known-q. search needs)
-    loop-less
-    loop-again
-    (λ enum-told-2. search needs)
-    returns-2)
+    tie.close (tie.spec Inv-loop μ-loop loop-holds element-requires item-requires (λ enum-told. search needs) returns (λ enum-known-q. search needs) loop-less
+    loop-again (λ enum-told-2. search needs) returns-2)

@@ -76,23 +76,6 @@ returns-4 c =
 
 pub find-spec : {M : Type 1} → statement M
 find-spec =
-    tie.close
-    (tie.spec
-    Inv-loop
-    μ-loop
-    (λ enum-known-members. search needs)
-    (λ enum-told. search needs)
-    returns
-    loop-holds
-    behind-requires
-    spells-requires
-    name-requires
-    returns-2
-    item-requires
-    (λ enum-told-2. search needs)
-    returns-3
-    (λ enum-known-q. search needs)
-    loop-less
-    loop-again
-    (λ enum-told-3. search needs)
-    returns-4)
+    tie.close (tie.spec Inv-loop μ-loop (λ enum-known-members. search needs) (λ enum-told. search needs) returns loop-holds behind-requires spells-requires
+    name-requires returns-2 item-requires (λ enum-told-2. search needs) returns-3 (λ enum-known-q. search needs) loop-less loop-again
+    (λ enum-told-3. search needs) returns-4)

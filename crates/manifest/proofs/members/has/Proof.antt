@@ -78,21 +78,5 @@ returns-4 c =
 
 pub has-spec : {M : Type 1} → statement M
 has-spec =
-    tie.close
-    (tie.spec
-    Inv-loop
-    μ-loop
-    loop-holds
-    behind-requires
-    same-requires
-    returns
-    item-requires
-    (λ enum-told. search needs)
-    returns-2
-    (λ enum-known-q. search needs)
-    (λ enum-told-2. search needs)
-    returns-3
-    sub-left
-    loop-less
-    loop-again
-    returns-4)
+    tie.close (tie.spec Inv-loop μ-loop loop-holds behind-requires same-requires returns item-requires (λ enum-told. search needs) returns-2
+    (λ enum-known-q. search needs) (λ enum-told-2. search needs) returns-3 sub-left loop-less loop-again returns-4)

@@ -61,17 +61,5 @@ returns-4 c =
 
 pub list-spec : {M : Type 1} → statement M
 list-spec =
-    tie.close
-    (tie.spec
-    (λ enum-known-value. search needs)
-    (λ enum-told. search needs)
-    returns
-    (λ byte-requires κs. search needs)
-    returns-2
-    add-first
-    (λ first-requires κs. search needs)
-    (λ enum-known-p. search needs)
-    (λ enum-told-2. search needs)
-    returns-3
-    (λ elements-requires κs. search needs)
-    returns-4)
+    tie.close (tie.spec (λ enum-known-value. search needs) (λ enum-told. search needs) returns (λ byte-requires κs. search needs) returns-2 add-first
+    (λ first-requires κs. search needs) (λ enum-known-p. search needs) (λ enum-told-2. search needs) returns-3 (λ elements-requires κs. search needs) returns-4)

@@ -19,11 +19,5 @@ returns-2 c =
 
 pub repeated-spec : {M : Type 1} → statement M
 repeated-spec =
-    tie.close
-    (tie.spec
-    (λ enum-known-members. search needs)
-    (λ enum-told. search needs)
-    returns
-    (λ slice-aggregate-repeated-from. search needs)
-    (λ repeated-from-requires κs. search needs)
-    returns-2)
+    tie.close (tie.spec (λ enum-known-members. search needs) (λ enum-told. search needs) returns (λ slice-aggregate-repeated-from. search needs)
+    (λ repeated-from-requires κs. search needs) returns-2)

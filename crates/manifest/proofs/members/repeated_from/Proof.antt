@@ -118,26 +118,6 @@ loop-again c =
 
 pub repeated-from-spec : {M : Type 1} → statement M
 repeated-from-spec =
-    tie.close
-    (tie.spec
-    Inv-loop
-    μ-loop
-    loop-holds
-    behind-requires
-    hash-requires
-    slice-read-has-marked
-    has-marked-requires
-    same-length
-    returns
-    slice-write-marks
-    item-requires
-    (λ enum-told. search needs)
-    same-length-2
-    returns-2
-    (λ enum-known-q. search needs)
-    (λ enum-told-2. search needs)
-    same-length-3
-    returns-3
-    add-count
-    loop-less
-    loop-again)
+    tie.close (tie.spec Inv-loop μ-loop loop-holds behind-requires hash-requires slice-read-has-marked has-marked-requires same-length returns slice-write-marks
+    item-requires (λ enum-told. search needs) same-length-2 returns-2 (λ enum-known-q. search needs) (λ enum-told-2. search needs) same-length-3 returns-3
+    add-count loop-less loop-again)

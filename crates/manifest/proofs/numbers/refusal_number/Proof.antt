@@ -19,5 +19,5 @@ returns-4 c = sym (ap number (c .enum-told4 .given .1))
 
 pub refusal-number-spec : {M : Type 1} → statement M
 refusal-number-spec =
-    tie.close
-    (tie.spec (λ enum-told. search needs) (λ enum-told-2. search needs) (λ enum-told-3. search needs) (λ enum-told-4. search needs) returns returns-2 returns-3 returns-4)
+    tie.close (tie.spec
+    (λ enum-told. search needs) (λ enum-told-2. search needs) (λ enum-told-3. search needs) (λ enum-told-4. search needs) returns returns-2 returns-3 returns-4)

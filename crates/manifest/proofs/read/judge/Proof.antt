@@ -39,16 +39,6 @@ returns-4 c = (
 
 pub judge-spec : {M : Type 1} → statement M
 judge-spec =
-    tie.close
-    (tie.spec
-    (λ repeated-requires κs. search needs)
-    returns
-    (λ slice-aggregate-find. search needs)
-    (λ find-requires κs. search needs)
-    (λ version-requires κs. search needs)
-    returns-2
-    (λ total-requires κs. search needs)
-    (λ enum-told. search needs)
-    (λ enum-known-set. search needs)
-    returns-3
+    tie.close (tie.spec (λ repeated-requires κs. search needs) returns (λ slice-aggregate-find. search needs) (λ find-requires κs. search needs)
+    (λ version-requires κs. search needs) returns-2 (λ total-requires κs. search needs) (λ enum-told. search needs) (λ enum-known-set. search needs) returns-3
     returns-4)

@@ -51,15 +51,5 @@ returns-4 c =
 
 pub read-spec : {M : Type 1} → statement M
 read-spec =
-    tie.close
-    (tie.spec
-    returns
-    (λ is-text-requires κs. search needs)
-    returns-2
-    (λ space-requires κs. search needs)
-    (λ byte-requires κs. search needs)
-    returns-3
-    add-first
-    (λ first-requires κs. search needs)
-    (λ judge-requires κs. search needs)
-    returns-4)
+    tie.close (tie.spec returns (λ is-text-requires κs. search needs) returns-2 (λ space-requires κs. search needs) (λ byte-requires κs. search needs) returns-3
+    add-first (λ first-requires κs. search needs) (λ judge-requires κs. search needs) returns-4)

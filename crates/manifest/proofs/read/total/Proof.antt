@@ -32,15 +32,6 @@ returns-2 c =
 
 pub total-spec : {M : Type 1} → statement M
 total-spec =
-    tie.close
-    (tie.spec
-    (λ empty-requires κs. search needs)
-    (λ slice-aggregate-find. search needs)
-    (λ find-requires κs. search needs)
-    (λ list-requires κs. search needs)
-    returns
-    (λ list-requires-2 κs. search needs)
-    (λ slice-aggregate-find-2. search needs)
-    (λ find-requires-2 κs. search needs)
-    (λ list-requires-3 κs. search needs)
-    returns-2)
+    tie.close (tie.spec (λ empty-requires κs. search needs) (λ slice-aggregate-find. search needs) (λ find-requires κs. search needs)
+    (λ list-requires κs. search needs) returns (λ list-requires-2 κs. search needs) (λ slice-aggregate-find-2. search needs)
+    (λ find-requires-2 κs. search needs) (λ list-requires-3 κs. search needs) returns-2)

@@ -36,16 +36,5 @@ returns-5 c =
 
 pub version-spec : {M : Type 1} → statement M
 version-spec =
-    tie.close
-    (tie.spec
-    (λ enum-known-value. search needs)
-    (λ enum-told. search needs)
-    returns
-    (λ behind-requires κs. search needs)
-    (λ byte-requires κs. search needs)
-    (λ goes-on-requires κs. search needs)
-    returns-2
-    (λ byte-requires-2 κs. search needs)
-    returns-3
-    returns-4
-    returns-5)
+    tie.close (tie.spec (λ enum-known-value. search needs) (λ enum-told. search needs) returns (λ behind-requires κs. search needs)
+    (λ byte-requires κs. search needs) (λ goes-on-requires κs. search needs) returns-2 (λ byte-requires-2 κs. search needs) returns-3 returns-4 returns-5)

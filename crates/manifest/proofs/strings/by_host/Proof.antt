@@ -24,12 +24,5 @@ returns-3 c =
 
 pub by-host-spec : {M : Type 1} → statement M
 by-host-spec =
-    tie.close
-    (tie.spec
-    (λ empty-requires κs. search needs)
-    returns
-    (λ is-host-requires κs. search needs)
-    (λ of-requires κs. search needs)
-    (λ empty-requires-2 κs. search needs)
-    returns-2
-    returns-3)
+    tie.close (tie.spec (λ empty-requires κs. search needs) returns (λ is-host-requires κs. search needs) (λ of-requires κs. search needs)
+    (λ empty-requires-2 κs. search needs) returns-2 returns-3)

@@ -15,11 +15,5 @@ returns-2 c =
 
 pub is-host-spec : {M : Type 1} → statement M
 is-host-spec =
-    tie.close
-    (tie.spec
-    (λ slice-aggregate-spells. search needs)
-    (λ spells-requires κs. search needs)
-    returns
-    (λ slice-aggregate-contains. search needs)
-    (λ contains-requires κs. search needs)
-    returns-2)
+    tie.close (tie.spec (λ slice-aggregate-spells. search needs) (λ spells-requires κs. search needs) returns (λ slice-aggregate-contains. search needs)
+    (λ contains-requires κs. search needs) returns-2)

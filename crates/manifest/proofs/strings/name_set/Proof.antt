@@ -118,36 +118,10 @@ returns-11 c =
 
 pub name-set-spec : {M : Type 1} → statement M
 name-set-spec =
-    tie.close
-    (tie.spec
-    (λ slice-aggregate-spells. search needs)
-    (λ spells-requires κs. search needs)
-    returns
-    (λ slice-aggregate-spells-2. search needs)
-    (λ spells-requires-2 κs. search needs)
-    returns-2
-    (λ slice-aggregate-spells-3. search needs)
-    (λ spells-requires-3 κs. search needs)
-    returns-3
-    (λ slice-aggregate-spells-4. search needs)
-    (λ spells-requires-4 κs. search needs)
-    returns-4
-    (λ slice-aggregate-spells-5. search needs)
-    (λ spells-requires-5 κs. search needs)
-    returns-5
-    (λ slice-aggregate-spells-6. search needs)
-    (λ spells-requires-6 κs. search needs)
-    returns-6
-    (λ slice-aggregate-spells-7. search needs)
-    (λ spells-requires-7 κs. search needs)
-    returns-7
-    (λ slice-aggregate-spells-8. search needs)
-    (λ spells-requires-8 κs. search needs)
-    returns-8
-    (λ slice-aggregate-spells-9. search needs)
-    (λ spells-requires-9 κs. search needs)
-    returns-9
-    (λ slice-aggregate-spells-10. search needs)
-    (λ spells-requires-10 κs. search needs)
-    returns-10
-    returns-11)
+    tie.close (tie.spec (λ slice-aggregate-spells. search needs) (λ spells-requires κs. search needs) returns (λ slice-aggregate-spells-2. search needs)
+    (λ spells-requires-2 κs. search needs) returns-2 (λ slice-aggregate-spells-3. search needs) (λ spells-requires-3 κs. search needs) returns-3
+    (λ slice-aggregate-spells-4. search needs) (λ spells-requires-4 κs. search needs) returns-4 (λ slice-aggregate-spells-5. search needs)
+    (λ spells-requires-5 κs. search needs) returns-5 (λ slice-aggregate-spells-6. search needs) (λ spells-requires-6 κs. search needs) returns-6
+    (λ slice-aggregate-spells-7. search needs) (λ spells-requires-7 κs. search needs) returns-7 (λ slice-aggregate-spells-8. search needs)
+    (λ spells-requires-8 κs. search needs) returns-8 (λ slice-aggregate-spells-9. search needs) (λ spells-requires-9 κs. search needs) returns-9
+    (λ slice-aggregate-spells-10. search needs) (λ spells-requires-10 κs. search needs) returns-10 returns-11)

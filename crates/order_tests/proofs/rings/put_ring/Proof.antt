@@ -15,17 +15,6 @@ abbrev μ-loop : tie.MeasureT-loop
 
 pub put-ring-spec : {M : Type 1} → statement M
 put-ring-spec =
-    tie.close
-    (tie.spec
-    Inv-loop
-    μ-loop
-    (λ word-requires κs. search needs)
-    (λ put-requires κs. search needs)
-    (λ loop-holds. search needs)
-    (λ add-put-handler. search needs)
-    (λ put-handler-requires κs. search needs)
-    (λ add-name. search needs)
-    (λ loop-less. search needs)
-    (λ loop-again. search needs)
-    (λ same-length. search needs)
-    (λ returns. search needs))
+    tie.close (tie.spec Inv-loop μ-loop (λ word-requires κs. search needs) (λ put-requires κs. search needs) (λ loop-holds. search needs)
+    (λ add-put-handler. search needs) (λ put-handler-requires κs. search needs) (λ add-name. search needs) (λ loop-less. search needs)
+    (λ loop-again. search needs) (λ same-length. search needs) (λ returns. search needs))

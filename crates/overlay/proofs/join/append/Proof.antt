@@ -61,20 +61,5 @@ returns-2 c =
 
 pub append-spec : {M : Type 1} → statement M
 append-spec =
-    tie.close
-    (tie.spec
-    Inv-loop
-    μ-loop
-    (λ add-end. search needs)
-    returns
-    loop-holds
-    (λ mul-out. search needs)
-    (λ shared-slice-read-out. search needs)
-    (λ add-out. search needs)
-    mul-out-2
-    slice-write-out
-    (λ add-i. search needs)
-    (λ loop-less. search needs)
-    loop-again
-    same-length
-    returns-2)
+    tie.close (tie.spec Inv-loop μ-loop (λ add-end. search needs) returns loop-holds (λ mul-out. search needs) (λ shared-slice-read-out. search needs)
+    (λ add-out. search needs) mul-out-2 slice-write-out (λ add-i. search needs) (λ loop-less. search needs) loop-again same-length returns-2)

@@ -96,26 +96,7 @@ returns-5 c =
 
 pub join-spec : {M : Type 1} → statement M
 join-spec =
-    tie.close
-    (tie.spec
-    (λ check-requires κs. search needs)
-    (λ enum-known-f. search needs)
-    returns
-    (λ enum-told. search needs)
-    (λ slice-aggregate-put-blocks. search needs)
-    put-blocks-requires
-    (λ slice-aggregate-put-blocks-2. search needs)
-    put-blocks-requires-2
-    add-count
-    returns-2
-    returns-3
-    returns-4
-    (λ cast-words. search needs)
-    (λ add-words. search needs)
-    (λ array-write-words. search needs)
-    (λ sub-append. search needs)
-    (λ part-append-start. search needs)
-    part-append-end
-    (λ append-requires κs. search needs)
-    (λ same-length. search needs)
-    returns-5)
+    tie.close (tie.spec (λ check-requires κs. search needs) (λ enum-known-f. search needs) returns (λ enum-told. search needs)
+    (λ slice-aggregate-put-blocks. search needs) put-blocks-requires (λ slice-aggregate-put-blocks-2. search needs) put-blocks-requires-2 add-count returns-2
+    returns-3 returns-4 (λ cast-words. search needs) (λ add-words. search needs) (λ array-write-words. search needs) (λ sub-append. search needs)
+    (λ part-append-start. search needs) part-append-end (λ append-requires κs. search needs) (λ same-length. search needs) returns-5)

@@ -105,30 +105,9 @@ returns-3 c =
 
 pub put-block-spec : {M : Type 1} → statement M
 put-block-spec =
-    tie.close
-    (tie.spec
-    (λ mul-argument-of. search needs)
-    (λ shared-slice-read-argument-of. search needs)
-    (λ argument-of-requires κs. search needs)
-    (λ add-argument-of. search needs)
-    (λ mul-argument-of-2. search needs)
-    (λ shared-slice-read-argument-of-2. search needs)
-    (λ argument-of-requires-2 κs. search needs)
-    (λ seek-requires κs. search needs)
-    (λ enum-known-a. search needs)
-    mul-append
-    sub-append
-    part-append-start
-    part-append-end
-    append-requires
-    (λ enum-told. search needs)
-    (λ mul-append-2. search needs)
-    (λ sub-append-2. search needs)
-    (λ part-append-start-2. search needs)
-    (λ part-append-end-2. search needs)
-    (λ append-requires-2 κs. search needs)
-    returns
-    (λ same-length. search needs)
-    returns-2
-    (λ same-length-2. search needs)
-    returns-3)
+    tie.close (tie.spec (λ mul-argument-of. search needs) (λ shared-slice-read-argument-of. search needs) (λ argument-of-requires κs. search needs)
+    (λ add-argument-of. search needs) (λ mul-argument-of-2. search needs) (λ shared-slice-read-argument-of-2. search needs)
+    (λ argument-of-requires-2 κs. search needs) (λ seek-requires κs. search needs) (λ enum-known-a. search needs) mul-append sub-append part-append-start
+    part-append-end append-requires (λ enum-told. search needs) (λ mul-append-2. search needs) (λ sub-append-2. search needs)
+    (λ part-append-start-2. search needs) (λ part-append-end-2. search needs) (λ append-requires-2 κs. search needs) returns (λ same-length. search needs)
+    returns-2 (λ same-length-2. search needs) returns-3)

@@ -178,18 +178,5 @@ returns c =
 
 pub put-blocks-spec : {M : Type 1} → statement M
 put-blocks-spec =
-    tie.close
-    (tie.spec
-    Inv-loop
-    μ-loop
-    shared-slice-read-argument-of
-    (λ argument-of-requires κs. search needs)
-    loop-holds
-    block-end-requires
-    put-block-requires
-    (λ add-count. search needs)
-    (λ sub-left. search needs)
-    (λ loop-less. search needs)
-    loop-again
-    same-length
-    returns)
+    tie.close (tie.spec Inv-loop μ-loop shared-slice-read-argument-of (λ argument-of-requires κs. search needs) loop-holds block-end-requires put-block-requires
+    (λ add-count. search needs) (λ sub-left. search needs) (λ loop-less. search needs) loop-again same-length returns)

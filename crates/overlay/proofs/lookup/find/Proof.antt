@@ -48,18 +48,6 @@ returns-4 c =
 
 pub find-spec : {M : Type 1} → statement M
 find-spec =
-    tie.close
-    (tie.spec
-    (λ check-requires κs. search needs)
-    (λ enum-known-f. search needs)
-    returns
-    (λ enum-told. search needs)
-    seek-requires
-    (λ enum-known-start. search needs)
-    returns-2
-    (λ enum-told-2. search needs)
-    seek-requires-2
-    (λ enum-known-start-2. search needs)
-    (λ enum-told-3. search needs)
-    returns-3
-    returns-4)
+    tie.close (tie.spec (λ check-requires κs. search needs) (λ enum-known-f. search needs) returns (λ enum-told. search needs) seek-requires
+    (λ enum-known-start. search needs) returns-2 (λ enum-told-2. search needs) seek-requires-2 (λ enum-known-start-2. search needs)
+    (λ enum-told-3. search needs) returns-3 returns-4)

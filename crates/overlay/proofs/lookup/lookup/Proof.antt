@@ -62,23 +62,6 @@ returns-3 c = sym (answered (c .before .before .before) _ (c .before .enum-told 
 
 pub lookup-spec : {M : Type 1} → statement M
 lookup-spec =
-    tie.close
-    (tie.spec
-    (λ find-requires κs. search needs)
-    (λ enum-known-start. search needs)
-    mul-result
-    sub-result
-    part-result-start
-    part-result-end
-    (λ enum-known-start-2. search needs)
-    mul-result-2
-    sub-result-2
-    part-result-start-2
-    part-result-end-2
-    (λ enum-told. search needs)
-    (λ sub-result-3. search needs)
-    (λ part-result-start-3. search needs)
-    (λ part-result-end-3. search needs)
-    returns
-    returns-2
-    returns-3)
+    tie.close (tie.spec (λ find-requires κs. search needs) (λ enum-known-start. search needs) mul-result sub-result part-result-start part-result-end
+    (λ enum-known-start-2. search needs) mul-result-2 sub-result-2 part-result-start-2 part-result-end-2 (λ enum-told. search needs)
+    (λ sub-result-3. search needs) (λ part-result-start-3. search needs) (λ part-result-end-3. search needs) returns returns-2 returns-3)

@@ -31,19 +31,6 @@ returns-6 c = sym (ap faultPlace (c .enum-told4 .given .1))
 
 pub fault-place-spec : {M : Type 1} → statement M
 fault-place-spec =
-    tie.close
-    (tie.spec
-    (λ enum-known-f. search needs)
-    (λ refusal-place-requires κs. search needs)
-    (λ enum-known-f-2. search needs)
-    (λ refusal-place-requires-2 κs. search needs)
-    (λ enum-told. search needs)
-    (λ enum-told-2. search needs)
-    (λ enum-told-3. search needs)
-    (λ enum-told-4. search needs)
-    returns
-    returns-2
-    returns-3
-    returns-4
-    returns-5
-    returns-6)
+    tie.close (tie.spec (λ enum-known-f. search needs) (λ refusal-place-requires κs. search needs) (λ enum-known-f-2. search needs)
+    (λ refusal-place-requires-2 κs. search needs) (λ enum-told. search needs) (λ enum-told-2. search needs) (λ enum-told-3. search needs)
+    (λ enum-told-4. search needs) returns returns-2 returns-3 returns-4 returns-5 returns-6)

@@ -21,14 +21,6 @@ returns-2 c =
 
 pub has-key-spec : {M : Type 1} → statement M
 has-key-spec =
-    tie.close
-    (tie.spec
-    (λ mul-argument-of. search needs)
-    (λ shared-slice-read-argument-of. search needs)
-    (λ argument-of-requires κs. search needs)
-    (λ add-argument-of. search needs)
-    (λ mul-argument-of-2. search needs)
-    (λ shared-slice-read-argument-of-2. search needs)
-    (λ argument-of-requires-2 κs. search needs)
-    returns
-    returns-2)
+    tie.close (tie.spec (λ mul-argument-of. search needs) (λ shared-slice-read-argument-of. search needs) (λ argument-of-requires κs. search needs)
+    (λ add-argument-of. search needs) (λ mul-argument-of-2. search needs) (λ shared-slice-read-argument-of-2. search needs)
+    (λ argument-of-requires-2 κs. search needs) returns returns-2)

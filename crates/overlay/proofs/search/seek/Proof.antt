@@ -89,17 +89,5 @@ returns-2 c =
 
 pub seek-spec : {M : Type 1} → statement M
 seek-spec =
-    tie.close
-    (tie.spec
-    Inv-loop
-    μ-loop
-    shared-slice-read-argument-of
-    (λ argument-of-requires κs. search needs)
-    loop-holds
-    block-end-requires
-    has-key-requires
-    returns
-    (λ sub-left. search needs)
-    (λ loop-less. search needs)
-    loop-again
-    returns-2)
+    tie.close (tie.spec Inv-loop μ-loop shared-slice-read-argument-of (λ argument-of-requires κs. search needs) loop-holds block-end-requires has-key-requires
+    returns (λ sub-left. search needs) (λ loop-less. search needs) loop-again returns-2)

@@ -54,18 +54,6 @@ returns-2 c =
 
 pub term-end-spec : {M : Type 1} → statement M
 term-end-spec =
-    tie.close
-    (tie.spec
-    Inv-loop
-    μ-loop
-    loop-holds
-    returns
-    (λ sub-left. search needs)
-    (λ mul-arity-of. search needs)
-    (λ shared-slice-read-arity-of. search needs)
-    (λ arity-of-requires κs. search needs)
-    add-left
-    (λ add-next. search needs)
-    (λ loop-less. search needs)
-    loop-again
-    returns-2)
+    tie.close (tie.spec Inv-loop μ-loop loop-holds returns (λ sub-left. search needs) (λ mul-arity-of. search needs)
+    (λ shared-slice-read-arity-of. search needs) (λ arity-of-requires κs. search needs) add-left (λ add-next. search needs) (λ loop-less. search needs)
+    loop-again returns-2)

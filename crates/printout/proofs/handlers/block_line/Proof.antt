@@ -44,13 +44,5 @@ returns c =
 
 pub block-line-spec : {M : Type 1} → statement M
 block-line-spec =
-    tie.close
-    (tie.spec
-    (λ of-requires κs. search needs)
-    flags-requires
-    mul-w
-    shared-slice-read-w
-    (λ within-requires κs. search needs)
-    (λ handler-line-requires κs. search needs)
-    (λ same-length. search needs)
-    returns)
+    tie.close (tie.spec (λ of-requires κs. search needs) flags-requires mul-w shared-slice-read-w (λ within-requires κs. search needs)
+    (λ handler-line-requires κs. search needs) (λ same-length. search needs) returns)

@@ -37,15 +37,5 @@ returns-3 c =
 
 pub handler-at-spec : {M : Type 1} → statement M
 handler-at-spec =
-    tie.close
-    (tie.spec
-    (λ item-at-requires κs. search needs)
-    (λ enum-told. search needs)
-    (λ enum-known-h. search needs)
-    block-line-requires
-    (λ add-t13. search needs)
-    (λ enum-told-2. search needs)
-    returns
-    (λ same-length. search needs)
-    returns-2
-    returns-3)
+    tie.close (tie.spec (λ item-at-requires κs. search needs) (λ enum-told. search needs) (λ enum-known-h. search needs) block-line-requires
+    (λ add-t13. search needs) (λ enum-told-2. search needs) returns (λ same-length. search needs) returns-2 returns-3)

@@ -57,14 +57,4 @@ returns c =
 
 pub handler-lines-spec : {M : Type 1} → statement M
 handler-lines-spec =
-    tie.close
-    (tie.spec
-    Inv-loop
-    μ-loop
-    loop-holds
-    handler-at-requires
-    add-p
-    loop-less
-    loop-again
-    same-length
-    returns)
+    tie.close (tie.spec Inv-loop μ-loop loop-holds handler-at-requires add-p loop-less loop-again same-length returns)

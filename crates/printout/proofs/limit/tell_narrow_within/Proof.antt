@@ -43,18 +43,6 @@ returns-2 c =
 
 pub tell-narrow-within-spec : {M : Type 1} → statement M
 tell-narrow-within-spec =
-    tie.close
-    (tie.spec
-    (λ verdict-within-requires κs. search needs)
-    (λ enum-known-v. search needs)
-    answer-text-requires
-    (λ enum-known-n. search needs)
-    (λ refusal-line-requires κs. search needs)
-    (λ same-length. search needs)
-    (λ same-length-2. search needs)
-    (λ same-length-3. search needs)
-    returns
-    (λ same-length-4. search needs)
-    (λ same-length-5. search needs)
-    (λ same-length-6. search needs)
-    returns-2)
+    tie.close (tie.spec (λ verdict-within-requires κs. search needs) (λ enum-known-v. search needs) answer-text-requires (λ enum-known-n. search needs)
+    (λ refusal-line-requires κs. search needs) (λ same-length. search needs) (λ same-length-2. search needs) (λ same-length-3. search needs) returns
+    (λ same-length-4. search needs) (λ same-length-5. search needs) (λ same-length-6. search needs) returns-2)

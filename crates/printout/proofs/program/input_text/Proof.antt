@@ -12,13 +12,5 @@ returns c =
 
 pub input-text-spec : {M : Type 1} → statement M
 input-text-spec =
-    tie.close
-    (tie.spec
-    (λ feeder-fault-requires κs. search needs)
-    (λ refusal-line-requires κs. search needs)
-    (λ same-length. search needs)
-    returns
-    (λ slice-aggregate-lent-text. search needs)
-    (λ lent-text-requires κs. search needs)
-    (λ same-length-2. search needs)
-    (λ returns-2. search needs))
+    tie.close (tie.spec (λ feeder-fault-requires κs. search needs) (λ refusal-line-requires κs. search needs) (λ same-length. search needs) returns
+    (λ slice-aggregate-lent-text. search needs) (λ lent-text-requires κs. search needs) (λ same-length-2. search needs) (λ returns-2. search needs))

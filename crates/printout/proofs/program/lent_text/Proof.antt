@@ -40,12 +40,5 @@ returns c =
 
 pub lent-text-spec : {M : Type 1} → statement M
 lent-text-spec =
-    tie.close
-    (tie.spec
-    (λ words-of-requires κs. search needs)
-    (λ slice-reshare-prefix-words-text. search needs)
-    slice-aggregate-words-text
-    words-text-requires
-    (λ same-length. search needs)
-    (λ same-length-2. search needs)
-    returns)
+    tie.close (tie.spec (λ words-of-requires κs. search needs) (λ slice-reshare-prefix-words-text. search needs) slice-aggregate-words-text words-text-requires
+    (λ same-length. search needs) (λ same-length-2. search needs) returns)

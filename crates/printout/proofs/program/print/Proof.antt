@@ -13,9 +13,4 @@ returns-2 c = written (omega (arith, c .before .before .before .before .if1 .lef
 
 pub print-spec : {M : Type 1} → statement M
 print-spec =
-    tie.close
-    (tie.spec
-    returns
-    (λ input-text-requires κs. search needs)
-    (λ same-length. search needs)
-    returns-2)
+    tie.close (tie.spec returns (λ input-text-requires κs. search needs) (λ same-length. search needs) returns-2)

@@ -19,10 +19,4 @@ returns c =
 
 pub sized-text-spec : {M : Type 1} → statement M
 sized-text-spec =
-    tie.close
-    (tie.spec
-    (λ tell-requires κs. search needs)
-    (λ same-length. search needs)
-    (λ same-length-2. search needs)
-    (λ same-length-3. search needs)
-    returns)
+    tie.close (tie.spec (λ tell-requires κs. search needs) (λ same-length. search needs) (λ same-length-2. search needs) (λ same-length-3. search needs) returns)

@@ -19,13 +19,6 @@ returns c =
 
 pub words-text-spec : {M : Type 1} → statement M
 words-text-spec =
-    tie.close
-    (tie.spec
-    (λ sub-own-text. search needs)
-    (λ part-own-text-start. search needs)
-    (λ part-own-text-end. search needs)
-    (λ shared-slice-read-own-text. search needs)
-    (λ shared-slice-read-own-text-2. search needs)
-    (λ own-text-requires κs. search needs)
-    (λ same-length. search needs)
-    returns)
+    tie.close (tie.spec (λ sub-own-text. search needs) (λ part-own-text-start. search needs) (λ part-own-text-end. search needs)
+    (λ shared-slice-read-own-text. search needs) (λ shared-slice-read-own-text-2. search needs) (λ own-text-requires κs. search needs)
+    (λ same-length. search needs) returns)

@@ -39,19 +39,7 @@ returns-3 c =
 
 pub answer-line-spec : {M : Type 1} → statement M
 answer-line-spec =
-    tie.close
-    (tie.spec
-    (λ enum-known-v. search needs)
-    (λ fault-number-requires κs. search needs)
-    (λ fault-place-requires κs. search needs)
-    (λ refusal-line-requires κs. search needs)
-    (λ enum-known-v-2. search needs)
-    (λ report-line-requires κs. search needs)
-    (λ enum-known-v-3. search needs)
-    (λ report-line-requires-2 κs. search needs)
-    (λ same-length. search needs)
-    returns
-    (λ same-length-2. search needs)
-    returns-2
-    (λ same-length-3. search needs)
+    tie.close (tie.spec (λ enum-known-v. search needs) (λ fault-number-requires κs. search needs) (λ fault-place-requires κs. search needs)
+    (λ refusal-line-requires κs. search needs) (λ enum-known-v-2. search needs) (λ report-line-requires κs. search needs) (λ enum-known-v-3. search needs)
+    (λ report-line-requires-2 κs. search needs) (λ same-length. search needs) returns (λ same-length-2. search needs) returns-2 (λ same-length-3. search needs)
     returns-3)

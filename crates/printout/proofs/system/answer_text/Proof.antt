@@ -51,17 +51,6 @@ returns-3 c =
 
 pub answer-text-spec : {M : Type 1} → statement M
 answer-text-spec =
-    tie.close
-    (tie.spec
-    (λ answer-line-requires κs. search needs)
-    (λ enum-told. search needs)
-    (λ enum-told-2. search needs)
-    handlers-of-requires
-    (λ enum-told-3. search needs)
-    handlers-of-requires-2
-    (λ same-length. search needs)
-    returns
-    (λ same-length-2. search needs)
-    returns-2
-    (λ same-length-3. search needs)
-    returns-3)
+    tie.close (tie.spec (λ answer-line-requires κs. search needs) (λ enum-told. search needs) (λ enum-told-2. search needs) handlers-of-requires
+    (λ enum-told-3. search needs) handlers-of-requires-2 (λ same-length. search needs) returns (λ same-length-2. search needs) returns-2
+    (λ same-length-3. search needs) returns-3)

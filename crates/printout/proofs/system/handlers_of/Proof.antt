@@ -32,10 +32,4 @@ returns c =
 
 pub handlers-of-spec : {M : Type 1} → statement M
 handlers-of-spec =
-    tie.close
-    (tie.spec
-    (λ words-needed-requires κs. search needs)
-    slice-aggregate-handler-lines
-    handler-lines-requires
-    (λ same-length. search needs)
-    returns)
+    tie.close (tie.spec (λ words-needed-requires κs. search needs) slice-aggregate-handler-lines handler-lines-requires (λ same-length. search needs) returns)

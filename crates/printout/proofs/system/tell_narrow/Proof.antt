@@ -28,11 +28,5 @@ returns c =
 
 pub tell-narrow-spec : {M : Type 1} → statement M
 tell-narrow-spec =
-    tie.close
-    (tie.spec
-    (λ verdict-requires κs. search needs)
-    answer-text-requires
-    (λ same-length. search needs)
-    (λ same-length-2. search needs)
-    (λ same-length-3. search needs)
-    returns)
+    tie.close (tie.spec (λ verdict-requires κs. search needs) answer-text-requires (λ same-length. search needs) (λ same-length-2. search needs)
+    (λ same-length-3. search needs) returns)

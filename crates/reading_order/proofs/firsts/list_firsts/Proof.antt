@@ -21,11 +21,5 @@ list-linked-requires c κs =
 
 pub list-firsts-spec : {M : Type 1} → statement M
 list-firsts-spec =
-    tie.close
-    (tie.spec
-    (λ slice-aggregate-link. search needs)
-    (λ link-requires κs. search needs)
-    (λ slice-aggregate-list-linked. search needs)
-    list-linked-requires
-    (λ same-length. search needs)
-    (λ returns. search needs))
+    tie.close (tie.spec (λ slice-aggregate-link. search needs) (λ link-requires κs. search needs) (λ slice-aggregate-list-linked. search needs)
+    list-linked-requires (λ same-length. search needs) (λ returns. search needs))

@@ -113,18 +113,5 @@ returns c =
 
 pub list-linked-spec : {M : Type 1} → statement M
 list-linked-spec =
-    tie.close
-    (tie.spec
-    Inv-loop
-    μ-loop
-    loop-holds
-    cast-firsts
-    mul-firsts
-    slice-write-firsts
-    add-n
-    add-link-at
-    (λ link-at-requires κs. search needs)
-    loop-less
-    loop-again
-    same-length
-    returns)
+    tie.close (tie.spec Inv-loop μ-loop loop-holds cast-firsts mul-firsts slice-write-firsts add-n add-link-at (λ link-at-requires κs. search needs) loop-less
+    loop-again same-length returns)

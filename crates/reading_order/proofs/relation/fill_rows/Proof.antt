@@ -64,19 +64,6 @@ returns c =
 
 pub fill-rows-spec : {M : Type 1} → statement M
 fill-rows-spec =
-    tie.close
-    (tie.spec
-    Inv-loop
-    μ-loop
-    loop-holds
-    (λ mul-senders-to. search needs)
-    (λ shared-slice-read-senders-to. search needs)
-    cast-senders-to
-    senders-to-requires
-    (λ mul-rows. search needs)
-    (λ slice-write-rows. search needs)
-    (λ add-t. search needs)
-    (λ loop-less. search needs)
-    loop-again
-    (λ same-length. search needs)
-    returns)
+    tie.close (tie.spec Inv-loop μ-loop loop-holds (λ mul-senders-to. search needs) (λ shared-slice-read-senders-to. search needs) cast-senders-to
+    senders-to-requires (λ mul-rows. search needs) (λ slice-write-rows. search needs) (λ add-t. search needs) (λ loop-less. search needs) loop-again
+    (λ same-length. search needs) returns)

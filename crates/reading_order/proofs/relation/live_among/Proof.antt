@@ -55,17 +55,5 @@ returns c =
 
 pub live-among-spec : {M : Type 1} → statement M
 live-among-spec =
-    tie.close
-    (tie.spec
-    Inv-loop
-    μ-loop
-    loop-holds
-    (λ sub-i. search needs)
-    (λ mul-is-live. search needs)
-    (λ shared-slice-read-is-live. search needs)
-    cast-is-live
-    is-live-requires
-    shifted-requires
-    (λ loop-less. search needs)
-    loop-again
-    returns)
+    tie.close (tie.spec Inv-loop μ-loop loop-holds (λ sub-i. search needs) (λ mul-is-live. search needs) (λ shared-slice-read-is-live. search needs)
+    cast-is-live is-live-requires shifted-requires (λ loop-less. search needs) loop-again returns)

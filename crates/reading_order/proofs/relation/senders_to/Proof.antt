@@ -69,20 +69,5 @@ returns c =
 
 pub senders-to-spec : {M : Type 1} → statement M
 senders-to-spec =
-    tie.close
-    (tie.spec
-    Inv-loop
-    μ-loop
-    loop-holds
-    (λ sub-i. search needs)
-    (λ mul-has. search needs)
-    (λ mul-has-2. search needs)
-    (λ mul-has-3. search needs)
-    (λ shared-slice-read-has. search needs)
-    cast-has
-    add-has
-    has-requires
-    shifted-requires
-    (λ loop-less. search needs)
-    loop-again
-    returns)
+    tie.close (tie.spec Inv-loop μ-loop loop-holds (λ sub-i. search needs) (λ mul-has. search needs) (λ mul-has-2. search needs) (λ mul-has-3. search needs)
+    (λ shared-slice-read-has. search needs) cast-has add-has has-requires shifted-requires (λ loop-less. search needs) loop-again returns)

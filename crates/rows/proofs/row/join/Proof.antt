@@ -52,20 +52,7 @@ add-result c = omega (arith, poured-few _ _ _ _ _ (whole c) (c .before .before .
 
 pub join-spec : {M : Type 1} → statement M
 join-spec =
-    tie.close
-    (tie.spec
-    Inv-loop
-    μ-loop
+    tie.close (tie.spec Inv-loop μ-loop
     (λ c. (search needs, refl, record { words = sym (pour-nil (c .before .before .args .row .now) 0); count = omega arith }))
-    (λ add-loop. search needs)
-    (λ add-pour-some. search needs)
-    (λ pour-some-requires κs. search needs)
-    add-added
-    (λ add-i. search needs)
-    (λ loop-less. search needs)
-    loop-again
-    cast-result
-    (λ pour-rest-requires κs. search needs)
-    add-result
-    (λ same-length. search needs)
-    whole)
+    (λ add-loop. search needs) (λ add-pour-some. search needs) (λ pour-some-requires κs. search needs) add-added (λ add-i. search needs)
+    (λ loop-less. search needs) loop-again cast-result (λ pour-rest-requires κs. search needs) add-result (λ same-length. search needs) whole)

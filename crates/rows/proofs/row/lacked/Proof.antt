@@ -55,21 +55,6 @@ returns c =
 
 pub lacked-spec : {M : Type 1} → statement M
 lacked-spec =
-    tie.close
-    (tie.spec
-    Inv-loop
-    μ-loop
-    (λ c. (search needs, refl, refl, refl))
-    (λ add-x. search needs)
-    (λ mul-x. search needs)
-    (λ shared-slice-read-x. search needs)
-    (λ add-y. search needs)
-    (λ mul-y. search needs)
-    (λ shared-slice-read-y. search needs)
-    (λ mul-new. search needs)
-    (λ slice-write-new. search needs)
-    (λ add-i. search needs)
-    (λ loop-less. search needs)
-    loop-again
-    (λ same-length. search needs)
-    returns)
+    tie.close (tie.spec Inv-loop μ-loop (λ c. (search needs, refl, refl, refl)) (λ add-x. search needs) (λ mul-x. search needs)
+    (λ shared-slice-read-x. search needs) (λ add-y. search needs) (λ mul-y. search needs) (λ shared-slice-read-y. search needs) (λ mul-new. search needs)
+    (λ slice-write-new. search needs) (λ add-i. search needs) (λ loop-less. search needs) loop-again (λ same-length. search needs) returns)

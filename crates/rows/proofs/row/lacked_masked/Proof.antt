@@ -58,23 +58,7 @@ returns c =
 
 pub lacked-masked-spec : {M : Type 1} → statement M
 lacked-masked-spec =
-    tie.close
-    (tie.spec
-    Inv-loop
-    μ-loop
-    (λ c. (search needs, refl, refl, refl))
-    (λ mul-kept. search needs)
-    (λ shared-slice-read-kept. search needs)
-    (λ add-kept. search needs)
-    (λ mul-kept-2. search needs)
-    (λ shared-slice-read-kept-2. search needs)
-    (λ add-y. search needs)
-    (λ mul-y. search needs)
-    (λ shared-slice-read-y. search needs)
-    (λ mul-new. search needs)
-    (λ slice-write-new. search needs)
-    (λ add-i. search needs)
-    (λ loop-less. search needs)
-    loop-again
-    (λ same-length. search needs)
-    returns)
+    tie.close (tie.spec Inv-loop μ-loop (λ c. (search needs, refl, refl, refl)) (λ mul-kept. search needs) (λ shared-slice-read-kept. search needs)
+    (λ add-kept. search needs) (λ mul-kept-2. search needs) (λ shared-slice-read-kept-2. search needs) (λ add-y. search needs) (λ mul-y. search needs)
+    (λ shared-slice-read-y. search needs) (λ mul-new. search needs) (λ slice-write-new. search needs) (λ add-i. search needs) (λ loop-less. search needs)
+    loop-again (λ same-length. search needs) returns)

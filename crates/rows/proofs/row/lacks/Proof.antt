@@ -47,18 +47,6 @@ returns c =
 
 pub lacks-spec : {M : Type 1} → statement M
 lacks-spec =
-    tie.close
-    (tie.spec
-    Inv-loop
-    μ-loop
-    loop-holds
-    (λ add-x. search needs)
-    (λ mul-x. search needs)
-    (λ shared-slice-read-x. search needs)
-    (λ add-missing. search needs)
-    (λ mul-missing. search needs)
-    (λ shared-slice-read-missing. search needs)
-    (λ add-i. search needs)
-    (λ loop-less. search needs)
-    loop-again
-    returns)
+    tie.close (tie.spec Inv-loop μ-loop loop-holds (λ add-x. search needs) (λ mul-x. search needs) (λ shared-slice-read-x. search needs)
+    (λ add-missing. search needs) (λ mul-missing. search needs) (λ shared-slice-read-missing. search needs) (λ add-i. search needs) (λ loop-less. search needs)
+    loop-again returns)

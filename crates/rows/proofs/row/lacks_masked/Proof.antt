@@ -53,20 +53,6 @@ returns c =
 
 pub lacks-masked-spec : {M : Type 1} → statement M
 lacks-masked-spec =
-    tie.close
-    (tie.spec
-    Inv-loop
-    μ-loop
-    loop-holds
-    (λ mul-x. search needs)
-    (λ shared-slice-read-x. search needs)
-    (λ add-x. search needs)
-    (λ mul-x-2. search needs)
-    (λ shared-slice-read-x-2. search needs)
-    (λ add-missing. search needs)
-    (λ mul-missing. search needs)
-    (λ shared-slice-read-missing. search needs)
-    (λ add-i. search needs)
-    (λ loop-less. search needs)
-    loop-again
-    returns)
+    tie.close (tie.spec Inv-loop μ-loop loop-holds (λ mul-x. search needs) (λ shared-slice-read-x. search needs) (λ add-x. search needs)
+    (λ mul-x-2. search needs) (λ shared-slice-read-x-2. search needs) (λ add-missing. search needs) (λ mul-missing. search needs)
+    (λ shared-slice-read-missing. search needs) (λ add-i. search needs) (λ loop-less. search needs) loop-again returns)

@@ -32,17 +32,7 @@ returns-2 c =
 
 pub next-common-spec : {M : Type 1} → statement M
 next-common-spec =
-    tie.close
-    (tie.spec
-    Inv-loop
-    μ-loop
+    tie.close (tie.spec Inv-loop μ-loop
     (λ c. (search needs, search needs, λ k h l. absurd (omega arith)))
-    (λ mul-if1. search needs)
-    (λ shared-slice-read-if1. search needs)
-    (λ mul-if1-2. search needs)
-    (λ shared-slice-read-if1-2. search needs)
-    returns
-    (λ add-i. search needs)
-    (λ loop-less. search needs)
-    loop-again
-    returns-2)
+    (λ mul-if1. search needs) (λ shared-slice-read-if1. search needs) (λ mul-if1-2. search needs) (λ shared-slice-read-if1-2. search needs) returns
+    (λ add-i. search needs) (λ loop-less. search needs) loop-again returns-2)

@@ -51,20 +51,7 @@ returns c =
 
 pub pour-spec : {M : Type 1} → statement M
 pour-spec =
-    tie.close
-    (tie.spec
-    Inv-loop
-    μ-loop
+    tie.close (tie.spec Inv-loop μ-loop
     (λ c. (search needs, refl, record { words = sym (pour-nil (c .args .row .now) 0); count = omega arith }))
-    (λ mul-old. search needs)
-    (λ slice-read-old. search needs)
-    (λ mul-new. search needs)
-    (λ shared-slice-read-new. search needs)
-    (λ mul-row. search needs)
-    (λ slice-write-row. search needs)
-    add-added
-    (λ add-i. search needs)
-    (λ loop-less. search needs)
-    loop-again
-    (λ same-length. search needs)
-    returns)
+    (λ mul-old. search needs) (λ slice-read-old. search needs) (λ mul-new. search needs) (λ shared-slice-read-new. search needs) (λ mul-row. search needs)
+    (λ slice-write-row. search needs) add-added (λ add-i. search needs) (λ loop-less. search needs) loop-again (λ same-length. search needs) returns)

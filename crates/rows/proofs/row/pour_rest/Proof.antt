@@ -53,17 +53,5 @@ returns c =
 
 pub pour-rest-spec : {M : Type 1} → statement M
 pour-rest-spec =
-    tie.close
-    (tie.spec
-    Inv-loop
-    μ-loop
-    loop-holds
-    (λ mul-set. search needs)
-    (λ shared-slice-read-set. search needs)
-    (λ set-requires κs. search needs)
-    add-added
-    (λ add-i. search needs)
-    (λ loop-less. search needs)
-    loop-again
-    (λ same-length. search needs)
-    returns)
+    tie.close (tie.spec Inv-loop μ-loop loop-holds (λ mul-set. search needs) (λ shared-slice-read-set. search needs) (λ set-requires κs. search needs) add-added
+    (λ add-i. search needs) (λ loop-less. search needs) loop-again (λ same-length. search needs) returns)

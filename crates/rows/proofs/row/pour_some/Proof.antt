@@ -22,22 +22,7 @@ returns-2 c =
 
 pub pour-some-spec : {M : Type 1} → statement M
 pour-some-spec =
-    tie.close
-    (tie.spec
-    (λ mul-some. search needs)
-    (λ sub-some. search needs)
-    (λ part-some-start. search needs)
-    (λ part-some-end. search needs)
-    (λ some-requires κs. search needs)
-    (λ mul-pour. search needs)
-    (λ sub-pour. search needs)
-    (λ part-pour-start. search needs)
-    (λ part-pour-end. search needs)
-    (λ mul-pour-2. search needs)
-    (λ sub-pour-2. search needs)
-    (λ part-pour-start-2. search needs)
-    (λ part-pour-end-2. search needs)
-    (λ pour-requires κs. search needs)
-    (λ same-length. search needs)
-    returns
-    returns-2)
+    tie.close (tie.spec (λ mul-some. search needs) (λ sub-some. search needs) (λ part-some-start. search needs) (λ part-some-end. search needs)
+    (λ some-requires κs. search needs) (λ mul-pour. search needs) (λ sub-pour. search needs) (λ part-pour-start. search needs) (λ part-pour-end. search needs)
+    (λ mul-pour-2. search needs) (λ sub-pour-2. search needs) (λ part-pour-start-2. search needs) (λ part-pour-end-2. search needs)
+    (λ pour-requires κs. search needs) (λ same-length. search needs) returns returns-2)

@@ -27,14 +27,5 @@ returns-2 c =
 
 pub put-spec : {M : Type 1} → statement M
 put-spec =
-    tie.close
-    (tie.spec
-    (λ cast-bit. search needs)
-    (λ shl-bit. search needs)
-    (λ mul-old. search needs)
-    (λ slice-read-old. search needs)
-    (λ mul-row. search needs)
-    (λ slice-write-row. search needs)
-    (λ same-length. search needs)
-    returns
-    returns-2)
+    tie.close (tie.spec (λ cast-bit. search needs) (λ shl-bit. search needs) (λ mul-old. search needs) (λ slice-read-old. search needs)
+    (λ mul-row. search needs) (λ slice-write-row. search needs) (λ same-length. search needs) returns returns-2)

@@ -25,13 +25,5 @@ returns-2 c =
 
 pub set-spec : {M : Type 1} → statement M
 set-spec =
-    tie.close
-    (tie.spec
-    (λ mul-old. search needs)
-    (λ slice-read-old. search needs)
-    returns
-    (λ mul-row. search needs)
-    (λ slice-write-row. search needs)
-    cast-result
-    (λ same-length. search needs)
-    returns-2)
+    tie.close (tie.spec (λ mul-old. search needs) (λ slice-read-old. search needs) returns (λ mul-row. search needs) (λ slice-write-row. search needs)
+    cast-result (λ same-length. search needs) returns-2)

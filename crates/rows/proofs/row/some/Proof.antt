@@ -29,14 +29,5 @@ returns c =
 
 pub some-spec : {M : Type 1} → statement M
 some-spec =
-    tie.close
-    (tie.spec
-    Inv-loop
-    μ-loop
-    (λ c. (search needs, refl))
-    (λ mul-bits. search needs)
-    (λ shared-slice-read-bits. search needs)
-    (λ add-i. search needs)
-    (λ loop-less. search needs)
-    loop-again
-    returns)
+    tie.close (tie.spec Inv-loop μ-loop (λ c. (search needs, refl)) (λ mul-bits. search needs) (λ shared-slice-read-bits. search needs) (λ add-i. search needs)
+    (λ loop-less. search needs) loop-again returns)

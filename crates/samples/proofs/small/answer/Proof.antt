@@ -14,14 +14,6 @@ slice-aggregate-text c =
 
 pub answer-spec : {M : Type 1} → statement M
 answer-spec =
-    tie.close
-    (tie.spec
-    (λ slice-aggregate-verdict. search needs)
-    (λ slice-aggregate-verdict-2. search needs)
-    (λ verdict-requires κs. search needs)
-    (λ slice-aggregate-answer-line. search needs)
-    (λ answer-line-requires κs. search needs)
-    (λ array-share-prefix-line. search needs)
-    slice-aggregate-text
-    (λ text-requires κs. search needs)
-    (λ returns. search needs))
+    tie.close (tie.spec (λ slice-aggregate-verdict. search needs) (λ slice-aggregate-verdict-2. search needs) (λ verdict-requires κs. search needs)
+    (λ slice-aggregate-answer-line. search needs) (λ answer-line-requires κs. search needs) (λ array-share-prefix-line. search needs) slice-aggregate-text
+    (λ text-requires κs. search needs) (λ returns. search needs))

@@ -11,5 +11,5 @@ slice-aggregate-sample c = sym (length-take-le _ _ (omega arith))
 
 pub first-spec : {M : Type 1} → statement M
 first-spec =
-    tie.close
-    (tie.spec slice-aggregate-sample (λ sample-requires κs. search needs) (λ returns. search needs) (λ returns-2. search needs))
+    tie.close (tie.spec
+    slice-aggregate-sample (λ sample-requires κs. search needs) (λ returns. search needs) (λ returns-2. search needs))

@@ -13,11 +13,5 @@ returns c =
 
 pub add-number-spec : {M : Type 1} → statement M
 add-number-spec =
-    tie.close
-    (tie.spec
-    (λ number-line-requires κs. search needs)
-    (λ array-share-prefix-line. search needs)
-    (λ slice-aggregate-put-room. search needs)
-    (λ put-room-requires κs. search needs)
-    (λ same-length. search needs)
-    returns)
+    tie.close (tie.spec (λ number-line-requires κs. search needs) (λ array-share-prefix-line. search needs) (λ slice-aggregate-put-room. search needs)
+    (λ put-room-requires κs. search needs) (λ same-length. search needs) returns)

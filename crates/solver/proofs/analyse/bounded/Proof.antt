@@ -18,12 +18,5 @@ returns-2 c =
 
 pub bounded-spec : {M : Type 1} → statement M
 bounded-spec =
-    tie.close
-    (tie.spec
-    (λ solve-in-requires κs. search needs)
-    (λ same-length. search needs)
-    (λ same-length-2. search needs)
-    returns
-    (λ same-length-3. search needs)
-    (λ same-length-4. search needs)
-    returns-2)
+    tie.close (tie.spec (λ solve-in-requires κs. search needs) (λ same-length. search needs) (λ same-length-2. search needs) returns
+    (λ same-length-3. search needs) (λ same-length-4. search needs) returns-2)

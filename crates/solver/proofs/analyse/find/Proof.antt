@@ -23,11 +23,5 @@ returns c =
 
 pub find-spec : {M : Type 1} → statement M
 find-spec =
-    tie.close
-    (tie.spec
-    (λ of-requires κs. search needs)
-    most-facts-requires
-    (λ solve-in-requires κs. search needs)
-    (λ same-length. search needs)
-    (λ same-length-2. search needs)
-    returns)
+    tie.close (tie.spec (λ of-requires κs. search needs) most-facts-requires (λ solve-in-requires κs. search needs) (λ same-length. search needs)
+    (λ same-length-2. search needs) returns)

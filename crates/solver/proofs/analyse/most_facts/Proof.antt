@@ -15,11 +15,5 @@ mul-result-3 c =
 
 pub most-facts-spec : {M : Type 1} → statement M
 most-facts-spec =
-    tie.close
-    (tie.spec
-    (λ mul-result. search needs)
-    (λ add-result. search needs)
-    (λ mul-result-2. search needs)
-    (λ add-result-2. search needs)
-    mul-result-3
+    tie.close (tie.spec (λ mul-result. search needs) (λ add-result. search needs) (λ mul-result-2. search needs) (λ add-result-2. search needs) mul-result-3
     (λ returns. search needs))

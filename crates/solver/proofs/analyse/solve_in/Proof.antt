@@ -37,15 +37,5 @@ returns c =
 
 pub solve-in-spec : {M : Type 1} → statement M
 solve-in-spec =
-    tie.close
-    (tie.spec
-    (λ words-needed-requires κs. search needs)
-    (λ mul-room. search needs)
-    (λ slice-relend-prefix-solve. search needs)
-    slice-aggregate-solve
-    (λ slice-relend-prefix-solve-2. search needs)
-    slice-aggregate-solve-2
-    solve-requires
-    (λ same-length. search needs)
-    (λ same-length-2. search needs)
-    returns)
+    tie.close (tie.spec (λ words-needed-requires κs. search needs) (λ mul-room. search needs) (λ slice-relend-prefix-solve. search needs) slice-aggregate-solve
+    (λ slice-relend-prefix-solve-2. search needs) slice-aggregate-solve-2 solve-requires (λ same-length. search needs) (λ same-length-2. search needs) returns)

@@ -37,15 +37,5 @@ returns c =
 
 pub clear-spec : {M : Type 1} → statement M
 clear-spec =
-    tie.close
-    (tie.spec
-    Inv-loop
-    μ-loop
-    loop-holds
-    (λ mul-words. search needs)
-    (λ slice-write-words. search needs)
-    (λ add-i. search needs)
-    (λ loop-less. search needs)
-    loop-again
-    (λ same-length. search needs)
-    returns)
+    tie.close (tie.spec Inv-loop μ-loop loop-holds (λ mul-words. search needs) (λ slice-write-words. search needs) (λ add-i. search needs)
+    (λ loop-less. search needs) loop-again (λ same-length. search needs) returns)

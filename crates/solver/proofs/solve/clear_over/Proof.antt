@@ -17,9 +17,4 @@ returns-2 c = sym (within-kept (c .before .before .args .facts) (c .before .befo
 
 pub clear-over-spec : {M : Type 1} → statement M
 clear-over-spec =
-    tie.close
-    (tie.spec
-    (λ clear-requires κs. search needs)
-    (λ same-length. search needs)
-    returns
-    returns-2)
+    tie.close (tie.spec (λ clear-requires κs. search needs) (λ same-length. search needs) returns returns-2)

@@ -20,11 +20,5 @@ run-requires c κs =
 
 pub fill-spec : {M : Type 1} → statement M
 fill-spec =
-    tie.close
-    (tie.spec
-    (λ slice-aggregate-fill-masks. search needs)
-    fill-masks-requires
-    (λ slice-aggregate-run. search needs)
-    run-requires
-    (λ same-length. search needs)
-    (λ returns. search needs))
+    tie.close (tie.spec (λ slice-aggregate-fill-masks. search needs) fill-masks-requires (λ slice-aggregate-run. search needs) run-requires
+    (λ same-length. search needs) (λ returns. search needs))

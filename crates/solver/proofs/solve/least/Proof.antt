@@ -23,12 +23,5 @@ returns c =
 
 pub least-spec : {M : Type 1} → statement M
 least-spec =
-    tie.close
-    (tie.spec
-    (λ clear-requires κs. search needs)
-    (λ link-requires κs. search needs)
-    fill-requires
-    (λ clear-over-requires κs. search needs)
-    (λ same-length. search needs)
-    (λ same-length-2. search needs)
-    returns)
+    tie.close (tie.spec (λ clear-requires κs. search needs) (λ link-requires κs. search needs) fill-requires (λ clear-over-requires κs. search needs)
+    (λ same-length. search needs) (λ same-length-2. search needs) returns)

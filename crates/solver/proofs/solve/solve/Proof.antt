@@ -23,12 +23,5 @@ returns c =
 
 pub solve-spec : {M : Type 1} → statement M
 solve-spec =
-    tie.close
-    (tie.spec
-    (λ of-requires κs. search needs)
-    least-requires
-    leak-requires
-    (λ clear-requires κs. search needs)
-    (λ same-length. search needs)
-    (λ same-length-2. search needs)
-    returns)
+    tie.close (tie.spec (λ of-requires κs. search needs) least-requires leak-requires (λ clear-requires κs. search needs) (λ same-length. search needs)
+    (λ same-length-2. search needs) returns)

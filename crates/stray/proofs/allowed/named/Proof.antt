@@ -20,5 +20,5 @@ returns-2 c = ap (λ (n : ℕ). eqb n 2) (c .kind-of .ensures) ∙ sym (ap (λ (
 
 pub named-spec : {M : Type 1} → statement M
 named-spec =
-    tie.close
-    (tie.spec (λ enum-told. search needs) (λ word-makes-requires κs. search needs) (λ enum-told-2. search needs) (λ kind-of-requires κs. search needs) returns returns-2)
+    tie.close (tie.spec
+    (λ enum-told. search needs) (λ word-makes-requires κs. search needs) (λ enum-told-2. search needs) (λ kind-of-requires κs. search needs) returns returns-2)

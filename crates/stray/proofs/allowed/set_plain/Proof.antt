@@ -46,15 +46,5 @@ returns c =
 
 pub set-plain-spec : {M : Type 1} → statement M
 set-plain-spec =
-    tie.close
-    (tie.spec
-    Inv-loop
-    μ-loop
-    loop-holds
-    (λ mul-row. search needs)
-    (λ slice-write-row. search needs)
-    (λ add-k. search needs)
-    (λ loop-less. search needs)
-    loop-again
-    (λ same-length. search needs)
-    returns)
+    tie.close (tie.spec Inv-loop μ-loop loop-holds (λ mul-row. search needs) (λ slice-write-row. search needs) (λ add-k. search needs)
+    (λ loop-less. search needs) loop-again (λ same-length. search needs) returns)

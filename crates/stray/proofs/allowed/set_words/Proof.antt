@@ -87,19 +87,5 @@ returns c =
 
 pub set-words-spec : {M : Type 1} → statement M
 set-words-spec =
-    tie.close
-    (tie.spec
-    Inv-loop
-    μ-loop
-    mul-first
-    loop-holds
-    add-set-if
-    (λ mul-named. search needs)
-    (λ shared-slice-read-named. search needs)
-    (λ named-requires κs. search needs)
-    set-if-requires
-    (λ add-p. search needs)
-    (λ loop-less. search needs)
-    loop-again
-    (λ same-length. search needs)
-    returns)
+    tie.close (tie.spec Inv-loop μ-loop mul-first loop-holds add-set-if (λ mul-named. search needs) (λ shared-slice-read-named. search needs)
+    (λ named-requires κs. search needs) set-if-requires (λ add-p. search needs) (λ loop-less. search needs) loop-again (λ same-length. search needs) returns)

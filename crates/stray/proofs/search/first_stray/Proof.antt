@@ -29,13 +29,5 @@ search-requires c κs =
 
 pub first-stray-spec : {M : Type 1} → statement M
 first-stray-spec =
-    tie.close
-    (tie.spec
-    (λ slice-aggregate-allow. search needs)
-    allow-requires
-    (λ slice-aggregate-allow-2. search needs)
-    allow-requires-2
-    (λ slice-aggregate-search. search needs)
-    (λ slice-aggregate-search-2. search needs)
-    search-requires
-    (λ returns. search needs))
+    tie.close (tie.spec (λ slice-aggregate-allow. search needs) allow-requires (λ slice-aggregate-allow-2. search needs) allow-requires-2
+    (λ slice-aggregate-search. search needs) (λ slice-aggregate-search-2. search needs) search-requires (λ returns. search needs))

@@ -77,16 +77,5 @@ returns-2 c =
 
 pub in-flags-spec : {M : Type 1} → statement M
 in-flags-spec =
-    tie.close
-    (tie.spec
-    Inv-loop
-    μ-loop
-    flags-requires
-    loop-holds
-    (λ mul-if1. search needs)
-    (λ shared-slice-read-if1. search needs)
-    returns
-    (λ add-k. search needs)
-    (λ loop-less. search needs)
-    loop-again
-    returns-2)
+    tie.close (tie.spec Inv-loop μ-loop flags-requires loop-holds (λ mul-if1. search needs) (λ shared-slice-read-if1. search needs) returns
+    (λ add-k. search needs) (λ loop-less. search needs) loop-again returns-2)

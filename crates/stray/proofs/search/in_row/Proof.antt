@@ -47,5 +47,4 @@ returns-2 c =
 
 pub in-row-spec : {M : Type 1} → statement M
 in-row-spec =
-    tie.close
-    (tie.spec mul-at of-block-requires outside-requires returns outside-requires-2 returns-2)
+    tie.close (tie.spec mul-at of-block-requires outside-requires returns outside-requires-2 returns-2)

@@ -73,16 +73,4 @@ returns-2 c =
 
 pub in-rows-spec : {M : Type 1} → statement M
 in-rows-spec =
-    tie.close
-    (tie.spec
-    Inv-loop
-    μ-loop
-    loop-holds
-    mul-if1
-    in-row-requires
-    add-end
-    returns
-    add-r
-    (λ loop-less. search needs)
-    loop-again
-    returns-2)
+    tie.close (tie.spec Inv-loop μ-loop loop-holds mul-if1 in-row-requires add-end returns add-r (λ loop-less. search needs) loop-again returns-2)

@@ -77,20 +77,6 @@ returns-2 c =
 
 pub outside-spec : {M : Type 1} → statement M
 outside-spec =
-    tie.close
-    (tie.spec
-    Inv-loop
-    μ-loop
-    loop-holds
-    (λ add-x. search needs)
-    (λ mul-x. search needs)
-    (λ shared-slice-read-x. search needs)
-    (λ mul-if1. search needs)
-    (λ shared-slice-read-if1. search needs)
-    (λ add-result. search needs)
-    returns
-    (λ add-i. search needs)
-    (λ loop-less. search needs)
-    loop-again
-    (λ add-result-2. search needs)
-    returns-2)
+    tie.close (tie.spec Inv-loop μ-loop loop-holds (λ add-x. search needs) (λ mul-x. search needs) (λ shared-slice-read-x. search needs)
+    (λ mul-if1. search needs) (λ shared-slice-read-if1. search needs) (λ add-result. search needs) returns (λ add-i. search needs) (λ loop-less. search needs)
+    loop-again (λ add-result-2. search needs) returns-2)

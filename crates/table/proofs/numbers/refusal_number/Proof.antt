@@ -55,29 +55,7 @@ returns-12 c = sym (ap number (c .enum-told12 .given .1))
 
 pub refusal-number-spec : {M : Type 1} → statement M
 refusal-number-spec =
-    tie.close
-    (tie.spec
-    (λ enum-told. search needs)
-    (λ enum-told-2. search needs)
-    (λ enum-told-3. search needs)
-    (λ enum-told-4. search needs)
-    (λ enum-told-5. search needs)
-    (λ enum-told-6. search needs)
-    (λ enum-told-7. search needs)
-    (λ enum-told-8. search needs)
-    (λ enum-told-9. search needs)
-    (λ enum-told-10. search needs)
-    (λ enum-told-11. search needs)
-    (λ enum-told-12. search needs)
-    returns
-    returns-2
-    returns-3
-    returns-4
-    returns-5
-    returns-6
-    returns-7
-    returns-8
-    returns-9
-    returns-10
-    returns-11
-    returns-12)
+    tie.close (tie.spec (λ enum-told. search needs) (λ enum-told-2. search needs) (λ enum-told-3. search needs) (λ enum-told-4. search needs)
+    (λ enum-told-5. search needs) (λ enum-told-6. search needs) (λ enum-told-7. search needs) (λ enum-told-8. search needs) (λ enum-told-9. search needs)
+    (λ enum-told-10. search needs) (λ enum-told-11. search needs) (λ enum-told-12. search needs) returns returns-2 returns-3 returns-4 returns-5 returns-6
+    returns-7 returns-8 returns-9 returns-10 returns-11 returns-12)

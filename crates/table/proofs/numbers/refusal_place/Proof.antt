@@ -55,29 +55,7 @@ returns-12 c = sym (ap place (c .before .r9 .given .1))
 
 pub refusal-place-spec : {M : Type 1} → statement M
 refusal-place-spec =
-    tie.close
-    (tie.spec
-    (λ enum-told. search needs)
-    (λ enum-told-2. search needs)
-    (λ enum-told-3. search needs)
-    (λ enum-known-r. search needs)
-    (λ enum-known-r-2. search needs)
-    (λ enum-known-r-3. search needs)
-    (λ enum-known-r-4. search needs)
-    (λ enum-known-r-5. search needs)
-    (λ enum-known-r-6. search needs)
-    (λ enum-known-r-7. search needs)
-    (λ enum-known-r-8. search needs)
-    (λ enum-known-r-9. search needs)
-    returns
-    returns-2
-    returns-3
-    returns-4
-    returns-5
-    returns-6
-    returns-7
-    returns-8
-    returns-9
-    returns-10
-    returns-11
-    returns-12)
+    tie.close (tie.spec (λ enum-told. search needs) (λ enum-told-2. search needs) (λ enum-told-3. search needs) (λ enum-known-r. search needs)
+    (λ enum-known-r-2. search needs) (λ enum-known-r-3. search needs) (λ enum-known-r-4. search needs) (λ enum-known-r-5. search needs)
+    (λ enum-known-r-6. search needs) (λ enum-known-r-7. search needs) (λ enum-known-r-8. search needs) (λ enum-known-r-9. search needs) returns returns-2
+    returns-3 returns-4 returns-5 returns-6 returns-7 returns-8 returns-9 returns-10 returns-11 returns-12)

@@ -179,33 +179,8 @@ returns-7 c = after-body (c .before .before .before) _ (c .before .r .given .1)
 
 pub block-spec : {M : Type 1} → statement M
 block-spec =
-    tie.close
-    (tie.spec
-    (λ block-word-requires κs. search needs)
-    (λ enum-known-name. search needs)
-    (λ enum-told. search needs)
-    returns
-    returns-2
-    add-block-word
-    (λ block-word-requires-2 κs. search needs)
-    (λ enum-known-perms. search needs)
-    (λ enum-told-2. search needs)
-    add-t17
-    returns-3
-    (λ mul-key. search needs)
-    add-key
-    (λ used-requires κs. search needs)
-    add-t21
-    returns-4
-    add-block-word-2
-    (λ block-word-requires-3 κs. search needs)
-    (λ enum-told-3. search needs)
-    (λ enum-told-4. search needs)
-    add-t24
-    returns-5
-    add-term
-    (λ term-requires κs. search needs)
-    (λ enum-known-next. search needs)
-    (λ enum-known-r. search needs)
-    returns-6
-    returns-7)
+    tie.close (tie.spec (λ block-word-requires κs. search needs) (λ enum-known-name. search needs) (λ enum-told. search needs) returns returns-2 add-block-word
+    (λ block-word-requires-2 κs. search needs) (λ enum-known-perms. search needs) (λ enum-told-2. search needs) add-t17 returns-3 (λ mul-key. search needs)
+    add-key (λ used-requires κs. search needs) add-t21 returns-4 add-block-word-2 (λ block-word-requires-3 κs. search needs) (λ enum-told-3. search needs)
+    (λ enum-told-4. search needs) add-t24 returns-5 add-term (λ term-requires κs. search needs) (λ enum-known-next. search needs) (λ enum-known-r. search needs)
+    returns-6 returns-7)

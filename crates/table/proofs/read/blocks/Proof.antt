@@ -94,21 +94,6 @@ returns-3 c =
 
 pub blocks-spec : {M : Type 1} → statement M
 blocks-spec =
-    tie.close
-    (tie.spec
-    Inv-loop
-    μ-loop
-    loop-holds
-    (λ slice-aggregate-block. search needs)
-    (λ block-requires κs. search needs)
-    (λ enum-known-r. search needs)
-    returns
-    (λ enum-known-next. search needs)
-    (λ sub-start. search needs)
-    (λ mul-keys. search needs)
-    (λ array-write-keys. search needs)
-    (λ sub-left. search needs)
-    (λ loop-less. search needs)
-    loop-again
-    returns-2
-    returns-3)
+    tie.close (tie.spec Inv-loop μ-loop loop-holds (λ slice-aggregate-block. search needs) (λ block-requires κs. search needs) (λ enum-known-r. search needs)
+    returns (λ enum-known-next. search needs) (λ sub-start. search needs) (λ mul-keys. search needs) (λ array-write-keys. search needs)
+    (λ sub-left. search needs) (λ loop-less. search needs) loop-again returns-2 returns-3)

@@ -89,17 +89,5 @@ returns-5 c =
 
 pub read-spec : {M : Type 1} → statement M
 read-spec =
-    tie.close
-    (tie.spec
-    returns
-    (λ shared-slice-read-w. search needs)
-    (λ kind-of-requires κs. search needs)
-    (λ starts-table-requires κs. search needs)
-    returns-2
-    returns-3
-    (λ argument-of-requires κs. search needs)
-    (λ names-of-requires κs. search needs)
-    returns-4
-    (λ cast-blocks. search needs)
-    blocks-requires
-    returns-5)
+    tie.close (tie.spec returns (λ shared-slice-read-w. search needs) (λ kind-of-requires κs. search needs) (λ starts-table-requires κs. search needs) returns-2
+    returns-3 (λ argument-of-requires κs. search needs) (λ names-of-requires κs. search needs) returns-4 (λ cast-blocks. search needs) blocks-requires returns-5)

@@ -103,17 +103,5 @@ returns-7 c = λ keys h s e. said _ 0 _ (fine _ keys _ _ h s (omega arith) (omeg
 
 pub term-word-spec : {M : Type 1} → statement M
 term-word-spec =
-    tie.close
-    (tie.spec
-    (λ kind-of-requires κs. search needs)
-    (λ argument-of-requires κs. search needs)
-    returns
-    returns-2
-    (λ limit-of-requires κs. search needs)
-    returns-3
-    (λ unnamed-requires κs. search needs)
-    returns-4
-    (λ unbound-requires κs. search needs)
-    returns-5
-    returns-6
-    returns-7)
+    tie.close (tie.spec (λ kind-of-requires κs. search needs) (λ argument-of-requires κs. search needs) returns returns-2 (λ limit-of-requires κs. search needs)
+    returns-3 (λ unnamed-requires κs. search needs) returns-4 (λ unbound-requires κs. search needs) returns-5 returns-6 returns-7)

@@ -52,15 +52,5 @@ returns-2 c = sym (c .before .loop .inv ∙ has-none _ _ _ (c .loop-test .left))
 
 pub used-spec : {M : Type 1} → statement M
 used-spec =
-    tie.close
-    (tie.spec
-    Inv-loop
-    μ-loop
-    loop-holds
-    (λ mul-if1. search needs)
-    (λ shared-slice-read-if1. search needs)
-    returns
-    (λ add-i. search needs)
-    (λ loop-less. search needs)
-    loop-again
-    returns-2)
+    tie.close (tie.spec Inv-loop μ-loop loop-holds (λ mul-if1. search needs) (λ shared-slice-read-if1. search needs) returns (λ add-i. search needs)
+    (λ loop-less. search needs) loop-again returns-2)

@@ -15,17 +15,6 @@ abbrev μ-loop : tie.MeasureT-loop
 
 pub each-spec : {M : Type 1} → statement M
 each-spec =
-    tie.close
-    (tie.spec
-    Inv-loop
-    μ-loop
-    (λ loop-holds. search needs)
-    (λ shared-slice-read-b. search needs)
-    (λ finish-requires κs. search needs)
-    (λ value-after-requires κs. search needs)
-    (λ count-after-requires κs. search needs)
-    (λ add-i. search needs)
-    (λ loop-less. search needs)
-    (λ loop-again. search needs)
-    (λ same-length. search needs)
-    (λ returns. search needs))
+    tie.close (tie.spec Inv-loop μ-loop (λ loop-holds. search needs) (λ shared-slice-read-b. search needs) (λ finish-requires κs. search needs)
+    (λ value-after-requires κs. search needs) (λ count-after-requires κs. search needs) (λ add-i. search needs) (λ loop-less. search needs)
+    (λ loop-again. search needs) (λ same-length. search needs) (λ returns. search needs))

@@ -13,17 +13,6 @@ abbrev μ-loop : tie.MeasureT-loop
 
 pub line-spec : {M : Type 1} → statement M
 line-spec =
-    tie.close
-    (tie.spec
-    Inv-loop
-    μ-loop
-    (λ text-requires κs. search needs)
-    (λ loop-holds. search needs)
-    (λ word-at-requires κs. search needs)
-    (λ add-i. search needs)
-    (λ loop-less. search needs)
-    (λ loop-again. search needs)
-    (λ slice-aggregate-first. search needs)
-    (λ first-requires κs. search needs)
-    (λ end-requires κs. search needs)
-    (λ returns. search needs))
+    tie.close (tie.spec Inv-loop μ-loop (λ text-requires κs. search needs) (λ loop-holds. search needs) (λ word-at-requires κs. search needs)
+    (λ add-i. search needs) (λ loop-less. search needs) (λ loop-again. search needs) (λ slice-aggregate-first. search needs) (λ first-requires κs. search needs)
+    (λ end-requires κs. search needs) (λ returns. search needs))

@@ -37,16 +37,5 @@ returns-6 c =
 
 pub block-word-spec : {M : Type 1} → statement M
 block-word-spec =
-    tie.close
-    (tie.spec
-    returns
-    (λ rem-k. search needs)
-    (λ sub-if2. search needs)
-    returns-2
-    (λ word-requires κs. search needs)
-    (λ div-word. search needs)
-    (λ word-requires-2 κs. search needs)
-    returns-3
-    returns-4
-    returns-5
-    returns-6)
+    tie.close (tie.spec returns (λ rem-k. search needs) (λ sub-if2. search needs) returns-2 (λ word-requires κs. search needs) (λ div-word. search needs)
+    (λ word-requires-2 κs. search needs) returns-3 returns-4 returns-5 returns-6)

@@ -27,17 +27,6 @@ returns c = let l = c .before .loop in sym (numbered-done _ _ (l .words) (l .i) 
 
 pub blocks-spec : {M : Type 1} → statement M
 blocks-spec =
-    tie.close
-    (tie.spec
-    Inv-loop
-    μ-loop
-    (λ loop-holds. search needs)
-    (λ sub-block-word. search needs)
-    (λ block-word-requires κs. search needs)
-    (λ mul-words. search needs)
-    (λ slice-write-words. search needs)
-    (λ add-i. search needs)
-    (λ loop-less. search needs)
-    loop-again
-    (λ same-length. search needs)
+    tie.close (tie.spec Inv-loop μ-loop (λ loop-holds. search needs) (λ sub-block-word. search needs) (λ block-word-requires κs. search needs)
+    (λ mul-words. search needs) (λ slice-write-words. search needs) (λ add-i. search needs) (λ loop-less. search needs) loop-again (λ same-length. search needs)
     returns)

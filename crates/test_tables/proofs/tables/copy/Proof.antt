@@ -36,15 +36,5 @@ returns c =
 
 pub copy-spec : {M : Type 1} → statement M
 copy-spec =
-    tie.close
-    (tie.spec
-    Inv-loop
-    μ-loop
-    loop-holds
-    (λ sub-put-from. search needs)
-    (λ put-from-requires κs. search needs)
-    (λ add-i. search needs)
-    (λ loop-less. search needs)
-    loop-again
-    (λ same-length. search needs)
-    returns)
+    tie.close (tie.spec Inv-loop μ-loop loop-holds (λ sub-put-from. search needs) (λ put-from-requires κs. search needs) (λ add-i. search needs)
+    (λ loop-less. search needs) loop-again (λ same-length. search needs) returns)

@@ -37,17 +37,5 @@ returns c =
 
 pub fill-spec : {M : Type 1} → statement M
 fill-spec =
-    tie.close
-    (tie.spec
-    Inv-loop
-    μ-loop
-    loop-holds
-    (λ sub-in-turn. search needs)
-    (λ in-turn-requires κs. search needs)
-    (λ mul-words. search needs)
-    (λ slice-write-words. search needs)
-    (λ add-i. search needs)
-    (λ loop-less. search needs)
-    loop-again
-    (λ same-length. search needs)
-    returns)
+    tie.close (tie.spec Inv-loop μ-loop loop-holds (λ sub-in-turn. search needs) (λ in-turn-requires κs. search needs) (λ mul-words. search needs)
+    (λ slice-write-words. search needs) (λ add-i. search needs) (λ loop-less. search needs) loop-again (λ same-length. search needs) returns)

@@ -16,5 +16,5 @@ returns-2 c = let a = c .before .before .before .args in none-stored (a .words .
 
 pub put-from-spec : {M : Type 1} → statement M
 put-from-spec =
-    tie.close
-    (tie.spec (λ mul-put. search needs) (λ shared-slice-read-put. search needs) (λ put-requires κs. search needs) (λ same-length. search needs) returns returns-2)
+    tie.close (tie.spec
+    (λ mul-put. search needs) (λ shared-slice-read-put. search needs) (λ put-requires κs. search needs) (λ same-length. search needs) returns returns-2)

@@ -12,11 +12,5 @@ returns c =
 
 pub judged-spec : {M : Type 1} → statement M
 judged-spec =
-    tie.close
-    (tie.spec
-    (λ find-requires κs. search needs)
-    (λ bound-used-requires κs. search needs)
-    (λ compared-requires κs. search needs)
-    (λ same-length. search needs)
-    (λ same-length-2. search needs)
-    returns)
+    tie.close (tie.spec (λ find-requires κs. search needs) (λ bound-used-requires κs. search needs) (λ compared-requires κs. search needs)
+    (λ same-length. search needs) (λ same-length-2. search needs) returns)

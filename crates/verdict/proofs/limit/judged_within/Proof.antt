@@ -18,14 +18,5 @@ returns-2 c =
 
 pub judged-within-spec : {M : Type 1} → statement M
 judged-within-spec =
-    tie.close
-    (tie.spec
-    (λ solve-in-requires κs. search needs)
-    (λ same-length. search needs)
-    (λ same-length-2. search needs)
-    returns
-    (λ bound-used-requires κs. search needs)
-    (λ compared-requires κs. search needs)
-    (λ same-length-3. search needs)
-    (λ same-length-4. search needs)
-    returns-2)
+    tie.close (tie.spec (λ solve-in-requires κs. search needs) (λ same-length. search needs) (λ same-length-2. search needs) returns
+    (λ bound-used-requires κs. search needs) (λ compared-requires κs. search needs) (λ same-length-3. search needs) (λ same-length-4. search needs) returns-2)

@@ -15,13 +15,5 @@ returns-2 c = rw (c .before .before .before .before .before .if1 .left) (rw (c .
 
 pub convert-spec : {M : Type 1} → statement M
 convert-spec =
-    tie.close
-    (tie.spec
-    (λ read-as-requires κs. search needs)
-    (λ put-requires κs. search needs)
-    (λ check-narrow-requires κs. search needs)
-    (λ put-requires-2 κs. search needs)
-    (λ same-length. search needs)
-    returns
-    (λ same-length-2. search needs)
-    returns-2)
+    tie.close (tie.spec (λ read-as-requires κs. search needs) (λ put-requires κs. search needs) (λ check-narrow-requires κs. search needs)
+    (λ put-requires-2 κs. search needs) (λ same-length. search needs) returns (λ same-length-2. search needs) returns-2)

@@ -61,16 +61,5 @@ returns c =
 
 pub copy-as-spec : {M : Type 1} → statement M
 copy-as-spec =
-    tie.close
-    (tie.spec
-    Inv-loop
-    μ-loop
-    loop-holds
-    (λ word-as-requires κs. search needs)
-    (λ mul-out. search needs)
-    slice-write-out
-    (λ add-i. search needs)
-    (λ loop-less. search needs)
-    loop-again
-    same-length
-    returns)
+    tie.close (tie.spec Inv-loop μ-loop loop-holds (λ word-as-requires κs. search needs) (λ mul-out. search needs) slice-write-out (λ add-i. search needs)
+    (λ loop-less. search needs) loop-again same-length returns)

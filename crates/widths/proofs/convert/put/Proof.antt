@@ -29,12 +29,5 @@ returns-3 c =
 
 pub put-spec : {M : Type 1} → statement M
 put-spec =
-    tie.close
-    (tie.spec
-    (λ enum-known-checked. search needs)
-    returns
-    (λ enum-told. search needs)
-    returns-2
-    (λ copy-as-requires κs. search needs)
-    (λ same-length. search needs)
-    returns-3)
+    tie.close (tie.spec (λ enum-known-checked. search needs) returns (λ enum-told. search needs) returns-2 (λ copy-as-requires κs. search needs)
+    (λ same-length. search needs) returns-3)

@@ -18,12 +18,5 @@ returns-2 c = let a = c .before .before .before .args in sym (later-word (a .kin
 
 pub word-as-spec : {M : Type 1} → statement M
 word-as-spec =
-    tie.close
-    (tie.spec
-    (λ mul-w. search needs)
-    (λ shared-slice-read-w. search needs)
-    (λ mul-result. search needs)
-    (λ argument-of-requires κs. search needs)
-    (λ add-result. search needs)
-    returns
-    returns-2)
+    tie.close (tie.spec (λ mul-w. search needs) (λ shared-slice-read-w. search needs) (λ mul-result. search needs) (λ argument-of-requires κs. search needs)
+    (λ add-result. search needs) returns returns-2)

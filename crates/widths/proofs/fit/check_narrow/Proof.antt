@@ -32,14 +32,5 @@ returns-3 c = c .names-fit .ensures ∙ sym (few-handlers _ (wide (c .before .be
 
 pub check-narrow-spec : {M : Type 1} → statement M
 check-narrow-spec =
-    tie.close
-    (tie.spec
-    (λ read-as-requires κs. search needs)
-    (λ enum-known-f. search needs)
-    returns
-    (λ enum-told. search needs)
-    shared-slice-read-argument-of
-    (λ argument-of-requires κs. search needs)
-    returns-2
-    (λ names-fit-requires κs. search needs)
-    returns-3)
+    tie.close (tie.spec (λ read-as-requires κs. search needs) (λ enum-known-f. search needs) returns (λ enum-told. search needs) shared-slice-read-argument-of
+    (λ argument-of-requires κs. search needs) returns-2 (λ names-fit-requires κs. search needs) returns-3)

@@ -37,16 +37,5 @@ returns-2 c = sym (c .before .loop .inv ∙ wide-none _ _ (c .loop-test .left))
 
 pub names-fit-spec : {M : Type 1} → statement M
 names-fit-spec =
-    tie.close
-    (tie.spec
-    Inv-loop
-    μ-loop
-    loop-holds
-    (λ mul-wide-name. search needs)
-    (λ shared-slice-read-wide-name. search needs)
-    (λ wide-name-requires κs. search needs)
-    returns
-    (λ add-i. search needs)
-    (λ loop-less. search needs)
-    loop-again
-    returns-2)
+    tie.close (tie.spec Inv-loop μ-loop loop-holds (λ mul-wide-name. search needs) (λ shared-slice-read-wide-name. search needs)
+    (λ wide-name-requires κs. search needs) returns (λ add-i. search needs) (λ loop-less. search needs) loop-again returns-2)

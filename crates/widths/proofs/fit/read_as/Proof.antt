@@ -35,14 +35,5 @@ returns-4 c =
 
 pub read-as-spec : {M : Type 1} → statement M
 read-as-spec =
-    tie.close
-    (tie.spec
-    returns
-    (λ shared-slice-read-kind-of. search needs)
-    (λ kind-of-requires κs. search needs)
-    returns-2
-    (λ read-requires κs. search needs)
-    (λ enum-known-r. search needs)
-    (λ enum-told. search needs)
-    returns-3
-    returns-4)
+    tie.close (tie.spec returns (λ shared-slice-read-kind-of. search needs) (λ kind-of-requires κs. search needs) returns-2 (λ read-requires κs. search needs)
+    (λ enum-known-r. search needs) (λ enum-told. search needs) returns-3 returns-4)

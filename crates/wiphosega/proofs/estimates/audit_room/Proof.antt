@@ -11,11 +11,5 @@ slice-aggregate-audit-words c = sym (length-take-le _ _ (omega arith))
 
 pub audit-room-spec : {M : Type 1} → statement M
 audit-room-spec =
-    tie.close
-    (tie.spec
-    (λ words-of-requires κs. search needs)
-    (λ slice-reshare-prefix-audit-words. search needs)
-    slice-aggregate-audit-words
-    (λ audit-words-requires κs. search needs)
-    (λ same-length. search needs)
-    (λ returns. search needs))
+    tie.close (tie.spec (λ words-of-requires κs. search needs) (λ slice-reshare-prefix-audit-words. search needs) slice-aggregate-audit-words
+    (λ audit-words-requires κs. search needs) (λ same-length. search needs) (λ returns. search needs))

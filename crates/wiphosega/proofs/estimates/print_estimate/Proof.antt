@@ -17,12 +17,5 @@ slice-aggregate-print-words c = sym (length-take-le _ _ (omega arith))
 
 pub print-estimate-spec : {M : Type 1} → statement M
 print-estimate-spec =
-    tie.close
-    (tie.spec
-    (λ returns. search needs)
-    (λ of-requires κs. search needs)
-    words-requires
-    (λ returns-2. search needs)
-    slice-aggregate-print-words
-    (λ print-words-requires κs. search needs)
-    (λ returns-3. search needs))
+    tie.close (tie.spec (λ returns. search needs) (λ of-requires κs. search needs) words-requires (λ returns-2. search needs) slice-aggregate-print-words
+    (λ print-words-requires κs. search needs) (λ returns-3. search needs))

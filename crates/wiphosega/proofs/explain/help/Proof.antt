@@ -15,11 +15,5 @@ slice-aggregate-text c = let p = c .before .before .help .ensures in sym (length
 
 pub help-spec : {M : Type 1} → statement M
 help-spec =
-    tie.close
-    (tie.spec
-    (λ slice-aggregate-help. search needs)
-    (λ help-requires κs. search needs)
-    array-share-prefix-text
-    slice-aggregate-text
-    (λ text-requires κs. search needs)
-    (λ returns. search needs))
+    tie.close (tie.spec (λ slice-aggregate-help. search needs) (λ help-requires κs. search needs) array-share-prefix-text slice-aggregate-text
+    (λ text-requires κs. search needs) (λ returns. search needs))

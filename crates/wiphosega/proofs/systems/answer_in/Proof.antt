@@ -20,15 +20,6 @@ slice-aggregate-answer c =
 
 pub answer-in-spec : {M : Type 1} → statement M
 answer-in-spec =
-    tie.close
-    (tie.spec
-    (λ slice-aggregate-read. search needs)
-    (λ read-requires κs. search needs)
-    (λ enum-known-n. search needs)
-    array-share-prefix-words
-    slice-aggregate-answer
-    (λ answer-requires κs. search needs)
-    (λ enum-known-r. search needs)
-    (λ refusal-requires κs. search needs)
-    (λ returns. search needs)
+    tie.close (tie.spec (λ slice-aggregate-read. search needs) (λ read-requires κs. search needs) (λ enum-known-n. search needs) array-share-prefix-words
+    slice-aggregate-answer (λ answer-requires κs. search needs) (λ enum-known-r. search needs) (λ refusal-requires κs. search needs) (λ returns. search needs)
     (λ returns-2. search needs))

@@ -14,14 +14,5 @@ abbrev μ-loop : tie.MeasureT-loop
 
 pub choose-some-spec : {M : Type 1} → statement M
 choose-some-spec =
-    tie.close
-    (tie.spec
-    Inv-loop
-    μ-loop
-    (λ loop-holds. search needs)
-    (λ choose-requires κs. search needs)
-    (λ add-i. search needs)
-    (λ loop-less. search needs)
-    (λ loop-again. search needs)
-    (λ same-length. search needs)
-    (λ returns. search needs))
+    tie.close (tie.spec Inv-loop μ-loop (λ loop-holds. search needs) (λ choose-requires κs. search needs) (λ add-i. search needs) (λ loop-less. search needs)
+    (λ loop-again. search needs) (λ same-length. search needs) (λ returns. search needs))

@@ -14,17 +14,6 @@ abbrev μ-loop : tie.MeasureT-loop
 
 pub uses-spec : {M : Type 1} → statement M
 uses-spec =
-    tie.close
-    (tie.spec
-    Inv-loop
-    μ-loop
-    (λ use-of-requires κs. search needs)
-    (λ loop-holds. search needs)
-    (λ choose-requires κs. search needs)
-    (λ use-of-requires-2 κs. search needs)
-    (λ loop-less. search needs)
-    (λ loop-again. search needs)
-    (λ loop-less-2. search needs)
-    (λ loop-again-2. search needs)
-    (λ same-length. search needs)
-    (λ returns. search needs))
+    tie.close (tie.spec Inv-loop μ-loop (λ use-of-requires κs. search needs) (λ loop-holds. search needs) (λ choose-requires κs. search needs)
+    (λ use-of-requires-2 κs. search needs) (λ loop-less. search needs) (λ loop-again. search needs) (λ loop-less-2. search needs) (λ loop-again-2. search needs)
+    (λ same-length. search needs) (λ returns. search needs))

@@ -14,18 +14,6 @@ abbrev μ-loop : tie.MeasureT-loop
 
 pub woke-spec : {M : Type 1} → statement M
 woke-spec =
-    tie.close
-    (tie.spec
-    Inv-loop
-    μ-loop
-    (λ returns. search needs)
-    (λ close-requires κs. search needs)
-    (λ lower-requires κs. search needs)
-    (λ start-requires κs. search needs)
-    (λ after-requires κs. search needs)
-    (λ loop-holds. search needs)
-    (λ visit-requires κs. search needs)
-    (λ loop-less. search needs)
-    (λ loop-again. search needs)
-    (λ same-length. search needs)
-    (λ returns-2. search needs))
+    tie.close (tie.spec Inv-loop μ-loop (λ returns. search needs) (λ close-requires κs. search needs) (λ lower-requires κs. search needs)
+    (λ start-requires κs. search needs) (λ after-requires κs. search needs) (λ loop-holds. search needs) (λ visit-requires κs. search needs)
+    (λ loop-less. search needs) (λ loop-again. search needs) (λ same-length. search needs) (λ returns-2. search needs))

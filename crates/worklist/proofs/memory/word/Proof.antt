@@ -7,9 +7,5 @@ use Rattle.worklist.proofs.memory.word.Tie as tie
 
 pub word-spec : {M : Type 1} → statement M
 word-spec =
-    tie.close
-    (tie.spec
-    (λ mul-result. search needs)
-    (λ shared-slice-read-result. search needs)
-    (λ returns. search needs)
+    tie.close (tie.spec (λ mul-result. search needs) (λ shared-slice-read-result. search needs) (λ returns. search needs)
     (λ c. sym (List·getD-eq-default (c .before .args .h .now) 0 (c .if1 .left))))

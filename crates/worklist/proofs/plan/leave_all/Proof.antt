@@ -14,19 +14,6 @@ abbrev μ-loop : tie.MeasureT-loop
 
 pub leave-all-spec : {M : Type 1} → statement M
 leave-all-spec =
-    tie.close
-    (tie.spec
-    Inv-loop
-    μ-loop
-    (λ loop-holds. search needs)
-    (λ close-requires κs. search needs)
-    (λ same-length. search needs)
-    (λ returns. search needs)
-    (λ leave-requires κs. search needs)
-    (λ planned-requires κs. search needs)
-    (λ loop-less. search needs)
-    (λ loop-again. search needs)
-    (λ loop-less-2. search needs)
-    (λ loop-again-2. search needs)
-    (λ same-length-2. search needs)
-    (λ returns-2. search needs))
+    tie.close (tie.spec Inv-loop μ-loop (λ loop-holds. search needs) (λ close-requires κs. search needs) (λ same-length. search needs) (λ returns. search needs)
+    (λ leave-requires κs. search needs) (λ planned-requires κs. search needs) (λ loop-less. search needs) (λ loop-again. search needs)
+    (λ loop-less-2. search needs) (λ loop-again-2. search needs) (λ same-length-2. search needs) (λ returns-2. search needs))

@@ -14,16 +14,6 @@ abbrev μ-loop : tie.MeasureT-loop
 
 pub prepare-spec : {M : Type 1} → statement M
 prepare-spec =
-    tie.close
-    (tie.spec
-    Inv-loop
-    μ-loop
-    (λ returns. search needs)
-    (λ loop-holds. search needs)
-    (λ prepare-word-requires κs. search needs)
-    (λ add-p. search needs)
-    (λ loop-less. search needs)
-    (λ loop-again. search needs)
-    (λ leave-all-requires κs. search needs)
-    (λ same-length. search needs)
+    tie.close (tie.spec Inv-loop μ-loop (λ returns. search needs) (λ loop-holds. search needs) (λ prepare-word-requires κs. search needs)
+    (λ add-p. search needs) (λ loop-less. search needs) (λ loop-again. search needs) (λ leave-all-requires κs. search needs) (λ same-length. search needs)
     (λ returns-2. search needs))

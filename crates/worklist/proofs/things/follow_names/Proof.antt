@@ -14,21 +14,7 @@ abbrev μ-loop : tie.MeasureT-loop
 
 pub follow-names-spec : {M : Type 1} → statement M
 follow-names-spec =
-    tie.close
-    (tie.spec
-    Inv-loop
-    μ-loop
-    (λ add-row-at. search needs)
-    (λ mul-row-at. search needs)
-    (λ row-at-requires κs. search needs)
-    (λ loop-holds. search needs)
-    (λ follow-name-requires κs. search needs)
-    (λ add-past. search needs)
-    (λ past-requires κs. search needs)
-    (λ loop-less. search needs)
-    (λ loop-again. search needs)
-    (λ mul-put. search needs)
-    (λ add-put. search needs)
-    (λ put-requires κs. search needs)
-    (λ same-length. search needs)
-    (λ returns. search needs))
+    tie.close (tie.spec Inv-loop μ-loop (λ add-row-at. search needs) (λ mul-row-at. search needs) (λ row-at-requires κs. search needs)
+    (λ loop-holds. search needs) (λ follow-name-requires κs. search needs) (λ add-past. search needs) (λ past-requires κs. search needs)
+    (λ loop-less. search needs) (λ loop-again. search needs) (λ mul-put. search needs) (λ add-put. search needs) (λ put-requires κs. search needs)
+    (λ same-length. search needs) (λ returns. search needs))

@@ -16,17 +16,7 @@ abbrev μ-loop : tie.MeasureT-loop
 
 pub meet-word-spec : {M : Type 1} → statement M
 meet-word-spec =
-    tie.close
-    (tie.spec
-    Inv-loop
-    μ-loop
-    (λ loop-holds. search needs)
-    (λ lowest-requires κs. search needs)
-    (λ add-g. search needs)
-    (λ meet-once-requires κs. search needs)
-    (λ sub-bits. search needs)
+    tie.close (tie.spec Inv-loop μ-loop (λ loop-holds. search needs) (λ lowest-requires κs. search needs) (λ add-g. search needs)
+    (λ meet-once-requires κs. search needs) (λ sub-bits. search needs)
     (λ c. let b = c .before .before .before .before .before .before .before .before .before .loop .bits in omega (arith, and-le-r b (b - 1)))
-    (λ loop-again. search needs)
-    (λ same-length. search needs)
-    (λ same-length-2. search needs)
-    (λ returns. search needs))
+    (λ loop-again. search needs) (λ same-length. search needs) (λ same-length-2. search needs) (λ returns. search needs))

@@ -14,17 +14,6 @@ abbrev μ-loop : tie.MeasureT-loop
 
 pub notify-spec : {M : Type 1} → statement M
 notify-spec =
-    tie.close
-    (tie.spec
-    Inv-loop
-    μ-loop
-    (λ at-followers-requires κs. search needs)
-    (λ next-follower-requires κs. search needs)
-    (λ loop-holds. search needs)
-    (λ take-from-requires κs. search needs)
-    (λ add-next-follower. search needs)
-    (λ next-follower-requires-2 κs. search needs)
-    (λ loop-less. search needs)
-    (λ loop-again. search needs)
-    (λ same-length. search needs)
-    (λ returns. search needs))
+    tie.close (tie.spec Inv-loop μ-loop (λ at-followers-requires κs. search needs) (λ next-follower-requires κs. search needs) (λ loop-holds. search needs)
+    (λ take-from-requires κs. search needs) (λ add-next-follower. search needs) (λ next-follower-requires-2 κs. search needs) (λ loop-less. search needs)
+    (λ loop-again. search needs) (λ same-length. search needs) (λ returns. search needs))

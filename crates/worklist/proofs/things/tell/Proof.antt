@@ -14,18 +14,7 @@ abbrev μ-loop : tie.MeasureT-loop
 
 pub tell-spec : {M : Type 1} → statement M
 tell-spec =
-    tie.close
-    (tie.spec
-    Inv-loop
-    μ-loop
-    (λ at-followers-requires κs. search needs)
-    (λ flags-requires κs. search needs)
-    (λ next-follower-requires κs. search needs)
-    (λ loop-holds. search needs)
-    (λ tell-one-requires κs. search needs)
-    (λ add-next-follower. search needs)
-    (λ next-follower-requires-2 κs. search needs)
-    (λ loop-less. search needs)
-    (λ loop-again. search needs)
-    (λ same-length. search needs)
+    tie.close (tie.spec Inv-loop μ-loop (λ at-followers-requires κs. search needs) (λ flags-requires κs. search needs)
+    (λ next-follower-requires κs. search needs) (λ loop-holds. search needs) (λ tell-one-requires κs. search needs) (λ add-next-follower. search needs)
+    (λ next-follower-requires-2 κs. search needs) (λ loop-less. search needs) (λ loop-again. search needs) (λ same-length. search needs)
     (λ returns. search needs))
