@@ -5,6 +5,7 @@ use crate::choices::choose_unless;
 use crate::kinds;
 use crate::memory::MOST;
 use crate::memory::PARENT;
+use crate::memory::PER_WORD;
 use crate::memory::RECEIVER;
 use crate::memory::USE;
 use crate::memory::get;
@@ -156,7 +157,7 @@ fn plain_part(out: &mut [u32], kind: u32, d: usize, p: usize, i: usize)
 fn send_part(h: &[u32], out: &mut [u32], d: usize, p: usize)
     requires { ⌜ (d < 2048) × (p < 1024) ⌝ }
 {
-    let b = get(h, RECEIVER + 6 * p);
+    let b = get(h, RECEIVER + PER_WORD * p);
     if b < MOST && !waits(h, 2 * (p + 1)) {
         choose_unless(h, out, 2 * d, kinds::SEND_SEND, p, b);
     }

@@ -26,8 +26,13 @@ pub const LIVE: usize = ROWS + TURN_TOPS + TURN_WORDS;
 
 pub const PERMISSIONS: usize = LIVE + TOPS + WORDS;
 
-// The plan: TURN + 3r has the turn of the row r, where 2p is C(p) and 2p + 1 is B(p), ROW + 3t the row of the turn t, PARENT + 6p the word that p is a
-// part of, and USE + 6p the last use of a binder or the use before a use.
+// The plan has so many words for each row, where 2p is C(p) and 2p + 1 is B(p), and for each word of the table.
+pub const PER_ROW: usize = 3;
+
+pub const PER_WORD: usize = 2 * PER_ROW;
+
+// From TURN on the turn of each row, from ROW on the row of each turn; from PARENT on of each word the word that it is a part of, and from USE on
+// the last use of a binder or the use before a use.
 pub const TURN: usize = PERMISSIONS + TOPS + WORDS;
 
 pub const ROW: usize = TURN + 1;
@@ -47,7 +52,7 @@ pub fn at_followers(n: usize, f: usize) -> usize
     ensures { λ r. ⌜ r < 131072 ⌝ }
 {
     let size = n % TURNS;
-    TURN + 6 * size + f % MOST * (size / BITS + 1 + TOPS)
+    TURN + PER_WORD * size + f % MOST * (size / BITS + 1 + TOPS)
 }
 
 // The word at a place, 0 past the end.
@@ -103,5 +108,5 @@ pub fn planned(h: &[u32], part: usize, p: usize) -> usize
     requires { ⌜ (part < 2048) × (p < 2048) ⌝ }
     ensures { λ r. ⌜ r < 1024 ⌝ }
 {
-    get(h, part + 6 * p) % MOST
+    get(h, part + PER_WORD * p) % MOST
 }

@@ -4,6 +4,7 @@ use crate::events::row_grew;
 use crate::events::woke;
 use crate::memory::LIVE;
 use crate::memory::MOST;
+use crate::memory::PER_ROW;
 use crate::memory::PERMISSIONS;
 use crate::memory::ROW;
 use crate::memory::TURN;
@@ -48,8 +49,8 @@ pub fn next(
     }
     let t = take_turn(h, from);
     if t < TURNS {
-        let r = get(h, ROW + 3 * t) % TURNS;
-        put(h, TURN + 3 * r, TURNS + t);
+        let r = get(h, ROW + PER_ROW * t) % TURNS;
+        put(h, TURN + PER_ROW * r, TURNS + t);
         row_grew(words, links, masks, est, h, out, l, r);
         return t + 1;
     }

@@ -1,6 +1,7 @@
 // What has grown, noted by whoever writes the estimate: it waits from then on.
 use crate::memory::LIVE;
 use crate::memory::MOST;
+use crate::memory::PER_ROW;
 use crate::memory::PERMISSIONS;
 use crate::memory::ROWS;
 use crate::memory::TOPS;
@@ -16,8 +17,8 @@ pub fn note_row(h: &mut [u32], r: usize)
     ensures { λ _. ⌜ Kept (now (h .entry)) (now (h .exit)) ⌝ }
 {
     let row = r % TURNS;
-    if TURN + 3 * row < h.len() {
-        let turn = get(h, TURN + 3 * row) % TURNS;
+    if TURN + PER_ROW * row < h.len() {
+        let turn = get(h, TURN + PER_ROW * row) % TURNS;
         add(h, ROWS, TURN_TOPS, turn);
     }
 }

@@ -3,6 +3,8 @@
 use crate::kinds;
 use crate::memory::MOST;
 use crate::memory::PARENT;
+use crate::memory::PER_ROW;
+use crate::memory::PER_WORD;
 use crate::memory::ROW;
 use crate::memory::TURN;
 use crate::memory::TURNS;
@@ -27,8 +29,8 @@ fn give(h: &mut [u32], t: usize, r: usize) -> usize
     requires { ⌜ r < 2048 ⌝ }
 {
     let turn = t % TURNS;
-    put(h, TURN + 3 * r, turn);
-    put(h, ROW + 3 * turn, r);
+    put(h, TURN + PER_ROW * r, turn);
+    put(h, ROW + PER_ROW * turn, r);
     turn + 1
 }
 
@@ -74,8 +76,8 @@ fn add_use(words: &[u32], links: &[u32], h: &mut [u32], p: usize)
     if kind_within(words, p) == kinds::VARIABLE {
         let b = link(links, p).binder;
         let before = planned(h, USE, b);
-        put(h, USE + 6 * p, before);
-        put(h, USE + 6 * b, p);
+        put(h, USE + PER_WORD * p, before);
+        put(h, USE + PER_WORD * b, p);
     }
 }
 
@@ -83,7 +85,7 @@ fn add_use(words: &[u32], links: &[u32], h: &mut [u32], p: usize)
 fn enter(words: &[u32], links: &[u32], h: &mut [u32], t: usize, q: usize, p: usize) -> usize
     requires { ⌜ (q < length (now words)) × (p < length (now words)) × (length (now words) ≤ 1024) ⌝ }
 {
-    put(h, PARENT + 6 * p, q);
+    put(h, PARENT + PER_WORD * p, q);
     add_use(words, links, h, p);
     let bound = kind_within(words, q) == kinds::LET && p != q + 1;
     let turn = give_if(h, t, 2 * q + 1, bound);

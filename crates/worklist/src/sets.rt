@@ -1,6 +1,7 @@
 // Sets in the memory: s summary words, then a bit for each member.
 use crate::memory::BITS;
 use crate::memory::MOST;
+use crate::memory::PER_ROW;
 use crate::memory::ROWS;
 use crate::memory::TOPS;
 use crate::memory::TURN;
@@ -120,7 +121,7 @@ pub fn take_turn(h: &mut [u32], t: usize) -> usize
 pub fn waits(h: &[u32], r: usize) -> bool
     requires { ⌜ r < 65536 ⌝ }
 {
-    let turn = get(h, TURN + 3 * r);
+    let turn = get(h, TURN + PER_ROW * r);
     turn < TURNS || has_bit(h, ROWS + TURN_TOPS, turn - TURNS)
 }
 

@@ -4,6 +4,7 @@ use crate::choices::choose_unless;
 use crate::kinds;
 use crate::memory::BITS;
 use crate::memory::MOST;
+use crate::memory::PER_WORD;
 use crate::memory::RECEIVER;
 use crate::memory::TURNS;
 use crate::memory::at_followers;
@@ -158,7 +159,7 @@ pub fn follow_names(words: &[u32], links: &[u32], est: &[u32], h: &mut [u32], l:
         found = follow_name(words, est, h, l.size, at, p, b, found);
         b = past(links, b + 3);
     }
-    put(h, RECEIVER + 6 * p, found);
+    put(h, RECEIVER + PER_WORD * p, found);
 }
 
 // The word p, which acts on f, takes what f holds or gives.
