@@ -116,9 +116,6 @@ no-part {old = old} q e = record { words = λ c o h. sym (fire-only-not c _ _ ol
 
 -- ---- one rule after another
 
-pub in-for : (l : Layout) (h : Code → Type 0) (k : Rule) (old new : List ℕ) (n : ℕ) → FiredIn l k old new n → FiredFor l h (λ c. k) old new n
-in-for l h k old new n f = record { words = λ c o x. f .words c o tt; count = f .count }
-
 module _ {l : Layout} {old mid new : List ℕ} {m n : ℕ} where
   pub and-then : {h g u : Code → Type 0} {k j : Code → Rule} → FiredFor l h k old mid m → FiredFor l g j mid new n
       → ((c : Code) → LaidOut c l → u c → h c × (mid ≡ fire c (k c) old → g c)) → FiredFor l u (λ c. k c and j c) old new (m + n)
@@ -133,10 +130,6 @@ module _ {l : Layout} {old mid new : List ℕ} {m n : ℕ} where
 
   pub and-in : {k j : Rule} → FiredIn l k old mid m → FiredIn l j mid new n → FiredIn l (k and j) old new (m + n)
   and-in p q = and-then p q (λ c o x. (tt, λ e. tt))
-
-pub and-for : (l : Layout) (old mid new : List ℕ) (m n : ℕ) (h g : Code → Type 0) (k j : Code → Rule) → FiredFor l h k old mid m → FiredFor l g j mid new n
-    → ((c : Code) → LaidOut c l → h c → mid ≡ fire c (k c) old → g c) → FiredFor l h (λ c. k c and j c) old new (m + n)
-and-for l old mid new m n h g k j p q f = and-then p q (λ c o x. (x, f c o x))
 
 -- two additions fit
 pub sum-fits : (old mid new : List ℕ) (m n : ℕ) → facts mid ≡ facts old + m → facts new ≡ facts mid + n → m + n ≤ 32 * length new

@@ -28,7 +28,7 @@ const EVENTS: usize = 16777216;
 // No word has more clauses.
 const CLAUSES: usize = 5;
 
-// The place of a choice; that of word 0 in place of one past the table.
+// The place p of a choice, or word 0 where p is past the table.
 fn within(p: usize, size: usize) -> usize
     requires { ⌜ 0 < size ⌝ }
     ensures { λ r. ⌜ (r < size) × (p < size → r ≡ p) ⌝ }
