@@ -53,8 +53,6 @@ fn flow(words: &[u32], links: &[u32], masks: &[u32], est: &[u32], l: Layout, p: 
 {
     let w = words[p];
     let a = argument_of(w);
-    let first = p + 1;
-    let own = 32 * l.lead + p;
     match kind_of(w) {
         2 => part(est, l, p, p + 3),
         16 => in_value(est, l, p, constant_element(a)),
@@ -62,20 +60,20 @@ fn flow(words: &[u32], links: &[u32], masks: &[u32], est: &[u32], l: Layout, p: 
         18 => in_value(est, l, p, 9 + a as usize),
         19 => in_value(est, l, p, 32 + a as usize),
         20 => passed(est, l, 2 * binder_of(links, p) + 1, 2 * p),
-        21 => in_value(est, l, p, own),
-        22 => apply(est, masks, l, p, end(links, first)),
-        23 => bind(est, l, p, end(links, first)),
-        24 => sequence(est, l, p, end(links, first)),
-        25 => branch(est, l, p, end(links, first), next_end(links, first)),
-        26 => repeat(est, l, p, end(links, first)),
-        27 => operation(est, l, p, end(links, first), a),
-        28 => in_value(est, l, p, own),
-        29 => get(est, masks, l, p, end(links, first)),
-        30 => set(est, masks, l, p, end(links, first), next_end(links, first)),
-        31 => delete(est, masks, l, p, end(links, first)),
+        21 => in_value(est, l, p, 32 * l.lead + p),
+        22 => apply(est, masks, l, p, end(links, p + 1)),
+        23 => bind(est, l, p, end(links, p + 1)),
+        24 => sequence(est, l, p, end(links, p + 1)),
+        25 => branch(est, l, p, end(links, p + 1), next_end(links, p + 1)),
+        26 => repeat(est, l, p, end(links, p + 1)),
+        27 => operation(est, l, p, end(links, p + 1), a),
+        28 => in_value(est, l, p, 32 * l.lead + p),
+        29 => get(est, masks, l, p, end(links, p + 1)),
+        30 => set(est, masks, l, p, end(links, p + 1), next_end(links, p + 1)),
+        31 => delete(est, masks, l, p, end(links, p + 1)),
         32 => cell(est, l, p),
         33 => read(est, masks, l, p),
-        34 => assign(est, masks, l, p, end(links, first)),
+        34 => assign(est, masks, l, p, end(links, p + 1)),
         36 => exercise(
             est,
             l,

@@ -410,8 +410,6 @@ pub fn clause(words: &[u32], links: &[u32], plain: usize, p: usize, k: usize) ->
     let w = words[p];
     let a = argument_of(w);
     let kind = kind_of(w);
-    let next = p + 1;
-    let own = plain + p;
     match kind {
         2 => block(p, k),
         16 => value(p, constant_element(a), k),
@@ -419,22 +417,22 @@ pub fn clause(words: &[u32], links: &[u32], plain: usize, p: usize, k: usize) ->
         18 => value(p, 9 + a as usize, k),
         19 => value(p, 32 + a as usize, k),
         20 => variable(p, binder_of(links, p), k),
-        21 => value(p, own, k),
-        22 => apply(p, end(links, next), k),
-        23 => bind(p, end(links, next), k),
-        24 => sequence(p, end(links, next), k),
-        25 => branch(p, end(links, next), next_end(links, next), k),
-        26 => repeat(p, end(links, next), k),
-        27 => operate(p, end(links, next), operation_number(a), k),
-        28 => value(p, own, k),
-        29 => get(p, end(links, next), k),
-        30 => set(p, end(links, next), next_end(links, next), own, k),
-        31 => delete(p, end(links, next), k),
-        32 => cell(p, own, k),
+        21 => value(p, plain + p, k),
+        22 => apply(p, end(links, p + 1), k),
+        23 => bind(p, end(links, p + 1), k),
+        24 => sequence(p, end(links, p + 1), k),
+        25 => branch(p, end(links, p + 1), next_end(links, p + 1), k),
+        26 => repeat(p, end(links, p + 1), k),
+        27 => operate(p, end(links, p + 1), operation_number(a), k),
+        28 => value(p, plain + p, k),
+        29 => get(p, end(links, p + 1), k),
+        30 => set(p, end(links, p + 1), next_end(links, p + 1), plain + p, k),
+        31 => delete(p, end(links, p + 1), k),
+        32 => cell(p, plain + p, k),
         33 => read(p, k),
-        34 => assign(p, end(links, next), k),
-        35 => send(p, end(links, next), a as usize, k),
+        34 => assign(p, end(links, p + 1), k),
+        35 => send(p, end(links, p + 1), a as usize, k),
         36 => exercise(p, PermSet { bits: a }, permissions_of(words, links, p), k),
-        _ => other(p, own, kind, k),
+        _ => other(p, plain + p, kind, k),
     }
 }
