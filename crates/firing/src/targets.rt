@@ -85,13 +85,7 @@ pub fn flow(est: &mut [u32], h: &mut [u32], l: Layout, a: usize, b: usize) -> us
     requires { ⌜ (a * l .row + l .row ≤ length (now est)) × (b * l .row + l .row ≤ length (now est)) × (l .row ≤ 36) ⌝ }
     ensures { λ x. ⌜ FiredIn l (Sub (rowAt a) (rowAt b)) (now (est .entry)) (now (est .exit)) x ⌝ }
 {
-    let row = l.row;
-    let to = b * row;
-    let mut new = [0u32; 36];
-    if !row::lacked(est, row, a * row, to, &mut new) {
-        return 0;
-    }
-    let added = row::join(&mut est[to..to + row], &new[..row]);
+    let added = row::join(est, l.row, a, b);
     grew_row(h, b, added);
     added
 }
@@ -130,12 +124,7 @@ pub fn pass(
 {
     let row = l.row;
     let at = m * row;
-    let to = b * row;
-    let mut new = [0u32; 36];
-    if !row::lacked_masked(est, &masks[at..at + row], row, a * row, to, &mut new) {
-        return 0;
-    }
-    let added = row::join(&mut est[to..to + row], &new[..row]);
+    let added = row::join_masked(est, &masks[at..at + row], row, a, b);
     grew_row(h, b, added);
     added
 }

@@ -1,6 +1,6 @@
--- Laws of rows: words or-ed in one after another, how many facts that adds, a row that lacks nothing of another, what one is missing of another, and what a mask keeps.
+-- Laws of rows: words or-ed in one after another, how many facts that adds, what a row lacks of another, and what a mask keeps.
 use Prim.Native.Nat.{ℕ, zero, suc, _+_, _-_, _*_, _/_, _%_, _^_, _≤_, _<_}
-use mathlib.Core.Path.{_≡_, refl, sym, ap, ap₂, _∙_, subst}
+use mathlib.Core.Path.{_≡_, refl, sym, ap, _∙_, subst}
 use mathlib.Core.Logic.{_⊎_, inl, inr, ⊎-elim}
 use mathlib.Core.Bool.{Bool, true, false, not, _&&_, _||_, true≢false}
 use mathlib.Core.List.{List, [], _∷_, _++_}
@@ -8,21 +8,21 @@ use native.Mathlib.Nat.{zero-add, suc-add, add-zero, zero-mul, one-mul, add-mul,
 use native.Mathlib.Decide.{ℕ-discrete, decLt}
 use native.Mathlib.Numerals.{add-one, one-add}
 use native.Mathlib.Omega.{arith}
-use borrow.Author.Tests.{eq-eqb, ne-eqb, eqb-true, not-false, lt-ltb, le-ltb}
+use borrow.Author.Tests.{eq-eqb, ne-eqb, lt-ltb, le-ltb}
 use lib.Arith.{lt-one}
 use lib.Dec.{eqb, ltb}
 use lib.Count.{onesIn, ones, ones-step, ones-cat}
 use lib.Pow.{pow-pos, pow-lt, split}
-use lib.Bits.{bitAnd, bitOr, bitXor, and-le-l, and-le-r, or-lt, xor-lt, or-add-and, xor-add-and, xor-self, and-comm, and-mod, or-mod, xor-mod, and-shr, or-shr, xor-shr, and-zero-l, and-zero-r, or-zero-r, or-disjoint, and-high}
+use lib.Bits.{bitAnd, bitOr, bitXor, and-le-l, and-le-r, or-lt, xor-lt, or-add-and, xor-add-and, xor-self, or-mod, xor-mod, or-shr, xor-shr, and-zero-l, and-zero-r, or-disjoint, and-high}
 use lib.ListN.{length, getD, set, take, drop, take-append-drop, length-drop, drop-of-length-le}
-use lib.Seq.{take-suc, take-all, take-add, take-at, drop-cons, length-take-le, take-nil, drop-nil, set-getD, getD-take, getD-drop}
+use lib.Seq.{take-add, drop-cons, length-take-le, take-nil, drop-nil, set-getD, getD-take, getD-drop}
 use Rattle.calculus.specs.Layout.{pour}
 use Rattle.calculus.specs.Estimate.{facts}
 use Rattle.calculus.proofs.Slices.{length-pour, pour-adds}
 use Rattle.calculus.proofs.Facts.{facts-le, facts-set, facts-append, pour-one}
 use Rattle.calculus.specs.Layout.{masked}
 use Rattle.calculus.proofs.Masks.{nonzero}
-use Rattle.rows.specs.Rows.{NextCommon, meets, lacking, missing, Poured}
+use Rattle.rows.specs.Rows.{NextCommon, meets, lacking, Poured}
 
 -- ---- the digits of one word
 
@@ -126,50 +126,15 @@ pour-then (w ∷ ws) zero (x ∷ xs) ys =
     rw e (ap (λ (zs : List ℕ). bitOr w x ∷ zs) (pour-then ws zero xs ys))
 pour-then (w ∷ ws) (suc at) xs ys = rw (suc-add at (length xs)) (ap (λ (zs : List ℕ). w ∷ zs) (pour-then ws at xs ys))
 
--- the first i words, and the next
-pour-more : (ws xs : List ℕ) (i : ℕ) → i < length xs → pour (pour ws 0 (take i xs)) i (getD xs i 0 ∷ []) ≡ pour ws 0 (take (i + 1) xs)
-pour-more ws xs i h =
-    let l : zero + length (take i xs) ≡ i = zero-add (length (take i xs)) ∙ length-take-le i xs (omega arith) in
-    ap (λ (n : ℕ). pour (pour ws 0 (take i xs)) n (getD xs i 0 ∷ [])) (sym l)
-    ∙ pour-then ws 0 (take i xs) (getD xs i 0 ∷ [])
-    ∙ ap (pour ws 0) (sym (take-suc xs i 0 h) ∙ ap (λ (n : ℕ). take n xs) (sym (add-one i)))
-
-pub poured-more : (ws old new xs : List ℕ) (i added more : ℕ) → i < length xs → Poured ws old 0 (take i xs) added
-    → Poured old new i (getD xs i 0 ∷ []) more → Poured ws new 0 (take (i + 1) xs) (added + more)
-poured-more ws old new xs i added more h p q =
-    record {
-      words = q .words ∙ ap (λ (ys : List ℕ). pour ys i (getD xs i 0 ∷ [])) (p .words) ∙ pour-more ws xs i h;
-      count = omega (arith, p .count, q .count);
-    }
-
 -- the first i words, and the next n
-pub poured-next : (ws old new xs : List ℕ) (i n added more : ℕ) → i ≤ length xs → Poured ws old 0 (take i xs) added
-    → Poured old new i (take n (drop i xs)) more → Poured ws new 0 (take (i + n) xs) (added + more)
-poured-next ws old new xs i n added more h p q =
-    let l : zero + length (take i xs) ≡ i = zero-add (length (take i xs)) ∙ length-take-le i xs h in
+pub poured-next : (ws old new xs : List ℕ) (at i n added more : ℕ) → i ≤ length xs → Poured ws old at (take i xs) added
+    → Poured old new (at + i) (take n (drop i xs)) more → Poured ws new at (take (i + n) xs) (added + more)
+poured-next ws old new xs at i n added more h p q =
     record {
       words =
-          q .words ∙ ap (λ (ys : List ℕ). pour ys i (take n (drop i xs))) (p .words)
-          ∙ ap (λ (k : ℕ). pour (pour ws 0 (take i xs)) k (take n (drop i xs))) (sym l)
-          ∙ pour-then ws 0 (take i xs) (take n (drop i xs)) ∙ ap (pour ws 0) (sym (take-add i n xs));
-      count = omega (arith, p .count, q .count);
-    }
-
--- the words of a list from `at` on, and one more of them
-pub poured-word : (ws old new from : List ℕ) (at i added more : ℕ) → at ≤ i → i < length from → Poured ws old at (take (i - at) (drop at from)) added
-    → Poured old new i (getD from i 0 ∷ []) more → Poured ws new at (take (i + 1 - at) (drop at from)) (added + more)
-poured-word ws old new from at i added more h l p q =
-    let xs = drop at from in
-    let k = i - at in
-    let inside : k < length xs = simp length-drop (omega arith) in
-    let place : i ≡ at + length (take k xs) = omega (arith, length-take-le k xs (omega arith)) in
-    let word : getD from i 0 ≡ getD xs k 0 = sym (getD-drop at from k 0 ∙ ap (λ (n : ℕ). getD from n 0) (omega arith)) in
-    let next : suc k ≡ i + 1 - at = omega arith in
-    record {
-      words =
-          q .words ∙ ap (λ (ys : List ℕ). pour ys i (getD from i 0 ∷ [])) (p .words)
-          ∙ ap₂ (λ (n w : ℕ). pour (pour ws at (take k xs)) n (w ∷ [])) place word ∙ pour-then ws at (take k xs) (getD xs k 0 ∷ [])
-          ∙ ap (pour ws at) (sym (take-suc xs k 0 inside) ∙ ap (λ (n : ℕ). take n xs) next);
+          q .words ∙ ap (λ (ys : List ℕ). pour ys (at + i) (take n (drop i xs))) (p .words)
+          ∙ ap (λ (k : ℕ). pour (pour ws at (take i xs)) (at + k) (take n (drop i xs))) (sym (length-take-le i xs h))
+          ∙ pour-then ws at (take i xs) (take n (drop i xs)) ∙ ap (pour ws at) (sym (take-add i n xs));
       count = omega (arith, p .count, q .count);
     }
 
@@ -354,29 +319,6 @@ module _ (xs ys : List ℕ) (i : ℕ) where
   pub missing-done : (m : ℕ) → length xs ≤ i → (not (eqb m 0) || lacking (drop i xs) (drop i ys)) ≡ not (eqb m 0)
   missing-done m h = ap (λ (b : Bool). not (eqb m 0) || b) (lacking-done h) ∙ or-false (not (eqb m 0))
 
-or-absorbed : (x y : ℕ) → bitAnd x y ≡ x → bitOr y x ≡ y
-or-absorbed x y e = let f : bitAnd y x ≡ x = and-comm y x ∙ e in omega (arith, or-add-and y x)
-
-pub lacking-nothing : (xs ys : List ℕ) → lacking xs ys ≡ false → length xs ≡ length ys → pour ys 0 xs ≡ ys
-unfolding lacking pour
-lacking-nothing [] [] h e = refl
-lacking-nothing [] (y ∷ ys) h e = refl
-lacking-nothing (x ∷ xs) [] h e = refl
-lacking-nothing (x ∷ xs) (y ∷ ys) h e =
-    ap₂ (λ (z : ℕ) (zs : List ℕ). z ∷ zs)
-    (or-absorbed x y (eqb-true (bitAnd x y) x (not-false (eqb (bitAnd x y) x) (or-left-false (not (eqb (bitAnd x y) x)) (lacking xs ys) h))))
-    (lacking-nothing xs ys (or-right-false (not (eqb (bitAnd x y) x)) (lacking xs ys) h) (omega arith))
-
--- then nothing is added to the n words from `at` on
-pub nothing-added : (ws : List ℕ) (at : ℕ) (xs : List ℕ) (n : ℕ) → length xs ≡ n → at + n ≤ length ws → lacking xs (take n (drop at ws)) ≡ false
-    → Poured ws ws at xs 0
-nothing-added ws at xs n e h f =
-    let l : length xs ≡ length (take n (drop at ws)) = e ∙ sym (length-row ws at n h) in
-    let p : Poured (take n (drop at ws)) (take n (drop at ws)) 0 xs 0 =
-    record { words = sym (lacking-nothing xs (take n (drop at ws)) f l); count = omega arith }
-    in
-    subst (λ (new : List ℕ). Poured ws new at xs 0) (whole ws at n) (put-back-whole ws at n (take n (drop at ws)) xs 0 p (omega arith))
-
 -- ---- masks
 
 pub length-masked : (ms xs : List ℕ) → length ms ≡ length xs → length (masked ms xs) ≡ length xs
@@ -446,107 +388,3 @@ module _ (ws : List ℕ) (i : ℕ) where
   pub some-done : (m : ℕ) → length ws ≤ i → (not (eqb m 0) || nonzero (drop i ws)) ≡ not (eqb m 0)
   unfolding nonzero
   some-done m h = ap (λ (b : Bool). not (eqb m 0) || b) (ap nonzero (drop-of-length-le ws h)) ∙ or-false (not (eqb m 0))
-
--- where all are 0, nothing is added
-pour-none : (ws : List ℕ) (at : ℕ) (xs : List ℕ) → nonzero xs ≡ false → pour ws at xs ≡ ws
-unfolding pour nonzero
-pour-none [] at xs h = refl
-pour-none (w ∷ ws) zero [] h = refl
-pour-none (w ∷ ws) zero (x ∷ xs) h = go (ℕ-discrete x 0) (pour-none ws 0 xs)
-  where
-    go : Dec (x ≡ 0) → (nonzero xs ≡ false → pour ws 0 xs ≡ ws) → bitOr w x ∷ pour ws 0 xs ≡ w ∷ ws
-    go (yes e) more = ap₂ (λ (y : ℕ) (ys : List ℕ). y ∷ ys) (ap (bitOr w) e ∙ or-zero-r w) (more (rw (eq-eqb x 0 e, nonzero) at h))
-    go (no n) more = absurd (true≢false (rw (ne-eqb x 0 n, nonzero) at h))
-pour-none (w ∷ ws) (suc at) xs h = ap (λ (ys : List ℕ). w ∷ ys) (pour-none ws at xs h)
-
-pub none-poured : (ws : List ℕ) (at : ℕ) (xs : List ℕ) → nonzero xs ≡ false → Poured ws ws at xs 0
-none-poured ws at xs h = record { words = sym (pour-none ws at xs h); count = omega arith }
-
--- ---- what is missing
-
-pub length-missing : (xs ys : List ℕ) → length xs ≡ length ys → length (missing xs ys) ≡ length xs
-unfolding missing
-length-missing [] ys e = refl
-length-missing (x ∷ xs) [] e = absurd (omega arith)
-length-missing (x ∷ xs) (y ∷ ys) e = ap suc (length-missing xs ys (omega arith))
-
-missing-word : (xs ys : List ℕ) (i : ℕ) → length xs ≡ length ys → getD (missing xs ys) i 0 ≡ bitXor (getD xs i 0) (bitAnd (getD xs i 0) (getD ys i 0))
-unfolding missing
-missing-word [] ys i e = refl
-missing-word (x ∷ xs) [] i e = absurd (omega arith)
-missing-word (x ∷ xs) (y ∷ ys) zero e = refl
-missing-word (x ∷ xs) (y ∷ ys) (suc i) e = missing-word xs ys i (omega arith)
-
--- the first words of a list at the front of another, and one more
-copy-next : (xs to : List ℕ) (i : ℕ) → i < length xs → i < length to
-    → set (take i xs ++ drop i to) i (getD xs i 0) ≡ take (i + 1) xs ++ drop (i + 1) to
-copy-next xs to i h l = rw (add-one) (go xs to i h l)
-  where
-    go : (xs to : List ℕ) (i : ℕ) → i < length xs → i < length to → set (take i xs ++ drop i to) i (getD xs i 0) ≡ take (suc i) xs ++ drop (suc i) to
-    go [] to i h l = absurd (omega arith)
-    go (x ∷ xs) [] i h l = absurd (omega arith)
-    go (x ∷ xs) (y ∷ to) zero h l = refl
-    go (x ∷ xs) (y ∷ to) (suc i) h l = ap (λ (ys : List ℕ). x ∷ ys) (go xs to i (omega arith) (omega arith))
-
--- what is missing at the front of a list: one word more of it, and all
-module _ (xs ys to : List ℕ) (e : length xs ≡ length ys) (i : ℕ) where
-  pub missing-next : (new : List ℕ) (x y : ℕ) → i < length xs → i < length to → getD xs i 0 ≡ x → getD ys i 0 ≡ y
-      → new ≡ take i (missing xs ys) ++ drop i to → set new i (bitXor x (bitAnd x y)) ≡ take (i + 1) (missing xs ys) ++ drop (i + 1) to
-  missing-next new x y h l p q t =
-      let w : bitXor x (bitAnd x y) ≡ getD (missing xs ys) i 0 = sym (missing-word xs ys i e ∙ ap₂ (λ (u v : ℕ). bitXor u (bitAnd u v)) p q) in
-      ap₂ (λ (zs : List ℕ) (z : ℕ). set zs i z) t w ∙ copy-next (missing xs ys) to i (omega (arith, length-missing xs ys e)) l
-
-  pub missing-all : length xs ≡ i → take i (missing xs ys) ++ drop i to ≡ missing xs ys ++ drop i to
-  missing-all h = ap (λ (zs : List ℕ). zs ++ drop i to) (take-all i (missing xs ys) (omega (arith, length-missing xs ys e)))
-
--- to or in what is missing is to or in all
-one-missing : (p q : ℕ) → p < 2 → q < 2 → bitOr q (bitXor p (bitAnd p q)) ≡ bitOr q p
-one-missing zero zero h l = refl
-one-missing zero (suc zero) h l = refl
-one-missing (suc zero) zero h l = refl
-one-missing (suc zero) (suc zero) h l = refl
-one-missing (suc (suc p)) q h l = absurd (omega arith)
-one-missing zero (suc (suc q)) h l = absurd (omega arith)
-one-missing (suc zero) (suc (suc q)) h l = absurd (omega arith)
-
-word-missing : (k x y : ℕ) → x < 2 ^ k → y < 2 ^ k → bitOr y (bitXor x (bitAnd x y)) ≡ bitOr y x
-word-missing zero x y h l = ap₂ (λ (u v : ℕ). bitOr v (bitXor u (bitAnd u v))) (lt-one h) (lt-one l) ∙ sym (ap₂ (λ (u v : ℕ). bitOr v u) (lt-one h) (lt-one l))
-word-missing (suc k) x y h l =
-    let high : bitOr y (bitXor x (bitAnd x y)) / 2 ≡ bitOr y x / 2 =
-    or-shr y (bitXor x (bitAnd x y)) 1
-    ∙ ap (bitOr (y / 2)) (xor-shr x (bitAnd x y) 1 ∙ ap (bitXor (x / 2)) (and-shr x y 1))
-    ∙ word-missing k (x / 2) (y / 2) (omega (arith, pow-suc 2 k)) (omega (arith, pow-suc 2 k)) ∙ sym (or-shr y x 1)
-    in
-    let low : bitOr y (bitXor x (bitAnd x y)) % 2 ≡ bitOr y x % 2 =
-    or-mod y (bitXor x (bitAnd x y)) 1
-    ∙ ap (bitOr (y % 2)) (xor-mod x (bitAnd x y) 1 ∙ ap (bitXor (x % 2)) (and-mod x y 1))
-    ∙ one-missing (x % 2) (y % 2) (omega arith) (omega arith) ∙ sym (or-mod y x 1)
-    in
-    omega (arith, high, low)
-
-below-power : (n k : ℕ) → n ≤ k → n < 2 ^ k
-below-power n zero h = omega arith
-below-power n (suc k) h = omega (arith, below-power k k (omega arith), pow-suc 2 k)
-
-pour-missing : (xs ys : List ℕ) → length xs ≡ length ys → pour ys 0 (missing xs ys) ≡ pour ys 0 xs
-unfolding pour missing
-pour-missing [] ys e = refl
-pour-missing (x ∷ xs) [] e = refl
-pour-missing (x ∷ xs) (y ∷ ys) e =
-    ap₂ (λ (z : ℕ) (zs : List ℕ). z ∷ zs) (word-missing (x + y) x y (below-power x (x + y) (omega arith)) (below-power y (x + y) (omega arith))) (pour-missing xs ys (omega arith))
-
--- what a row is missing at the front of another list, and or-ed in from there
-pub row-joined : (ws : List ℕ) (at row : ℕ) (copy rest new xs : List ℕ) (added : ℕ) → at + row ≤ length ws → length xs ≡ row
-    → copy ≡ missing xs (take row (drop at ws)) ++ rest → Poured (take (at + row - at) (drop at ws)) new 0 (take row copy) added
-    → Poured ws (take at ws ++ (new ++ drop (at + row - at) (drop at ws))) at xs added
-row-joined ws at row copy rest new xs added h e m p =
-    let ys = take row (drop at ws) in
-    let same = same-part ws at row in
-    let l : length xs ≡ length ys = e ∙ sym (length-row ws at row h) in
-    let front : take row copy ≡ missing xs ys = ap (take row) m ∙ take-at (missing xs ys) rest row (length-missing xs ys l ∙ e) in
-    put-back-whole ws at (at + row - at) new xs added
-    (record {
-      words = p .words ∙ ap₂ (λ (us zs : List ℕ). pour us 0 zs) same front ∙ pour-missing xs ys l ∙ ap (λ (us : List ℕ). pour us 0 xs) (sym same);
-      count = p .count;
-    })
-    (omega arith)

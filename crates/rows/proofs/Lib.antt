@@ -1,4 +1,5 @@
 pub mod Full
 pub mod Laws
+pub mod Joined
 pub mod Sizes
 pub mod Samples

@@ -6,13 +6,9 @@ use Prim.Native.Nat.{ℕ, zero, suc, _<_}
 use native.Mathlib.Omega.{arith}
 use lib.Bits.{bitAnd}
 use lib.ListN.{getD}
-use Rattle.rows.specs.Rows.{NextCommon, meets, lacking, missing}
+use Rattle.rows.specs.Rows.{NextCommon, meets, lacking}
 
 -- 6 has the digits 1 and 2, 3 has 0 and 1
-missing-sample : missing (6 ∷ 5 ∷ []) (3 ∷ 5 ∷ []) ≡ 4 ∷ 0 ∷ []
-unfolding missing
-missing-sample = refl
-
 lacking-samples : (lacking (6 ∷ []) (3 ∷ []) ≡ true) × (lacking (2 ∷ []) (3 ∷ []) ≡ false)
 unfolding lacking
 lacking-samples = (refl, refl)

@@ -1,9 +1,9 @@
--- Rows of words: what they have in common and where, what one lacks of another, and what it is to or words into a list and count what that added.
+-- Rows of words: what they have in common and where, whether one lacks something of another, and what it is to or words into a list and count what that added.
 use Prim.Native.Nat.{ℕ, _+_, _≤_, _<_, max}
 use mathlib.Core.Path.{_≡_}
 use mathlib.Core.Bool.{Bool, false, not, _||_}
 use mathlib.Core.List.{List, [], _∷_}
-use lib.Bits.{bitAnd, bitXor}
+use lib.Bits.{bitAnd}
 use lib.Dec.{eqb}
 use lib.ListN.{length, getD}
 use Rattle.calculus.specs.Layout.{pour}
@@ -27,12 +27,6 @@ unfoldable pub lacking : List ℕ → List ℕ → Bool
 lacking [] ys = false
 lacking (x ∷ xs) [] = false
 lacking (x ∷ xs) (y ∷ ys) = not (eqb (bitAnd x y) x) || lacking xs ys
-
--- what xs has and ys has not
-unfoldable pub missing : List ℕ → List ℕ → List ℕ
-missing [] ys = []
-missing (x ∷ xs) [] = []
-missing (x ∷ xs) (y ∷ ys) = bitXor x (bitAnd x y) ∷ missing xs ys
 
 -- new is old with the words xs or-ed in from the place `at` on, and that added so many digits
 pub record Poured (old new : List ℕ) (at : ℕ) (xs : List ℕ) (added : ℕ) : Type 0 where

@@ -1,11 +1,11 @@
-// A row by itself, lent from its own start.
+// A row by itself, lent from its own start, and a row of an estimate that is or-ed into another.
 ghost use mathlib.Core.Path.{_≡_};
-ghost use mathlib.Core.List.{[], _∷_, _++_};
-ghost use Prim.Native.Nat.{_+_, _-_, _*_, _/_, _%_, _^_, _<_, _≤_};
+ghost use mathlib.Core.List.{[], _∷_};
+ghost use Prim.Native.Nat.{_+_, _*_, _/_, _%_, _^_, _<_, _≤_};
 ghost use lib.ListN.{length, drop, take};
 ghost use Rattle.calculus.specs.Layout.{masked};
 ghost use Rattle.calculus.specs.ResultWords.{nonzero};
-ghost use Rattle.rows.specs.Rows.{Poured, NextCommon, meets, lacking, missing};
+ghost use Rattle.rows.specs.Rows.{Poured, NextCommon, meets, lacking};
 
 // Sets bits of the word k, and answers how many that added.
 pub fn set(row: &mut [u32], k: usize, bits: u32) -> usize
@@ -36,8 +36,80 @@ pub fn put(row: &mut [u32], v: usize) -> usize
     0
 }
 
-// How many words of a row are or-ed in or left alone together.
-const BLOCK: usize = 4;
+// Sets bits of the four words from k on, and answers how many that added. Four are or-ed in or left alone together: the compiler takes them at once.
+fn set_four(row: &mut [u32], k: usize, a: u32, b: u32, c: u32, d: u32) -> usize
+    requires { ⌜ k + 4 ≤ length (now row) ⌝ }
+    ensures { λ r. ⌜ Poured (now (row .entry)) (now (row .exit)) k (a ∷ b ∷ c ∷ d ∷ []) r ⌝ }
+{
+    let w = row[k];
+    let x = row[k + 1];
+    let y = row[k + 2];
+    let z = row[k + 3];
+    let e = (w | a) ^ w;
+    let f = (x | b) ^ x;
+    let g = (y | c) ^ y;
+    let h = (z | d) ^ z;
+    if (e | f) | (g | h) == 0 {
+        return 0;
+    }
+    row[k] = w | a;
+    row[k + 1] = x | b;
+    row[k + 2] = y | c;
+    row[k + 3] = z | d;
+    let low = u32::count_ones(e) + u32::count_ones(f);
+    let high = u32::count_ones(g) + u32::count_ones(h);
+    (low + high) as usize
+}
+
+// Or-s the row a of an estimate into its row b, and answers how many bits that added.
+pub fn join(est: &mut [u32], row: usize, a: usize, b: usize) -> usize
+    requires { ⌜ (a * row + row ≤ length (now est)) × (b * row + row ≤ length (now est)) × (row < 64) ⌝ }
+    ensures { λ r. ⌜ Poured (now (est .entry)) (now (est .exit)) (b * row) (take row (drop (a * row) (now (est .entry)))) r ⌝ }
+{
+    let from = a * row;
+    let to = b * row;
+    let mut added = 0;
+    let mut i = 0;
+    while i + 4 <= row {
+        let w = est[from + i];
+        let x = est[from + i + 1];
+        let y = est[from + i + 2];
+        let z = est[from + i + 3];
+        added += set_four(&mut est[to..to + row], i, w, x, y, z);
+        i += 4;
+    }
+    while i < row {
+        let bits = est[from + i];
+        added += set(&mut est[to..to + row], i, bits);
+        i += 1;
+    }
+    added
+}
+
+// The same for what the row a has in common with a mask.
+pub fn join_masked(est: &mut [u32], mask: &[u32], row: usize, a: usize, b: usize) -> usize
+    requires { ⌜ (a * row + row ≤ length (now est)) × (b * row + row ≤ length (now est)) × (row < 64) × (length (now mask) ≡ row) ⌝ }
+    ensures { λ r. ⌜ Poured (now (est .entry)) (now (est .exit)) (b * row) (masked (now (mask .entry)) (take row (drop (a * row) (now (est .entry))))) r ⌝ }
+{
+    let from = a * row;
+    let to = b * row;
+    let mut added = 0;
+    let mut i = 0;
+    while i + 4 <= row {
+        let w = mask[i] & est[from + i];
+        let x = mask[i + 1] & est[from + i + 1];
+        let y = mask[i + 2] & est[from + i + 2];
+        let z = mask[i + 3] & est[from + i + 3];
+        added += set_four(&mut est[to..to + row], i, w, x, y, z);
+        i += 4;
+    }
+    while i < row {
+        let bits = mask[i] & est[from + i];
+        added += set(&mut est[to..to + row], i, bits);
+        i += 1;
+    }
+    added
+}
 
 // Whether some word is not 0. No branch: the compiler takes several words at a time.
 pub fn some(words: &[u32]) -> bool
@@ -47,113 +119,6 @@ pub fn some(words: &[u32]) -> bool
     let mut i = 0;
     while i < words.len() {
         bits |= words[i];
-        i += 1;
-    }
-    bits != 0
-}
-
-// Or-s words into as many others, and answers how many bits that added. No branch here either.
-fn pour(row: &mut [u32], from: &[u32]) -> u32
-    requires { ⌜ length (now from) ≡ length (now row) ⌝ }
-    requires { ⌜ length (now row) < 4096 ⌝ }
-    ensures { λ r. ⌜ Poured (now (row .entry)) (now (row .exit)) 0 (now (from .entry)) r ⌝ }
-{
-    let mut added = 0u32;
-    let mut i = 0;
-    while i < row.len() {
-        let old = row[i];
-        let new = old | from[i];
-        row[i] = new;
-        added += u32::count_ones(new ^ old);
-        i += 1;
-    }
-    added
-}
-
-// The same from the word `at` on, before `end`, where there is something to or in.
-fn pour_some(row: &mut [u32], from: &[u32], at: usize, end: usize) -> u32
-    requires { ⌜ length (now from) ≡ length (now row) ⌝ }
-    requires { ⌜ (at ≤ end) × (end ≤ length (now row)) × (length (now row) < 4096) ⌝ }
-    ensures { λ r. ⌜ Poured (now (row .entry)) (now (row .exit)) at (take (end - at) (drop at (now (from .entry)))) r ⌝ }
-{
-    if some(&from[at..end]) {
-        pour(&mut row[at..end], &from[at..end])
-    } else {
-        0
-    }
-}
-
-// The same word by word from the word `at` on, for the few behind the last block.
-fn pour_rest(row: &mut [u32], from: &[u32], at: usize) -> usize
-    requires { ⌜ length (now from) ≡ length (now row) ⌝ }
-    requires { ⌜ (at ≤ length (now row)) × (length (now row) < 4096) ⌝ }
-    ensures { λ r. ⌜ Poured (now (row .entry)) (now (row .exit)) at (drop at (now (from .entry))) r ⌝ }
-{
-    let mut added = 0;
-    let mut i = at;
-    while i < row.len() {
-        added += set(row, i, from[i]);
-        i += 1;
-    }
-    added
-}
-
-// Or-s a row into this one, and answers how many bits that added.
-pub fn join(row: &mut [u32], from: &[u32]) -> usize
-    requires { ⌜ length (now from) ≡ length (now row) ⌝ }
-    requires { ⌜ length (now row) < 4096 ⌝ }
-    ensures { λ r. ⌜ Poured (now (row .entry)) (now (row .exit)) 0 (now (from .entry)) r ⌝ }
-{
-    let size = row.len();
-    let mut added = 0u32;
-    let mut i = 0;
-    while i + BLOCK <= size {
-        added += pour_some(row, from, i, i + BLOCK);
-        i += BLOCK;
-    }
-    added as usize + pour_rest(row, from, i)
-}
-
-// Writes what the row of so many words at `to` lacks of the one at `from` to the front of a slice; whether it lacks anything.
-pub fn lacked(est: &[u32], row: usize, from: usize, to: usize, new: &mut [u32]) -> bool
-    requires { ⌜ (from + row ≤ length (now est)) × (to + row ≤ length (now est)) × (row ≤ length (now new)) ⌝ }
-    ensures { λ r. ⌜ r ≡ lacking (take row (drop from (now (est .entry)))) (take row (drop to (now (est .entry)))) ⌝ }
-    ensures { λ _. ⌜ now (new .exit)
-        ≡ missing (take row (drop from (now (est .entry)))) (take row (drop to (now (est .entry)))) ++ drop row (now (new .entry)) ⌝ }
-{
-    let mut bits = 0u32;
-    let mut i = 0;
-    while i < row {
-        let x = est[from + i];
-        let y = x ^ (x & est[to + i]);
-        new[i] = y;
-        bits |= y;
-        i += 1;
-    }
-    bits != 0
-}
-
-// The same for what the row at `from` has in common with a mask.
-pub fn lacked_masked(
-    est: &[u32],
-    mask: &[u32],
-    row: usize,
-    from: usize,
-    to: usize,
-    new: &mut [u32],
-) -> bool
-    requires { ⌜ (from + row ≤ length (now est)) × (to + row ≤ length (now est)) × (row ≤ length (now new)) × (length (now mask) ≡ row) ⌝ }
-    ensures { λ r. ⌜ r ≡ lacking (masked (now (mask .entry)) (take row (drop from (now (est .entry))))) (take row (drop to (now (est .entry)))) ⌝ }
-    ensures { λ _. ⌜ now (new .exit) ≡ missing (masked (now (mask .entry)) (take row (drop from (now (est .entry)))))
-        (take row (drop to (now (est .entry)))) ++ drop row (now (new .entry)) ⌝ }
-{
-    let mut bits = 0u32;
-    let mut i = 0;
-    while i < row {
-        let kept = mask[i] & est[from + i];
-        let y = kept ^ (kept & est[to + i]);
-        new[i] = y;
-        bits |= y;
         i += 1;
     }
     bits != 0

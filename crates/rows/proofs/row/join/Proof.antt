@@ -1,58 +1,56 @@
--- `rows::row::join` meets its contract. The loop's invariant: the words before `i` are or-ed in, and so many facts were added. Assumes nothing.
-use mathlib.Core.Path.{_≡_, refl, sym, ap, _∙_}
-use Prim.Native.Nat.{_+_, _-_, _≤_}
+-- `rows::row::join` meets its contract. The invariant of both loops: the words before `i` are or-ed in, and so many facts were added. Assumes nothing.
+use mathlib.Core.Path.{sym}
+use Prim.Native.Nat.{_-_, _*_}
 use native.Mathlib.Omega.{arith}
-use lib.ListN.{length, take, drop, length-drop}
-use lib.Seq.{take-all}
+use lib.ListN.{take, drop}
 use borrow.Author.Needs.{needs}
-use Rattle.calculus.specs.Layout.{pour}
 use Rattle.calculus.proofs.Facts.{pour-nil}
-use Rattle.rows.specs.Rows.{Poured}
-use Rattle.rows.proofs.Laws.{poured-next, length-poured, poured-few}
+use Rattle.rows.proofs.Joined.{whole-row, Running, stands, one-more, four-more, all-joined}
 use Rattle.rows.proofs.row.join.Statement.{statement}
 use Rattle.rows.proofs.row.join.Tie as tie
 
 abbrev Inv-loop : tie.InvT-loop
-Inv-loop row₀ from size added₀ i₀ row added i = (i ≤ length row₀) × (length row ≡ length row₀) × Poured row₀ row 0 (take i from) added
+Inv-loop est₀ row a b from to added₀ i₀ est added i = Running row b (λ ws. take row (drop (a * row) ws)) est₀ added₀ i₀ est added i
 
 abbrev μ-loop : tie.MeasureT-loop
-μ-loop row₀ from size added₀ i₀ row added i = length row₀ - i
+μ-loop est₀ row a b from to added₀ i₀ est added i = row - i
 
--- a block more
-more : (c : tie.After-slice-known2 Inv-loop μ-loop)
-    → Poured (c .before .before .before .before .before .before .before .before .args .row .now) (c .before .before .pour-some .last .0) 0 (take (c .before .before .before .before .before .loop .i + 4) (c .before .before .before .before .before .before .before .before .args .from .now)) (c .before .before .before .before .before .loop .added + c .before .before .pour-some .result)
-more c =
-    let l = c .before .before .before .before .before .loop in
-    let a = c .before .before .before .before .before .before .before .before .args in
-    let e : l .i + 4 - l .i ≡ 4 = omega arith in
-    poured-next (a .row .now) (l .row) _ (a .from .now) (l .i) 4 (l .added) _ (omega arith) (l .inv .2) (rw e at (c .before .before .pour-some .ensures))
+abbrev Inv-loop2 : tie.InvT-loop2
+Inv-loop2 = Inv-loop
 
--- and the rest
-whole : (c : tie.After-slice-known3 Inv-loop μ-loop)
-    → Poured (c .before .before .before .before .before .before .before .before .args .row .now) (c .before .before .pour-rest .last .0) 0 (c .before .before .before .before .before .before .before .before .args .from .now) (c .before .before .before .before .before .loop .added + c .before .before .pour-rest .result)
-whole c =
-    let l = c .before .before .before .before .before .loop in
-    let a = c .before .before .before .before .before .before .before .before .args in
-    let n = length (a .from .now) - l .i in
-    let rest = take-all n (drop (l .i) (a .from .now)) (omega (arith, length-drop (l .i) (a .from .now))) in
-    let r = poured-next (a .row .now) (l .row) _ (a .from .now) (l .i) n (l .added) _ (omega arith) (l .inv .2) (rw (sym rest) at (c .before .before .pour-rest .ensures)) in
-    record { words = r .words ∙ ap (pour (a .row .now) 0) (take-all (l .i + n) (a .from .now) (omega arith)); count = r .count }
+abbrev μ-loop2 : tie.MeasureT-loop2
+μ-loop2 = μ-loop
 
-add-added : tie.Need-add-added Inv-loop μ-loop
-add-added c = omega (arith, poured-few _ _ _ _ _ (more c) (c .before .before .before .before .before .before .before .before .pre .1))
+loop-holds : tie.Need-loop-holds Inv-loop μ-loop Inv-loop2 μ-loop2
+loop-holds c = stands _ _ _ _ 0 0 (omega arith) (omega arith)
 
-loop-again : tie.Need-loop-again Inv-loop μ-loop
-loop-again c = (omega arith, length-poured _ _ _ _ _ (more c), more c)
+loop-again : tie.Need-loop-again Inv-loop μ-loop Inv-loop2 μ-loop2
+loop-again c =
+    let l = c .before .before .before .before .before .before .before .before .before .loop in let s = c .before .before .before .before .before .before .before .before .before .before .before in let a = s .args in
+    four-more (a .b) (whole-row (a .row) (a .a)) (s .pre .0) (s .pre .1) (s .pre .2) (l .est) (c .before .before .set-four .last .0) (l .i) (l .added) _ (l .inv) (omega arith) (c .before .before .set-four .ensures)
 
-cast-result : tie.Need-cast-result Inv-loop μ-loop
-cast-result c = omega (arith, poured-few _ _ _ _ _ (c .before .loop .inv .2) (c .before .before .before .before .pre .1))
+loop2-holds : tie.Need-loop2-holds Inv-loop μ-loop Inv-loop2 μ-loop2
+loop2-holds c = let l = c .before .loop in stands _ _ _ _ (l .added) (l .i) (l .inv .inside) (l .inv .few)
 
-add-result : tie.Need-add-result Inv-loop μ-loop
-add-result c = omega (arith, poured-few _ _ _ _ _ (whole c) (c .before .before .before .before .before .before .before .before .pre .1))
+loop2-again : tie.Need-loop2-again Inv-loop μ-loop Inv-loop2 μ-loop2
+loop2-again c =
+    let l = c .before .before .before .before .before .before .loop2 in let o = c .before .before .before .before .before .before .before .before .loop in let s = c .before .before .before .before .before .before .before .before .before .before in let a = s .args in
+    one-more (a .b) (whole-row (a .row) (a .a)) (omega (arith, s .pre, o .inv .long)) (omega (arith, s .pre, o .inv .long)) (s .pre .2) (l .est) (c .before .before .set .last .0) (l .i) (l .added) _ (l .inv) (omega arith) (c .before .before .set .ensures)
+
+returns : tie.Need-returns Inv-loop μ-loop Inv-loop2 μ-loop2
+returns c =
+    let l = c .before .loop2 in let o = c .before .before .before .loop in let s = c .before .before .before .before .before in let a = s .args in
+    all-joined (a .b) (whole-row (a .row) (a .a)) (a .est .now) (o .est) (l .est) (o .added) (o .i) (l .added) (l .i) (s .pre .0)
+    (o .inv .joined (a .est .now) (record { words = sym (pour-nil (a .est .now) _); count = omega arith })) (l .inv) (omega arith)
 
 pub join-spec : {M : Type 1} → statement M
 join-spec =
-    tie.close (tie.spec Inv-loop μ-loop
-    (λ c. (search needs, refl, record { words = sym (pour-nil (c .before .before .args .row .now) 0); count = omega arith }))
-    (λ add-loop. search needs) (λ add-pour-some. search needs) (λ pour-some-requires κs. search needs) add-added (λ add-i. search needs)
-    (λ loop-less. search needs) loop-again cast-result (λ pour-rest-requires κs. search needs) add-result (λ same-length. search needs) whole)
+    tie.close (tie.spec Inv-loop μ-loop Inv-loop2 μ-loop2 (λ mul-from. search needs) (λ mul-to. search needs) loop-holds (λ add-loop. search needs)
+    (λ add-w. search needs) (λ mul-w. search needs) (λ slice-read-w. search needs) (λ add-x. search needs) (λ add-x-2. search needs) (λ mul-x. search needs)
+    (λ slice-read-x. search needs) (λ add-y. search needs) (λ add-y-2. search needs) (λ mul-y. search needs) (λ slice-read-y. search needs)
+    (λ add-z. search needs) (λ add-z-2. search needs) (λ mul-z. search needs) (λ slice-read-z. search needs) (λ add-set-four. search needs)
+    (λ mul-set-four. search needs) (λ sub-set-four. search needs) (λ part-set-four-start. search needs) (λ part-set-four-end. search needs)
+    (λ set-four-requires κs. search needs) (λ c. omega (arith, loop-again c .few)) (λ add-i. search needs) (λ loop-less. search needs) loop-again loop2-holds
+    (λ add-bits. search needs) (λ mul-bits. search needs) (λ slice-read-bits. search needs) (λ add-set. search needs) (λ mul-set. search needs)
+    (λ sub-set. search needs) (λ part-set-start. search needs) (λ part-set-end. search needs) (λ set-requires κs. search needs)
+    (λ c. omega (arith, loop2-again c .few)) (λ add-i-2. search needs) (λ loop2-less. search needs) loop2-again (λ same-length. search needs) returns)
