@@ -1,13 +1,13 @@
 -- Laws of sound steps that are counted: none at all, one after another, the firing of a rule, the entry of a block.
 use Prim.Native.Nat.{ℕ, _+_, _*_, _≤_, _<_}
-use mathlib.Core.Path.{_≡_, sym, ap, ap₂, _∙_, subst}
+use mathlib.Core.Path.{_≡_, sym, _∙_, subst}
 use mathlib.Core.Bool.{Bool, true, false, not}
 use mathlib.Core.List.{List}
 use native.Mathlib.Omega.{arith}
 use lib.Dec.{T}
 use borrow.Author.Count.{below-more}
 use borrow.Author.Tests.{not-true, not-false}
-use Rattle.table.specs.Code.{Code, code, Linked}
+use Rattle.table.specs.Code.{Code, code}
 use Rattle.table.proofs.Linked.{linked}
 use Rattle.calculus.specs.Constraint.{Sets, Rule, Obeys, B, C, put, _and_}
 use Rattle.calculus.specs.Elements.{opponentRecord}
@@ -28,7 +28,7 @@ use Rattle.clauses.specs.Asks.{rowAt}
 use Rattle.clauses.proofs.Sorts.{row-B, row-C}
 use Rattle.checker.specs.Words.{Accepted}
 use Rattle.firing.specs.Fired.{Fired, FiredFor, FiredIn}
-use Rattle.fixpoint.specs.Grown.{Sound, Grown, Tried}
+use Rattle.fixpoint.specs.Grown.{Grown, Tried}
 
 module _ {c : Code} {ρ : ℕ} where
   pub grown-none : {ws : List ℕ} → Grown c ρ ws ws 0

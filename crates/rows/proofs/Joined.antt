@@ -11,9 +11,8 @@ use lib.Count.{ones, ones-le}
 use lib.ListN.{length, length-set, getD, set, take, drop}
 use lib.Seq.{drop-cons, length-take-le, take-all, getD-set-other}
 use Rattle.calculus.specs.Layout.{pour, masked}
-use Rattle.calculus.proofs.Facts.{pour-nil}
 use Rattle.calculus.proofs.Masks.{getD-masked}
-use Rattle.calculus.proofs.Slices.{length-pour, getD-pour-before}
+use Rattle.calculus.proofs.Slices.{getD-pour-before}
 use Rattle.rows.specs.Rows.{Poured}
 use Rattle.rows.proofs.Laws.{pour-then, poured-next, nothing-new, different-bits, put-back, length-poured, poured-few, length-part, length-row, getD-row, length-masked-row}
 
