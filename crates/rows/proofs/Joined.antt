@@ -4,17 +4,16 @@ use mathlib.Core.Path.{_≡_, refl, sym, ap, ap₂, _∙_, subst}
 use mathlib.Core.List.{List, [], _∷_, _++_}
 use native.Mathlib.Decide.{decLt}
 use native.Mathlib.Nat.{mul-le-mul-right, suc-mul}
-use native.Mathlib.Numerals.{add-one}
 use native.Mathlib.Omega.{arith}
 use lib.Bits.{bitAnd, bitOr, bitXor, and-le-l, and-le-r, or-lt, xor-lt, or-add-and, xor-add-and}
 use lib.Count.{ones, ones-le}
 use lib.ListN.{length, length-set, getD, set, take, drop}
-use lib.Seq.{drop-cons, length-take-le, take-all, getD-set-other}
+use lib.Seq.{length-take-le, take-all, getD-set-other}
 use Rattle.calculus.specs.Layout.{pour, masked}
 use Rattle.calculus.proofs.Masks.{getD-masked}
 use Rattle.calculus.proofs.Slices.{getD-pour-before}
 use Rattle.rows.specs.Rows.{Poured}
-use Rattle.rows.proofs.Laws.{pour-then, poured-next, nothing-new, different-bits, put-back, length-poured, poured-few, length-part, length-row, getD-row, length-masked-row}
+use Rattle.rows.proofs.Laws.{drop-next, pour-then, poured-next, nothing-new, different-bits, put-back, length-poured, poured-few, length-part, length-row, getD-row, length-masked-row}
 
 -- ---- four words
 
@@ -121,9 +120,6 @@ masked-row row a mask e =
       word = λ ws k h. getD-masked mask (take row (drop (a * row) ws)) k ∙ ap (bitAnd (getD mask k 0)) (getD-row ws (a * row) row k h);
     }
 
-drop-next : (xs : List ℕ) (i : ℕ) → i < length xs → drop i xs ≡ getD xs i 0 ∷ drop (i + 1) xs
-drop-next xs i h = rw (add-one, drop-cons xs i 0)
-
 take-one : (xs : List ℕ) (i : ℕ) → i < length xs → take 1 (drop i xs) ≡ getD xs i 0 ∷ []
 take-one xs i h = ap (take 1) (drop-next xs i h)
 
@@ -143,7 +139,8 @@ lent at row ws = take (at + row - at) (drop at ws)
 abbrev pub returned : ℕ → ℕ → List ℕ → List ℕ → List ℕ
 returned at row ws last = take at ws ++ (last ++ drop (at + row - at) (drop at ws))
 
--- From the word `start` on, up to i: whatever the row b had got of a source before, it has got of its first i words.
+-- What a loop of `join` keeps: it began at the word `start` with so much added before, and is at the word i; whatever list the row b had got the first
+-- words of the source of, up to `start`, it has now got up to i.
 pub record Running (row b : ℕ) (of : List ℕ → List ℕ) (old : List ℕ) (before start : ℕ) (new : List ℕ) (added i : ℕ) : Type 0 where
   pub inside : i ≤ row
   pub long : length new ≡ length old

@@ -114,6 +114,9 @@ missing-more m x y =
     ap not (or-none m (bitXor x (bitAnd x y)) ∙ ap (λ (b : Bool). eqb m 0 && b) (xor-none x (bitAnd x y)))
     ∙ not-and (eqb m 0) (eqb (bitAnd x y) x)
 
+pub drop-next : (xs : List ℕ) (i : ℕ) → i < length xs → drop i xs ≡ getD xs i 0 ∷ drop (i + 1) xs
+drop-next xs i h = rw (add-one, drop-cons xs i 0)
+
 -- ---- words or-ed in
 
 -- one after another
@@ -369,8 +372,7 @@ module _ (ws : List ℕ) (i : ℕ) where
   nonzero-at : i < length ws → nonzero (drop i ws) ≡ (not (eqb (getD ws i 0) 0) || nonzero (drop (i + 1) ws))
   unfolding nonzero
   nonzero-at h =
-      let e : drop i ws ≡ getD ws i 0 ∷ drop (i + 1) ws = rw (add-one, drop-cons ws i 0) in
-      ap nonzero e ∙ go (eqb (getD ws i 0) 0)
+      ap nonzero (drop-next ws i h) ∙ go (eqb (getD ws i 0) 0)
     where
       go : (b : Bool) → (elim b as (λ x. Bool) [ true ↦ nonzero (drop (i + 1) ws) | false ↦ true ]) ≡ (not b || nonzero (drop (i + 1) ws))
       go true = refl
