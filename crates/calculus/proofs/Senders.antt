@@ -1,4 +1,4 @@
--- Who may have sent: the senders' rules of all receivers ask what the sends ask of all their receivers; and the sets of some systems, computed.
+-- Who may have sent: the senders' rules of all receivers ask what the sends ask of all their receivers; and the sets of relay, computed.
 use Prim.Native.Nat.{ℕ, zero, suc, _<_}
 use mathlib.Core.Path.{_≡_, refl}
 use mathlib.Core.Bool.{Bool, true, false}
@@ -19,7 +19,7 @@ use Rattle.calculus.specs.Rules.{nameOf, permsOf, guarded, isBlock, perm
 use Rattle.calculus.specs.Rules.{twoSender, sender, senders, rule, Estimate}
 use Rattle.calculus.specs.Layout.{rowWords, estimateWords, sets}
 use Rattle.calculus.specs.Estimate.{whole, estimate}
-use Rattle.calculus.specs.Samples.{single, relay, twins}
+use Rattle.calculus.specs.Samples.{relay}
 use Rattle.calculus.proofs.Ranges.{below-in, in-below}
 use Rattle.calculus.proofs.Makers.{is-block}
 
@@ -55,7 +55,7 @@ module _ (c : Code) (k : Linked c) (e : Sets) where
   unfolding rule
   estimate-sent ρ o p h = senders-from (λ b i. o b i .0 .1) p h
 
--- ---- the sets of some systems
+-- ---- the sets of a system
 
 -- those of the n numbers from i on that pass the test
 unfoldable pub among : (n i : ℕ) → (ℕ → Bool) → List ℕ
@@ -67,13 +67,11 @@ unfoldable pub sendersOf : List ℕ → List (List ℕ)
 unfolding among whole estimate sets
 sendersOf ws = whole (estimate (code ws) 0) (λ est. map (λ b. among (elements (code ws)) 0 (sets (code ws) est (C b))) (code ws .blocks))
 
--- direct has the opponent; relay has it too, and its receiver the block at word 1; of the twins only the one that is started has a sender
-pub sender-sets :
-    map sendersOf (single 0 (0x24000002 ∷ []) ∷ single 4 (0x24000002 ∷ []) ∷ relay 8 0 ∷ relay 8 1 ∷ twins ∷ [])
-    ≡ ((7 ∷ []) ∷ []) ∷ ([] ∷ []) ∷ ((7 ∷ []) ∷ (65 ∷ []) ∷ []) ∷ ((7 ∷ []) ∷ [] ∷ []) ∷ ((7 ∷ []) ∷ [] ∷ (65 ∷ []) ∷ []) ∷ []
+-- of relay: the opponent may have sent to the block at word 1, and that block to the other; of more systems in crates/senders/proofs/Samples.antt
+pub relay-senders : sendersOf (relay 8 0) ≡ (7 ∷ []) ∷ (65 ∷ []) ∷ []
 unfolding onesIn namesOf partsByKind limitsByKind parts arity limit constantNumber constantOf operationOf termsByKind termOf firstOf has tests
     fault missing keep under next scan reading code skip part trace tasks taskAt termNode nodeFor scopeFor homeFor blocksFrom within member union
     difference lowest constantElement sign isString leafMakes oneMakes makes isFunction isRecord isCell making sendable anyRecord isSign signPlace
     sumSigns lessSigns bySigns comparable isMany equalResults results range nameOf permsOf guarded isBlock permissions deliveryTo judged delivered leafRule oneRule twoRule
     flow entry twoSender sender senders rule rowWords estimateWords among sendersOf
-sender-sets = refl
+relay-senders = refl

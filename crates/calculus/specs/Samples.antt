@@ -1,5 +1,5 @@
 -- The starred samples of document 01 ("Samples on the wall"), from the words of a table to its refusal, or to its leak, facts and estimate,
--- and some more that tell apart readings which the starred ones do not. One claim covers the list: proofs/Claim.antt.
+-- and some more that tell apart readings which the starred ones do not. One claim covers the list: crates/sample_claim/proofs/Claim.antt.
 use Prim.Native.Nat.{ℕ, _+_}
 use mathlib.Core.List.{List, [], _∷_, _++_}
 use mathlib.Core.Bool.{Bool, true, false, _&&_}
@@ -87,12 +87,12 @@ samples =
     -- a function applied; a function alone
     ∷ record { words = single 0 (0x16000000 ∷ 0x15000000 ∷ 0x24000001 ∷ 0x10000000 ∷ []); opponent = 0; expected = counts 1 78 }
     ∷ record { words = single 0 (0x15000000 ∷ 0x24000001 ∷ []); opponent = 0; expected = counts 0 68 }
-    -- relay; with 23000001; twins
-    ∷ record { words = relay 8 0; opponent = 0; expected = counts 2 207 }
+    -- relay with 23000001; ours: relay from a sender that lacks the receiver's guard
     ∷ record { words = relay 8 1; opponent = 0; expected = leaks 0 }
-    ∷ record { words = twins; opponent = 0; expected = counts 4 207 }
-    -- ours: relay from a sender that lacks the receiver's guard
     ∷ record { words = relay 0 0; opponent = 0; expected = leaks 0 }
+    -- relay; twins
+    ∷ record { words = relay 8 0; opponent = 0; expected = counts 2 207 }
+    ∷ record { words = twins; opponent = 0; expected = counts 4 207 }
     -- no words; 01000021
     ∷ record { words = []; opponent = 0; expected = refusal 1 0 }
     ∷ record { words = 0x01000021 ∷ []; opponent = 0; expected = refusal 3 0 }

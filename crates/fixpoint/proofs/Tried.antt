@@ -20,7 +20,7 @@ use Rattle.rows.specs.declared.layout.Layout.{Layout}
 use Rattle.queries.specs.Ready.{Ready}
 use Rattle.queries.proofs.Given.{size-is, sized}
 use Rattle.checker.specs.Words.{Accepted}
-use Rattle.worklist.specs.Memory.{choiceOf, placeOf, clauseOf, targetOf}
+use Rattle.choices.specs.Choices.{choiceOf, placeOf, clauseOf, targetOf}
 use Rattle.firing.specs.Fired.{Fired}
 use Rattle.firing.specs.Step.{stepAt}
 use Rattle.firing.proofs.Steps.{step-well, step-inside, steps-rules}

@@ -8,7 +8,7 @@ use Rattle.calculus.specs.Constraint.{Sets}
 use Rattle.calculus.specs.Rules.{entry, Estimate}
 use Rattle.calculus.specs.Layout.{WellFormed, LiesIn, sets}
 use Rattle.calculus.specs.Estimate.{fire, facts}
-use Rattle.worklist.specs.Memory.{placeOf, clauseOf, targetOf}
+use Rattle.choices.specs.Choices.{placeOf, clauseOf, targetOf}
 use Rattle.firing.specs.Step.{stepAt}
 
 -- what any step of any solver keeps: the layout of the estimate, its elements, and that it lies inside every estimate that obeys the rules

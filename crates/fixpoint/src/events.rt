@@ -1,14 +1,14 @@
 // Choices fired: what the worklist chooses, and in a sweep the clauses of all words. One place drains a list, into which the compiler puts a whole step.
 use crate::entry::enter;
+use choices::choice_at;
+use choices::choice_clause;
+use choices::choice_place;
+use choices::choice_target;
+use choices::choice_word;
+use choices::count;
 use firing::step::step;
 use permset::PermSet;
 use rows::layout::Layout;
-use worklist::choice_at;
-use worklist::choice_clause;
-use worklist::choice_place;
-use worklist::choice_target;
-use worklist::choice_word;
-use worklist::count;
 use worklist::next::NOTHING;
 use worklist::next::next;
 use worklist::past;

@@ -1,6 +1,6 @@
 -- The memory of the schedule and its list of choices, for a table of n words, at most 1,024: how long they are, how they are divided, and all that is
 -- promised of them. What their words say is never trusted: a mistake there costs time and nothing else.
-use Prim.Native.Nat.{ℕ, _+_, _*_, _/_, _%_}
+use Prim.Native.Nat.{ℕ, _+_, _*_, _/_}
 use mathlib.Core.Path.{_≡_}
 use mathlib.Core.List.{List}
 use lib.ListN.{length}
@@ -40,19 +40,6 @@ memoryWords n = rowsWait + liveWait + permissionsWait + plan n + followers n
 
 unfoldable pub choiceWords : ℕ → ℕ
 choiceWords n = 3 * n + 8
-
--- a choice as a word: clause k of the word p, for the target f or (0) for all; and its parts
-abbrev pub choiceOf : (k p f : ℕ) → ℕ
-choiceOf k p f = (k % 4096 * 1024 + p % 1024) * 1024 + f % 1024
-
-abbrev pub clauseOf : ℕ → ℕ
-clauseOf w = w / 1048576
-
-abbrev pub placeOf : ℕ → ℕ
-placeOf w = w / 1024 % 1024
-
-abbrev pub targetOf : ℕ → ℕ
-targetOf w = w % 1024
 
 -- ---- what is promised of either where it is lent: it is as long as before
 

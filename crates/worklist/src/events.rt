@@ -1,7 +1,7 @@
 // The clauses that an event calls for.
-use crate::choices::choose;
-use crate::choices::choose_some;
-use crate::choices::choose_unless;
+use crate::chosen::choose;
+use crate::chosen::choose_some;
+use crate::chosen::choose_unless;
 use crate::kinds;
 use crate::memory::MOST;
 use crate::memory::PARENT;
@@ -10,7 +10,6 @@ use crate::memory::RECEIVER;
 use crate::memory::USE;
 use crate::memory::get;
 use crate::memory::planned;
-use crate::memory::word;
 use crate::sets::waits;
 use crate::things::follow_names;
 use crate::things::meet_new;
@@ -22,6 +21,7 @@ use crate::view::kind_within;
 use crate::view::link;
 use crate::view::past;
 use crate::view::row_at;
+use choices::word;
 use rows::layout::Layout;
 ghost use Prim.Native.Nat.{_<_, _≤_};
 ghost use lib.ListN.{length};

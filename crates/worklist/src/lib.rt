@@ -2,7 +2,7 @@
 // specs/Memory.antt describes a memory `h` and a list `out`, and names what is promised of them: their length. What any of the lent slices says is
 // never trusted: a word past the end reads 0, a write there does nothing, and every loop ends by its own count; so no caller has anything to show
 // of them. `past` asks for a place below 4,096, so that there is one after it.
-mod choices;
+mod chosen;
 mod events;
 mod kinds;
 mod memory;
@@ -13,10 +13,4 @@ mod sets;
 mod things;
 mod view;
 
-pub use crate::choices::choice_at;
-pub use crate::choices::choice_clause;
-pub use crate::choices::choice_place;
-pub use crate::choices::choice_target;
-pub use crate::choices::choice_word;
-pub use crate::choices::count;
 pub use crate::view::past;

@@ -1,4 +1,5 @@
 // Where the parts of a memory stand, which `memoryWords` of specs/Memory.antt lists, and how they are read and written.
+use choices::word;
 ghost use mathlib.Core.Path.{_≡_};
 ghost use Prim.Native.Nat.{_+_, _/_, _<_, _≤_};
 ghost use lib.ListN.{length, getD};
@@ -55,14 +56,7 @@ pub fn at_followers(n: usize, f: usize) -> usize
     TURN + PER_WORD * size + f % MOST * (size / BITS + 1 + TOPS)
 }
 
-// The word at a place, 0 past the end.
-pub fn word(h: &[u32], i: usize) -> u32
-    ensures { λ r. ⌜ r ≡ getD (now (h .entry)) i 0 ⌝ }
-{
-    if i < h.len() { h[i] } else { 0 }
-}
-
-// The same as a number.
+// The word at a place as a number, 0 past the end.
 pub fn get(h: &[u32], i: usize) -> usize
     ensures { λ r. ⌜ (r ≡ getD (now (h .entry)) i 0) × (r < 4294967296) ⌝ }
 {

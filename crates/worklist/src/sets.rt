@@ -15,7 +15,7 @@ use crate::memory::has_bit;
 use crate::memory::highest;
 use crate::memory::lowest;
 use crate::memory::set_bit;
-use crate::memory::word;
+use choices::word;
 ghost use Prim.Native.Nat.{_+_, _/_, _<_, _≤_};
 ghost use lib.ListN.{length};
 

@@ -1,6 +1,6 @@
 // What acts on things: the terms that follow the functions, records or cells of their first part, and the sends that follow blocks.
-use crate::choices::choose;
-use crate::choices::choose_unless;
+use crate::chosen::choose;
+use crate::chosen::choose_unless;
 use crate::kinds;
 use crate::memory::BITS;
 use crate::memory::MOST;

@@ -2,7 +2,7 @@
 use crate::kinds;
 use crate::memory::MOST;
 use crate::memory::TURNS;
-use crate::memory::word;
+use choices::word;
 use rows::layout::Layout;
 use table::Link;
 use table::kind_of;

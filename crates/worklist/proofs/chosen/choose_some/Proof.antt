@@ -1,10 +1,10 @@
--- `worklist::choices::choose_some` meets its contract. The measure is how many clauses are left. Assumes nothing.
+-- `worklist::chosen::choose_some` meets its contract. The measure is how many clauses are left. Assumes nothing.
 use borrow.Author.Needs.{needs}
 use Prim.Native.Nat.{_-_}
 use lib.ListN.{length}
 use mathlib.Core.Path.{_≡_}
-use Rattle.worklist.proofs.choices.choose_some.Statement.{statement}
-use Rattle.worklist.proofs.choices.choose_some.Tie as tie
+use Rattle.worklist.proofs.chosen.choose_some.Statement.{statement}
+use Rattle.worklist.proofs.chosen.choose_some.Tie as tie
 
 abbrev Inv-loop : tie.InvT-loop
 Inv-loop out₀ k e p i₀ out i = length out ≡ length out₀
