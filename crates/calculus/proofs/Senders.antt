@@ -4,16 +4,13 @@ use mathlib.Core.Path.{_≡_, refl}
 use mathlib.Core.Bool.{Bool, true, false}
 use mathlib.Core.List.{List, [], _∷_, map, List·Memᴰ}
 use lib.Dec.{T}
-use lib.Count.{onesIn}
 use Rattle.permset.specs.Sets.{within, member, union, difference, lowest}
 use Rattle.delivery.specs.Delivery.{judged, delivered}
 use Rattle.table.specs.Words.{namesOf, partsByKind, limitsByKind, parts, arity, limit, constantNumber, constantOf, operationOf, termsByKind, termOf}
-use Rattle.table.specs.Scan.{firstOf, has, tests, fault, missing, keep, under, next, scan, reading}
+use Rattle.table.specs.Scan.{under, next}
 use Rattle.table.specs.Code.{code, skip, part, trace, tasks, taskAt, termNode, nodeFor, scopeFor, homeFor, blocksFrom}
 use Rattle.table.specs.Code.{Code, Node, gap, block, leaf, one, two, bind, while, branch, update, NodeLinked, Linked}
-use Rattle.calculus.specs.Elements.{elements, constantElement, sign, isString, leafMakes, oneMakes, makes, isFunction, isRecord, isCell, making}
-use Rattle.calculus.specs.Elements.{sendable, anyRecord, isSign, signPlace, sumSigns, lessSigns, bySigns, comparable, isMany}
-use Rattle.calculus.specs.Elements.{equalResults, results}
+use Rattle.calculus.specs.Elements.{elements, constantElement, leafMakes, oneMakes, makes, isFunction, isRecord, isCell, making, sendable}
 use Rattle.calculus.specs.Constraint.{C, Sets, Rule, Obeys, each, range}
 use Rattle.calculus.specs.Rules.{nameOf, permsOf, guarded, isBlock, permissions, deliveryTo, leafRule, oneRule, twoRule, flow, entry}
 use Rattle.calculus.specs.Rules.{twoSender, sender, senders, rule, Estimate}
@@ -69,9 +66,8 @@ sendersOf ws = whole (estimate (code ws) 0) (λ est. map (λ b. among (elements 
 
 -- of relay: the opponent may have sent to the block at word 1, and that block to the other; of more systems in crates/senders/proofs/Samples.antt
 pub relay-senders : sendersOf (relay 8 0) ≡ (7 ∷ []) ∷ (65 ∷ []) ∷ []
-unfolding onesIn namesOf partsByKind limitsByKind parts arity limit constantNumber constantOf operationOf termsByKind termOf firstOf has tests
-    fault missing keep under next scan reading code skip part trace tasks taskAt termNode nodeFor scopeFor homeFor blocksFrom within member union
-    difference lowest constantElement sign isString leafMakes oneMakes makes isFunction isRecord isCell making sendable anyRecord isSign signPlace
-    sumSigns lessSigns bySigns comparable isMany equalResults results range nameOf permsOf guarded isBlock permissions deliveryTo judged delivered leafRule oneRule twoRule
-    flow entry twoSender sender senders rule rowWords estimateWords among sendersOf
+unfolding namesOf partsByKind limitsByKind parts arity limit constantNumber constantOf operationOf termsByKind termOf under next code skip part trace tasks
+    taskAt termNode nodeFor scopeFor homeFor blocksFrom within member union difference lowest constantElement leafMakes oneMakes makes isFunction isRecord isCell
+    making sendable range nameOf permsOf guarded isBlock permissions deliveryTo judged delivered leafRule oneRule twoRule flow entry twoSender sender senders
+    rule rowWords estimateWords among sendersOf
 relay-senders = refl

@@ -10,7 +10,7 @@ const PLACES: usize = 1024;
 
 const CLAUSES: usize = 4096;
 
-// The word at a place of a slice, 0 past the end.
+// The word at a place of a slice, 0 past the end. The worklist reads its memory and the table by it too.
 pub fn word(list: &[u32], i: usize) -> u32
     ensures { λ r. ⌜ r ≡ getD (now (list .entry)) i 0 ⌝ }
 {
