@@ -9,7 +9,7 @@ use borrow.Author.Tests.{eq-eqb, ne_eqb}
 use lib.Dec.{eqb}
 use lib.ListN.{length, get_or, take, drop, drop_of_length-le}
 use lib.Seq.{drop-cons, drop-drop}
-use Rattle.arguments.specs.Lists.{until, behindOne, behind, item, counted, count, Starts, joined, without, clean}
+use Rattle.arguments.specs.Lists.{until, behind_one, behind, item, counted, count, Starts, joined, without, clean}
 
 module _ (z : ℕ) where
   -- ---- where a text ends
@@ -39,12 +39,12 @@ module _ (z : ℕ) where
 
   -- ---- where the next one starts
 
-  behind-one : (l : List ℕ) → drop (suc (length (until z l))) l ≡ behindOne z l
-  unfolding until behindOne
+  behind-one : (l : List ℕ) → drop (suc (length (until z l))) l ≡ behind_one z l
+  unfolding until behind_one
   behind-one [] = refl
   behind-one (b ∷ bs) = go (eqb b z) (behind-one bs)
     where
-      go : (t : Bool) → drop (suc (length (until z bs))) bs ≡ behindOne z bs → ◌≡◌ {A = List ℕ} (drop (suc (length {A = ℕ} (elim t as (λ x. List ℕ) [ true ↦ [] | false ↦ b ∷ until z bs ]))) (b ∷ bs)) (elim t [ true ↦ bs | false ↦ behindOne z bs ])
+      go : (t : Bool) → drop (suc (length (until z bs))) bs ≡ behind_one z bs → ◌≡◌ {A = List ℕ} (drop (suc (length {A = ℕ} (elim t as (λ x. List ℕ) [ true ↦ [] | false ↦ b ∷ until z bs ]))) (b ∷ bs)) (elim t [ true ↦ bs | false ↦ behind_one z bs ])
       go true h = refl
       go false h = h
 
@@ -117,17 +117,17 @@ module _ (z : ℕ) where
         go true q f h = absurd (false≢true f)
         go false q f h = rw (until, q) (ap (λ (x : List ℕ). b ∷ x) (h f))
 
-    behind-joined : (t : List ℕ) → without z t ≡ true → behindOne z (t ++ z ∷ rest) ≡ rest
-    unfolding behindOne without
-    behind-joined [] e = rw (behindOne, eq-eqb z z refl)
+    behind-joined : (t : List ℕ) → without z t ≡ true → behind_one z (t ++ z ∷ rest) ≡ rest
+    unfolding behind_one without
+    behind-joined [] e = rw (behind_one, eq-eqb z z refl)
     behind-joined (b ∷ bs) e = go (eqb b z) refl e (behind-joined bs)
       where
-        go : (t : Bool) → eqb b z ≡ t → (not t && without z bs) ≡ true → (without z bs ≡ true → behindOne z (bs ++ z ∷ rest) ≡ rest) → behindOne z (b ∷ (bs ++ z ∷ rest)) ≡ rest
+        go : (t : Bool) → eqb b z ≡ t → (not t && without z bs) ≡ true → (without z bs ≡ true → behind_one z (bs ++ z ∷ rest) ≡ rest) → behind_one z (b ∷ (bs ++ z ∷ rest)) ≡ rest
         go true q f h = absurd (false≢true f)
-        go false q f h = rw (behindOne, q) (h f)
+        go false q f h = rw (behind_one, q) (h f)
 
   behind-none : (k : ℕ) → behind z k [] ≡ []
-  unfolding behind behindOne
+  unfolding behind behind_one
   behind-none zero = refl
   behind-none (suc k) = behind-none k
 
@@ -138,7 +138,7 @@ module _ (z : ℕ) where
       ap (until z) (append_assoc t (z ∷ []) (joined z ts)) ∙ until-joined (joined z ts) t (and_both (without z t) (clean z ts) e).0
   item-joined (t ∷ ts) (suc k) e =
       let b = and_both (without z t) (clean z ts) e in
-      ap (λ (x : List ℕ). until z (behind z k x)) (ap (behindOne z) (append_assoc t (z ∷ []) (joined z ts)) ∙ behind-joined (joined z ts) t b.0)
+      ap (λ (x : List ℕ). until z (behind z k x)) (ap (behind_one z) (append_assoc t (z ∷ []) (joined z ts)) ∙ behind-joined (joined z ts) t b.0)
       ∙ item-joined ts k b.1
 
 -- ---- a text is not longer than all
@@ -153,19 +153,19 @@ module _ (z : ℕ) where
       go true h = omega arith
       go false h = omega arith
 
-  one-short : (l : List ℕ) → length (behindOne z l) ≤ length l
-  unfolding behindOne
+  one-short : (l : List ℕ) → length (behind_one z l) ≤ length l
+  unfolding behind_one
   one-short [] = omega arith
   one-short (b ∷ bs) = go (eqb b z) (one-short bs)
     where
-      go : (t : Bool) → length (behindOne z bs) ≤ length bs → length {A = ℕ} (elim t as (λ x. List ℕ) [ true ↦ bs | false ↦ behindOne z bs ]) ≤ suc (length bs)
+      go : (t : Bool) → length (behind_one z bs) ≤ length bs → length {A = ℕ} (elim t as (λ x. List ℕ) [ true ↦ bs | false ↦ behind_one z bs ]) ≤ suc (length bs)
       go true h = omega arith
       go false h = omega arith
 
   behind-short : (k : ℕ) (l : List ℕ) → length (behind z k l) ≤ length l
   unfolding behind
   behind-short zero l = omega arith
-  behind-short (suc k) l = omega (arith, behind-short k (behindOne z l), one-short l)
+  behind-short (suc k) l = omega (arith, behind-short k (behind_one z l), one-short l)
 
   pub item-short : (l : List ℕ) (k : ℕ) → length (item z k l) ≤ length l
   unfolding item

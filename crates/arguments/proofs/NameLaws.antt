@@ -13,7 +13,7 @@ use lib.Seq.{drop-cons}
 use Rattle.arguments.specs.declared.Command.{Command}
 use Rattle.arguments.specs.declared.Command.TheVariants.{Explain}
 use Rattle.arguments.specs.Lists.{item, joined, clean, without}
-use Rattle.arguments.specs.Names.{names, commands, same, position, commandAt}
+use Rattle.arguments.specs.Names.{names, commands, same, position, command_at}
 use Rattle.arguments.proofs.ListLaws.{item-joined}
 
 same_refl : (l : List ℕ) → same l l ≡ true
@@ -68,8 +68,8 @@ module _ (name : List ℕ) (ns : List (List ℕ)) (k : ℕ) where
 pub past : (n k : ℕ) → n ≤ k → (k ≡ n → ⊥) → n + 1 ≤ k
 past n k h e = omega (arith, e)
 
-pub command-last : (k : ℕ) → 16 ≤ k → commandAt k ≡ Explain
-unfolding commandAt commands
+pub command-last : (k : ℕ) → 16 ≤ k → command_at k ≡ Explain
+unfolding command_at commands
 command-last k h = go (dec_lt 16 k)
   where
     go : Dec (16 < k) → get_or commands k Explain ≡ Explain

@@ -21,8 +21,8 @@ use Rattle.arguments.specs.declared.plan.Plan.{Plan}
 use Rattle.arguments.specs.declared.plan.Plan.TheVariants as plans
 use Rattle.arguments.specs.Lists.{count, argument}
 use Rattle.arguments.specs.Values.{value_of}
-use Rattle.arguments.specs.Names.{names, same, position, commandAt, shape_of}
-use Rattle.arguments.specs.Plan.{orWrong, orNone, required, optional, taken, called, sources, next, call_of, named, plan_of}
+use Rattle.arguments.specs.Names.{names, same, position, command_at, shape_of}
+use Rattle.arguments.specs.Plan.{or_wrong, or_none, required, optional, taken, called, sources, next, call_of, named, plan_of}
 
 -- ---- one value
 
@@ -32,7 +32,7 @@ module _ (base most : ℕ) (arguments : List ℕ) (i : ℕ) where
     unfolding required
     required-missing h = sym (rw (required, le-leb (count 0 arguments) i h))
 
-    pub required-there : i < count 0 arguments → orWrong wrong i (value_of base most (argument i arguments)) ≡ required base most wrong arguments i
+    pub required-there : i < count 0 arguments → or_wrong wrong i (value_of base most (argument i arguments)) ≡ required base most wrong arguments i
     unfolding required
     required-there h = sym (rw (required, lt-leb (count 0 arguments) i h))
 
@@ -42,13 +42,13 @@ abbrev pub NextAt : ℕ → Taken → Type 0
 NextAt i (takes.Value v j) = j ≤ i + 1
 NextAt i (takes.Wrong m j) = Unit {0}
 
-wrong-next : (wrong : Misuse) (i : ℕ) (v : Value) → NextAt i (orWrong wrong i v)
-unfolding orWrong
+wrong-next : (wrong : Misuse) (i : ℕ) (v : Value) → NextAt i (or_wrong wrong i v)
+unfolding or_wrong
 wrong-next wrong i (Number n) = omega arith
 wrong-next wrong i Other = tt
 
-none-next : (i : ℕ) (v : Value) → NextAt i (orNone i v)
-unfolding orNone
+none-next : (i : ℕ) (v : Value) → NextAt i (or_none i v)
+unfolding or_none
 none-next i (Number n) = omega arith
 none-next i Other = omega arith
 
@@ -56,7 +56,7 @@ required-next : (base most : ℕ) (wrong : Misuse) (arguments : List ℕ) (i : �
 unfolding required
 required-next base most wrong arguments i = go (leb (count 0 arguments) i)
   where
-    go : (t : Bool) → NextAt i (elim t [ true ↦ takes.Wrong misuses.Missing i | false ↦ orWrong wrong i (value_of base most (argument i arguments)) ])
+    go : (t : Bool) → NextAt i (elim t [ true ↦ takes.Wrong misuses.Missing i | false ↦ or_wrong wrong i (value_of base most (argument i arguments)) ])
     go true = tt
     go false = wrong-next wrong i (value_of base most (argument i arguments))
 
@@ -148,7 +148,7 @@ module _ (arguments name : List ℕ) where
       named-version e = sym (rw (named, h, a, e))
 
       module _ (v : same name (bytes "--version") ≡ false) where
-        pub named-call : position name names < 17 → call_of arguments (commandAt (position name names)) ≡ named arguments name
+        pub named-call : position name names < 17 → call_of arguments (command_at (position name names)) ≡ named arguments name
         unfolding named
         named-call e = sym (rw (named, h, a, v, lt-ltb (position name names) 17 e))
 

@@ -9,7 +9,7 @@ use Rattle.arguments.specs.Lists.{argument}
 use Rattle.arguments.specs.Names.{names, position}
 use Rattle.arguments.specs.Plan.{plan_of}
 use Rattle.arguments.specs.Shown.{shown}
-use Rattle.arguments.specs.Help.{usageLine}
+use Rattle.arguments.specs.Help.{usage_line}
 
 -- what is wrong with the argument that stands before it
 unfoldable pub reason : Misuse → List ℕ
@@ -20,26 +20,26 @@ reason Superfluous = bytes " is one argument too many\n"
 reason OneFile = bytes " is one file, and two or none are read\n"
 
 -- the command and argument i
-unfoldable pub fileText : (arguments : List ℕ) (i : ℕ) → List ℕ
+unfoldable pub file_text : (arguments : List ℕ) (i : ℕ) → List ℕ
 unfolding shown
-fileText arguments i = ((bytes "wiphosega " ++ shown (argument 0 arguments)) ++ bytes ": ") ++ shown (argument i arguments)
+file_text arguments i = ((bytes "wiphosega " ++ shown (argument 0 arguments)) ++ bytes ": ") ++ shown (argument i arguments)
 
-unfoldable pub unknownText : (arguments : List ℕ) → List ℕ
+unfoldable pub unknown_text : (arguments : List ℕ) → List ℕ
 unfolding shown
-unknownText arguments =
+unknown_text arguments =
     (bytes "wiphosega: unknown command " ++ shown (argument 0 arguments)) ++ bytes "\nwiphosega help lists the commands\n"
 
-unfoldable pub misuseText : (arguments : List ℕ) → Misuse → (i : ℕ) → List ℕ
-unfolding fileText reason usageLine
-misuseText arguments m i = (fileText arguments i ++ reason m) ++ usageLine (position (argument 0 arguments) names)
+unfoldable pub misuse_text : (arguments : List ℕ) → Misuse → (i : ℕ) → List ℕ
+unfolding file_text reason usage_line
+misuse_text arguments m i = (file_text arguments i ++ reason m) ++ usage_line (position (argument 0 arguments) names)
 
 unfoldable pub spoken : (arguments : List ℕ) → Plan → List ℕ
-unfolding unknownText misuseText
+unfolding unknown_text misuse_text
 spoken arguments plans.Help = []
 spoken arguments plans.Version = []
 spoken arguments (plans.Call c) = []
-spoken arguments plans.Unknown = unknownText arguments
-spoken arguments (plans.Misuse m i) = misuseText arguments m i
+spoken arguments plans.Unknown = unknown_text arguments
+spoken arguments (plans.Misuse m i) = misuse_text arguments m i
 
 unfoldable pub complaint : (arguments : List ℕ) → List ℕ
 unfolding spoken

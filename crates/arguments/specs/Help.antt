@@ -25,9 +25,9 @@ usages =
     ++ bytes "wiphosega explain NUMBER   the meaning of a refusal's number\n"
 
 -- the line of the command at a place
-unfoldable pub usageLine : ℕ → List ℕ
+unfoldable pub usage_line : ℕ → List ℕ
 unfolding item usages
-usageLine k = item 10 k usages ++ bytes "\n"
+usage_line k = item 10 k usages ++ bytes "\n"
 
 unfoldable pub notes : List ℕ
 notes =

@@ -12,15 +12,15 @@ module _ (z : ℕ) where
   until (b ∷ bs) = elim (eqb b z) [ true ↦ [] | false ↦ b ∷ until bs ]
 
   -- the bytes behind it
-  unfoldable pub behindOne : List ℕ → List ℕ
-  behindOne [] = []
-  behindOne (b ∷ bs) = elim (eqb b z) [ true ↦ bs | false ↦ behindOne bs ]
+  unfoldable pub behind_one : List ℕ → List ℕ
+  behind_one [] = []
+  behind_one (b ∷ bs) = elim (eqb b z) [ true ↦ bs | false ↦ behind_one bs ]
 
   -- the bytes behind k end bytes
   unfoldable pub behind : ℕ → List ℕ → List ℕ
-  unfolding behindOne
+  unfolding behind_one
   behind zero l = l
-  behind (suc k) l = behind k (behindOne l)
+  behind (suc k) l = behind k (behind_one l)
 
   -- text k, counted from 0; no byte where there are fewer
   unfoldable pub item : ℕ → List ℕ → List ℕ

@@ -45,9 +45,9 @@ unfolding same
 position name [] = 0
 position name (n ∷ ns) = elim (same name n) [ true ↦ 0 | false ↦ suc (position name ns) ]
 
-unfoldable pub commandAt : ℕ → Command
+unfoldable pub command_at : ℕ → Command
 unfolding commands
-commandAt k = get_or commands k Explain
+command_at k = get_or commands k Explain
 
 abbrev pub shaped : (first second third : Slot) (files : ℕ) → Shape
 shaped a b c n = record { first = a; second = b; third = c; files = n }

@@ -17,28 +17,28 @@ use Rattle.arguments.specs.declared.plan.Plan.{Plan}
 use Rattle.arguments.specs.declared.plan.Plan.TheVariants as plans
 use Rattle.arguments.specs.Lists.{count, argument}
 use Rattle.arguments.specs.Values.{value_of}
-use Rattle.arguments.specs.Names.{names, same, position, commandAt, shape_of}
+use Rattle.arguments.specs.Names.{names, same, position, command_at, shape_of}
 
 -- ---- one value, at argument i, and which argument comes next
 
-unfoldable pub orWrong : (wrong : Misuse) (i : ℕ) → Value → Taken
-orWrong wrong i (Number n) = takes.Value (Number n) (i + 1)
-orWrong wrong i Other = takes.Wrong wrong i
+unfoldable pub or_wrong : (wrong : Misuse) (i : ℕ) → Value → Taken
+or_wrong wrong i (Number n) = takes.Value (Number n) (i + 1)
+or_wrong wrong i Other = takes.Wrong wrong i
 
-unfoldable pub orNone : (i : ℕ) → Value → Taken
-orNone i (Number n) = takes.Value (Number n) (i + 1)
-orNone i Other = takes.Value Other i
+unfoldable pub or_none : (i : ℕ) → Value → Taken
+or_none i (Number n) = takes.Value (Number n) (i + 1)
+or_none i Other = takes.Value Other i
 
 -- a value that has to be there: at least one and at most so many digits in a base
 unfoldable pub required : (base most : ℕ) (wrong : Misuse) (arguments : List ℕ) (i : ℕ) → Taken
-unfolding orWrong
+unfolding or_wrong
 required base most wrong arguments i =
-    elim (leb (count 0 arguments) i) [ true ↦ takes.Wrong misuses.Missing i | false ↦ orWrong wrong i (value_of base most (argument i arguments)) ]
+    elim (leb (count 0 arguments) i) [ true ↦ takes.Wrong misuses.Missing i | false ↦ or_wrong wrong i (value_of base most (argument i arguments)) ]
 
 -- one that is taken where the argument is spelled so
 unfoldable pub optional : (base most : ℕ) (arguments : List ℕ) (i : ℕ) → Taken
-unfolding orNone
-optional base most arguments i = orNone i (value_of base most (argument i arguments))
+unfolding or_none
+optional base most arguments i = or_none i (value_of base most (argument i arguments))
 
 -- a set has one to six hexadecimal digits, a number one to eight decimal ones
 unfoldable pub taken : (arguments : List ℕ) → Slot → (i : ℕ) → Taken
@@ -77,13 +77,13 @@ behind (Number n) s = s
 behind Other s = slots.Nothing
 
 module _ (arguments : List ℕ) (command : Command) where
-  unfoldable pub thirdOf : (first second : Value) → Slot → (files i : ℕ) → Plan
+  unfoldable pub third_of : (first second : Value) → Slot → (files i : ℕ) → Plan
   unfolding sources next
-  thirdOf first second slot files i = next (taken arguments slot i) (λ third j. sources command first second third files j (count 0 arguments))
+  third_of first second slot files i = next (taken arguments slot i) (λ third j. sources command first second third files j (count 0 arguments))
 
   unfoldable pub second_of : (first : Value) → Shape → (i : ℕ) → Plan
-  unfolding thirdOf next behind
-  second_of first s i = next (taken arguments s.second i) (λ second j. thirdOf first second (behind second s.third) s.files j)
+  unfolding third_of next behind
+  second_of first s i = next (taken arguments s.second i) (λ second j. third_of first second (behind second s.third) s.files j)
 
   unfoldable pub call_of : Plan
   unfolding second_of next
@@ -101,7 +101,7 @@ named arguments name =
         | false ↦ elim (same name (bytes "--version")) [
           | true ↦ plans.Version
           | false ↦ elim (ltb (position name names) 17) [
-            | true ↦ call_of arguments (commandAt (position name names))
+            | true ↦ call_of arguments (command_at (position name names))
             | false ↦ plans.Unknown
           ]
         ]

@@ -7,14 +7,14 @@ unfoldable pub code_of : ℕ → List ℕ
 code_of b = bytes "\\x" ++ glyph (b / 16) ∷ glyph (b % 16) ∷ []
 
 -- from the space to the tilde a byte is printable
-unfoldable pub shownByte : ℕ → List ℕ
+unfoldable pub shown_byte : ℕ → List ℕ
 unfolding code_of
-shownByte b = elim (ltb b 32) [ true ↦ code_of b | false ↦ elim (ltb 126 b) [ true ↦ code_of b | false ↦ b ∷ [] ] ]
+shown_byte b = elim (ltb b 32) [ true ↦ code_of b | false ↦ elim (ltb 126 b) [ true ↦ code_of b | false ↦ b ∷ [] ] ]
 
 unfoldable pub escaped : List ℕ → List ℕ
-unfolding shownByte
+unfolding shown_byte
 escaped [] = []
-escaped (b ∷ bs) = shownByte b ++ escaped bs
+escaped (b ∷ bs) = shown_byte b ++ escaped bs
 
 unfoldable pub shown : List ℕ → List ℕ
 unfolding escaped

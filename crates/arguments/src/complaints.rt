@@ -1,7 +1,7 @@
 // What is said of a misuse, and of a file that cannot be read.
 ghost use Rattle.std.specs.Prelude.{◌≡◌, ◌+◌, ◌≤◌, length};
 ghost use Rattle.text.specs.Writing.{Wrote};
-ghost use Rattle.arguments.specs.Complaints.{reason, fileText, unknownText, misuseText, complaint};
+ghost use Rattle.arguments.specs.Complaints.{reason, file_text, unknown_text, misuse_text, complaint};
 
 use crate::help::usage;
 use crate::lists::item;
@@ -28,7 +28,7 @@ fn put_reason(out: &mut [u8], at: usize, m: Misuse) -> usize
 // The command and an argument.
 pub fn put_file(out: &mut [u8], arguments: &[u8], i: usize) -> usize
     requires { 1024 ≤ length out.old }
-    ensures wrote { Wrote out.old 0 (fileText arguments.now i) out.new result }
+    ensures wrote { Wrote out.old 0 (file_text arguments.now i) out.new result }
     ensures upper_bound { result ≤ 1024 }
 {
     let a = put(out, 0, b"wiphosega ");
@@ -40,7 +40,7 @@ pub fn put_file(out: &mut [u8], arguments: &[u8], i: usize) -> usize
 // The reason, and the line of the command.
 fn put_misuse(out: &mut [u8], arguments: &[u8], m: Misuse, i: usize) -> usize
     requires { 8192 ≤ length out.old }
-    ensures { Wrote out.old 0 (misuseText arguments.now m i) out.new result }
+    ensures { Wrote out.old 0 (misuse_text arguments.now m i) out.new result }
 {
     let a = put_file(out, arguments, i);
     let b = put_reason(out, a, m);
@@ -49,7 +49,7 @@ fn put_misuse(out: &mut [u8], arguments: &[u8], m: Misuse, i: usize) -> usize
 
 fn put_unknown(out: &mut [u8], arguments: &[u8]) -> usize
     requires { 8192 ≤ length out.old }
-    ensures { Wrote out.old 0 (unknownText arguments.now) out.new result }
+    ensures { Wrote out.old 0 (unknown_text arguments.now) out.new result }
 {
     let a = put(out, 0, b"wiphosega: unknown command ");
     let b = put_shown(out, a, item(arguments, 0, 0));

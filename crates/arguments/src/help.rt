@@ -1,7 +1,7 @@
 // The help, the line of a command in it, and the version.
 ghost use Rattle.std.specs.Prelude.{◌≡◌, ◌+◌, ◌≤◌, length};
 ghost use Rattle.text.specs.Writing.{Wrote};
-ghost use Rattle.arguments.specs.Help.{usageLine, help as Help·help, version as Help·version};
+ghost use Rattle.arguments.specs.Help.{usage_line, help as Help·help, version as Help·version};
 
 use crate::lists::item;
 use text::put;
@@ -28,7 +28,7 @@ const USAGES: [u8; 1509] =
 // The line of the command at a place.
 pub fn usage(out: &mut [u8], at: usize, k: usize) -> usize
     requires { at + 4096 ≤ length out.old }
-    ensures wrote { Wrote out.old at (usageLine k) out.new result }
+    ensures wrote { Wrote out.old at (usage_line k) out.new result }
     ensures upper_bound { result ≤ at + 4096 }
 {
     let page = USAGES;

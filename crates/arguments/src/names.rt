@@ -1,6 +1,6 @@
 // The names of the commands, and what each command takes.
 ghost use Rattle.std.specs.Prelude.{◌≡◌, ◌≤◌};
-ghost use Rattle.arguments.specs.Names.{names, position as Names·position, commandAt, shape_of};
+ghost use Rattle.arguments.specs.Names.{names, position as Names·position, command_at, shape_of};
 
 use crate::Command;
 use crate::lists::item;
@@ -59,7 +59,7 @@ pub fn position(name: &[u8]) -> usize
 
 // The command at a place.
 pub fn command_at(k: usize) -> Command
-    ensures { result ≡ commandAt k }
+    ensures { result ≡ command_at k }
 {
     match k {
         0 => Command::Leak,

@@ -1,7 +1,7 @@
 // What the arguments ask for: the help, the version, a command with its values and files, or a misuse.
 ghost use Rattle.std.specs.Prelude.{◌≡◌, ◌≤◌};
 ghost use Rattle.arguments.specs.Plan.{required as Plan·required, optional as Plan·optional, taken, sources as Plan·sources};
-ghost use Rattle.arguments.specs.Plan.{behind as Plan·behind, thirdOf, second_of, call_of, named as Plan·named, plan_of};
+ghost use Rattle.arguments.specs.Plan.{behind as Plan·behind, third_of, second_of, call_of, named as Plan·named, plan_of};
 
 use crate::Command;
 use crate::lists::{count, item};
@@ -145,7 +145,7 @@ fn third_of(
     i: usize,
 ) -> Plan
     requires { (files ≤ 2) × (i ≤ 3) }
-    ensures { result ≡ thirdOf arguments.now command first second slot files i }
+    ensures { result ≡ third_of arguments.now command first second slot files i }
 {
     match take(arguments, slot, i) {
         Taken::Value(third, j) => {

@@ -2,7 +2,7 @@
 ghost use Rattle.std.specs.Prelude.{◌≡◌, ◌+◌, ◌<◌, ◌≤◌, length, take};
 ghost use Rattle.text.specs.Writing.{Wrote};
 ghost use Rattle.text.specs.Text.{glyph};
-ghost use Rattle.arguments.specs.Shown.{code_of, shownByte, escaped, shown};
+ghost use Rattle.arguments.specs.Shown.{code_of, shown_byte, escaped, shown};
 
 use text::put;
 
@@ -26,7 +26,7 @@ fn put_code(out: &mut [u8], at: usize, b: u8) -> usize
 // One byte.
 fn put_byte(out: &mut [u8], at: usize, b: u8) -> usize
     requires { at + 4 ≤ length out.old }
-    ensures wrote { Wrote out.old at (shownByte b) out.new result }
+    ensures wrote { Wrote out.old at (shown_byte b) out.new result }
     ensures upper_bound { result ≤ at + 4 }
 {
     if b < 32 {

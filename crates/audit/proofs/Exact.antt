@@ -12,19 +12,19 @@ use Rattle.table.specs.Scan.{Outcome, accepted, reading}
 use Rattle.table.specs.Scan.{refused as unreadable}
 use Rattle.table.specs.Code.{Code, code}
 use Rattle.table.proofs.Linked.{linked}
-use Rattle.calculus.specs.Layout.{estimateWords, sets, Words, WellFormed}
+use Rattle.calculus.specs.Layout.{estimate_words, sets, Words, WellFormed}
 use Rattle.calculus.specs.Estimate.{leak}
 use Rattle.calculus.proofs.Guarantee.{covers}
 use Rattle.calculus.proofs.Leak.{leak-has, leak-only, leak-least, leak-lt}
-use Rattle.checker.specs.Obeyed.{firstBroken}
+use Rattle.checker.specs.Obeyed.{first_broken}
 use Rattle.checker.proofs.Laws.{unbroken, estimate-unbroken, broken-most}
-use Rattle.stray.specs.Stray.{firstStray}
+use Rattle.stray.specs.Stray.{first_stray}
 use Rattle.stray.proofs.Clean.{stray-most, unstray-proper, proper-unstray, proper-used}
 use Rattle.audit.specs.Audited.{refused, obeys, ruled, swept, sized, judged, audited}
 use Rattle.audit.specs.Passes.{Passes, Sound, Exact}
 
 -- words without a stray bit are those of an estimate
-pub well-formed : (c : Code) (est : List ℕ) → Words est → length est ≡ estimateWords c → firstStray c est ≡ length est → WellFormed c est
+pub well-formed : (c : Code) (est : List ℕ) → Words est → length est ≡ estimate_words c → first_stray c est ≡ length est → WellFormed c est
 well-formed c est w l e = record { long = l; words = w; clean = λ n t. proper-used c n (unstray-proper c est e n t) }
 
 module _ (ws : List ℕ) (ρ : ℕ) (est : List ℕ) (w : Words est) where
@@ -45,11 +45,11 @@ module _ (ws : List ℕ) (ρ : ℕ) (est : List ℕ) (w : Words est) where
 
   -- each test, with what the tests before it have shown
 
-  exact-ruled : reading ws ≡ accepted → ρ < 2 ^ width → length est ≡ estimateWords c → firstStray c est ≡ length est
-      → (b : Bool) → ltb (firstBroken c ρ est) c.size ≡ b
-      → Exact ws ρ est (elim b [ true ↦ refused 54 (firstBroken c ρ est) | false ↦ obeys (leak c ρ est) ])
+  exact-ruled : reading ws ≡ accepted → ρ < 2 ^ width → length est ≡ estimate_words c → first_stray c est ≡ length est
+      → (b : Bool) → ltb (first_broken c ρ est) c.size ≡ b
+      → Exact ws ρ est (elim b [ true ↦ refused 54 (first_broken c ρ est) | false ↦ obeys (leak c ρ est) ])
   unfolding Exact
-  exact-ruled a s l e true t = λ p. let z = estimate-unbroken c ρ est p.obeyed in omega (arith, ltb-true (firstBroken c ρ est) c.size t)
+  exact-ruled a s l e true t = λ p. let z = estimate-unbroken c ρ est p.obeyed in omega (arith, ltb-true (first_broken c ρ est) c.size t)
   exact-ruled a s l e false t =
       let p : Passes ws ρ est =
       record {
@@ -57,28 +57,28 @@ module _ (ws : List ℕ) (ρ : ℕ) (est : List ℕ) (w : Words est) where
         small = s;
         long = l;
         clean = unstray-proper c est e;
-        obeyed = unbroken c ρ est (omega (arith, ltb-false (firstBroken c ρ est) c.size t, broken-most c ρ est));
+        obeyed = unbroken c ρ est (omega (arith, ltb-false (first_broken c ρ est) c.size t, broken-most c ρ est));
       }
       in
       (p, sound p)
 
-  exact-swept : reading ws ≡ accepted → ρ < 2 ^ width → length est ≡ estimateWords c → (b : Bool) → ltb (firstStray c est) (length est) ≡ b
-      → Exact ws ρ est (elim b [ true ↦ refused 53 (firstStray c est) | false ↦ ruled c ρ est ])
+  exact-swept : reading ws ≡ accepted → ρ < 2 ^ width → length est ≡ estimate_words c → (b : Bool) → ltb (first_stray c est) (length est) ≡ b
+      → Exact ws ρ est (elim b [ true ↦ refused 53 (first_stray c est) | false ↦ ruled c ρ est ])
   unfolding Exact ruled
-  exact-swept a s l true t = λ p. let z = proper-unstray c est w p.clean in omega (arith, ltb-true (firstStray c est) (length est) t)
+  exact-swept a s l true t = λ p. let z = proper-unstray c est w p.clean in omega (arith, ltb-true (first_stray c est) (length est) t)
   exact-swept a s l false t =
-      exact-ruled a s l (omega (arith, ltb-false (firstStray c est) (length est) t, stray-most c est)) (ltb (firstBroken c ρ est) c.size) refl
+      exact-ruled a s l (omega (arith, ltb-false (first_stray c est) (length est) t, stray-most c est)) (ltb (first_broken c ρ est) c.size) refl
 
-  exact-sized : reading ws ≡ accepted → ρ < 2 ^ width → (b : Bool) → eqb (length est) (estimateWords c) ≡ b
+  exact-sized : reading ws ≡ accepted → ρ < 2 ^ width → (b : Bool) → eqb (length est) (estimate_words c) ≡ b
       → Exact ws ρ est (elim b [ true ↦ swept c ρ est | false ↦ refused 52 0 ])
   unfolding Exact swept
-  exact-sized a s true t = exact-swept a s (eqb-true (length est) (estimateWords c) t) (ltb (firstStray c est) (length est)) refl
-  exact-sized a s false t = λ p. eqb-false (length est) (estimateWords c) t p.long
+  exact-sized a s true t = exact-swept a s (eqb-true (length est) (estimate_words c) t) (ltb (first_stray c est) (length est)) refl
+  exact-sized a s false t = λ p. eqb-false (length est) (estimate_words c) t p.long
 
   exact-judged : reading ws ≡ accepted → (b : Bool) → leb (2 ^ width) ρ ≡ b → Exact ws ρ est (elim b [ true ↦ refused 20 0 | false ↦ sized c ρ est ])
   unfolding Exact sized
   exact-judged a true t = λ p. omega (arith, leb-true (2 ^ width) ρ t, p.small)
-  exact-judged a false t = exact-sized a (omega (arith, leb-false (2 ^ width) ρ t)) (eqb (length est) (estimateWords c)) refl
+  exact-judged a false t = exact-sized a (omega (arith, leb-false (2 ^ width) ρ t)) (eqb (length est) (estimate_words c)) refl
 
   pub exact : Exact ws ρ est (audited ws ρ est)
   unfolding audited Exact judged

@@ -7,19 +7,19 @@ use mathlib.Core.List.{List, [], ◌∷◌, ◌++◌, map}
 use lib.Count.{ones_in}
 use lib.ListN.{set, take, get_or}
 use Rattle.permset.specs.Sets.{within, member, union, difference, lowest}
-use Rattle.delivery.specs.Delivery.{judged as deliveryJudged, delivered}
-use Rattle.table.specs.Words.{partsByKind, limitsByKind, parts, arity, limit, constantNumber, constant_of, operationOf, termsByKind, termOf, names_of}
+use Rattle.delivery.specs.Delivery.{judged as delivery_judged, delivered}
+use Rattle.table.specs.Words.{parts_by_kind, limits_by_kind, parts, arity, limit, constant_number, constant_of, operation_of, terms_by_kind, term_of, names_of}
 use Rattle.table.specs.Scan.{first_of, has, tests, fault, missing, keep, under, next, scan, reading}
-use Rattle.table.specs.Code.{code, skip, part, trace, tasks, taskAt, termNode, nodeFor, scopeFor, homeFor, blocks_from}
-use Rattle.calculus.specs.Elements.{constantElement, sign, isString, leafMakes, oneMakes, makes, isFunction, isRecord, isCell, making, sendable, anyRecord}
+use Rattle.table.specs.Code.{code, skip, part, trace, tasks, task_at, term_node, node_for, scope_for, home_for, blocks_from}
+use Rattle.calculus.specs.Elements.{constant_element, sign, is_string, leaf_makes, one_makes, makes, is_function, is_record, is_cell, making, sendable, any_record}
 use Rattle.calculus.specs.Constraint.{range}
-use Rattle.calculus.specs.Rules.{name_of, permsOf, guarded, isBlock, permissions, deliveryTo, leafRule, oneRule, twoRule, flow, entry}
-use Rattle.calculus.specs.Rules.{twoSender, sender, senders, rule}
-use Rattle.calculus.specs.Layout.{rowWords, estimateWords, used}
+use Rattle.calculus.specs.Rules.{name_of, perms_of, guarded, is_block, permissions, delivery_to, leaf_rule, one_rule, two_rule, flow, entry}
+use Rattle.calculus.specs.Rules.{two_sender, sender, senders, rule}
+use Rattle.calculus.specs.Layout.{row_words, estimate_words, used}
 use Rattle.calculus.specs.Estimate.{any_from, estimate, leak}
 use Rattle.calculus.specs.Samples.{single, relay}
-use Rattle.stray.specs.Stray.{names, ofBlock, holding, holds, proper, stray, strayFrom, firstStray}
-use Rattle.checker.specs.Obeyed.{all_of, firstFrom, obeys as obeysRule, firstBroken}
+use Rattle.stray.specs.Stray.{names, of_block, holding, holds, proper, stray, stray_from, first_stray}
+use Rattle.checker.specs.Obeyed.{all_of, first_from, obeys as obeys_rule, first_broken}
 use Rattle.audit.specs.Audited.{refused, obeys, ruled, swept, sized, judged, audited}
 
 abbrev direct : List ℕ
@@ -43,10 +43,10 @@ pub samples-audited :
     ≡ obeys 2 ∷ refused 52 0 ∷ refused 52 0 ∷ refused 54 1 ∷ refused 54 4 ∷ refused 54 1 ∷ refused 54 1
     ∷ refused 53 26 ∷ refused 53 34 ∷ obeys 2 ∷ obeys 3 ∷ refused 53 26
     ∷ obeys 2 ∷ refused 54 7 ∷ []
-unfolding ones_in partsByKind limitsByKind parts arity limit constantNumber constant_of operationOf termsByKind termOf names_of first_of has tests
-    fault missing keep under next scan reading code skip part trace tasks taskAt termNode nodeFor scopeFor homeFor blocks_from within member union
-    difference lowest constantElement sign isString leafMakes oneMakes makes isFunction isRecord isCell making sendable anyRecord range name_of permsOf
-    guarded isBlock permissions deliveryTo deliveryJudged delivered leafRule oneRule twoRule flow entry twoSender sender senders rule rowWords
-    estimateWords used any_from estimate leak names ofBlock holding holds proper stray strayFrom firstStray all_of firstFrom obeysRule firstBroken
+unfolding ones_in parts_by_kind limits_by_kind parts arity limit constant_number constant_of operation_of terms_by_kind term_of names_of first_of has tests
+    fault missing keep under next scan reading code skip part trace tasks task_at term_node node_for scope_for home_for blocks_from within member union
+    difference lowest constant_element sign is_string leaf_makes one_makes makes is_function is_record is_cell making sendable any_record range name_of perms_of
+    guarded is_block permissions delivery_to delivery_judged delivered leaf_rule one_rule two_rule flow entry two_sender sender senders rule row_words
+    estimate_words used any_from estimate leak names of_block holding holds proper stray stray_from first_stray all_of first_from obeys_rule first_broken
     ruled swept sized judged audited
 samples-audited = refl

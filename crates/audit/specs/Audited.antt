@@ -6,10 +6,10 @@ use Rattle.table.specs.Answer.{number, place}
 use Rattle.table.specs.Scan.{accepted, reading}
 use Rattle.table.specs.Scan.{refused as unreadable}
 use Rattle.table.specs.Code.{Code, code}
-use Rattle.calculus.specs.Layout.{estimateWords}
+use Rattle.calculus.specs.Layout.{estimate_words}
 use Rattle.calculus.specs.Estimate.{leak}
-use Rattle.stray.specs.Stray.{firstStray}
-use Rattle.checker.specs.Obeyed.{firstBroken}
+use Rattle.stray.specs.Stray.{first_stray}
+use Rattle.checker.specs.Obeyed.{first_broken}
 use Rattle.audit.specs.declared.Audit.{Audit}
 use Rattle.audit.specs.declared.Audit.TheVariants as audits
 
@@ -39,17 +39,17 @@ said (audits.Obeys s) = obeys s.bits
 module _ (c : Code) (ρ : ℕ) (est : List ℕ) where
   -- "54 rule broken, place the lowest word p or b a broken rule is stated for"
   unfoldable pub ruled : Answer
-  ruled = elim (ltb (firstBroken c ρ est) c.size) [ true ↦ refused 54 (firstBroken c ρ est) | false ↦ obeys (leak c ρ est) ]
+  ruled = elim (ltb (first_broken c ρ est) c.size) [ true ↦ refused 54 (first_broken c ρ est) | false ↦ obeys (leak c ρ est) ]
 
   -- "53 stray bit, place the lowest slice index with one"
   unfoldable pub swept : Answer
   unfolding ruled
-  swept = elim (ltb (firstStray c est) (length est)) [ true ↦ refused 53 (firstStray c est) | false ↦ ruled ]
+  swept = elim (ltb (first_stray c est) (length est)) [ true ↦ refused 53 (first_stray c est) | false ↦ ruled ]
 
   -- "52 estimate slice not exactly 2WR+W words, place 0"
   unfoldable pub sized : Answer
   unfolding swept
-  sized = elim (eqb (length est) (estimateWords c)) [ true ↦ swept | false ↦ refused 52 0 ]
+  sized = elim (eqb (length est) (estimate_words c)) [ true ↦ swept | false ↦ refused 52 0 ]
 
   -- "in that order after .. 20"
   unfoldable pub judged : Answer

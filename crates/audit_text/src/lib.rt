@@ -1,7 +1,7 @@
 // What is printed of an estimate from elsewhere: that it obeys every rule, or what is missing.
 ghost use Rattle.std.specs.Prelude.{◌+◌, ◌≤◌};
 ghost use Rattle.text.specs.Added.{Added};
-ghost use Rattle.audit_text.specs.Text.{obeysText, lackText, room};
+ghost use Rattle.audit_text.specs.Text.{obeys_text, lack_text, room};
 
 use handler_lines::{add_number, add_set};
 use permset::PermSet;
@@ -10,7 +10,7 @@ use text::room::put_room;
 // Its leak, and below it that of the least estimate, where they have room, and the place after them.
 pub fn put_obeys(out: &mut [u8], at: usize, leak: PermSet, least: PermSet) -> usize
     requires { at ≤ 900000000 }
-    ensures added { Added out.old at (obeysText leak.bits least.bits) out.new result }
+    ensures added { Added out.old at (obeys_text leak.bits least.bits) out.new result }
     ensures upper_bound { result ≤ at + room }
 {
     let a = add_set(out, at, b"obeys leak ", leak.bits);
@@ -29,7 +29,7 @@ pub enum Lack {
 
 fn put_value(out: &mut [u8], at: usize, p: usize, v: usize) -> usize
     requires { at ≤ 900000000 }
-    ensures added { Added out.old at (lackText (Lack.Value p v)) out.new result }
+    ensures added { Added out.old at (lack_text (Lack.Value p v)) out.new result }
     ensures upper_bound { result ≤ at + room }
 {
     let a = add_number(out, at, b"C(", p);
@@ -39,7 +39,7 @@ fn put_value(out: &mut [u8], at: usize, p: usize, v: usize) -> usize
 
 fn put_held(out: &mut [u8], at: usize, p: usize, v: usize) -> usize
     requires { at ≤ 900000000 }
-    ensures added { Added out.old at (lackText (Lack.Held p v)) out.new result }
+    ensures added { Added out.old at (lack_text (Lack.Held p v)) out.new result }
     ensures upper_bound { result ≤ at + room }
 {
     let a = add_number(out, at, b"B(", p);
@@ -49,7 +49,7 @@ fn put_held(out: &mut [u8], at: usize, p: usize, v: usize) -> usize
 
 fn put_permissions(out: &mut [u8], at: usize, p: usize, s: u32) -> usize
     requires { at ≤ 900000000 }
-    ensures added { Added out.old at (lackText (Lack.Permissions p s)) out.new result }
+    ensures added { Added out.old at (lack_text (Lack.Permissions p s)) out.new result }
     ensures upper_bound { result ≤ at + room }
 {
     let a = add_number(out, at, b"P(", p);
@@ -59,7 +59,7 @@ fn put_permissions(out: &mut [u8], at: usize, p: usize, s: u32) -> usize
 
 fn put_live(out: &mut [u8], at: usize, p: usize) -> usize
     requires { at ≤ 900000000 }
-    ensures added { Added out.old at (lackText (Lack.Live p)) out.new result }
+    ensures added { Added out.old at (lack_text (Lack.Live p)) out.new result }
     ensures upper_bound { result ≤ at + room }
 {
     let a = add_number(out, at, b"", p);
@@ -69,7 +69,7 @@ fn put_live(out: &mut [u8], at: usize, p: usize) -> usize
 // The line of what is missing, where it has room, and the place after it.
 pub fn put_lack(out: &mut [u8], at: usize, l: Lack) -> usize
     requires { at ≤ 900000000 }
-    ensures added { Added out.old at (lackText l) out.new result }
+    ensures added { Added out.old at (lack_text l) out.new result }
     ensures upper_bound { result ≤ at + room }
 {
     match l {

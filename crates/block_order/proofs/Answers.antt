@@ -6,9 +6,9 @@ use mathlib.Core.List.{List}
 use Rattle.permset.specs.Sets.{within, difference, lowest}
 use Rattle.table.specs.Scan.{accepted, refused as unreadable, reading, Outcome, first_of}
 use Rattle.table.specs.Code.{Code, code}
-use Rattle.calculus.specs.Layout.{rowWords, estimateWords}
+use Rattle.calculus.specs.Layout.{row_words, estimate_words}
 use Rattle.calculus.specs.Estimate.{whole, estimate}
-use Rattle.calculus.specs.Answer.{Verdict, Answer, refused, verdict, boundUsed, judge, callerTests, analysis, answer}
+use Rattle.calculus.specs.Answer.{Verdict, Answer, refused, verdict, bound_used, judge, caller_tests, analysis, answer}
 use Rattle.calculus.proofs.Firing.{whole_is}
 use Rattle.block_order.proofs.Sets.{Both, leak-same}
 use Rattle.block_order.proofs.Facts.{facts-same}
@@ -17,17 +17,17 @@ use Rattle.block_order.proofs.Facts.{facts-same}
 compared : (leak bound facts : ℕ) → Verdict
 compared l b f = record { leak = l; bound = b; over = not (within l b); first = lowest (difference l b); facts = f }
 
-words_same : (c d : Code) → c.names ≡ d.names → c.size ≡ d.size → estimateWords d ≡ estimateWords c
-unfolding estimateWords rowWords
+words_same : (c d : Code) → c.names ≡ d.names → c.size ≡ d.size → estimate_words d ≡ estimate_words c
+unfolding estimate_words row_words
 words_same c d n s = rw (n, s) refl
 
 module _ (π σ : ℕ → ℕ) (c d : Code) (b : Both π σ c d) (size : c.size ≡ d.size) (ρ bound : ℕ) where
   judge-same : judge d ρ bound (estimate d ρ) ≡ judge c ρ bound (estimate c ρ)
   unfolding judge compared
-  judge-same = ap₂ (λ (l f : ℕ). compared l (boundUsed bound) f) (leak-same π σ c d b ρ) (facts-same π σ c d b ρ)
+  judge-same = ap₂ (λ (l f : ℕ). compared l (bound_used bound) f) (leak-same π σ c d b ρ) (facts-same π σ c d b ρ)
 
-  tests_same : (est work : ℕ) → callerTests d ρ bound est work ≡ callerTests c ρ bound est work
-  unfolding callerTests
+  tests_same : (est work : ℕ) → caller_tests d ρ bound est work ≡ caller_tests c ρ bound est work
+  unfolding caller_tests
   tests_same est work = rw (words_same c d b.names size, size) refl
 
   -- where no test refuses

@@ -5,13 +5,13 @@ use mathlib.Core.List.{List}
 use native.Mathlib.Omega.{arith}
 use lib.Dec.{T}
 use Rattle.table.specs.Code.{Code}
-use Rattle.calculus.specs.Layout.{bit, estimateWords, place, sets}
+use Rattle.calculus.specs.Layout.{bit, estimate_words, place, sets}
 use Rattle.calculus.specs.Estimate.{estimate, facts}
 use Rattle.calculus.proofs.Counting.{count, facts-count}
 use Rattle.calculus.proofs.Places.{At, used-place, place-lt, place-injective}
 use Rattle.calculus.proofs.Rows.{sets-allowed, sets-bit, in-sets}
 use Rattle.calculus.proofs.Least.{estimate-well}
-use Rattle.renaming.specs.Renaming.{renameRow, renameElement}
+use Rattle.renaming.specs.Renaming.{rename_row, rename_element}
 use Rattle.block_order.proofs.Sets.{Both, turned, row_back, element-back, has-renamed}
 use Rattle.block_order.proofs.Injections.{Injects, injected}
 
@@ -23,7 +23,7 @@ module _ (π σ : ℕ → ℕ) (c d : Code) (b : Both π σ c d) (ρ : ℕ) wher
   vs = estimate d ρ
 
   abbrev digits : Code → ℕ
-  digits a = 32 * estimateWords a
+  digits a = 32 * estimate_words a
 
   -- the row and the element of a digit that is set
   found : (n : ℕ) → n < digits c → T (bit us n) → At c n
@@ -31,9 +31,9 @@ module _ (π σ : ℕ → ℕ) (c d : Code) (b : Both π σ c d) (ρ : ℕ) wher
 
   -- where it stands once words are renumbered
   image : (n : ℕ) → n < digits c → T (bit us n) → ℕ
-  image n l t = let a = found n l t in place d (renameRow π a.row) (renameElement π c d a.element)
+  image n l t = let a = found n l t in place d (rename_row π a.row) (rename_element π c d a.element)
 
-  held : (n : ℕ) (l : n < digits c) (t : T (bit us n)) → T (sets d vs (renameRow π (found n l t).row) (renameElement π c d (found n l t).element))
+  held : (n : ℕ) (l : n < digits c) (t : T (bit us n)) → T (sets d vs (rename_row π (found n l t).row) (rename_element π c d (found n l t).element))
   held n l t =
       let a = found n l t in
       has-renamed π σ c d b ρ a.row a.element (in-sets c us a.row a.element a.may (subst (λ (k : ℕ). T (bit us k)) a.here t))
@@ -49,9 +49,9 @@ module _ (π σ : ℕ → ℕ) (c d : Code) (b : Both π σ c d) (ρ : ℕ) wher
             let x = found n l t in
             let y = found m i u in
             let s = place-injective d _ _ _ _ (sets-allowed d vs _ _ (held n l t)) (sets-allowed d vs _ _ (held m i u)) e in
-            let r : x.row ≡ y.row = sym (row_back π σ c d b x.row) ∙ ap (renameRow σ) s.0 ∙ row_back π σ c d b y.row in
+            let r : x.row ≡ y.row = sym (row_back π σ c d b x.row) ∙ ap (rename_row σ) s.0 ∙ row_back π σ c d b y.row in
             let v : x.element ≡ y.element =
-            sym (element-back π σ c d b x.element) ∙ ap (renameElement σ d c) s.1 ∙ element-back π σ c d b y.element in
+            sym (element-back π σ c d b x.element) ∙ ap (rename_element σ d c) s.1 ∙ element-back π σ c d b y.element in
             x.here ∙ ap₂ (place c) r v ∙ sym y.here;
       }
 

@@ -5,14 +5,14 @@ use lib.Dec.{T, ltb}
 use lib.ListN.{length}
 use Rattle.table.specs.declared.Term.{Term}
 use Rattle.table.specs.declared.Term.TheVariants as terms
-use Rattle.table.specs.Words.{kind, parts, termOf}
-use Rattle.table.specs.Code.{termNode}
+use Rattle.table.specs.Words.{kind, parts, term_of}
+use Rattle.table.specs.Code.{term_node}
 use Rattle.table.proofs.Nodes.{parts-alike}
-use Rattle.renaming.specs.Renaming.{renameNode}
+use Rattle.renaming.specs.Renaming.{rename_node}
 
 module _ (π : ℕ → ℕ) (a b d : ℕ) where
-  rename-term : (t : Term) → termNode t (π a) (π b) (π d) ≡ renameNode π (termNode t a b d)
-  unfolding termNode renameNode
+  rename-term : (t : Term) → term_node t (π a) (π b) (π d) ≡ rename_node π (term_node t a b d)
+  unfolding term_node rename_node
   rename-term (terms.Constant k) = refl
   rename-term (terms.Number n) = refl
   rename-term (terms.Literal n) = refl
@@ -36,5 +36,5 @@ module _ (π : ℕ → ℕ) (a b d : ℕ) where
   rename-term (terms.Exercise s) = refl
 
   pub term-renamed : (a' b' d' w : ℕ) → 16 ≤ kind w → kind w ≤ 36 → (T (ltb 0 (length (parts w))) → a' ≡ π a) → (T (ltb 1 (length (parts w))) → b' ≡ π b)
-      → (T (ltb 2 (length (parts w))) → d' ≡ π d) → termNode (termOf w) a' b' d' ≡ renameNode π (termNode (termOf w) a b d)
-  term-renamed a' b' d' w low high x y z = parts-alike a' b' d' (π a) (π b) (π d) w low high x y z ∙ rename-term (termOf w)
+      → (T (ltb 2 (length (parts w))) → d' ≡ π d) → term_node (term_of w) a' b' d' ≡ rename_node π (term_node (term_of w) a b d)
+  term-renamed a' b' d' w low high x y z = parts-alike a' b' d' (π a) (π b) (π d) w low high x y z ∙ rename-term (term_of w)

@@ -17,10 +17,10 @@ use Rattle.calculus.specs.Layout.{sets}
 use Rattle.calculus.specs.Estimate.{estimate}
 use Rattle.graph.specs.Loop.{Distinct}
 use Rattle.graph.proofs.Alike.{Carries}
-use Rattle.reading_order.specs.Relation.{block_at, LiveAt, MaySend, senderRows, liveBlocks}
+use Rattle.reading_order.specs.Relation.{block_at, LiveAt, MaySend, sender_rows, live_blocks}
 use Rattle.reading_order.proofs.Elements.{listed_at}
 use Rattle.reading_order.proofs.Meaning.{live-means, sends-means}
-use Rattle.renaming.specs.Renaming.{renameRow}
+use Rattle.renaming.specs.Renaming.{rename_row}
 use Rattle.renaming.proofs.Elements.{el-plain, el-made}
 use Rattle.block_order.proofs.Sets.{Both, has-renamed}
 
@@ -86,7 +86,7 @@ module _ (π σ : ℕ → ℕ) (c d : Code) (b : Both π σ c d) (own : Distinct
   there p h = place-there (π (block_at c p)) d.blocks (listed (block_at c p) (listed_at c.blocks p h))
 
   live-carried : (p : ℕ) → LiveAt c (sets c (estimate c ρ)) p → LiveAt d (sets d (estimate d ρ)) (position p)
-  unfolding renameRow
+  unfolding rename_row
   live-carried p l =
       let t = there p l.0 in (
         t.0,
@@ -96,7 +96,7 @@ module _ (π σ : ℕ → ℕ) (c d : Code) (b : Both π σ c d) (own : Distinct
       )
 
   sends-carried : (s t : ℕ) → MaySend c (sets c (estimate c ρ)) s t → MaySend d (sets d (estimate d ρ)) (position s) (position t)
-  unfolding renameRow
+  unfolding rename_row
   sends-carried s t m =
       let from = there s m.sender in
       let to = there t m.receiver in
@@ -115,7 +115,7 @@ module _ (π σ : ℕ → ℕ) (c d : Code) (b : Both π σ c d) (own : Distinct
       one_place c.blocks own p q h l
       (sym (b.there (block_at c p)) ∙ ap σ (sym (there p h).1 ∙ ap (block_at d) e ∙ (there q l).1) ∙ b.there (block_at c q))
 
-  pub carries : Carries (senderRows c (estimate c ρ)) (liveBlocks c (estimate c ρ)) (senderRows d (estimate d ρ)) (liveBlocks d (estimate d ρ))
+  pub carries : Carries (sender_rows c (estimate c ρ)) (live_blocks c (estimate c ρ)) (sender_rows d (estimate d ρ)) (live_blocks d (estimate d ρ))
   carries =
       record {
         to = position;

@@ -13,7 +13,7 @@ use Rattle.calculus.specs.Layout.{sets}
 use Rattle.calculus.specs.Estimate.{estimate, leak}
 use Rattle.calculus.proofs.Masks.{bool-ext}
 use Rattle.calculus.proofs.Leak.{leak-lt}
-use Rattle.renaming.specs.Renaming.{Renamed, renameRow, renameElement}
+use Rattle.renaming.specs.Renaming.{Renamed, rename_row, rename_element}
 use Rattle.renaming.proofs.Elements.{element, el-plain, el-made}
 use Rattle.renaming.proofs.Leaks.{estimate-renamed, leak-inside}
 
@@ -31,36 +31,36 @@ pub turned : {π σ : ℕ → ℕ} {c d : Code} → Both π σ c d → Both σ �
 turned b = record { there = b.back; back = b.there; to = b.from; from = b.to; names = sym b.names; first = b.second; second = b.first }
 
 module _ (π σ : ℕ → ℕ) (c d : Code) (b : Both π σ c d) where
-  pub row_back : (r : Row) → renameRow σ (renameRow π r) ≡ r
-  unfolding renameRow
+  pub row_back : (r : Row) → rename_row σ (rename_row π r) ≡ r
+  unfolding rename_row
   row_back (C i) = ap C (b.there i)
   row_back (B i) = ap B (b.there i)
   row_back (P i) = ap P (b.there i)
   row_back (L i) = ap L (b.there i)
 
-  pub element-back : (v : ℕ) → renameElement σ d c (renameElement π c d v) ≡ v
+  pub element-back : (v : ℕ) → rename_element σ d c (rename_element π c d v) ≡ v
   element-back v = go (element c v)
     where
-      go : (v < plain c) ⊎ ((i : ℕ) × (v ≡ made c i)) → renameElement σ d c (renameElement π c d v) ≡ v
-      go (inl h) = ap (renameElement σ d c) (el-plain π c d v h) ∙ el-plain σ d c v (let n = b.names in omega arith)
+      go : (v < plain c) ⊎ ((i : ℕ) × (v ≡ made c i)) → rename_element σ d c (rename_element π c d v) ≡ v
+      go (inl h) = ap (rename_element σ d c) (el-plain π c d v h) ∙ el-plain σ d c v (let n = b.names in omega arith)
       go (inr (i, e)) =
-          ap (λ (x : ℕ). renameElement σ d c (renameElement π c d x)) e
-          ∙ ap (renameElement σ d c) (el-made π c d i)
+          ap (λ (x : ℕ). rename_element σ d c (rename_element π c d x)) e
+          ∙ ap (rename_element σ d c) (el-made π c d i)
           ∙ el-made σ d c (π i)
           ∙ ap (made c) (b.there i)
           ∙ sym e
 
   module _ (ρ : ℕ) where
     -- what the one has the other has
-    pub has-renamed : (r : Row) (v : ℕ) → T (sets c (estimate c ρ) r v) → T (sets d (estimate d ρ) (renameRow π r) (renameElement π c d v))
+    pub has-renamed : (r : Row) (v : ℕ) → T (sets c (estimate c ρ) r v) → T (sets d (estimate d ρ) (rename_row π r) (rename_element π c d v))
     has-renamed r v t = estimate-renamed π c d b.to b.first b.second ρ (sym b.names) r v t
 
-    has-back : (r : Row) (v : ℕ) → T (sets d (estimate d ρ) (renameRow π r) (renameElement π c d v)) → T (sets c (estimate c ρ) r v)
+    has-back : (r : Row) (v : ℕ) → T (sets d (estimate d ρ) (rename_row π r) (rename_element π c d v)) → T (sets c (estimate c ρ) r v)
     has-back r v t =
         subst T (ap₂ (sets c (estimate c ρ)) (row_back r) (element-back v))
-        (estimate-renamed σ d c b.from b.second b.first ρ b.names (renameRow π r) (renameElement π c d v) t)
+        (estimate-renamed σ d c b.from b.second b.first ρ b.names (rename_row π r) (rename_element π c d v) t)
 
-    pub sets_same : (r : Row) (v : ℕ) → sets d (estimate d ρ) (renameRow π r) (renameElement π c d v) ≡ sets c (estimate c ρ) r v
+    pub sets_same : (r : Row) (v : ℕ) → sets d (estimate d ρ) (rename_row π r) (rename_element π c d v) ≡ sets c (estimate c ρ) r v
     sets_same r v = bool-ext _ _ (has-back r v) (has-renamed r v)
 
     pub leak-same : leak d ρ (estimate d ρ) ≡ leak c ρ (estimate c ρ)

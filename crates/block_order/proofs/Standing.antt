@@ -9,10 +9,10 @@ use lib.ListN.{length, get_or, length-append, get_or-append}
 use lib.Seq.{get_or-append-add}
 use Rattle.table.specs.Words.{arity, word_of}
 use Rattle.table.specs.Scan.{Task, head, name}
-use Rattle.table.specs.Code.{part, trace, taskAt}
-use Rattle.blocks.specs.Blocks.{tableOf, Good, All}
+use Rattle.table.specs.Code.{part, trace, task_at}
+use Rattle.blocks.specs.Blocks.{table_of, Good, All}
 use Rattle.blocks.proofs.Block.{front}
-use Rattle.blocks.proofs.Tasks.{tasksOf, table-tasks, good-part}
+use Rattle.blocks.proofs.Tasks.{tasks_of, table-tasks, good-part}
 use Rattle.block_order.specs.Order.{Stands, first, later}
 use Rattle.block_order.proofs.Tasks.{good-long}
 
@@ -67,58 +67,58 @@ module _ (names : ℕ) where
   good-stands at bs p b g (later {a} {bs = cs} s) = good-stands (at + length a) cs p b g.1 s
 
   tasks-stand : (at : ℕ) (bs : List (List ℕ)) (p : ℕ) (b : List ℕ) → All (Good names) bs → Stands at bs p b → (us : List Task) → length us ≡ at
-      → (j : ℕ) → j < length b → get_or (us ++ tasksOf at bs) (p + j) (head 0) ≡ get_or (trace b p (name ∷ [])) j (head 0)
+      → (j : ℕ) → j < length b → get_or (us ++ tasks_of at bs) (p + j) (head 0) ≡ get_or (trace b p (name ∷ [])) j (head 0)
   tasks-stand at bs p b g (first {bs = cs}) us h j l =
       let ts = trace b at (name ∷ []) in
-      ap (λ (n : ℕ). get_or (us ++ (ts ++ tasksOf (at + length b) cs)) (n + j) (head 0)) (sym h)
-      ∙ get_or-append-add us (ts ++ tasksOf (at + length b) cs) j (head 0)
-      ∙ get_or-append ts (tasksOf (at + length b) cs) (head 0) j (omega (arith, good-long names b g.0 at))
+      ap (λ (n : ℕ). get_or (us ++ (ts ++ tasks_of (at + length b) cs)) (n + j) (head 0)) (sym h)
+      ∙ get_or-append-add us (ts ++ tasks_of (at + length b) cs) j (head 0)
+      ∙ get_or-append ts (tasks_of (at + length b) cs) (head 0) j (omega (arith, good-long names b g.0 at))
   tasks-stand at bs p b g (later {a} {bs = cs} s) us h j l =
       let ts = trace a at (name ∷ []) in
-      ap (λ (xs : List Task). get_or xs (p + j) (head 0)) (sym (append_assoc us ts (tasksOf (at + length a) cs)))
+      ap (λ (xs : List Task). get_or xs (p + j) (head 0)) (sym (append_assoc us ts (tasks_of (at + length a) cs)))
       ∙ tasks-stand (at + length a) cs p b g.1 s (us ++ ts) (omega (arith, length-append us ts, good-long names a g.0 at)) j l
 
 -- ---- a table
 
 module _ (k names : ℕ) (bs : List (List ℕ)) (g : All (Good names) bs) (few : length bs < 2 ^ 24) (p : ℕ) (b : List ℕ) (s : Stands 1 bs p b) where
   abbrev ws : List ℕ
-  ws = tableOf k bs
+  ws = table_of k bs
 
-  parted : Split (tableOf k bs) p b
-  unfolding tableOf
+  parted : Split (table_of k bs) p b
+  unfolding table_of
   parted = split 1 bs p b s (word_of k (length bs) ∷ []) refl
 
   own : Good names b
   own = good-stands names 1 bs p b g s
 
-  pub stands-inside : p + length b ≤ length (tableOf k bs)
+  pub stands-inside : p + length b ≤ length (table_of k bs)
   stands-inside =
       let r = parted in
       let l = r.long in
       omega (arith, ap length r.whole, length-append r.pre (b ++ r.post), length-append b r.post)
 
-  pub word_at : (j : ℕ) → j < length b → get_or (tableOf k bs) (p + j) 0 ≡ get_or b j 0
+  pub word_at : (j : ℕ) → j < length b → get_or (table_of k bs) (p + j) 0 ≡ get_or b j 0
   word_at j l =
       let r = parted in
       ap₂ (λ (xs : List ℕ) (n : ℕ). get_or xs (n + j) 0) r.whole (sym r.long)
       ∙ get_or-append-add r.pre (b ++ r.post) j 0
       ∙ get_or-append b r.post 0 j l
 
-  pub task-at : (j : ℕ) → j < length b → taskAt (tableOf k bs) (p + j) ≡ get_or (trace b p (name ∷ [])) j (head 0)
-  unfolding taskAt
+  pub task-at : (j : ℕ) → j < length b → task_at (table_of k bs) (p + j) ≡ get_or (trace b p (name ∷ [])) j (head 0)
+  unfolding task_at
   task-at j l =
       ap (λ (ts : List Task). get_or ts (p + j) (head 0)) (table-tasks names k bs g few)
-      ∙ tasks-stand names 1 bs p b g s (head (length (tableOf k bs)) ∷ []) refl j l
+      ∙ tasks-stand names 1 bs p b g s (head (length (table_of k bs)) ∷ []) refl j l
 
-  pub start-at : taskAt (tableOf k bs) p ≡ name
+  pub start-at : task_at (table_of k bs) p ≡ name
   unfolding trace Good
   start-at =
       let f = front names b [] 0 [] own in
-      ap (taskAt (tableOf k bs)) (sym (add-zero p))
+      ap (task_at (table_of k bs)) (sym (add-zero p))
       ∙ task-at 0 (let l = ap length f.whole in omega arith)
       ∙ ap (λ (v : List ℕ). get_or (trace v p (name ∷ [])) 0 (head 0)) f.whole
 
-  pub part_at : (j i : ℕ) → 3 ≤ j → j < length b → i ≤ arity (get_or b j 0) → part (tableOf k bs) (p + j) i ≡ p + part b j i
+  pub part_at : (j i : ℕ) → 3 ≤ j → j < length b → i ≤ arity (get_or b j 0) → part (table_of k bs) (p + j) i ≡ p + part b j i
   part_at j i low high m =
       let r = parted in
       ap₂ (λ (xs : List ℕ) (n : ℕ). part xs (n + j) i) r.whole (sym r.long)

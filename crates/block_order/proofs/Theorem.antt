@@ -12,10 +12,10 @@ use Rattle.table.specs.Scan.{accepted, names_at, reading}
 use Rattle.table.specs.Code.{code}
 use Rattle.table.proofs.Linked.{linked}
 use Rattle.table.proofs.Widths.{names-most}
-use Rattle.blocks.specs.Blocks.{blocks, places, tableOf, Good, All}
+use Rattle.blocks.specs.Blocks.{blocks, places, table_of, Good, All}
 use Rattle.blocks.proofs.Block.{good-long}
 use Rattle.blocks.proofs.Tables.{blocks-good, blocks-few, blocks-whole}
-use Rattle.calculus.specs.Answer.{standingBound}
+use Rattle.calculus.specs.Answer.{standing_bound}
 use Rattle.reading_order.proofs.Elements.{blocks-few as firsts-few}
 use Rattle.blocks.proofs.Places.{blocks-places}
 use Rattle.blocks.proofs.Rearranged.{rearranged-good, rearranged-accepted, rearranged-blocks}
@@ -77,12 +77,12 @@ module _ (bs cs : List (List ℕ)) (r : Rearranges 1 bs cs) (count : length bs �
 -- ---- tables of blocks
 
 module _ (k names : ℕ) (bs cs : List (List ℕ)) (x : Sound k names bs) (y : Sound k names cs) (p : Permᴰ bs cs)
-    (own : blocks (tableOf k bs) ≡ bs) (others : blocks (tableOf k cs) ≡ cs) where
+    (own : blocks (table_of k bs) ≡ bs) (others : blocks (table_of k cs) ≡ cs) where
   abbrev ws : List ℕ
-  ws = tableOf k bs
+  ws = table_of k bs
 
   abbrev ds : List ℕ
-  ds = tableOf k cs
+  ds = table_of k cs
 
   r : Rearranges 1 bs cs
   r = rearranges 1 p
@@ -90,7 +90,7 @@ module _ (k names : ℕ) (bs cs : List (List ℕ)) (x : Sound k names bs) (y : S
   there : Onto r.π bs cs
   there = onto bs cs r (perm-length p)
 
-  both : Both r.π r.σ (code (tableOf k bs)) (code (tableOf k cs))
+  both : Both r.π r.σ (code (table_of k bs)) (code (table_of k cs))
   both =
       record {
         there = r.there;
@@ -102,31 +102,31 @@ module _ (k names : ℕ) (bs cs : List (List ℕ)) (x : Sound k names bs) (y : S
         second = linked ds y.reads;
       }
 
-  long : length (tableOf k cs) ≡ length (tableOf k bs)
+  long : length (table_of k cs) ≡ length (table_of k bs)
   long = let l = r.long in omega (arith, long-table k bs, long-table k cs)
 
-  same_size : (code (tableOf k bs)).size ≡ (code (tableOf k cs)).size
+  same_size : (code (table_of k bs)).size ≡ (code (table_of k cs)).size
   unfolding code
   same_size = sym long
 
-  starts : Permᴰ (map r.π (code (tableOf k bs)).blocks) (code (tableOf k cs)).blocks
+  starts : Permᴰ (map r.π (code (table_of k bs)).blocks) (code (table_of k cs)).blocks
   starts =
       subst₂ (λ (ps qs : List ℕ). Permᴰ (map r.π ps) qs)
       (sym (blocks-places ws x.reads ∙ ap (places 1) own)) (sym (blocks-places ds y.reads ∙ ap (places 1) others))
       (r.starts (all-long names bs x.goods)).1
 
-  listed-there : (b : ℕ) → Memᴰ b (code (tableOf k bs)).blocks → Memᴰ (r.π b) (code (tableOf k cs)).blocks
+  listed-there : (b : ℕ) → Memᴰ b (code (table_of k bs)).blocks → Memᴰ (r.π b) (code (table_of k cs)).blocks
   listed-there b m = perm-member starts (Memᴰ.map r.π m)
 
-  listed_back : (b : ℕ) → Memᴰ b (code (tableOf k cs)).blocks → Memᴰ (r.σ b) (code (tableOf k bs)).blocks
+  listed_back : (b : ℕ) → Memᴰ b (code (table_of k cs)).blocks → Memᴰ (r.σ b) (code (table_of k bs)).blocks
   listed_back b m =
-      let s = Memᴰ.of_map r.π (code (tableOf k bs)).blocks (perm-member (Permᴰ.symm starts) m) in
-      subst (λ (p : ℕ). Memᴰ p (code (tableOf k bs)).blocks) (sym (r.there s.0) ∙ ap r.σ s.2) s.1
+      let s = Memᴰ.of_map r.π (code (table_of k bs)).blocks (perm-member (Permᴰ.symm starts) m) in
+      subst (λ (p : ℕ). Memᴰ p (code (table_of k bs)).blocks) (sym (r.there s.0) ∙ ap r.σ s.2) s.1
 
-  blocks-many : length (code (tableOf k bs)).blocks ≡ length (code (tableOf k cs)).blocks
-  blocks-many = sym (length-map (code (tableOf k bs)).blocks r.π) ∙ perm-length starts
+  blocks-many : length (code (table_of k bs)).blocks ≡ length (code (table_of k cs)).blocks
+  blocks-many = sym (length-map (code (table_of k bs)).blocks r.π) ∙ perm-length starts
 
-  tables-independent : Independent (tableOf k bs) (tableOf k cs)
+  tables-independent : Independent (table_of k bs) (table_of k cs)
   unfolding reports
   tables-independent =
       let c = code ws in
@@ -158,7 +158,7 @@ module _ (k names : ℕ) (bs cs : List (List ℕ)) (x : Sound k names bs) (y : S
             reply-same ws ds ρ (firsts-few ws x.reads) (sym blocks-many)
             (carries r.π r.σ c d both (blocks-distinct ws) listed-there ρ)
             (carries r.σ r.π d c (turned both) (blocks-distinct ds) listed_back ρ) n est work room
-            (answer-same r.π r.σ ws ds x.reads y.reads both same_size ρ standingBound est work);
+            (answer-same r.π r.σ ws ds x.reads y.reads both same_size ρ standing_bound est work);
       }
 
 -- ---- any accepted table
@@ -167,7 +167,7 @@ pub order-free : (ws : List ℕ) → reading ws ≡ accepted → OrderFree ws
 order-free ws e bs p =
     let k = kind (get_or ws 0 0) in
     let n = names_at ws in
-    let whole : tableOf k (blocks ws) ≡ ws = blocks-whole ws e in
+    let whole : table_of k (blocks ws) ≡ ws = blocks-whole ws e in
     let few = blocks-few ws e in
     let same : length (blocks ws) ≡ length bs = perm-length p in
     let x : Sound k n (blocks ws) =

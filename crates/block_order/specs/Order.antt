@@ -4,19 +4,19 @@ use mathlib.Core.List.{List, ◌∷◌, map, Memᴰ, Permᴰ}
 use Rattle.table.specs.Words.{kind}
 use Rattle.table.specs.Scan.{accepted, reading}
 use Rattle.table.specs.Code.{code}
-use Rattle.blocks.specs.Blocks.{blocks, tableOf}
+use Rattle.blocks.specs.Blocks.{blocks, table_of}
 use Rattle.calculus.specs.Constraint.{Row}
 use Rattle.calculus.specs.Layout as layout
 use Rattle.calculus.specs.Estimate as least
 use Rattle.calculus.specs.Answer as call
-use Rattle.verdict.specs.Limits.{answerUnder}
+use Rattle.verdict.specs.Limits.{answer_under}
 use Rattle.reading_order.specs.Reply.{reply}
-use Rattle.renaming.specs.Renaming.{renameRow, renameElement}
-use Rattle.block_order.specs.Lines.{reportOf, reports}
+use Rattle.renaming.specs.Renaming.{rename_row, rename_element}
+use Rattle.block_order.specs.Lines.{report_of, reports}
 
 -- a system with the blocks bs in the place of its own
 abbrev pub rearranged : List ℕ → List (List ℕ) → List ℕ
-rearranged ws bs = tableOf (kind (get_or ws 0 0)) bs
+rearranged ws bs = table_of (kind (get_or ws 0 0)) bs
 
 -- ---- "words are renumbered with their blocks"
 
@@ -58,15 +58,15 @@ pub record Independent (ws ds : List ℕ) : Type 0 where
   pub facts : (ρ : ℕ) → least.facts (least.estimate (code ds) ρ) ≡ least.facts (least.estimate (code ws) ρ)
   -- "and every set the same once words are renumbered with their blocks. This covers the senders' sets": those are the rows C of blocks
   pub sets : (ρ : ℕ) (r : Row) (v : ℕ)
-      → layout.sets (code ds) (least.estimate (code ds) ρ) (renameRow π r) (renameElement π (code ws) (code ds) v)
+      → layout.sets (code ds) (least.estimate (code ds) ρ) (rename_row π r) (rename_element π (code ws) (code ds) v)
       ≡ layout.sets (code ws) (least.estimate (code ws) ρ) r v
   -- "under any ceiling both runs are refused or neither": the whole answer is the same, without a ceiling too
   pub answer : (ρ bound est work : ℕ) → call.answer ds ρ bound est work ≡ call.answer ws ρ bound est work
-  pub ceiling : (ρ bound n est work : ℕ) → answerUnder ds ρ bound n est work ≡ answerUnder ws ρ bound n est work
+  pub ceiling : (ρ bound n est work : ℕ) → answer_under ds ρ bound n est work ≡ answer_under ws ρ bound n est work
   -- "only the printed handler order": a handler's line goes with its block, and says the same apart from its position
   pub handlers : Permᴰ (map π (code ws).blocks) (code ds).blocks
   pub line : (ρ b : ℕ) → Memᴰ b (code ws).blocks
-      → reportOf (code ds) ρ (least.estimate (code ds) ρ) (π b) ≡ reportOf (code ws) ρ (least.estimate (code ws) ρ) b
+      → report_of (code ds) ρ (least.estimate (code ds) ρ) (π b) ≡ report_of (code ws) ρ (least.estimate (code ws) ρ) b
   pub lines : (ρ : ℕ) → Permᴰ (reports ws ρ) (reports ds ρ)
   -- "and the order or loop of wish 9, may differ": under every ceiling and for every length of slices the same refusal, or an order in both or a loop in
   -- both, of as many positions

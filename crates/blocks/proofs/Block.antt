@@ -11,7 +11,7 @@ use Rattle.table.specs.Code.{skip}
 use Rattle.table.proofs.Faults.{stands, faultless}
 use Rattle.table.proofs.Stack.{scan-go, scan_step, scan-missing, refused-not-accepted}
 use Rattle.table.proofs.Parts.{skip-le}
-use Rattle.blocks.specs.Blocks.{blockLength, name_of, key_of, Good}
+use Rattle.blocks.specs.Blocks.{block_length, name_of, key_of, Good}
 use Rattle.blocks.proofs.Terms.{Alike, none, also, terms-before, terms-cut, terms-length}
 
 -- what is asked of a block's three words, and the body's task
@@ -104,11 +104,11 @@ module _ (names : ℕ) (b : List ℕ) (good : Good names b) where
       ∙ ap (λ (m : ℕ). scan names ws (key_of b ∷ keys) m ts) (let l = ap length f.whole in let e : suc (suc (suc at)) + length body ≡ at + length b = omega arith in e)
 
   -- its length is read off its words
-  pub good_length : (ws : List ℕ) → blockLength (b ++ ws) ≡ length b
-  unfolding blockLength
+  pub good_length : (ws : List ℕ) → block_length (b ++ ws) ≡ length b
+  unfolding block_length
   good_length ws =
       let f = alone in
-      ap (λ (v : List ℕ). blockLength (v ++ ws)) f.whole
+      ap (λ (v : List ℕ). block_length (v ++ ws)) f.whole
       ∙ ap (λ (m : ℕ). suc (suc (suc m))) (terms-length names f.rest ws _ 3 (body-task 0 []) (body-task 0 []) (bodies 0 0) f.after)
       ∙ sym (ap length f.whole)
 
@@ -121,10 +121,10 @@ module _ (names : ℕ) (b : List ℕ) (good : Good names b) where
 -- ---- the block at the front names of an accepted list of words
 
 pub record Cut (names : ℕ) (ws keys : List ℕ) (at : ℕ) (ts : List Task) : Type 0 where
-  pub inside : blockLength ws ≤ length ws
-  pub good : Good names (take (blockLength ws) ws)
-  pub unused : has keys (key_of (take (blockLength ws) ws)) ≡ false
-  pub after : scan names (drop (blockLength ws) ws) (key_of (take (blockLength ws) ws) ∷ keys) (at + blockLength ws) ts ≡ accepted
+  pub inside : block_length ws ≤ length ws
+  pub good : Good names (take (block_length ws) ws)
+  pub unused : has keys (key_of (take (block_length ws) ws)) ≡ false
+  pub after : scan names (drop (block_length ws) ws) (key_of (take (block_length ws) ws) ∷ keys) (at + block_length ws) ts ≡ accepted
 
 no_keys : (k : ℕ) → has [] k ≡ false
 unfolding has
@@ -132,7 +132,7 @@ no_keys k = refl
 
 module _ (names : ℕ) (ws keys : List ℕ) (at : ℕ) (ts : List Task) where
   cut-front : (f : Front names ws keys at ts) → Cut names (f.first ∷ f.second ∷ f.third ∷ f.rest) keys at ts
-  unfolding blockLength Good
+  unfolding block_length Good
   cut-front f =
       let n = f.first in
       let p = f.second in

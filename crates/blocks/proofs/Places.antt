@@ -11,14 +11,14 @@ use lib.Seq.{drop-cons, drop-drop, length-take-le}
 use Rattle.table.specs.Words.{argument, arity}
 use Rattle.table.specs.Scan.{accepted, names_at, reading}
 use Rattle.table.specs.Code.{skip, part, end_of, code}
-use Rattle.table.proofs.Blocks.{Follows, block, head-word, blocksAt, blocks-first, blocks_end, blocks-next}
-use Rattle.blocks.specs.Blocks.{blockLength, cut, blocks, places, Good}
+use Rattle.table.proofs.Blocks.{Follows, block, head-word, blocks_at, blocks-first, blocks_end, blocks-next}
+use Rattle.blocks.specs.Blocks.{block_length, cut, blocks, places, Good}
 use Rattle.blocks.proofs.Tables.{Cuts, table}
 
 -- the block at a place where m blocks are left, and those behind it
 pub record Here (names : ℕ) (ws : List ℕ) (m at : ℕ) : Type 0 where
   pub size : ℕ
-  pub sized : size ≡ blockLength (drop at ws)
+  pub sized : size ≡ block_length (drop at ws)
   pub long : 3 ≤ size
   pub inside : at + size ≤ length ws
   pub whole : length (take size (drop at ws)) ≡ size
@@ -26,8 +26,8 @@ pub record Here (names : ℕ) (ws : List ℕ) (m at : ℕ) : Type 0 where
   pub split : cut m (drop at ws) ≡ take size (drop at ws) ∷ cut (m - 1) (drop (at + size) ws)
   pub rest : Cuts names (m - 1) (drop (at + size) ws)
 
-block-long : (v : List ℕ) → 3 ≤ blockLength v
-unfolding blockLength
+block-long : (v : List ℕ) → 3 ≤ block_length v
+unfolding block_length
 block-long v = omega arith
 
 pub here : (names : ℕ) (ws : List ℕ) (m at : ℕ) → 0 < m → at ≤ length ws → Cuts names m (drop at ws) → Here names ws m at
@@ -35,7 +35,7 @@ unfolding cut
 here names ws zero at p h c = absurd (not-suc-le-zero p)
 here names ws (suc m) at p h c =
     let v = drop at ws in
-    let k = blockLength v in
+    let k = block_length v in
     let one : suc m - 1 ≡ m = sub-one (suc m) in
     let on : drop k v ≡ drop (at + k) ws = drop-drop k at ws in
     record {
@@ -61,31 +61,31 @@ end-of ws p h =
     let two : skip v (arity w + 0) ≡ skip v (arity w) = ap (skip v) (add-zero (arity w)) in
     omega arith
 
-block-end : (ws : List ℕ) (at : ℕ) → at + 3 < length ws → end_of ws (at + 3) ≡ at + blockLength (drop at ws)
-unfolding blockLength
+block-end : (ws : List ℕ) (at : ℕ) → at + 3 < length ws → end_of ws (at + 3) ≡ at + block_length (drop at ws)
+unfolding block_length
 block-end ws at h =
     let e = end-of ws (at + 3) h in
     let f = ap (λ (l : List ℕ). skip l 1) (drop-drop 3 at ws) in
     omega arith
 
 module _ (ws : List ℕ) (e : reading ws ≡ accepted) where
-  placed : (m at : ℕ) → at ≤ length ws → Cuts (names_at ws) m (drop at ws) → Follows ws at → blocksAt ws e at ≡ places at (cut m (drop at ws))
+  placed : (m at : ℕ) → at ≤ length ws → Cuts (names_at ws) m (drop at ws) → Follows ws at → blocks_at ws e at ≡ places at (cut m (drop at ws))
   unfolding cut places
   placed zero at h c f =
       let l : at ≡ length ws = omega (arith, length-drop at ws, ap length c) in
-      ap (blocksAt ws e) l ∙ blocks_end ws e
+      ap (blocks_at ws e) l ∙ blocks_end ws e
   placed (suc m) at h c f = go (here (names_at ws) ws (suc m) at (omega arith) h c) f (placed m)
     where
       go : Here (names_at ws) ws (suc m) at → Follows ws at
-          → ((q : ℕ) → q ≤ length ws → Cuts (names_at ws) m (drop q ws) → Follows ws q → blocksAt ws e q ≡ places q (cut m (drop q ws)))
-          → blocksAt ws e at ≡ places at (cut (suc m) (drop at ws))
+          → ((q : ℕ) → q ≤ length ws → Cuts (names_at ws) m (drop q ws) → Follows ws q → blocks_at ws e q ≡ places q (cut m (drop q ws)))
+          → blocks_at ws e at ≡ places at (cut (suc m) (drop at ws))
       go r (inl l) later = let i = r.inside in let g = r.long in let n : ⊥ = omega arith in absurd n
       go r (inr t) later =
           let b = block ws e at t.0 t.1 in
           let one : suc m - 1 ≡ m = sub-one (suc m) in
           let end : end_of ws (at + 3) ≡ at + r.size = block-end ws at b.inside ∙ ap (λ (k : ℕ). at + k) (sym r.sized) in
           blocks-next ws e at t.0 t.1
-          ∙ ap (λ (q : ℕ). at ∷ blocksAt ws e q) end
+          ∙ ap (λ (q : ℕ). at ∷ blocks_at ws e q) end
           ∙ ap (λ (l : List ℕ). at ∷ l)
           (later (at + r.size) r.inside (subst (λ (i : ℕ). Cuts (names_at ws) i (drop (at + r.size) ws)) one r.rest) (subst (Follows ws) end b.follows))
           ∙ ap₂ (λ (k i : ℕ). at ∷ places (at + k) (cut i (drop (at + r.size) ws))) (sym r.whole) (sym one)

@@ -9,11 +9,11 @@ use lib.Dec.{eqb}
 use lib.ListN.{length, get_or, length-append}
 use Rattle.table.specs.Words.{kind, word_of, names_of}
 use Rattle.table.specs.Scan.{accepted, has, names_at, reading}
-use Rattle.table.proofs.TermWords.{kind-wordOf}
+use Rattle.table.proofs.TermWords.{kind-word_of}
 use Rattle.table.proofs.Widths.{names-most}
-use Rattle.blocks.specs.Blocks.{blocks, tableOf, key_of, Good, All, Distinct}
+use Rattle.blocks.specs.Blocks.{blocks, table_of, key_of, Good, All, Distinct}
 use Rattle.blocks.proofs.Keys.{neither}
-use Rattle.blocks.proofs.Tables.{table, blocks-good, blocks-distinct, blocks-few, blocks-whole, table-accepted, blocks-tableOf}
+use Rattle.blocks.proofs.Tables.{table, blocks-good, blocks-distinct, blocks-few, blocks-whole, table-accepted, blocks-table_of}
 
 or_swap : (a b c : Bool) → (a || (b || c)) ≡ (b || (a || c))
 or_swap true true c = refl
@@ -85,10 +85,10 @@ module _ (ws : List ℕ) (e : reading ws ≡ accepted) (bs : List (List ℕ)) (p
   -- the names of a kind
   own-names : names_at ws ≡ names_of (word_of k 0)
   unfolding names_of
-  own-names = rw (kind-wordOf k 0 (omega arith), names_of)
+  own-names = rw (kind-word_of k 0 (omega arith), names_of)
 
-  pub rearranged-accepted : reading (tableOf k bs) ≡ accepted
-  unfolding tableOf
+  pub rearranged-accepted : reading (table_of k bs) ≡ accepted
+  unfolding table_of
   rearranged-accepted =
       let s = same_size p in
       let few = blocks-few ws e in
@@ -96,8 +96,8 @@ module _ (ws : List ℕ) (e : reading ws ≡ accepted) (bs : List (List ℕ)) (p
       let long = ap length (blocks-whole ws e) in
       table-accepted k (table ws e).headed (names_at ws) own-names bs rearranged-good (keys-distinct (keys_of p) (blocks-distinct ws e)) (omega arith) (omega arith)
 
-  pub rearranged-blocks : blocks (tableOf k bs) ≡ bs
+  pub rearranged-blocks : blocks (table_of k bs) ≡ bs
   rearranged-blocks =
       let s = same_size p in
       let few = blocks-few ws e in
-      blocks-tableOf (names_at ws) k bs rearranged-good (omega (arith, names-most (get_or ws 0 0)))
+      blocks-table_of (names_at ws) k bs rearranged-good (omega (arith, names-most (get_or ws 0 0)))

@@ -11,8 +11,8 @@ use Rattle.table.specs.Scan.{Task, head, name, accepted, keep, next, scan, names
 use Rattle.table.proofs.Faults.{stands, faultless}
 use Rattle.table.proofs.Stack.{scan-go, scan_step, scan-missing, scan-more, refused-not-accepted}
 use Rattle.table.proofs.Widths.{names-most}
-use Rattle.table.proofs.TermWords.{kind-wordOf, argument-wordOf, wordOf-parts}
-use Rattle.blocks.specs.Blocks.{blockLength, cut, blocks, tableOf, key_of, Good, All, Distinct}
+use Rattle.table.proofs.TermWords.{kind-word_of, argument-word_of, word_of-parts}
+use Rattle.blocks.specs.Blocks.{block_length, cut, blocks, table_of, key_of, Good, All, Distinct}
 use Rattle.blocks.proofs.Block.{block-cut, good-anywhere, good_length}
 use Rattle.blocks.proofs.Keys.{Unused, unused-distinct, distinct-unused, apart_none}
 
@@ -20,24 +20,24 @@ use Rattle.blocks.proofs.Keys.{Unused, unused-distinct, distinct-unused, apart_n
 
 abbrev pub Cuts : (names : ℕ) → ℕ → List ℕ → Type 0
 Cuts names zero ws = ws ≡ []
-Cuts names (suc n) ws = (blockLength ws ≤ length ws) × Good names (take (blockLength ws) ws) × Cuts names n (drop (blockLength ws) ws)
+Cuts names (suc n) ws = (block_length ws ≤ length ws) × Good names (take (block_length ws) ws) × Cuts names n (drop (block_length ws) ws)
 
 pub cut-length : (n : ℕ) (ws : List ℕ) → length (cut n ws) ≡ n
 unfolding cut
 cut-length zero ws = refl
-cut-length (suc n) ws = ap suc (cut-length n (drop (blockLength ws) ws))
+cut-length (suc n) ws = ap suc (cut-length n (drop (block_length ws) ws))
 
 pub cuts-flat : (names n : ℕ) (ws : List ℕ) → Cuts names n ws → flatten (cut n ws) ≡ ws
 unfolding cut flatten
 cuts-flat names zero ws c = sym c
 cuts-flat names (suc n) ws c =
-    ap (λ (v : List ℕ). take (blockLength ws) ws ++ v) (cuts-flat names n (drop (blockLength ws) ws) c.2)
-    ∙ take-append-drop (blockLength ws) ws
+    ap (λ (v : List ℕ). take (block_length ws) ws ++ v) (cuts-flat names n (drop (block_length ws) ws) c.2)
+    ∙ take-append-drop (block_length ws) ws
 
 pub cuts-good : (names n : ℕ) (ws : List ℕ) → Cuts names n ws → All (Good names) (cut n ws)
 unfolding cut
 cuts-good names zero ws c = tt
-cuts-good names (suc n) ws c = (c.1, cuts-good names n (drop (blockLength ws) ws) c.2)
+cuts-good names (suc n) ws c = (c.1, cuts-good names n (drop (block_length ws) ws) c.2)
 
 -- where n blocks wait and the words are accepted
 nothing_left : (names : ℕ) (ws keys : List ℕ) (at : ℕ) → scan names ws keys at [] ≡ accepted → ws ≡ []
@@ -50,7 +50,7 @@ unfolding cut
 accepted-cuts names zero ws keys at e = (nothing_left names ws keys at e, tt)
 accepted-cuts names (suc n) ws keys at e =
     let c = block-cut names ws keys at (replicate n name) e in
-    let r = accepted-cuts names n (drop (blockLength ws) ws) _ _ c.after in
+    let r = accepted-cuts names n (drop (block_length ws) ws) _ _ c.after in
     ((c.inside, c.good, r.0), (c.unused, r.1))
 
 -- ---- an accepted table
@@ -95,12 +95,12 @@ module _ (ws : List ℕ) (e : reading ws ≡ accepted) where
   blocks-few = subst (λ (n : ℕ). n ≤ names_at ws) (sym blocks-count) (table ws e).few
 
   -- it is the table of its blocks
-  pub blocks-whole : tableOf (kind (get_or ws 0 0)) (blocks ws) ≡ ws
-  unfolding tableOf blocks
+  pub blocks-whole : table_of (kind (get_or ws 0 0)) (blocks ws) ≡ ws
+  unfolding table_of blocks
   blocks-whole =
       let t = table ws e in
       let w = get_or ws 0 0 in
-      ap (λ (v : ℕ). v ∷ flatten (blocks ws)) (ap (word_of (kind w)) blocks-count ∙ wordOf-parts w)
+      ap (λ (v : ℕ). v ∷ flatten (blocks ws)) (ap (word_of (kind w)) blocks-count ∙ word_of-parts w)
       ∙ ap (λ (v : List ℕ). w ∷ v) (cuts-flat (names_at ws) (argument w) (drop 1 ws) t.cuts)
       ∙ sym (drop-cons ws 0 0 t.inside)
 
@@ -122,20 +122,20 @@ module _ (k : ℕ) (either : (k ≡ 1) ⊎ (k ≡ 5)) where
   -- its names are those of its kind
   pub names-for : (n : ℕ) → n < 2 ^ 24 → names_of (word_of k n) ≡ names_of (word_of k 0)
   unfolding names_of
-  names-for n h = rw (kind-wordOf k n h, kind-wordOf k 0 (omega arith), names_of)
+  names-for n h = rw (kind-word_of k n h, kind-word_of k 0 (omega arith), names_of)
 
   pub table-accepted : (names : ℕ) → names ≡ names_of (word_of k 0) → (bs : List (List ℕ)) → All (Good names) bs → Distinct (map key_of bs)
-      → length bs ≤ names → length (tableOf k bs) ≤ size → reading (tableOf k bs) ≡ accepted
-  unfolding tableOf reading keep next
+      → length bs ≤ names → length (table_of k bs) ≤ size → reading (table_of k bs) ≡ accepted
+  unfolding table_of reading keep next
   table-accepted names q bs g d few short =
       let n = length bs in
       let small : n < 2 ^ 24 = omega (arith, names-most (word_of k 0)) in
-      let a : argument (word_of k n) ≡ n = argument-wordOf k n small in
+      let a : argument (word_of k n) ≡ n = argument-word_of k n small in
       let same : names_of (word_of k n) ≡ names = names-for n small ∙ sym q in
-      ap (λ (m : ℕ). scan m (tableOf k bs) [] 0 (head (length (tableOf k bs)) ∷ [])) same
-      ∙ scan-go names (flatten bs) [] (word_of k n) 0 (head (length (tableOf k bs))) []
-      (faultless names [] (word_of k n) (head (length (tableOf k bs)))
-      (subst (λ (m : ℕ). (m ≡ 1) ⊎ (m ≡ 5)) (sym (kind-wordOf k n small)) either, short, subst (λ (m : ℕ). m ≤ names) (sym a) few))
+      ap (λ (m : ℕ). scan m (table_of k bs) [] 0 (head (length (table_of k bs)) ∷ [])) same
+      ∙ scan-go names (flatten bs) [] (word_of k n) 0 (head (length (table_of k bs))) []
+      (faultless names [] (word_of k n) (head (length (table_of k bs)))
+      (subst (λ (m : ℕ). (m ≡ 1) ⊎ (m ≡ 5)) (sym (kind-word_of k n small)) either, short, subst (λ (m : ℕ). m ≤ names) (sym a) few))
       ∙ ap (λ (ts : List Task). scan names (flatten bs) [] 1 ts) (append-nil (replicate (argument (word_of k n)) name) ∙ ap (λ (m : ℕ). replicate m name) a)
       ∙ good-scan names bs [] 1 g (distinct-unused [] (map key_of bs) d (apart_none (map key_of bs)))
 
@@ -147,6 +147,6 @@ cut-flat names (b ∷ bs) g =
     let n = good_length names b g.0 (flatten bs) in
     rw (n, take-append_seam b (flatten bs), drop-append_seam b (flatten bs), cut-flat names bs g.1)
 
-pub blocks-tableOf : (names k : ℕ) (bs : List (List ℕ)) → All (Good names) bs → length bs < 2 ^ 24 → blocks (tableOf k bs) ≡ bs
-unfolding blocks tableOf
-blocks-tableOf names k bs g h = ap (λ (n : ℕ). cut n (flatten bs)) (argument-wordOf k (length bs) h) ∙ cut-flat names bs g
+pub blocks-table_of : (names k : ℕ) (bs : List (List ℕ)) → All (Good names) bs → length bs < 2 ^ 24 → blocks (table_of k bs) ≡ bs
+unfolding blocks table_of
+blocks-table_of names k bs g h = ap (λ (n : ℕ). cut n (flatten bs)) (argument-word_of k (length bs) h) ∙ cut-flat names bs g

@@ -10,9 +10,9 @@ use Rattle.table.specs.Words.{argument, word_of, arity}
 use Rattle.table.specs.Scan.{Task, head, name, perms, guard, term, accepted, keep, next, scan}
 use Rattle.table.specs.Code.{skip, part, trace, tasks}
 use Rattle.table.proofs.Parts.{skip-zero}
-use Rattle.table.proofs.TermWords.{argument-wordOf}
+use Rattle.table.proofs.TermWords.{argument-word_of}
 use Rattle.table.proofs.Stack.{scan_step, scan-missing, scan-more, refused-not-accepted, length-term-next}
-use Rattle.blocks.specs.Blocks.{tableOf, Good, All}
+use Rattle.blocks.specs.Blocks.{table_of, Good, All}
 use Rattle.blocks.proofs.Terms.{Alike, none, also, alike_next}
 use Rattle.blocks.proofs.Block.{front, body-task, bodies}
 
@@ -48,11 +48,11 @@ module _ (names : ℕ) (b : List ℕ) (good : Good names b) where
       ∙ ap₂ (λ (l : List Task) (i : ℕ). l ++ trace ws i ts) (sym (ap (λ (v : List ℕ). trace v at (name ∷ [])) f.whole)) size
 
 -- the tasks of blocks, the first of them at a place
-abbrev pub tasksOf : ℕ → List (List ℕ) → List Task
-tasksOf at [] = []
-tasksOf at (b ∷ bs) = trace b at (name ∷ []) ++ tasksOf (at + length b) bs
+abbrev pub tasks_of : ℕ → List (List ℕ) → List Task
+tasks_of at [] = []
+tasks_of at (b ∷ bs) = trace b at (name ∷ []) ++ tasks_of (at + length b) bs
 
-blocks-tasks : (names : ℕ) (bs : List (List ℕ)) (at : ℕ) → All (Good names) bs → trace (flatten bs) at (replicate (length bs) name) ≡ tasksOf at bs
+blocks-tasks : (names : ℕ) (bs : List (List ℕ)) (at : ℕ) → All (Good names) bs → trace (flatten bs) at (replicate (length bs) name) ≡ tasks_of at bs
 unfolding flatten trace
 blocks-tasks names [] at g = refl
 blocks-tasks names (b ∷ bs) at g =
@@ -60,12 +60,12 @@ blocks-tasks names (b ∷ bs) at g =
     ∙ ap (λ (l : List Task). trace b at (name ∷ []) ++ l) (blocks-tasks names bs (at + length b) g.1)
 
 pub table-tasks : (names k : ℕ) (bs : List (List ℕ)) → All (Good names) bs → length bs < 2 ^ 24
-    → tasks (tableOf k bs) ≡ head (length (tableOf k bs)) ∷ tasksOf 1 bs
-unfolding tasks tableOf trace next
+    → tasks (table_of k bs) ≡ head (length (table_of k bs)) ∷ tasks_of 1 bs
+unfolding tasks table_of trace next
 table-tasks names k bs g h =
-    ap (λ (l : List Task). head (length (tableOf k bs)) ∷ l)
+    ap (λ (l : List Task). head (length (table_of k bs)) ∷ l)
     (ap (trace (flatten bs) 1)
-    (append-nil (replicate (argument (word_of k (length bs))) name) ∙ ap (λ (n : ℕ). replicate n name) (argument-wordOf k (length bs) h))
+    (append-nil (replicate (argument (word_of k (length bs))) name) ∙ ap (λ (n : ℕ). replicate n name) (argument-word_of k (length bs) h))
     ∙ blocks-tasks names bs 1 g)
 
 -- ---- parts

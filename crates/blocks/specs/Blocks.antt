@@ -7,14 +7,14 @@ use Rattle.table.specs.Scan.{name, accepted, has, key, scan}
 use Rattle.table.specs.Code.{skip}
 
 -- how many words the block at the front of a list has
-unfoldable pub blockLength : List ℕ → ℕ
-blockLength ws = suc (suc (suc (skip (drop 3 ws) 1)))
+unfoldable pub block_length : List ℕ → ℕ
+block_length ws = suc (suc (suc (skip (drop 3 ws) 1)))
 
 -- the first n blocks of a list of words
 unfoldable pub cut : ℕ → List ℕ → List (List ℕ)
-unfolding blockLength
+unfolding block_length
 cut zero ws = []
-cut (suc n) ws = take (blockLength ws) ws ∷ cut n (drop (blockLength ws) ws)
+cut (suc n) ws = take (block_length ws) ws ∷ cut n (drop (block_length ws) ws)
 
 -- the blocks of a table, in order
 unfoldable pub blocks : List ℕ → List (List ℕ)
@@ -27,18 +27,18 @@ places at [] = []
 places at (b ∷ bs) = at ∷ places (at + length b) bs
 
 -- the table that has these blocks, by the kind of its word 0
-unfoldable pub tableOf : ℕ → List (List ℕ) → List ℕ
-tableOf k bs = word_of k (length bs) ∷ flatten bs
+unfoldable pub table_of : ℕ → List (List ℕ) → List ℕ
+table_of k bs = word_of k (length bs) ∷ flatten bs
 
 -- a block's name, its permission set, and its key: the two together
 abbrev pub name_of : List ℕ → ℕ
 name_of b = argument (get_or b 0 0)
 
-abbrev pub permsOf : List ℕ → ℕ
-permsOf b = argument (get_or b 1 0)
+abbrev pub perms_of : List ℕ → ℕ
+perms_of b = argument (get_or b 1 0)
 
 abbrev pub key_of : List ℕ → ℕ
-key_of b = key (name_of b) (permsOf b)
+key_of b = key (name_of b) (perms_of b)
 
 -- a block that is read to its end where it stands alone, in a table of so many names
 unfoldable pub Good : ℕ → List ℕ → Type 0

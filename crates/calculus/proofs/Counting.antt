@@ -106,12 +106,12 @@ digit-one zero h = refl
 digit-one (suc zero) h = refl
 digit-one (suc (suc x)) h = absurd (omega arith)
 
-onesIn-count : (d w : ℕ) → ones_in d w ≡ count d (member w)
+ones_in-count : (d w : ℕ) → ones_in d w ≡ count d (member w)
 unfolding ones_in count
-onesIn-count zero w = refl
-onesIn-count (suc d) w =
+ones_in-count zero w = refl
+ones_in-count (suc d) w =
     ap₂ (λ (a b : ℕ). a + b) (digit-one (w % 2) (mod-lt w (lit< tt)) ∙ ap one (sym (member-zero w)))
-    (onesIn-count d (w / 2) ∙ count-ext d (member (w / 2)) (λ k. member w (suc k)) (λ k h. sym (member-suc w k)))
+    (ones_in-count d (w / 2) ∙ count-ext d (member (w / 2)) (λ k. member w (suc k)) (λ k h. sym (member-suc w k)))
 
 bit-first : (w : ℕ) (ws : List ℕ) (k : ℕ) → k < 32 → bit (w ∷ ws) k ≡ member w k
 bit-first w ws k h = ap (λ (n : ℕ). bit (w ∷ ws) n) (omega arith) ∙ bit_at (w ∷ ws) 0 k h
@@ -128,6 +128,6 @@ unfolding facts
 facts-count [] = sym (count_none (bit []))
 facts-count (w ∷ ws) =
     let e : 32 + 32 * length ws ≡ 32 * suc (length ws) = omega arith in
-    ap₂ (λ (a b : ℕ). a + b) (onesIn-count 32 w ∙ count-ext 32 (member w) (bit (w ∷ ws)) (λ k h. sym (bit-first w ws k h)))
+    ap₂ (λ (a b : ℕ). a + b) (ones_in-count 32 w ∙ count-ext 32 (member w) (bit (w ∷ ws)) (λ k h. sym (bit-first w ws k h)))
     (facts-count ws ∙ count-ext (32 * length ws) (bit ws) (λ k. bit (w ∷ ws) (32 + k)) (λ k h. sym (bit-later w ws k)))
     ∙ sym (count_add 32 (32 * length ws) (bit (w ∷ ws))) ∙ ap (λ (n : ℕ). count n (bit (w ∷ ws))) e

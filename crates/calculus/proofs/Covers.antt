@@ -8,7 +8,7 @@ use Rattle.table.specs.Code.{code}
 use Rattle.table.proofs.Linked.{linked}
 use Rattle.calculus.specs.Layout.{sets}
 use Rattle.calculus.specs.Estimate.{whole, estimate, leak}
-use Rattle.calculus.specs.Answer.{Verdict, Answer, refused, verdict, judge, callerTests, analysis, answer}
+use Rattle.calculus.specs.Answer.{Verdict, Answer, refused, verdict, judge, caller_tests, analysis, answer}
 use Rattle.calculus.specs.Guarantee.{Covers}
 use Rattle.calculus.specs.Correct.{Guaranteed}
 use Rattle.calculus.proofs.Guarantee.{covers}
@@ -48,7 +48,7 @@ answer-judged ws ρ bound est work v q = go (reading ws) refl q
     go : (o : Outcome) → reading ws ≡ o
         → (elim o as (λ u. Answer) [ accepted ↦ analysis (code ws) ρ bound est work | unreadable n at ↦ refused n at ]) ≡ verdict v
         → Judged
-    go accepted a e = tested (first_of (callerTests (code ws) ρ bound est work)) a e
+    go accepted a e = tested (first_of (caller_tests (code ws) ρ bound est work)) a e
     go (unreadable n at) a e = let z : ◌≡◌ {A = ℕ} 0 1 = cc in absurd (omega arith)
 
 -- Every leak that a verdict reports, whatever the bound and the slices, covers every run.

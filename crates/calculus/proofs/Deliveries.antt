@@ -7,11 +7,11 @@ use Rattle.permset.specs.Sets.{within}
 use Rattle.delivery.specs.Delivery.{delivered}
 use Rattle.delivery.proofs.Laws.{delivered-is}
 use Rattle.table.specs.Code.{Node, gap, block, leaf, one, two, bind, while, branch, update}
-use Rattle.calculus.specs.Rules.{name_of, permsOf, guarded, deliveryTo}
+use Rattle.calculus.specs.Rules.{name_of, perms_of, guarded, delivery_to}
 use Rattle.calculus.proofs.Digits.{T-fst, T-snd}
 
-pub delivered-parts : (n r s : ℕ) (m : Node) → T (delivered (deliveryTo n r s m)) → (name_of m ≡ n) × T (within r (permsOf m)) × T (guarded m s)
-unfolding deliveryTo delivered name_of permsOf guarded
+pub delivered-parts : (n r s : ℕ) (m : Node) → T (delivered (delivery_to n r s m)) → (name_of m ≡ n) × T (within r (perms_of m)) × T (guarded m s)
+unfolding delivery_to delivered name_of perms_of guarded
 delivered-parts n r s gap t = absurd t
 delivered-parts n r s (block m u g) t =
     let all = subst T (delivered-is n r s (record { name = m; perms = record { bits = u }; guard = record { bits = g } })) t in
@@ -26,9 +26,9 @@ delivered-parts n r s (branch a b d) t = absurd t
 delivered-parts n r s (update a b d) t = absurd t
 
 -- what has no guard is no block
-pub unguarded : (n r s : ℕ) (m : Node) → guarded m s ≡ false → delivered (deliveryTo n r s m) ≡ false
-unguarded n r s m e = go (delivered (deliveryTo n r s m)) (delivered-parts n r s m)
+pub unguarded : (n r s : ℕ) (m : Node) → guarded m s ≡ false → delivered (delivery_to n r s m) ≡ false
+unguarded n r s m e = go (delivered (delivery_to n r s m)) (delivered-parts n r s m)
   where
-    go : (b : Bool) → (T b → (name_of m ≡ n) × T (within r (permsOf m)) × T (guarded m s)) → b ≡ false
+    go : (b : Bool) → (T b → (name_of m ≡ n) × T (within r (perms_of m)) × T (guarded m s)) → b ≡ false
     go true k = absurd (subst T e (k tt).2)
     go false k = refl

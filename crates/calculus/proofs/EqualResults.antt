@@ -15,10 +15,10 @@ use Rattle.permset.specs.Sets.{member, difference, lowest}
 use Rattle.permset.proofs.Laws.{member-empty, member-and, difference-first, difference-second, difference-lt, empty-difference, within-antisym, lowest-lt, lowest-member}
 use Rattle.table.specs.declared.Operation.TheVariants as operations
 use Rattle.table.specs.Code.{Code}
-use Rattle.calculus.specs.Elements.{plain, comparable, isMany, equalResults, results}
+use Rattle.calculus.specs.Elements.{plain, comparable, is_many, equal_results, results}
 use Rattle.calculus.specs.Layout.{bit, Words}
 use Rattle.calculus.specs.Estimate.{same, facts}
-unfoldable pub use Rattle.calculus.specs.ResultWords.{comparables, sameMask, apart, apartMask, equalMask}
+unfoldable pub use Rattle.calculus.specs.ResultWords.{comparables, same_mask, apart, apart_mask, equal_mask}
 use Rattle.calculus.proofs.Digits.{T_and, T-fst, T-snd, T_true, T-or, T-or-left, T-or-right, member-or, member-single-only}
 use Rattle.calculus.proofs.Slices.{bit_at, bit-short}
 use Rattle.calculus.proofs.Counting.{count, facts-count}
@@ -26,25 +26,25 @@ use Rattle.calculus.proofs.Several.{Two, some-two, two-some}
 use Rattle.calculus.proofs.Least.{same-eq}
 use Rattle.calculus.specs.Layout.{masked}
 use Rattle.calculus.proofs.Masks.{T_false, agree, agree-below, bit_masked, masked-words, nonzero, digit-nonzero, nonzero-digit}
-use Rattle.calculus.proofs.OperationMasks.{Gives, resultMask, results-are}
+use Rattle.calculus.proofs.OperationMasks.{Gives, result_mask, results-are}
 
 -- 4, 6 and 8
-many-lt : (v : ℕ) → T (isMany v) → v < 9
-unfolding isMany
+many-lt : (v : ℕ) → T (is_many v) → v < 9
+unfolding is_many
 many-lt v h =
     ⊎_elim
     (λ a. ⊎_elim (λ b. let e : v ≡ 4 = eqb→eq v 4 b in omega arith) (λ b. let e : v ≡ 6 = eqb→eq v 6 b in omega arith) (T-or (eqb v 4) (eqb v 6) a))
     (λ b. let e : v ≡ 8 = eqb→eq v 8 b in omega arith) (T-or (eqb v 4 || eqb v 6) (eqb v 8) h)
 
-many-mask : (v : ℕ) → bit (0x150 ∷ []) v ≡ isMany v
-unfolding agree bit member isMany
+many-mask : (v : ℕ) → bit (0x150 ∷ []) v ≡ is_many v
+unfolding agree bit member is_many
 many-mask v = go (dec_lt v 32)
   where
-    go : Dec (v < 32) → bit (0x150 ∷ []) v ≡ isMany v
-    go (yes l) = agree-below 32 (bit (0x150 ∷ [])) isMany tt v l
+    go : Dec (v < 32) → bit (0x150 ∷ []) v ≡ is_many v
+    go (yes l) = agree-below 32 (bit (0x150 ∷ [])) is_many tt v l
     go (no l) =
         T_false (bit (0x150 ∷ []) v) (λ h. l (omega (arith, bit-short (0x150 ∷ []) v h)))
-        ∙ sym (T_false (isMany v) (λ h. l (omega (arith, many-lt v h))))
+        ∙ sym (T_false (is_many v) (λ h. l (omega (arith, many-lt v h))))
 
 -- numbers that differ have a digit that only one of them has
 record Differ (f g : ℕ → Bool) : Type 0 where
@@ -71,7 +71,7 @@ differ-number s t hs ht n = go (ℕ_discrete (difference s t) 0) (ℕ_discrete (
 
 -- what `equal` gives on two elements that it compares
 verdicts : ℕ → ℕ → List ℕ
-verdicts x y = elim (eqb x y) [ true ↦ elim (isMany x) [ true ↦ 2 ∷ 3 ∷ [] | false ↦ 2 ∷ [] ] | false ↦ 3 ∷ [] ]
+verdicts x y = elim (eqb x y) [ true ↦ elim (is_many x) [ true ↦ 2 ∷ 3 ∷ [] | false ↦ 2 ∷ [] ] | false ↦ 3 ∷ [] ]
 
 record Compared (f g : ℕ → Bool) (z : ℕ) : Type 0 where
   left : ℕ
@@ -82,7 +82,7 @@ record Compared (f g : ℕ → Bool) (z : ℕ) : Type 0 where
 
 verdict-same : (x : ℕ) → Memᴰ {A = ℕ} 2 (verdicts x x)
 unfolding verdicts
-verdict-same x = go (eqb x x) (eqb_refl x) (isMany x)
+verdict-same x = go (eqb x x) (eqb_refl x) (is_many x)
   where
     go : (a : Bool) → T a → (b : Bool)
         → Memᴰ {A = ℕ} 2 (elim a [ true ↦ elim b [ true ↦ 2 ∷ 3 ∷ [] | false ↦ 2 ∷ [] ] | false ↦ 3 ∷ [] ])
@@ -90,9 +90,9 @@ verdict-same x = go (eqb x x) (eqb_refl x) (isMany x)
     go true h false = mathlib.Core.List.Memᴰ.head refl
     go false h b = absurd h
 
-verdict-many : (x : ℕ) → T (isMany x) → Memᴰ {A = ℕ} 3 (verdicts x x)
+verdict-many : (x : ℕ) → T (is_many x) → Memᴰ {A = ℕ} 3 (verdicts x x)
 unfolding verdicts
-verdict-many x t = go (eqb x x) (eqb_refl x) (isMany x) t
+verdict-many x t = go (eqb x x) (eqb_refl x) (is_many x) t
   where
     go : (a : Bool) → T a → (b : Bool) → T b
         → Memᴰ {A = ℕ} 3 (elim a [ true ↦ elim b [ true ↦ 2 ∷ 3 ∷ [] | false ↦ 2 ∷ [] ] | false ↦ 3 ∷ [] ])
@@ -105,24 +105,24 @@ unfolding verdicts
 verdict-apart x y n = go (eqb x y) refl
   where
     go : (a : Bool) → eqb x y ≡ a
-        → Memᴰ {A = ℕ} 3 (elim a [ true ↦ elim (isMany x) [ true ↦ 2 ∷ 3 ∷ [] | false ↦ 2 ∷ [] ] | false ↦ 3 ∷ [] ])
+        → Memᴰ {A = ℕ} 3 (elim a [ true ↦ elim (is_many x) [ true ↦ 2 ∷ 3 ∷ [] | false ↦ 2 ∷ [] ] | false ↦ 3 ∷ [] ])
     go true e = absurd (n (eqb→eq x y (subst T (sym e) tt)))
     go false e = mathlib.Core.List.Memᴰ.head refl
 
 -- which verdict it is, and why
 data Reason (x y z : ℕ) : Type 0 where
   alike : z ≡ 2 → x ≡ y → Reason x y z
-  many : z ≡ 3 → x ≡ y → T (isMany x) → Reason x y z
+  many : z ≡ 3 → x ≡ y → T (is_many x) → Reason x y z
   unlike : z ≡ 3 → (x ≡ y → ⊥) → Reason x y z
 
 reason : (x y z : ℕ) → Memᴰ z (verdicts x y) → Reason x y z
 unfolding verdicts
-reason x y z m = go (eqb x y) refl (isMany x) refl m
+reason x y z m = go (eqb x y) refl (is_many x) refl m
   where
     lone : (k : ℕ) → Memᴰ z (k ∷ []) → z ≡ k
     lone k n = ⊎_elim (λ e. e) (λ r. absurd (mathlib.Core.List.Memᴰ.not-nil r)) (mathlib.Core.List.Memᴰ.cases_cons n)
 
-    go : (a : Bool) → eqb x y ≡ a → (b : Bool) → isMany x ≡ b
+    go : (a : Bool) → eqb x y ≡ a → (b : Bool) → is_many x ≡ b
         → Memᴰ z (elim a [ true ↦ elim b [ true ↦ 2 ∷ 3 ∷ [] | false ↦ 2 ∷ [] ] | false ↦ 3 ∷ [] ]) → Reason x y z
     go true e true f n =
         let q : x ≡ y = eqb→eq x y (subst T (sym e) tt) in
@@ -156,38 +156,38 @@ module _ (xs ys : List ℕ) (long : length xs ≡ length ys) (hx : Words xs) (hy
   shared : (n : ℕ) → bit (masked xs ys) n ≡ A n && D n
   shared n = bit_masked xs ys n
 
-  shared-many : (n : ℕ) → bit (masked (masked xs ys) (0x150 ∷ [])) n ≡ (A n && D n) && isMany n
+  shared-many : (n : ℕ) → bit (masked (masked xs ys) (0x150 ∷ [])) n ≡ (A n && D n) && is_many n
   shared-many n = bit_masked (masked xs ys) (0x150 ∷ []) n ∙ ap₂ (λ (x y : Bool). x && y) (shared n) (many-mask n)
 
   shared-words : Words (masked xs ys)
   shared-words = masked-words xs ys hy
 
-  same_in : (n : ℕ) → T (A n) → T (D n) → T (member (sameMask xs ys) 2)
-  unfolding sameMask member
+  same_in : (n : ℕ) → T (A n) → T (D n) → T (member (same_mask xs ys) 2)
+  unfolding same_mask member
   same_in n h k = go (nonzero (masked xs ys)) (digit-nonzero (masked xs ys) n (subst T (sym (shared n)) (T_and (A n) (D n) h k)))
     where
       go : (b : Bool) → T b → T (member (elim b [ true ↦ 4 | false ↦ 0 ]) 2)
       go true t = tt
       go false t = absurd t
 
-  same-only : (z : ℕ) → T (member (sameMask xs ys) z) → (z ≡ 2) × T (nonzero (masked xs ys))
-  unfolding sameMask
+  same-only : (z : ℕ) → T (member (same_mask xs ys) z) → (z ≡ 2) × T (nonzero (masked xs ys))
+  unfolding same_mask
   same-only z h = go (nonzero (masked xs ys)) h
     where
       go : (b : Bool) → T (member (elim b [ true ↦ 4 | false ↦ 0 ]) z) → (z ≡ 2) × T b
       go true t = (sym (member-single-only 2 z t), tt)
       go false t = absurd (subst T (member-empty z) t)
 
-  apart_in : T (apart xs ys) → T (member (apartMask xs ys) 3)
-  unfolding apartMask member
+  apart_in : T (apart xs ys) → T (member (apart_mask xs ys) 3)
+  unfolding apart_mask member
   apart_in h = go (apart xs ys) h
     where
       go : (b : Bool) → T b → T (member (elim b [ true ↦ 8 | false ↦ 0 ]) 3)
       go true t = tt
       go false t = absurd t
 
-  apart-only : (z : ℕ) → T (member (apartMask xs ys) z) → (z ≡ 3) × T (apart xs ys)
-  unfolding apartMask
+  apart-only : (z : ℕ) → T (member (apart_mask xs ys) z) → (z ≡ 3) × T (apart xs ys)
+  unfolding apart_mask
   apart-only z h = go (apart xs ys) h
     where
       go : (b : Bool) → T (member (elim b [ true ↦ 8 | false ↦ 0 ]) z) → (z ≡ 3) × T b
@@ -195,23 +195,23 @@ module _ (xs ys : List ℕ) (long : length xs ≡ length ys) (hx : Words xs) (hy
       go false t = absurd (subst T (member-empty z) t)
 
   -- the three reasons why two values may be different
-  abbrev manyTest : Bool
-  manyTest = nonzero (masked (masked xs ys) (0x150 ∷ []))
+  abbrev many_test : Bool
+  many_test = nonzero (masked (masked xs ys) (0x150 ∷ []))
 
-  abbrev differTest : Bool
-  differTest = not (same xs ys)
+  abbrev differ_test : Bool
+  differ_test = not (same xs ys)
 
-  abbrev severalTest : Bool
-  severalTest = ltb 1 (facts xs)
+  abbrev several_test : Bool
+  several_test = ltb 1 (facts xs)
 
-  by-many : (n : ℕ) → T (A n) → T (D n) → T (isMany n) → T (apart xs ys)
+  by-many : (n : ℕ) → T (A n) → T (D n) → T (is_many n) → T (apart xs ys)
   unfolding apart
   by-many n h k m =
-      T-or-left manyTest (differTest || severalTest)
+      T-or-left many_test (differ_test || several_test)
       (digit-nonzero (masked (masked xs ys) (0x150 ∷ [])) n
-      (subst T (sym (shared-many n)) (T_and (A n && D n) (isMany n) (T_and (A n) (D n) h k) m)))
+      (subst T (sym (shared-many n)) (T_and (A n && D n) (is_many n) (T_and (A n) (D n) h k) m)))
 
-  several : (x y : ℕ) → (x ≡ y → ⊥) → T (A x) → T (A y) → T severalTest
+  several : (x y : ℕ) → (x ≡ y → ⊥) → T (A x) → T (A y) → T several_test
   several x y n h k = lt→ltb 1 (facts xs) (omega (arith, facts-count xs, go (dec_lt x y)))
     where
       go : Dec (x < y) → 1 < count (32 * length xs) A
@@ -220,37 +220,37 @@ module _ (xs ys : List ℕ) (long : length xs ≡ length ys) (hx : Words xs) (hy
 
   by-unlike : (x y : ℕ) → (x ≡ y → ⊥) → T (A x) → T (D y) → T (apart xs ys)
   unfolding apart
-  by-unlike x y n h k = T-or-right manyTest (differTest || severalTest) (go (same xs ys) refl)
+  by-unlike x y n h k = T-or-right many_test (differ_test || several_test) (go (same xs ys) refl)
     where
-      go : (b : Bool) → same xs ys ≡ b → T (not b || severalTest)
+      go : (b : Bool) → same xs ys ≡ b → T (not b || several_test)
       go true e = several x y n h (subst (λ (zs : List ℕ). T (bit zs y)) (sym (same-eq xs ys (subst T (sym e) tt))) k)
       go false e = tt
 
-  compared-in : (z : ℕ) → Compared A D z → T (member (equalMask xs ys) z)
-  unfolding equalMask
+  compared-in : (z : ℕ) → Compared A D z → T (member (equal_mask xs ys) z)
+  unfolding equal_mask
   compared-in z r =
       let x : ℕ = r.left in
       let y : ℕ = r.right in
       open-mask (nonzero xs && nonzero ys)
       (T_and (nonzero xs) (nonzero ys) (digit-nonzero xs x r.in_left) (digit-nonzero ys y r.in_right))
-      (subst T (sym (member-or (sameMask xs ys) (apartMask xs ys) z)) (go (reason x y z r.verdict)))
+      (subst T (sym (member-or (same_mask xs ys) (apart_mask xs ys) z)) (go (reason x y z r.verdict)))
     where
-      open-mask : (b : Bool) → T b → T (member (bit_or (sameMask xs ys) (apartMask xs ys)) z)
-          → T (member (elim b [ true ↦ bit_or (sameMask xs ys) (apartMask xs ys) | false ↦ 0 ]) z)
+      open-mask : (b : Bool) → T b → T (member (bit_or (same_mask xs ys) (apart_mask xs ys)) z)
+          → T (member (elim b [ true ↦ bit_or (same_mask xs ys) (apart_mask xs ys) | false ↦ 0 ]) z)
       open-mask true t h = h
       open-mask false t h = absurd t
 
-      go : Reason r.left r.right z → T (member (sameMask xs ys) z || member (apartMask xs ys) z)
+      go : Reason r.left r.right z → T (member (same_mask xs ys) z || member (apart_mask xs ys) z)
       go (alike e q) =
-          T-or-left (member (sameMask xs ys) z) (member (apartMask xs ys) z)
-          (subst (λ (u : ℕ). T (member (sameMask xs ys) u)) (sym e) (same_in r.left r.in_left (subst (λ (u : ℕ). T (D u)) (sym q) r.in_right)))
+          T-or-left (member (same_mask xs ys) z) (member (apart_mask xs ys) z)
+          (subst (λ (u : ℕ). T (member (same_mask xs ys) u)) (sym e) (same_in r.left r.in_left (subst (λ (u : ℕ). T (D u)) (sym q) r.in_right)))
       go (many e q m) =
-          T-or-right (member (sameMask xs ys) z) (member (apartMask xs ys) z)
-          (subst (λ (u : ℕ). T (member (apartMask xs ys) u)) (sym e)
+          T-or-right (member (same_mask xs ys) z) (member (apart_mask xs ys) z)
+          (subst (λ (u : ℕ). T (member (apart_mask xs ys) u)) (sym e)
           (apart_in (by-many r.left r.in_left (subst (λ (u : ℕ). T (D u)) (sym q) r.in_right) m)))
       go (unlike e n) =
-          T-or-right (member (sameMask xs ys) z) (member (apartMask xs ys) z)
-          (subst (λ (u : ℕ). T (member (apartMask xs ys) u)) (sym e) (apart_in (by-unlike r.left r.right n r.in_left r.in_right)))
+          T-or-right (member (same_mask xs ys) z) (member (apart_mask xs ys) z)
+          (subst (λ (u : ℕ). T (member (apart_mask xs ys) u)) (sym e) (apart_in (by-unlike r.left r.right n r.in_left r.in_right)))
 
   -- ---- the other way round
 
@@ -266,17 +266,17 @@ module _ (xs ys : List ℕ) (long : length xs ≡ length ys) (hx : Words xs) (hy
         verdict = verdict-same n.0;
       }
 
-  from-many : T manyTest → Compared A D 3
+  from-many : T many_test → Compared A D 3
   from-many t =
       let n : (n : ℕ) × T (bit (masked (masked xs ys) (0x150 ∷ [])) n) = nonzero-digit (masked (masked xs ys) (0x150 ∷ [])) words t in
-      let b : T ((A n.0 && D n.0) && isMany n.0) = subst T (shared-many n.0) n.1 in
-      let s : T (A n.0 && D n.0) = T-fst (A n.0 && D n.0) (isMany n.0) b in
+      let b : T ((A n.0 && D n.0) && is_many n.0) = subst T (shared-many n.0) n.1 in
+      let s : T (A n.0 && D n.0) = T-fst (A n.0 && D n.0) (is_many n.0) b in
       record {
         left = n.0;
         right = n.0;
         in_left = T-fst (A n.0) (D n.0) s;
         in_right = T-snd (A n.0) (D n.0) s;
-        verdict = verdict-many n.0 (T-snd (A n.0 && D n.0) (isMany n.0) b);
+        verdict = verdict-many n.0 (T-snd (A n.0 && D n.0) (is_many n.0) b);
       }
     where
       many : Words (0x150 ∷ [])
@@ -302,7 +302,7 @@ module _ (xs ys : List ℕ) (long : length xs ≡ length ys) (hx : Words xs) (hy
       go (yes e) = let l : t.lower < t.upper = t.ordered in from-pair t.upper y t.at-upper k (λ q. absurd (omega arith))
       go (no e) = from-pair t.lower y t.at-lower k (λ q. e (sym q))
 
-  differ : T differTest → Differ A D
+  differ : T differ_test → Differ A D
   differ t =
       let k : (k : ℕ) × (get_or xs k 0 ≡ get_or ys k 0 → ⊥) = unlike-at xs ys long t in
       let x = differ-number (get_or xs k.0 0) (get_or ys k.0 0) (hx k.0) (hy k.0) k.1 in
@@ -319,15 +319,15 @@ module _ (xs ys : List ℕ) (long : length xs ≡ length ys) (hx : Words xs) (hy
       ⊎_elim (λ t. from-many t)
       (λ r. ⊎_elim (λ t. from-differ (differ t) x.0 y.0 x.1 y.1)
       (λ t. from-two (some-two (32 * length xs) A (omega (arith, ltb→lt 1 (facts xs) t, facts-count xs))) y.0 y.1)
-      (T-or differTest severalTest r))
-      (T-or manyTest (differTest || severalTest) h)
+      (T-or differ_test several_test r))
+      (T-or many_test (differ_test || several_test) h)
 
-  compared-only : (z : ℕ) → T (member (equalMask xs ys) z) → Compared A D z
-  unfolding equalMask
+  compared-only : (z : ℕ) → T (member (equal_mask xs ys) z) → Compared A D z
+  unfolding equal_mask
   compared-only z h = go (nonzero xs && nonzero ys) refl h
     where
       go : (b : Bool) → (nonzero xs && nonzero ys) ≡ b
-          → T (member (elim b [ true ↦ bit_or (sameMask xs ys) (apartMask xs ys) | false ↦ 0 ]) z) → Compared A D z
+          → T (member (elim b [ true ↦ bit_or (same_mask xs ys) (apart_mask xs ys) | false ↦ 0 ]) z) → Compared A D z
       go true e t =
           let both : T (nonzero xs && nonzero ys) = subst T (sym e) tt in
           ⊎_elim
@@ -336,7 +336,7 @@ module _ (xs ys : List ℕ) (long : length xs ≡ length ys) (hx : Words xs) (hy
           (λ s. let o : (z ≡ 3) × T (apart xs ys) = apart-only z s in
           subst (λ (u : ℕ). Compared A D u) (sym o.0)
           (from-apart (T-fst (nonzero xs) (nonzero ys) both) (T-snd (nonzero xs) (nonzero ys) both) o.1))
-          (T-or (member (sameMask xs ys) z) (member (apartMask xs ys) z) (subst T (member-or (sameMask xs ys) (apartMask xs ys) z) t))
+          (T-or (member (same_mask xs ys) z) (member (apart_mask xs ys) z) (subst T (member-or (same_mask xs ys) (apart_mask xs ys) z) t))
       go false e t = absurd (subst T (member-empty z) t)
 
 -- ---- without the opponent's record
@@ -388,7 +388,7 @@ without-seven (x ∷ xs) v = go (dec_lt v 32)
 
 module _ (c : Code) (x y z : ℕ) where
   equal-in : T (comparable c x) → T (comparable c y) → Memᴰ z (verdicts x y) → Memᴰ z (results c operations.Equal x y)
-  unfolding results equalResults verdicts
+  unfolding results equal_results verdicts
   equal-in h k m = go (comparable c x && comparable c y) (T_and (comparable c x) (comparable c y) h k)
     where
       go : (b : Bool) → T b → Memᴰ z (elim b [ true ↦ verdicts x y | false ↦ [] ])
@@ -396,7 +396,7 @@ module _ (c : Code) (x y z : ℕ) where
       go false t = absurd t
 
   equal-only : Memᴰ z (results c operations.Equal x y) → T (comparable c x && comparable c y) × Memᴰ z (verdicts x y)
-  unfolding results equalResults verdicts
+  unfolding results equal_results verdicts
   equal-only m = go (comparable c x && comparable c y) m
     where
       go : (b : Bool) → Memᴰ z (elim b [ true ↦ verdicts x y | false ↦ [] ]) → T b × Memᴰ z (verdicts x y)
@@ -421,9 +421,9 @@ module _ (c : Code) (lead : ℕ) (n : plain c ≡ 32 * lead) (xs : List ℕ) (lo
       subst T (sym (without-seven xs v)) (T_and (bit xs v) (not (eqb v 7)) h (T-snd (ltb v (plain c)) (not (eqb v 7)) k))
 
 pub equal-results : (c : Code) (lead : ℕ) → plain c ≡ 32 * lead → (xs ys : List ℕ) → length xs ≡ lead → length ys ≡ lead → Words xs → Words ys
-    → resultMask c operations.Equal xs ys ≡ equalMask (comparables xs) (comparables ys)
+    → result_mask c operations.Equal xs ys ≡ equal_mask (comparables xs) (comparables ys)
 equal-results c lead n xs ys lx ly hx hy =
-    results-are c operations.Equal xs ys (equalMask (comparables xs) (comparables ys))
+    results-are c operations.Equal xs ys (equal_mask (comparables xs) (comparables ys))
     (λ z h. to z (compared-only (comparables xs) (comparables ys) long (comparables-words xs hx) (comparables-words ys hy) z h))
     (λ z g. compared-in (comparables xs) (comparables ys) long (comparables-words xs hx) (comparables-words ys hy) z (from z g))
   where

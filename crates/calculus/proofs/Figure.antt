@@ -10,16 +10,16 @@ use Rattle.table.specs.Words.{kind, names_of, wide, narrow}
 use Rattle.table.specs.Scan.{accepted, reading}
 use Rattle.table.specs.Code.{code}
 use Rattle.table.proofs.Linked.{linked}
-use Rattle.calculus.specs.Layout.{estimateWords, used}
-use Rattle.calculus.specs.Estimate.{estimate, facts, mostFacts}
-use Rattle.calculus.specs.Figure.{figure, figureOf}
+use Rattle.calculus.specs.Layout.{estimate_words, used}
+use Rattle.calculus.specs.Estimate.{estimate, facts, most_facts}
+use Rattle.calculus.specs.Figure.{figure, figure_of}
 use Rattle.calculus.proofs.Counting.{count}
 use Rattle.calculus.proofs.Places.{count-used}
 use Rattle.calculus.proofs.Least.{estimate-facts}
 
 -- the figure by the names of a table is that by its kind
-pub figure-is : (ws : List ℕ) → mostFacts (code ws) ≡ figureOf ws
-unfolding mostFacts figure figureOf code names_of
+pub figure-is : (ws : List ℕ) → most_facts (code ws) ≡ figure_of ws
+unfolding most_facts figure figure_of code names_of
 figure-is ws = go (eqb (kind (get_or ws 0 0)) 5)
   where
     go : (b : Bool) → length ws * (2 * (32 + elim b [ true ↦ wide | false ↦ narrow ] + length ws) + 25) ≡ figure b (length ws)
@@ -27,9 +27,9 @@ figure-is ws = go (eqb (kind (get_or ws 0 0)) 5)
     go false = refl
 
 -- an estimate has so many digits, and the others are zero
-pub figure-exact : (ws : List ℕ) → count (32 * estimateWords (code ws)) (used (code ws)) ≡ figureOf ws
+pub figure-exact : (ws : List ℕ) → count (32 * estimate_words (code ws)) (used (code ws)) ≡ figure_of ws
 figure-exact ws = count-used (code ws) ∙ figure-is ws
 
 -- "no system has more than W × (2 × (64 + W) + 25) facts"
-pub facts-within-figure : (ws : List ℕ) → reading ws ≡ accepted → (ρ : ℕ) → facts (estimate (code ws) ρ) ≤ figureOf ws
+pub facts-within-figure : (ws : List ℕ) → reading ws ≡ accepted → (ρ : ℕ) → facts (estimate (code ws) ρ) ≤ figure_of ws
 facts-within-figure ws e ρ = subst (λ (n : ℕ). facts (estimate (code ws) ρ) ≤ n) (figure-is ws) (estimate-facts (code ws) (linked ws e) ρ)

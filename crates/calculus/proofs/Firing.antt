@@ -38,9 +38,9 @@ either Q true xs ys h k = h
 either Q false xs ys h k = k
 
 -- the branch for true is needed only where the test holds
-whenT : (Q : List ℕ → Type 0) (b : Bool) (xs ys : List ℕ) → (T b → Q xs) → Q ys → Q (elim b [ true ↦ xs | false ↦ ys ])
-whenT Q true xs ys h k = h tt
-whenT Q false xs ys h k = k
+when_t : (Q : List ℕ → Type 0) (b : Bool) (xs ys : List ℕ) → (T b → Q xs) → Q ys → Q (elim b [ true ↦ xs | false ↦ ys ])
+when_t Q true xs ys h k = h tt
+when_t Q false xs ys h k = k
 
 taken : (b : Bool) (xs ys : List ℕ) → T b → elim b [ true ↦ xs | false ↦ ys ] ≡ xs
 taken true xs ys h = refl
@@ -117,7 +117,7 @@ module _ (c : Code) where
   fire-well (given r v k) f ws w = either (WellFormed c) (sets c ws r v) (fire c k ws) ws (fire-well k f ws w) w
   fire-well (some r q k) f ws w =
       either (WellFormed c) (any_from (span c r) 0 (λ v. q v && sets c ws r v)) (fire c k ws) ws (fire-well k f ws w) w
-  fire-well (only t k) f ws w = whenT (WellFormed c) t (fire c k ws) ws (λ h. fire-well k (f h) ws w) w
+  fire-well (only t k) f ws w = when_t (WellFormed c) t (fire c k ws) ws (λ h. fire-well k (f h) ws w) w
   fire-well (each xs k) f ws w = through-keeps (WellFormed c) (λ i. fire c (k i)) xs (λ i m ys h. fire-well (k i) (f i m) ys h) ws w
   fire-well (k and l) f ws w = rw (whole_is (fire c k ws) (fire c l)) (fire-well l f.1 (fire c k ws) (fire-well k f.0 ws w))
 
@@ -131,14 +131,14 @@ module _ (c : Code) where
     keeps none f o ws w = w
     keeps (put r v) f o ws w = (put-well c ws w.0 r v f, put-inside c ws w.0 e r v f o w.1)
     keeps (sub a b) f o ws w = (sub-well c ws w.0 a b f, sub-inside c ws w.0 a b f e o w.1)
-    keeps (given r v k) f o ws w = whenT Kept (sets c ws r v) (fire c k ws) ws (λ h. keeps k f (o (w.1 r v h)) ws w) w
+    keeps (given r v k) f o ws w = when_t Kept (sets c ws r v) (fire c k ws) ws (λ h. keeps k f (o (w.1 r v h)) ws w) w
     keeps (some r q k) f o ws w =
-        whenT Kept (any_from (span c r) 0 (λ v. q v && sets c ws r v)) (fire c k ws) ws
+        when_t Kept (any_from (span c r) 0 (λ v. q v && sets c ws r v)) (fire c k ws) ws
         (λ h. let x : (v : ℕ) × T (q v && sets c ws r v) = any_found (span c r) 0 (λ v. q v && sets c ws r v) h in
         let v : ℕ = x.0 in
         keeps k f (o v (T-fst (q v) (sets c ws r v) x.1) (w.1 r v (T-snd (q v) (sets c ws r v) x.1))) ws w)
         w
-    keeps (only t k) f o ws w = whenT Kept t (fire c k ws) ws (λ h. keeps k (f h) (o h) ws w) w
+    keeps (only t k) f o ws w = when_t Kept t (fire c k ws) ws (λ h. keeps k (f h) (o h) ws w) w
     keeps (each xs k) f o ws w = through-keeps Kept (λ i. fire c (k i)) xs (λ i m ys h. keeps (k i) (f i m) (o i m) ys h) ws w
     keeps (k and l) f o ws w = rw (whole_is (fire c k ws) (fire c l)) (keeps l f.1 o.1 (fire c k ws) (keeps k f.0 o.0 ws w))
 

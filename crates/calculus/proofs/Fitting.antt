@@ -13,16 +13,16 @@ use Rattle.table.specs.declared.Constant.{Constant}
 use Rattle.table.specs.declared.Constant.TheVariants as constants
 use Rattle.table.specs.declared.Operation.{Operation}
 use Rattle.table.specs.declared.Operation.TheVariants as operations
-use Rattle.table.specs.Words.{constantNumber}
+use Rattle.table.specs.Words.{constant_number}
 use Rattle.table.specs.Code.{Code, Node, Leaf, One, Two, gap, block, leaf, one, two, bind, while, branch, update, Linked}
 use Rattle.table.specs.Code.{NodeLinked, LeafLinked, TwoLinked, Within}
 use Rattle.table.specs.Code.{constant, number, literal, named, variable, function, empty, exercise, cell, read}
 use Rattle.table.specs.Code.{apply, sequence, get, delete, assign, operation, send}
-use Rattle.calculus.specs.Elements.{elements, constantElement, sign, leafMakes, oneMakes, makes, isFunction, bySigns}
-use Rattle.calculus.specs.Elements.{sumSigns, lessSigns, equalResults, results}
-use Rattle.calculus.specs.Elements.{isSign, signPlace, comparable, isMany, truth, falsehood}
+use Rattle.calculus.specs.Elements.{elements, constant_element, sign, leaf_makes, one_makes, makes, is_function, by_signs}
+use Rattle.calculus.specs.Elements.{sum_signs, less_signs, equal_results, results}
+use Rattle.calculus.specs.Elements.{is_sign, sign_place, comparable, is_many, truth, falsehood}
 use Rattle.calculus.specs.Constraint.{C, B, P, L}
-use Rattle.calculus.specs.Rules.{part, leafRule, oneRule, twoRule, flow, entry, twoSender, sender, senders, rule}
+use Rattle.calculus.specs.Rules.{part, leaf_rule, one_rule, two_rule, flow, entry, two_sender, sender, senders, rule}
 use Rattle.calculus.specs.Layout.{owner, span, shift, allowed}
 use Rattle.calculus.proofs.Digits.{T-fst, T-snd}
 use Rattle.calculus.proofs.Places.{is-allowed}
@@ -32,8 +32,8 @@ use Rattle.calculus.proofs.Ranges.{in-below, range-bound}
 
 -- ---- results are truths and signs, all below 7
 
-pub constant-lt : (k : Constant) → constantElement k < 7
-unfolding constantElement constantNumber
+pub constant-lt : (k : Constant) → constant_element k < 7
+unfolding constant_element constant_number
 constant-lt constants.Undefined = lit< tt
 constant-lt constants.Unit = lit< tt
 constant-lt constants.True = lit< tt
@@ -70,19 +70,19 @@ low-at [] h k = tt
 low-at (r ∷ rs) h zero = T-fst (lows r) (low_rows rs) h
 low-at (r ∷ rs) h (suc k) = low-at rs (T-snd (lows r) (low_rows rs) h) k
 
-by-signs : (t : List (List ℕ)) → T (low_rows t) → (x y : ℕ) → T (lows (bySigns t x y))
-unfolding bySigns lows
-by-signs t h x y = go (isSign x && isSign y)
+by-signs : (t : List (List ℕ)) → T (low_rows t) → (x y : ℕ) → T (lows (by_signs t x y))
+unfolding by_signs lows
+by-signs t h x y = go (is_sign x && is_sign y)
   where
-    go : (b : Bool) → T (lows (elim b [ true ↦ get_or t (signPlace x y) [] | false ↦ [] ]))
-    go true = low-at t h (signPlace x y)
+    go : (b : Bool) → T (lows (elim b [ true ↦ get_or t (sign_place x y) [] | false ↦ [] ]))
+    go true = low-at t h (sign_place x y)
     go false = tt
 
 pub results-low : (c : Code) (o : Operation) (x y : ℕ) → T (lows (results c o x y))
-unfolding results sumSigns lessSigns equalResults lows low_rows
-results-low c operations.Add x y = by-signs sumSigns tt x y
-results-low c operations.Less x y = by-signs lessSigns tt x y
-results-low c operations.Equal x y = go (comparable c x && comparable c y) (eqb x y) (isMany x)
+unfolding results sum_signs less_signs equal_results lows low_rows
+results-low c operations.Add x y = by-signs sum_signs tt x y
+results-low c operations.Less x y = by-signs less_signs tt x y
+results-low c operations.Equal x y = go (comparable c x && comparable c y) (eqb x y) (is_many x)
   where
     go : (a b d : Bool)
         → T
@@ -139,11 +139,11 @@ module _ (c : Code) (k : Linked c) where
   PP h l = record { from = h; to = l; spans = refl; unshifted-from = refl; unshifted-to = refl }
 
   -- a function's body is a word of the code
-  pub body-within : (f : ℕ) → f < c.size → T (isFunction (makes (c.node f))) → Within c (suc f) (c.home f) (f ∷ c.scope f)
-  unfolding makes leafMakes oneMakes isFunction
+  pub body-within : (f : ℕ) → f < c.size → T (is_function (makes (c.node f))) → Within c (suc f) (c.home f) (f ∷ c.scope f)
+  unfolding makes leaf_makes one_makes is_function
   body-within f h t = go (c.node f) (k.nodes f h) t
     where
-      go-leaf : (l : Leaf) → LeafLinked c f l → T (isFunction (leafMakes l)) → Within c (suc f) (c.home f) (f ∷ c.scope f)
+      go-leaf : (l : Leaf) → LeafLinked c f l → T (is_function (leaf_makes l)) → Within c (suc f) (c.home f) (f ∷ c.scope f)
       go-leaf (constant d) n t = absurd t
       go-leaf (number d) n t = absurd t
       go-leaf (literal d) n t = absurd t
@@ -153,11 +153,11 @@ module _ (c : Code) (k : Linked c) where
       go-leaf empty n t = absurd t
       go-leaf (exercise d) n t = absurd t
 
-      go-one : (o : One) → T (isFunction (oneMakes o)) → Within c (suc f) (c.home f) (f ∷ c.scope f)
+      go-one : (o : One) → T (is_function (one_makes o)) → Within c (suc f) (c.home f) (f ∷ c.scope f)
       go-one cell t = absurd t
       go-one read t = absurd t
 
-      go : (n : Node) → NodeLinked c f n → T (isFunction (makes n)) → Within c (suc f) (c.home f) (f ∷ c.scope f)
+      go : (n : Node) → NodeLinked c f n → T (is_function (makes n)) → Within c (suc f) (c.home f) (f ∷ c.scope f)
       go gap l t = absurd t
       go (block n s g) l t = absurd t
       go (leaf d) l t = go-leaf d l t
@@ -168,7 +168,7 @@ module _ (c : Code) (k : Linked c) where
       go (branch a b d) l t = absurd t
       go (update a b d) l t = absurd t
 
-  pub body-lt : (f : ℕ) → f < c.size → T (isFunction (makes (c.node f))) → suc f < c.size
+  pub body-lt : (f : ℕ) → f < c.size → T (is_function (makes (c.node f))) → suc f < c.size
   body-lt f h t = (body-within f h t).inside
 
   -- ---- the rule of a word; where `omega` finds a bound, any word of the code would do
@@ -177,8 +177,8 @@ module _ (c : Code) (k : Linked c) where
     part-fits : {q : ℕ} → q < c.size → Fits c (part p q)
     part-fits l = (may-L l, PP l h)
 
-    leaf-fits : (l : Leaf) → LeafLinked c p l → Fits c (leafRule c p l)
-    unfolding leafRule
+    leaf-fits : (l : Leaf) → LeafLinked c p l → Fits c (leaf_rule c p l)
+    unfolding leaf_rule
     leaf-fits (constant d) l = may-C h (omega (arith, constant-lt d))
     leaf-fits (number n) l = may-C h (omega (arith, sign-lt n))
     leaf-fits (literal n) l = may-C h (omega arith)
@@ -188,13 +188,13 @@ module _ (c : Code) (k : Linked c) where
     leaf-fits empty l = may-C h (omega arith)
     leaf-fits (exercise r) l = λ t. (λ i m d. may-P h (in-below m), may-C h (omega arith))
 
-    one-fits : (o : One) (a : ℕ) → a < c.size → Fits c (oneRule c p o a)
-    unfolding oneRule
+    one-fits : (o : One) (a : ℕ) → a < c.size → Fits c (one_rule c p o a)
+    unfolding one_rule
     one-fits cell a l = (may-C h (omega arith), CB l h)
     one-fits read a l = λ q m t. BC (in-below m) h
 
-    two_fits : (t : Two) (a d : ℕ) → a < c.size → d < c.size → Fits c (twoRule c p t a d)
-    unfolding twoRule
+    two_fits : (t : Two) (a d : ℕ) → a < c.size → d < c.size → Fits c (two_rule c p t a d)
+    unfolding two_rule
     two_fits apply a d l n =
         λ f m t.
         let b : suc f < c.size = body-lt f (in-below m) t in
@@ -248,8 +248,8 @@ module _ (c : Code) (k : Linked c) where
     )
 
     -- what the word q asks of the block p
-    two-sender-fits : (q : ℕ) (t : Two) (a d : ℕ) → TwoLinked c q t → Fits c (twoSender c p q t a d)
-    unfolding twoSender
+    two-sender-fits : (q : ℕ) (t : Two) (a d : ℕ) → TwoLinked c q t → Fits c (two_sender c p q t a d)
+    unfolding two_sender
     two-sender-fits q apply a d l = tt
     two-sender-fits q sequence a d l = tt
     two-sender-fits q get a d l = tt

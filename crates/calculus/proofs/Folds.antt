@@ -65,7 +65,7 @@ module _ (c : Code) where
   unfolding fire
   fire-only-same t k ws e = both-same t (fire c k ws) ws e
 
-  -- the rule of `eachMade` and `pass` at an element that is there and of the right sort, and at one that is not there
+  -- the rule of `each_made` and `pass` at an element that is there and of the right sort, and at one that is not there
   pub fire-present : (t : Bool) (r : Row) (v : ℕ) (k : Rule) (ws : List ℕ) → t ≡ true → sets c ws r v ≡ true
       → fire c (only t (given r v k)) ws ≡ fire c k ws
   fire-present t r v k ws e f = fire-only t (given r v k) ws e ∙ fire-given r v k ws f

@@ -6,7 +6,7 @@ use Rattle.permset.specs.Sets.{member, within}
 use Rattle.permset.proofs.Laws.{member-within}
 use Rattle.table.specs.Code.{Code, Linked}
 use Rattle.calculus.specs.Constraint.{Sets}
-use Rattle.calculus.specs.Rules.{Estimate, leakOf}
+use Rattle.calculus.specs.Rules.{Estimate, leak_of}
 use Rattle.calculus.specs.Run.{Event, run, exercised}
 use Rattle.calculus.specs.Guarantee.{Exercised, Covers}
 pub mod Relation
@@ -22,12 +22,12 @@ use Events.{run-good, exercised-good}
 
 -- For every linked code, every estimate that obeys the rules and every list of events: one claim about the whole list.
 pub guarantee : (c : Code) → Linked c → (ρ : ℕ) (e : Sets) → Estimate c ρ e
-    → (events : List Event) (x : ℕ) → Exercised c ρ events x → leakOf c ρ e x
+    → (events : List Event) (x : ℕ) → Exercised c ρ events x → leak_of c ρ e x
 guarantee c k ρ e est events x (r, m, t) = exercised-good c k ρ e est (run c ρ events) (run-good c k ρ e est events) r x m t
 
 -- A set with every permission of the leak covers every run.
 pub covers : (c : Code) → Linked c → (ρ : ℕ) (e : Sets) → Estimate c ρ e
-    → (s : ℕ) → ((x : ℕ) → leakOf c ρ e x → T (member s x)) → Covers c ρ s
+    → (s : ℕ) → ((x : ℕ) → leak_of c ρ e x → T (member s x)) → Covers c ρ s
 covers c k ρ e est s f events x m = f x (guarantee c k ρ e est events x m)
 
 -- Every set that is exercised is within a set that covers every run.

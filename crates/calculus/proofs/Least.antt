@@ -1,5 +1,5 @@
 -- The estimate obeys every rule, lies inside every estimate that does, has no stray bit, and is the only list of words of which all this
--- holds. No list of words without stray bits has more than `mostFacts` facts.
+-- holds. No list of words without stray bits has more than `most_facts` facts.
 use Prim.Native.Nat.{ℕ, zero, suc, ◌+◌, ◌*◌, ◌^◌, ◌≤◌, ◌<◌}
 use mathlib.Core.Path.{◌≡◌, refl, sym, ap, ◌∙◌, subst}
 use mathlib.Core.List.{List, [], ◌∷◌}
@@ -11,8 +11,8 @@ use lib.ListN.{get_or, replicate, length-replicate}
 use Rattle.table.specs.Code.{Code, Linked}
 use Rattle.calculus.specs.Constraint.{Sets, every}
 use Rattle.calculus.specs.Rules.{rule, Estimate}
-use Rattle.calculus.specs.Layout.{bit, estimateWords, place, used, sets, WellFormed, LiesIn}
-use Rattle.calculus.specs.Estimate.{same, mostFacts, sweep, close, estimate, facts}
+use Rattle.calculus.specs.Layout.{bit, estimate_words, place, used, sets, WellFormed, LiesIn}
+use Rattle.calculus.specs.Estimate.{same, most_facts, sweep, close, estimate, facts}
 use Rattle.calculus.proofs.Slices.{◌≼◌, bit-short, bit-zero, words-ext}
 use Rattle.calculus.proofs.Counting.{count, count-mono, count-equal, facts-count}
 use Rattle.calculus.proofs.Places.{At, used-place, count-used}
@@ -60,18 +60,18 @@ module _ (c : Code) where
 
   -- ---- facts
 
-  pub facts-bound : (ws : List ℕ) → WellFormed c ws → facts ws ≤ mostFacts c
+  pub facts-bound : (ws : List ℕ) → WellFormed c ws → facts ws ≤ most_facts c
   facts-bound ws w =
-      let e : facts ws ≡ count (32 * estimateWords c) (bit ws) = facts-count ws ∙ ap (λ (n : ℕ). count (32 * n) (bit ws)) w.long in
-      omega (arith, count-mono (32 * estimateWords c) (bit ws) (used c) (λ n l. w.clean n), count-used c)
+      let e : facts ws ≡ count (32 * estimate_words c) (bit ws) = facts-count ws ∙ ap (λ (n : ℕ). count (32 * n) (bit ws)) w.long in
+      omega (arith, count-mono (32 * estimate_words c) (bit ws) (used c) (λ n l. w.clean n), count-used c)
 
   -- where facts do not grow, nothing is new
   facts-equal : (ws xs : List ℕ) → WellFormed c ws → WellFormed c xs → ws ≼ xs → facts xs ≤ facts ws → xs ≡ ws
   facts-equal ws xs w x a l =
-      let e : facts ws ≡ count (32 * estimateWords c) (bit ws) = facts-count ws ∙ ap (λ (n : ℕ). count (32 * n) (bit ws)) w.long in
-      let f : facts xs ≡ count (32 * estimateWords c) (bit xs) = facts-count xs ∙ ap (λ (n : ℕ). count (32 * n) (bit xs)) x.long in
+      let e : facts ws ≡ count (32 * estimate_words c) (bit ws) = facts-count ws ∙ ap (λ (n : ℕ). count (32 * n) (bit ws)) w.long in
+      let f : facts xs ≡ count (32 * estimate_words c) (bit xs) = facts-count xs ∙ ap (λ (n : ℕ). count (32 * n) (bit xs)) x.long in
       words-ext xs ws (x.long ∙ sym w.long) x.words w.words
-      (λ n h. count-equal (32 * estimateWords c) (bit ws) (bit xs) (λ m u. a m) (omega arith) n (rw (← x.long) (bit-short xs n h)) h) a
+      (λ n h. count-equal (32 * estimate_words c) (bit ws) (bit xs) (λ m u. a m) (omega arith) n (rw (← x.long) (bit-short xs n h)) h) a
 
   module _ (k : Linked c) (ρ : ℕ) where
     -- ---- a sweep
@@ -109,7 +109,7 @@ module _ (c : Code) where
     abbrev Settled : List ℕ → Type 0
     Settled ws = sweep c ρ ws ≡ ws
 
-    close-settles : (n : ℕ) (ws : List ℕ) → WellFormed c ws → mostFacts c ≤ facts ws + n → Settled (close c ρ n ws)
+    close-settles : (n : ℕ) (ws : List ℕ) → WellFormed c ws → most_facts c ≤ facts ws + n → Settled (close c ρ n ws)
     close-settles zero ws w l =
         rw close-zero
         (facts-equal ws (sweep c ρ ws) w (sweep-well ws w) (sweep-adds ws) (omega (arith, facts-bound (sweep c ρ ws) (sweep-well ws w))))
@@ -123,7 +123,7 @@ module _ (c : Code) where
             let q : sweep c ρ ws ≡ ws = facts-equal ws (sweep c ρ ws) w (sweep-well ws w) (sweep-adds ws) (omega arith) in
             absurd (subst T e (subst (λ (xs : List ℕ). T (same xs ws)) (sym q) (same_refl ws)))
 
-        go : (mostFacts c ≤ facts (sweep c ρ ws) + n → Settled (close c ρ n (sweep c ρ ws))) → (b : Bool) → same (sweep c ρ ws) ws ≡ b
+        go : (most_facts c ≤ facts (sweep c ρ ws) + n → Settled (close c ρ n (sweep c ρ ws))) → (b : Bool) → same (sweep c ρ ws) ws ≡ b
             → Settled (elim b [ true ↦ ws | false ↦ close c ρ n (sweep c ρ ws) ])
         go r true e = same-eq (sweep c ρ ws) ws (rw e tt)
         go r false e = r (omega (arith, grows e (dec_lt (facts ws) (facts (sweep c ρ ws)))))
@@ -131,14 +131,14 @@ module _ (c : Code) where
     -- ---- the estimate
 
     abbrev start : List ℕ
-    start = replicate (estimateWords c) 0
+    start = replicate (estimate_words c) 0
 
     start-well : WellFormed c start
     start-well =
         record {
-          long = length-replicate (estimateWords c) 0;
-          words = λ i. zeros (estimateWords c) i;
-          clean = λ n h. absurd (bit-zero (estimateWords c) n h);
+          long = length-replicate (estimate_words c) 0;
+          words = λ i. zeros (estimate_words c) i;
+          clean = λ n h. absurd (bit-zero (estimate_words c) n h);
         }
       where
         zeros : (n i : ℕ) → get_or (replicate n 0) i 0 < 2 ^ 32
@@ -148,11 +148,11 @@ module _ (c : Code) where
 
     pub estimate-well : WellFormed c (estimate c ρ)
     unfolding estimate
-    estimate-well = close-keeps (WellFormed c) sweep-well (mostFacts c) start start-well
+    estimate-well = close-keeps (WellFormed c) sweep-well (most_facts c) start start-well
 
     pub estimate-settled : sweep c ρ (estimate c ρ) ≡ estimate c ρ
     unfolding estimate
-    estimate-settled = close-settles (mostFacts c) start start-well (omega arith)
+    estimate-settled = close-settles (most_facts c) start start-well (omega arith)
 
     -- where a sweep changes nothing, every rule is obeyed
     pub settled-obeys : (ws : List ℕ) → WellFormed c ws → sweep c ρ ws ≡ ws → Estimate c ρ (sets c ws)
@@ -174,8 +174,8 @@ module _ (c : Code) where
       pub estimate-least : LiesIn c (estimate c ρ) e
       unfolding estimate
       estimate-least =
-          (close-keeps Kept sweep-kept (mostFacts c) start
-          (start-well, λ r v h. absurd (bit-zero (estimateWords c) (place c r v) (sets-bit c start r v h)))).1
+          (close-keeps Kept sweep-kept (most_facts c) start
+          (start-well, λ r v h. absurd (bit-zero (estimate_words c) (place c r v) (sets-bit c start r v h)))).1
 
     -- any words that obey every rule and lie inside every estimate that does are the estimate
     pub estimate-unique : (ws : List ℕ) → WellFormed c ws → Estimate c ρ (sets c ws) → ((e : Sets) → Estimate c ρ e → LiesIn c ws e)
@@ -183,5 +183,5 @@ module _ (c : Code) where
     estimate-unique ws w o l =
         sets-ext ws (estimate c ρ) w estimate-well (l (sets c (estimate c ρ)) estimate-obeys) (estimate-least (sets c ws) o)
 
-    pub estimate-facts : facts (estimate c ρ) ≤ mostFacts c
+    pub estimate-facts : facts (estimate c ρ) ≤ most_facts c
     estimate-facts = facts-bound (estimate c ρ) estimate-well

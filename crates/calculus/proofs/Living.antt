@@ -12,15 +12,15 @@ use Rattle.table.specs.Code.{Code, Node, Leaf, One, Two, gap, block, leaf, one, 
 use Rattle.table.specs.Code.{LeafLinked, NodeLinked, TwoLinked, IsBlock, IsTerm, Within}
 use Rattle.table.specs.Code.{constant, number, literal, named, variable, function, empty, exercise, cell, read}
 use Rattle.table.specs.Code.{apply, sequence, get, delete, assign, operation, send}
-use Rattle.calculus.specs.Elements.{plain, made, undefined, unit, opponentRecord}
+use Rattle.calculus.specs.Elements.{plain, made, undefined, unit, opponent_record}
 use Rattle.calculus.specs.Constraint.{Row, C, B, P, L, Sets, Rule, Obeys, none, put, sub, given, some, only, each, ◌and◌}
-use Rattle.calculus.specs.Rules.{isBlock, guarded, leafRule, oneRule, twoRule, flow, entry, twoSender, sender, senders, rule, Estimate}
+use Rattle.calculus.specs.Rules.{is_block, guarded, leaf_rule, one_rule, two_rule, flow, entry, two_sender, sender, senders, rule, Estimate}
 use Rattle.calculus.specs.Layout.{sets}
 use Rattle.calculus.specs.Estimate.{estimate}
 use Rattle.calculus.proofs.Digits.{T-or, T-or-left, T-or-right, T_and, T-fst, T-snd}
 use Rattle.calculus.proofs.Ranges.{range-bound, in-below}
 use Rattle.calculus.proofs.Fitting.{constant-lt, sign-lt, results-lt, body-within}
-use Rattle.calculus.proofs.Makers.{block-is, chosen, at-term, to-term, at-block, to_block, guarded-block}
+use Rattle.calculus.proofs.Makers.{block-is, chosen, at-term, to-term, at-block, to_block_lem, guarded-block}
 use Rattle.calculus.proofs.Least.{estimate-obeys, estimate-least}
 use Rattle.calculus.proofs.Senders.{listed-node}
 
@@ -64,11 +64,11 @@ module _ (c : Code) (e : Sets) where
   housed v = ltb v (plain c) || lively (c.home (v - plain c))
 
   -- to the live block b from the opponent, or from a live block
-  unfoldable sentBy : ℕ → ℕ → Bool
-  sentBy b v = lively b && (eqb v opponentRecord || (leb (plain c) v && lively (v - plain c)))
+  unfoldable sent_by : ℕ → ℕ → Bool
+  sent_by b v = lively b && (eqb v opponent_record || (leb (plain c) v && lively (v - plain c)))
 
   unfoldable home : Sets
-  home (C i) v = chosen (c.node i) (sentBy i v) (housed v)
+  home (C i) v = chosen (c.node i) (sent_by i v) (housed v)
   home (B i) v = housed v
   home (P i) v = true
   home (L i) v = chosen (c.node i) true (lively (c.home i))
@@ -93,7 +93,7 @@ module _ (c : Code) (e : Sets) where
   -- a value set of a term, read
   from-C : {q h : ℕ} {s : List ℕ} → Within c q h s → (v : ℕ) → T (home (C q) v) → T (housed v)
   unfolding home
-  from-C {q} w v t = at-term (c.node q) (sentBy q v) (housed v) w.term t
+  from-C {q} w v t = at-term (c.node q) (sent_by q v) (housed v) w.term t
 
   -- a word of a live block
   live_in : {q h : ℕ} {s : List ℕ} → Within c q h s → T (lively h) → T (home (L q) 0)
@@ -108,7 +108,7 @@ module _ (c : Code) (e : Sets) where
   module _ (k : Linked c) (p : ℕ) (is : IsTerm (c.node p)) (l : T (lively (c.home p))) where
     to-C : (v : ℕ) → T (housed v) → T (home (C p) v)
     unfolding home
-    to-C v t = to-term (c.node p) (sentBy p v) (housed v) is t
+    to-C v t = to-term (c.node p) (sent_by p v) (housed v) is t
 
     plain-C : (v : ℕ) → v < plain c → T (home (C p) v)
     plain-C v h = to-C v (plain-housed h)
@@ -120,8 +120,8 @@ module _ (c : Code) (e : Sets) where
     unfolding home
     part-home w = (live_in w l, λ v h. tt)
 
-    leaf-home : (n : Leaf) → LeafLinked c p n → Under e home (leafRule c p n)
-    unfolding leafRule home
+    leaf-home : (n : Leaf) → LeafLinked c p n → Under e home (leaf_rule c p n)
+    unfolding leaf_rule home
     leaf-home (constant d) n = plain-C _ (omega (arith, constant-lt d))
     leaf-home (number x) n = plain-C _ (omega (arith, sign-lt x))
     leaf-home (literal x) n = plain-C _ (omega arith)
@@ -131,13 +131,13 @@ module _ (c : Code) (e : Sets) where
     leaf-home empty n = made-C
     leaf-home (exercise r) n = λ t. ((λ i m u. tt), plain-C unit (omega arith))
 
-    one-home : (o : One) (a : ℕ) → Within c a (c.home p) (c.scope p) → Under e home (oneRule c p o a)
-    unfolding oneRule home
+    one-home : (o : One) (a : ℕ) → Within c a (c.home p) (c.scope p) → Under e home (one_rule c p o a)
+    unfolding one_rule home
     one-home cell a w = (made-C, λ v h. from-C w v h)
     one-home read a w = λ q i t m g v h. to-C v h
 
-    two-home : (t : Two) (a d : ℕ) → Within c a (c.home p) (c.scope p) → Within c d (c.home p) (c.scope p) → Under e home (twoRule c p t a d)
-    unfolding twoRule home
+    two-home : (t : Two) (a d : ℕ) → Within c a (c.home p) (c.scope p) → Within c d (c.home p) (c.scope p) → Under e home (two_rule c p t a d)
+    unfolding two_rule home
     two-home apply a d w y =
         λ f m t i g.
         let b = body-within c k f (in-below m) t in
@@ -151,7 +151,7 @@ module _ (c : Code) (e : Sets) where
     two-home (send r) a d w y = (
       plain-C unit (omega arith),
       λ v q i g b m t j n.
-          (to_block (c.node b) true (lively (c.home b)) (k.listed b m).1 tt, ((λ u i s j g. from-C y u g), λ x h. tt)),
+          (to_block_lem (c.node b) true (lively (c.home b)) (k.listed b m).1 tt, ((λ u i s j g. from-C y u g), λ x h. tt)),
     )
 
     flow-term : (n : Node) → IsTerm n → NodeLinked c p n → Under e home (flow c p n)
@@ -211,23 +211,23 @@ module _ (c : Code) (e : Sets) where
   -- ---- the blocks' own rules
 
   module _ (k : Linked c) (ρ : ℕ) (o : Estimate c ρ e) (b : ℕ) where
-    sent-by : (v : ℕ) → IsBlock (c.node b) → T (lively b) → T (eqb v opponentRecord || (leb (plain c) v && lively (v - plain c))) → T (home (C b) v)
-    unfolding home sentBy
+    sent-by : (v : ℕ) → IsBlock (c.node b) → T (lively b) → T (eqb v opponent_record || (leb (plain c) v && lively (v - plain c))) → T (home (C b) v)
+    unfolding home sent_by
     sent-by v is l t =
-        to_block (c.node b) (sentBy b v) (housed v) is (T_and (lively b) (eqb v opponentRecord || (leb (plain c) v && lively (v - plain c))) l t)
+        to_block_lem (c.node b) (sent_by b v) (housed v) is (T_and (lively b) (eqb v opponent_record || (leb (plain c) v && lively (v - plain c))) l t)
 
     entry-home : b < c.size → Under e home (entry c ρ b)
     unfolding entry rule home
     entry-home h = λ t.
         let is = guarded-block (c.node b) ρ t in (
-          to_block (c.node b) true (lively (c.home b)) is tt,
-          ((λ v m. plain-housed (omega (arith, range-bound _ _ v m))), sent-by opponentRecord is ((o b h).0.0 t).0 tt),
+          to_block_lem (c.node b) true (lively (c.home b)) is tt,
+          ((λ v m. plain-housed (omega (arith, range-bound _ _ v m))), sent-by opponent_record is ((o b h).0.0 t).0 tt),
         )
 
     -- a live send that delivers to the block makes it live
     two-sends : IsBlock (c.node b) → Memᴰ b c.blocks → (p : ℕ) → p < c.size → (t : Two) (a d : ℕ) → c.node p ≡ two t a d
-        → Under e home (twoSender c b p t a d)
-    unfolding twoSender twoRule flow rule
+        → Under e home (two_sender c b p t a d)
+    unfolding two_sender two_rule flow rule
     two-sends is m p h apply a d i = tt
     two-sends is m p h sequence a d i = tt
     two-sends is m p h get a d i = tt
@@ -240,7 +240,7 @@ module _ (c : Code) (e : Sets) where
         let x : T (lively s) = lives-in p (subst IsTerm (sym i) tt) g in
         let y : T (lively b) = ((subst (λ (z : Node). Obeys e (flow c p z)) i ((o p h).1 f)).1.1.1 v q j b m t n).0 in
         sent-by (made c s) is y
-        (T-or-right (eqb (made c s) opponentRecord) (leb (plain c) (made c s) && lively (made c s - plain c))
+        (T-or-right (eqb (made c s) opponent_record) (leb (plain c) (made c s) && lively (made c s - plain c))
         (T_and (leb (plain c) (made c s)) (lively (made c s - plain c)) (le→leb (plain c) (made c s) (omega arith))
         (subst (λ (z : ℕ). T (lively z)) at x)))
 
@@ -282,23 +282,23 @@ module _ (c : Code) (k : Linked c) (ρ : ℕ) where
   pub home-live : (p : ℕ) → IsTerm (c.node p) → T (least (L p) 0) → T (least (L (c.home p)) 0)
   home-live p is t = lives-in c least p is (inside (L p) 0 t)
 
-  from_block : (b v : ℕ) → IsBlock (c.node b) → T (least (C b) v) → T (sentBy c least b v)
+  from_block : (b v : ℕ) → IsBlock (c.node b) → T (least (C b) v) → T (sent_by c least b v)
   unfolding home
-  from_block b v is t = at-block (c.node b) (sentBy c least b v) (housed c least v) is (inside (C b) v t)
+  from_block b v is t = at-block (c.node b) (sent_by c least b v) (housed c least v) is (inside (C b) v t)
 
   -- the senders' set of a block that is not live is empty
   pub receiver-live : (b v : ℕ) → IsBlock (c.node b) → T (least (C b) v) → T (least (L b) 0)
-  unfolding sentBy
+  unfolding sent_by
   receiver-live b v is t =
-      T-fst (least (L b) 0) (eqb v opponentRecord || (leb (plain c) v && least (L (v - plain c)) 0)) (from_block b v is t)
+      T-fst (least (L b) 0) (eqb v opponent_record || (leb (plain c) v && least (L (v - plain c)) 0)) (from_block b v is t)
 
   -- and it holds live blocks alone
   pub senders-live : (b s : ℕ) → IsBlock (c.node b) → T (least (C b) (made c s)) → T (least (L s) 0)
-  unfolding sentBy
+  unfolding sent_by
   senders-live b s is t =
       let v = made c s in
       let at : v - plain c ≡ s = omega arith in
-      ⊎_elim (λ i. let j = eqb→eq v opponentRecord i in absurd (omega arith))
+      ⊎_elim (λ i. let j = eqb→eq v opponent_record i in absurd (omega arith))
       (λ i. subst (λ (q : ℕ). T (least (L q) 0)) at (T-snd (leb (plain c) v) (least (L (v - plain c)) 0) i))
-      (T-or (eqb v opponentRecord) (leb (plain c) v && least (L (v - plain c)) 0)
-      (T-snd (least (L b) 0) (eqb v opponentRecord || (leb (plain c) v && least (L (v - plain c)) 0)) (from_block b v is t)))
+      (T-or (eqb v opponent_record) (leb (plain c) v && least (L (v - plain c)) 0)
+      (T-snd (least (L b) 0) (eqb v opponent_record || (leb (plain c) v && least (L (v - plain c)) 0)) (from_block b v is t)))

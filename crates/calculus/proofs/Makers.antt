@@ -10,9 +10,9 @@ use Rattle.table.specs.Code.{Code, Node, Leaf, One, Two, gap, block, leaf, one, 
 use Rattle.table.specs.Code.{LeafLinked, NodeLinked, TwoLinked, IsBlock, IsTerm, Within}
 use Rattle.table.specs.Code.{constant, number, literal, named, variable, function, empty, exercise, cell, read}
 use Rattle.table.specs.Code.{apply, sequence, get, delete, assign, operation, send}
-use Rattle.calculus.specs.Elements.{plain, made, undefined, unit, opponentRecord, Making, nothing, aFunction, aRecord, aCell, makes, leafMakes, oneMakes, making}
+use Rattle.calculus.specs.Elements.{plain, made, undefined, unit, opponent_record, Making, nothing, a_function, a_record, a_cell, makes, leaf_makes, one_makes, making}
 use Rattle.calculus.specs.Constraint.{C, B, P, L, Sets, Obeys}
-use Rattle.calculus.specs.Rules.{isBlock, guarded, leafRule, oneRule, twoRule, flow, entry, twoSender, sender, senders, rule, Estimate}
+use Rattle.calculus.specs.Rules.{is_block, guarded, leaf_rule, one_rule, two_rule, flow, entry, two_sender, sender, senders, rule, Estimate}
 use Rattle.calculus.specs.Layout.{sets, LiesIn}
 use Rattle.calculus.specs.Estimate.{estimate}
 use Rattle.calculus.proofs.Digits.{T-or-left, T-or-right, T_and}
@@ -20,26 +20,26 @@ use Rattle.calculus.proofs.Ranges.{range-bound, in-below}
 use Rattle.calculus.proofs.Fitting.{constant-lt, sign-lt, results-lt, body-within}
 use Rattle.calculus.proofs.Least.{estimate-least}
 
-unfoldable pub isMade : Making → Bool
-isMade nothing = false
-isMade aFunction = true
-isMade aRecord = true
-isMade aCell = true
+unfoldable pub is_made : Making → Bool
+is_made nothing = false
+is_made a_function = true
+is_made a_record = true
+is_made a_cell = true
 
-pub is_block : (n : Node) → IsBlock n → T (isBlock n)
-unfolding isBlock
-is_block gap h = absurd h
-is_block (block n s g) h = tt
-is_block (leaf l) h = absurd h
-is_block (one o a) h = absurd h
-is_block (two t a b) h = absurd h
-is_block (bind a b) h = absurd h
-is_block (while a b) h = absurd h
-is_block (branch a b d) h = absurd h
-is_block (update a b d) h = absurd h
+pub is_block_lem : (n : Node) → IsBlock n → T (is_block n)
+unfolding is_block
+is_block_lem gap h = absurd h
+is_block_lem (block n s g) h = tt
+is_block_lem (leaf l) h = absurd h
+is_block_lem (one o a) h = absurd h
+is_block_lem (two t a b) h = absurd h
+is_block_lem (bind a b) h = absurd h
+is_block_lem (while a b) h = absurd h
+is_block_lem (branch a b d) h = absurd h
+is_block_lem (update a b d) h = absurd h
 
-pub block-is : (n : Node) → T (isBlock n) → IsBlock n
-unfolding isBlock
+pub block-is : (n : Node) → T (is_block n) → IsBlock n
+unfolding is_block
 block-is gap t = absurd t
 block-is (block n s g) t = tt
 block-is (leaf l) t = absurd t
@@ -86,17 +86,17 @@ to-term (while a b) s t h x = x
 to-term (branch a b d) s t h x = x
 to-term (update a b d) s t h x = x
 
-pub to_block : (n : Node) (s t : Bool) → IsBlock n → T s → T (chosen n s t)
+pub to_block_lem : (n : Node) (s t : Bool) → IsBlock n → T s → T (chosen n s t)
 unfolding chosen
-to_block gap s t h x = absurd h
-to_block (block n p g) s t h x = x
-to_block (leaf l) s t h x = absurd h
-to_block (one o a) s t h x = absurd h
-to_block (two u a b) s t h x = absurd h
-to_block (bind a b) s t h x = absurd h
-to_block (while a b) s t h x = absurd h
-to_block (branch a b d) s t h x = absurd h
-to_block (update a b d) s t h x = absurd h
+to_block_lem gap s t h x = absurd h
+to_block_lem (block n p g) s t h x = x
+to_block_lem (leaf l) s t h x = absurd h
+to_block_lem (one o a) s t h x = absurd h
+to_block_lem (two u a b) s t h x = absurd h
+to_block_lem (bind a b) s t h x = absurd h
+to_block_lem (while a b) s t h x = absurd h
+to_block_lem (branch a b d) s t h x = absurd h
+to_block_lem (update a b d) s t h x = absurd h
 
 pub at-block : (n : Node) (s t : Bool) → IsBlock n → T (chosen n s t) → T s
 unfolding chosen
@@ -125,11 +125,11 @@ guarded-block (update a b d) ρ t = absurd t
 module _ (c : Code) where
   -- plain, or made by a word that makes something
   unfoldable pub proper : ℕ → Bool
-  proper v = ltb v (plain c) || isMade (making c v)
+  proper v = ltb v (plain c) || is_made (making c v)
 
   -- the opponent, or a block
   unfoldable pub sending : ℕ → Bool
-  sending v = eqb v opponentRecord || (leb (plain c) v && isBlock (c.node (v - plain c)))
+  sending v = eqb v opponent_record || (leb (plain c) v && is_block (c.node (v - plain c)))
 
   -- the sets with every proper element, in a block's value set the opponent and every block, every permission and every flag
   unfoldable pub full : Sets
@@ -140,13 +140,13 @@ module _ (c : Code) where
 
   is_plain : {v : ℕ} → v < plain c → T (proper v)
   unfolding proper
-  is_plain {v} h = T-or-left (ltb v (plain c)) (isMade (making c v)) (lt→ltb v (plain c) h)
+  is_plain {v} h = T-or-left (ltb v (plain c)) (is_made (making c v)) (lt→ltb v (plain c) h)
 
-  is_made : (p : ℕ) → T (isMade (makes (c.node p))) → T (proper (made c p))
+  is_made_lem : (p : ℕ) → T (is_made (makes (c.node p))) → T (proper (made c p))
   unfolding proper making
-  is_made p h =
+  is_made_lem p h =
       let e : made c p - plain c ≡ p = omega arith in
-      T-or-right (ltb (made c p) (plain c)) (isMade (making c (made c p))) (subst (λ (q : ℕ). T (isMade (makes (c.node q)))) (sym e) h)
+      T-or-right (ltb (made c p) (plain c)) (is_made (making c (made c p))) (subst (λ (q : ℕ). T (is_made (makes (c.node q)))) (sym e) h)
 
   -- a value set of a term, read and written
   from-C : {q h : ℕ} {s : List ℕ} → Within c q h s → (v : ℕ) → T (full (C q) v) → T (proper v)
@@ -161,8 +161,8 @@ module _ (c : Code) where
     plain-C : (v : ℕ) → v < plain c → T (full (C p) v)
     plain-C v l = to-C v (is_plain l)
 
-    leaf-full : (l : Leaf) → LeafLinked c p l → (T (isMade (leafMakes l)) → T (proper (made c p))) → Obeys full (leafRule c p l)
-    unfolding leafRule full leafMakes isMade
+    leaf-full : (l : Leaf) → LeafLinked c p l → (T (is_made (leaf_makes l)) → T (proper (made c p))) → Obeys full (leaf_rule c p l)
+    unfolding leaf_rule full leaf_makes is_made
     leaf-full (constant d) n m = plain-C _ (omega (arith, constant-lt d))
     leaf-full (number x) n m = plain-C _ (omega (arith, sign-lt x))
     leaf-full (literal x) n m = plain-C _ (omega arith)
@@ -172,13 +172,13 @@ module _ (c : Code) where
     leaf-full empty n m = to-C _ (m tt)
     leaf-full (exercise r) n m = λ t. ((λ i l u. tt), plain-C unit (omega arith))
 
-    one-full : (o : One) (a : ℕ) → Within c a (c.home p) (c.scope p) → (T (isMade (oneMakes o)) → T (proper (made c p))) → Obeys full (oneRule c p o a)
-    unfolding oneRule full oneMakes isMade
+    one-full : (o : One) (a : ℕ) → Within c a (c.home p) (c.scope p) → (T (is_made (one_makes o)) → T (proper (made c p))) → Obeys full (one_rule c p o a)
+    unfolding one_rule full one_makes is_made
     one-full cell a w m = (to-C _ (m tt), λ v h. from-C w v h)
     one-full read a w m = λ q i t g v h. to-C v h
 
-    two-full : (t : Two) (a d : ℕ) → TwoLinked c p t → Within c a (c.home p) (c.scope p) → Within c d (c.home p) (c.scope p) → Obeys full (twoRule c p t a d)
-    unfolding twoRule full making
+    two-full : (t : Two) (a d : ℕ) → TwoLinked c p t → Within c a (c.home p) (c.scope p) → Within c d (c.home p) (c.scope p) → Obeys full (two_rule c p t a d)
+    unfolding two_rule full making
     two-full apply a d x w y =
         λ f m t g.
         let b = body-within c k f (in-below m) t in
@@ -191,15 +191,15 @@ module _ (c : Code) where
     two-full (operation o) a d x w y = λ z i g u j h r m. plain-C r (omega (arith, results-lt c o z u r m))
     two-full (send r) a d x w y = (plain-C unit (omega arith), λ v q g b m t n. (tt, ((λ u i s g. from-C y u g), λ x h. tt)))
 
-  module _ (k : Linked c) (p : ℕ) (m : T (isMade (makes (c.node p))) → T (proper (made c p))) where
+  module _ (k : Linked c) (p : ℕ) (m : T (is_made (makes (c.node p))) → T (proper (made c p))) where
     there : (n : Node) → c.node p ≡ n → IsTerm n → IsTerm (c.node p)
     there n e h = subst IsTerm (sym e) h
 
-    made_at : (n : Node) → c.node p ≡ n → T (isMade (makes n)) → T (proper (made c p))
-    made_at n e h = m (subst (λ (z : Node). T (isMade (makes z))) (sym e) h)
+    made_at : (n : Node) → c.node p ≡ n → T (is_made (makes n)) → T (proper (made c p))
+    made_at n e h = m (subst (λ (z : Node). T (is_made (makes z))) (sym e) h)
 
     flow-full : (n : Node) → c.node p ≡ n → NodeLinked c p n → Obeys full (flow c p n)
-    unfolding flow full makes isMade
+    unfolding flow full makes is_made
     flow-full gap e l = tt
     flow-full (block n s g) e l = (tt, λ v h. tt)
     flow-full (leaf d) e l = leaf-full k p (there (leaf d) e tt) d l (made_at (leaf d) e)
@@ -242,14 +242,14 @@ module _ (c : Code) where
     unfolding full sending
     sends-to p l =
         let h = c.home p in
-        to_block (c.node b) (sending (made c h)) (proper (made c h)) is
-        (T-or-right (eqb (made c h) opponentRecord) (leb (plain c) (made c h) && isBlock (c.node (made c h - plain c)))
-        (T_and (leb (plain c) (made c h)) (isBlock (c.node (made c h - plain c))) (le→leb (plain c) (made c h) (omega arith))
+        to_block_lem (c.node b) (sending (made c h)) (proper (made c h)) is
+        (T-or-right (eqb (made c h) opponent_record) (leb (plain c) (made c h) && is_block (c.node (made c h - plain c)))
+        (T_and (leb (plain c) (made c h)) (is_block (c.node (made c h - plain c))) (le→leb (plain c) (made c h) (omega arith))
         (let e : h ≡ made c h - plain c = omega arith in
-        subst (λ (z : ℕ). T (isBlock (c.node z))) e (is_block (c.node h) (k.listed h l).1))))
+        subst (λ (z : ℕ). T (is_block (c.node z))) e (is_block_lem (c.node h) (k.listed h l).1))))
 
-    two-sends : (p : ℕ) (t : Two) (a d : ℕ) → TwoLinked c p t → Obeys full (twoSender c b p t a d)
-    unfolding twoSender
+    two-sends : (p : ℕ) (t : Two) (a d : ℕ) → TwoLinked c p t → Obeys full (two_sender c b p t a d)
+    unfolding two_sender
     two-sends p apply a d l = tt
     two-sends p sequence a d l = tt
     two-sends p get a d l = tt
@@ -279,12 +279,12 @@ module _ (c : Code) where
           tt,
           (
             (λ v i. is_plain (omega (arith, range-bound _ _ v i))),
-            to_block (c.node p) (sending opponentRecord) (proper opponentRecord) (guarded-block (c.node p) ρ t) tt,
+            to_block_lem (c.node p) (sending opponent_record) (proper opponent_record) (guarded-block (c.node p) ρ t) tt,
           ),
         )),
         λ t q m. node-sends k p (block-is (c.node p) t) q (c.node q) (k.nodes q (in-below m)),
       ),
-      λ g. flow-full k p (is_made p) (c.node p) refl (k.nodes p h),
+      λ g. flow-full k p (is_made_lem p) (c.node p) refl (k.nodes p h),
     )
 
     pub values-proper : (i v : ℕ) → IsTerm (c.node i) → T (sets c (estimate c ρ) (C i) v) → T (proper v)

@@ -11,7 +11,7 @@ use lib.Bits.{bit_and, and_le_r, and_zero_l, and_zero_r}
 use lib.ListN.{get_or}
 use Rattle.permset.specs.Sets.{member, lowest}
 use Rattle.permset.proofs.Laws.{member-empty, member-and, lowest-lt, lowest-member}
-use Rattle.calculus.specs.Elements.{isString}
+use Rattle.calculus.specs.Elements.{is_string}
 use Rattle.calculus.specs.Layout.{masked, bit, Words}
 unfoldable pub use Rattle.calculus.specs.ResultWords.{nonzero}
 use Rattle.calculus.proofs.Digits.{T-fst, T-snd}
@@ -58,20 +58,20 @@ agree-below (suc n) f g h v l =
 
 -- ---- two lists of words and-ed
 
-pub getD-masked : (xs ys : List ℕ) (k : ℕ) → get_or (masked xs ys) k 0 ≡ bit_and (get_or xs k 0) (get_or ys k 0)
+pub get_or-masked : (xs ys : List ℕ) (k : ℕ) → get_or (masked xs ys) k 0 ≡ bit_and (get_or xs k 0) (get_or ys k 0)
 unfolding masked
-getD-masked [] ys k = sym (and_zero_l (get_or ys k 0))
-getD-masked (x ∷ xs) [] k = sym (and_zero_r (get_or (x ∷ xs) k 0))
-getD-masked (x ∷ xs) (y ∷ ys) zero = refl
-getD-masked (x ∷ xs) (y ∷ ys) (suc k) = getD-masked xs ys k
+get_or-masked [] ys k = sym (and_zero_l (get_or ys k 0))
+get_or-masked (x ∷ xs) [] k = sym (and_zero_r (get_or (x ∷ xs) k 0))
+get_or-masked (x ∷ xs) (y ∷ ys) zero = refl
+get_or-masked (x ∷ xs) (y ∷ ys) (suc k) = get_or-masked xs ys k
 
 pub bit_masked : (xs ys : List ℕ) (n : ℕ) → bit (masked xs ys) n ≡ bit xs n && bit ys n
 unfolding bit
 bit_masked xs ys n =
-    ap (λ (x : ℕ). member x (n % 32)) (getD-masked xs ys (n / 32)) ∙ member-and (get_or xs (n / 32) 0) (get_or ys (n / 32) 0) (n % 32)
+    ap (λ (x : ℕ). member x (n % 32)) (get_or-masked xs ys (n / 32)) ∙ member-and (get_or xs (n / 32) 0) (get_or ys (n / 32) 0) (n % 32)
 
 pub masked-words : (xs ys : List ℕ) → Words ys → Words (masked xs ys)
-masked-words xs ys h k = rw (getD-masked xs ys k) (lt_of_le_of_lt (and_le_r (get_or xs k 0) (get_or ys k 0)) (h k))
+masked-words xs ys h k = rw (get_or-masked xs ys k) (lt_of_le_of_lt (and_le_r (get_or xs k 0) (get_or ys k 0)) (h k))
 
 -- a word that is not 0 has a digit
 pub digit-word : (xs : List ℕ) (n : ℕ) → T (bit xs n) → get_or xs (n / 32) 0 ≡ 0 → ⊥
@@ -115,12 +115,12 @@ nonzero-digit xs w h = let x : (k : ℕ) × (get_or xs k 0 ≡ 0 → ⊥) = nonz
 
 -- ---- masks
 
-pub string-mask : (v : ℕ) → bit (0xffffff00 ∷ []) v ≡ isString v
-unfolding agree bit member isString
+pub string-mask : (v : ℕ) → bit (0xffffff00 ∷ []) v ≡ is_string v
+unfolding agree bit member is_string
 string-mask v = go (dec_lt v 32)
   where
-    go : Dec (v < 32) → bit (0xffffff00 ∷ []) v ≡ isString v
-    go (yes l) = agree-below 32 (bit (0xffffff00 ∷ [])) isString tt v l
+    go : Dec (v < 32) → bit (0xffffff00 ∷ []) v ≡ is_string v
+    go (yes l) = agree-below 32 (bit (0xffffff00 ∷ [])) is_string tt v l
     go (no l) =
-        bool-ext (bit (0xffffff00 ∷ []) v) (isString v) (λ h. absurd (l (omega (arith, bit-short (0xffffff00 ∷ []) v h))))
+        bool-ext (bit (0xffffff00 ∷ []) v) (is_string v) (λ h. absurd (l (omega (arith, bit-short (0xffffff00 ∷ []) v h))))
         (λ h. absurd (l (ltb→lt v 32 (T-snd (leb 8 v) (ltb v 32) h))))

@@ -20,8 +20,8 @@ use Rattle.table.specs.declared.Operation.{Operation}
 use Rattle.table.specs.Code.{Code, operation}
 use Rattle.calculus.specs.Elements.{plain, results}
 use Rattle.calculus.specs.Constraint.{C, Rule, put, given, each, range, every}
-use Rattle.calculus.specs.Rules.{twoRule}
-use Rattle.calculus.specs.Layout.{bit, pour, owner, rowWords, base, shift, span, sets, Words, WellFormed}
+use Rattle.calculus.specs.Rules.{two_rule}
+use Rattle.calculus.specs.Layout.{bit, pour, owner, row_words, base, shift, span, sets, Words, WellFormed}
 use Rattle.calculus.specs.Estimate.{fire}
 use Rattle.calculus.proofs.Digits.{T-or, T-or-left, T-or-right, member-or, member-single, member-single-only, member-low, member-lt}
 use Rattle.calculus.proofs.Slices.{bit_word, bit-short, part-words}
@@ -43,21 +43,21 @@ pub record Gives (c : Code) (o : Operation) (f g : ℕ → Bool) (z : ℕ) : Typ
   pub result : Memᴰ z (results c o first second)
 
 module _ (c : Code) (ws : List ℕ) (w : WellFormed c ws) (p a d : ℕ) where
-  abbrev operationRule : Operation → Rule
-  operationRule o =
+  abbrev operation_rule : Operation → Rule
+  operation_rule o =
       every (plain c) (λ x. given (C a) x (every (plain c) (λ y. given (C d) y (each (results c o x y) (λ z. put (C p) z)))))
 
   -- a word with a digit for each result
   fire-results : p < c.size → (a ≡ p → ⊥) → (d ≡ p → ⊥) → (o : Operation) (m : ℕ) → m < 2 ^ 32
       → ((z : ℕ) → T (member m z) → Gives c o (sets c ws (C a)) (sets c ws (C d)) z)
       → ((z : ℕ) → Gives c o (sets c ws (C a)) (sets c ws (C d)) z → T (member m z))
-      → fire c (operationRule o) ws ≡ pour ws (base c (C p)) (m ∷ [])
+      → fire c (operation_rule o) ws ≡ pour ws (base c (C p)) (m ∷ [])
   unfolding owner span shift
   fire-results h na nd o m l only all =
       let k : RowOf c (C p) (m ∷ []) =
       record { mine = h; unshifted = refl; words = word; inside = λ v b. omega (arith, bit-short (m ∷ []) v b) }
       in
-      fire-row c ws w (C p) (m ∷ []) k (operationRule o)
+      fire-row c ws w (C p) (m ∷ []) k (operation_rule o)
       (λ x mx y my z mz. let b : z < 7 = lows-mem (results c o x y) (results-low c o x y) z mz in is-allowed c (C p) z h (omega arith))
       (λ x mx tx y my ty z mz. row_has c ws w (C p) (m ∷ []) k z
       (as-bit z (all z
@@ -101,9 +101,9 @@ gather [] t f = 0
 gather (x ∷ xs) t f = elim (t x) [ true ↦ bit_or (f x) (gather xs t f) | false ↦ gather xs t f ]
 
 -- all results on the digits below `plain c` of two sides
-unfoldable pub resultMask : Code → Operation → (xs ys : List ℕ) → ℕ
+unfoldable pub result_mask : Code → Operation → (xs ys : List ℕ) → ℕ
 unfolding range marks gather bit results
-resultMask c o xs ys =
+result_mask c o xs ys =
     gather (range (plain c) 0) (bit xs)
     (λ x. gather (range (plain c) 0) (bit ys) (λ y. marks (results c o x y)))
 
@@ -170,16 +170,16 @@ module _ (c : Code) (o : Operation) (xs ys : List ℕ) where
   abbrev Results : ℕ → Type 0
   Results z = Gives c o (bit xs) (bit ys) z
 
-  pub results-in : (z : ℕ) → Results z → T (member (resultMask c o xs ys) z)
-  unfolding resultMask
+  pub results-in : (z : ℕ) → Results z → T (member (result_mask c o xs ys) z)
+  unfolding result_mask
   results-in z g =
       gather-has (range (plain c) 0) (bit xs) (λ x. gather (range (plain c) 0) (bit ys) (λ y. marks (results c o x y)))
       g.first z (below_in g.first_plain) g.in-first
       (gather-has (range (plain c) 0) (bit ys) (λ y. marks (results c o g.first y)) g.second z (below_in g.second_plain) g.in-second
       (marks-has (results c o g.first g.second) z g.result))
 
-  pub results-only : (z : ℕ) → T (member (resultMask c o xs ys) z) → Results z
-  unfolding resultMask
+  pub results-only : (z : ℕ) → T (member (result_mask c o xs ys) z) → Results z
+  unfolding result_mask
   results-only z h =
       let x : Gathered (range (plain c) 0) (bit xs) (λ x. gather (range (plain c) 0) (bit ys) (λ y. marks (results c o x y))) z =
       gather-only (range (plain c) 0) (bit xs) (λ x. gather (range (plain c) 0) (bit ys) (λ y. marks (results c o x y))) z h
@@ -197,17 +197,17 @@ module _ (c : Code) (o : Operation) (xs ys : List ℕ) where
         result = marks-only (results c o x.0 y.0) z y.3;
       }
 
-  pub results-lt : resultMask c o xs ys < 2 ^ 7
+  pub results-lt : result_mask c o xs ys < 2 ^ 7
   results-lt =
-      members-lt 7 (resultMask c o xs ys)
+      members-lt 7 (result_mask c o xs ys)
       (λ z t. let g : Results z = results-only z t in
       lows-mem (results c o g.first g.second) (results-low c o g.first g.second) z g.result)
 
   -- a number with the same digits
-  pub results-are : (m : ℕ) → ((z : ℕ) → T (member m z) → Results z) → ((z : ℕ) → Results z → T (member m z)) → resultMask c o xs ys ≡ m
+  pub results-are : (m : ℕ) → ((z : ℕ) → T (member m z) → Results z) → ((z : ℕ) → Results z → T (member m z)) → result_mask c o xs ys ≡ m
   results-are m f g =
-      same-members (resultMask c o xs ys) m
-      (λ z. bool-ext (member (resultMask c o xs ys) z) (member m z) (λ t. g z (results-only z t)) (λ t. results-in z (f z t)))
+      same-members (result_mask c o xs ys) m
+      (λ z. bool-ext (member (result_mask c o xs ys) z) (member m z) (λ t. g z (results-only z t)) (λ t. results-in z (f z t)))
 
 -- ---- the rule
 
@@ -220,7 +220,7 @@ side-words c lead ws h i = part-words lead (base c (C i)) ws h
 
 module _ (c : Code) (lead : ℕ) (n : plain c ≡ 32 * lead) (ws : List ℕ) (w : WellFormed c ws) where
   pub side-length : (i : ℕ) → i < c.size → length (side c lead ws i) ≡ lead
-  unfolding rowWords
+  unfolding row_words
   side-length i h = simp (length-take, length-drop) (omega (arith, C-inside c ws w i h))
 
   pub side-bit : (i x : ℕ) → i < c.size → x < plain c → sets c ws (C i) x ≡ bit (side c lead ws i) x
@@ -230,10 +230,10 @@ module _ (c : Code) (lead : ℕ) (n : plain c ≡ 32 * lead) (ws : List ℕ) (w 
       sets-C c i x ws h (omega arith) ∙ ap (λ (y : ℕ). member y (x % 32)) (sym (rw (get_or-take, get_or-drop)))
 
   pub fire-operation : (p a d : ℕ) → p < c.size → a < c.size → d < c.size → (a ≡ p → ⊥) → (d ≡ p → ⊥) → (o : Operation)
-      → fire c (twoRule c p (operation o) a d) ws ≡ pour ws (base c (C p)) (resultMask c o (side c lead ws a) (side c lead ws d) ∷ [])
-  unfolding twoRule
+      → fire c (two_rule c p (operation o) a d) ws ≡ pour ws (base c (C p)) (result_mask c o (side c lead ws a) (side c lead ws d) ∷ [])
+  unfolding two_rule
   fire-operation p a d hp ha hd na nd o =
-      fire-results c ws w p a d hp na nd o (resultMask c o xs ys) (omega (arith, results-lt c o xs ys))
+      fire-results c ws w p a d hp na nd o (result_mask c o xs ys) (omega (arith, results-lt c o xs ys))
       (λ z t. let g : Gives c o (bit xs) (bit ys) z = results-only c o xs ys z t in
       record {
         first = g.first;

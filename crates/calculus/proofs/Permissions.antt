@@ -8,14 +8,14 @@ use Rattle.table.specs.declared.Item.TheVariants as items
 use Rattle.table.specs.declared.Term.{Term}
 use Rattle.table.specs.declared.Term.TheVariants as terms
 use Rattle.table.specs.Scan.{accepted, reading}
-use Rattle.table.specs.Item.{item_at, itemPerms}
-use Rattle.table.specs.Code.{code, termNode}
-use Rattle.table.specs.Links.{linkAt, linked}
-use Rattle.table.proofs.Nodes.{itemNode, node-item, home-link}
-use Rattle.calculus.specs.Rules.{permsOf, permissions}
+use Rattle.table.specs.Item.{item_at, item_perms}
+use Rattle.table.specs.Code.{code, term_node}
+use Rattle.table.specs.Links.{link_at, linked}
+use Rattle.table.proofs.Nodes.{item_node, node-item, home-link}
+use Rattle.calculus.specs.Rules.{perms_of, permissions}
 
-term-perms : (t : Term) (a b d : ℕ) → permsOf (termNode t a b d) ≡ 0
-unfolding permsOf termNode
+term-perms : (t : Term) (a b d : ℕ) → perms_of (term_node t a b d) ≡ 0
+unfolding perms_of term_node
 term-perms (terms.Constant k) a b d = refl
 term-perms (terms.Number n) a b d = refl
 term-perms (terms.Literal n) a b d = refl
@@ -38,18 +38,18 @@ term-perms terms.Assign a b d = refl
 term-perms (terms.Send s) a b d = refl
 term-perms (terms.Exercise s) a b d = refl
 
-item-perms : (x : Item) (a b d : ℕ) → itemPerms x ≡ permsOf (itemNode x a b d)
-unfolding itemPerms itemNode permsOf
+item-perms : (x : Item) (a b d : ℕ) → item_perms x ≡ perms_of (item_node x a b d)
+unfolding item_perms item_node perms_of
 item-perms items.Gap a b d = refl
 item-perms (items.Block h) a b d = refl
 item-perms (items.Term t) a b d = sym (term-perms t a b d)
 
 -- of a term
 pub permissions-are : (ws : List ℕ) → reading ws ≡ accepted → (slice : List ℕ) → length ws ≤ length slice → (p : ℕ) (t : Term)
-    → item_at ws p ≡ items.Term t → itemPerms (item_at ws (linkAt (linked ws slice) p).home) ≡ permissions (code ws) p
+    → item_at ws p ≡ items.Term t → item_perms (item_at ws (link_at (linked ws slice) p).home) ≡ permissions (code ws) p
 unfolding permissions
 permissions-are ws e slice room p t h =
-    let q : ℕ = (linkAt (linked ws slice) p).home in
+    let q : ℕ = (link_at (linked ws slice) p).home in
     item-perms (item_at ws q) _ _ _
-    ∙ ap permsOf (sym (node-item ws e slice room q))
-    ∙ ap (λ (n : ℕ). permsOf ((code ws).node n)) (sym (home-link ws e slice room p t h))
+    ∙ ap perms_of (sym (node-item ws e slice room q))
+    ∙ ap (λ (n : ℕ). perms_of ((code ws).node n)) (sym (home-link ws e slice room p t h))

@@ -13,32 +13,32 @@ use Rattle.permset.specs.Sets.{width}
 use Rattle.table.specs.Code.{Code}
 use Rattle.calculus.specs.Elements.{elements}
 use Rattle.calculus.specs.Constraint.{Row, C, B, P, L}
-use Rattle.calculus.specs.Layout.{owner, rowWords, estimateWords, base, shift, span, place, allowed, used}
-use Rattle.calculus.specs.Estimate.{mostFacts}
+use Rattle.calculus.specs.Layout.{owner, row_words, estimate_words, base, shift, span, place, allowed, used}
+use Rattle.calculus.specs.Estimate.{most_facts}
 use Rattle.calculus.proofs.Digits.{T_and, T-fst, T-snd, T-or, T-or-left, T-or-right}
 use Rattle.calculus.proofs.Counting.{count, count_add, count-blocks, count-below}
 
 module _ (c : Code) where
   -- the digits of a value set or a held set, and of all of them
   abbrev pub digits : ℕ
-  digits = 32 * rowWords c
+  digits = 32 * row_words c
 
   abbrev pub low : ℕ
-  low = 32 * (2 * c.size * rowWords c)
+  low = 32 * (2 * c.size * row_words c)
 
   pub fits-row : elements c ≤ digits
-  unfolding rowWords
+  unfolding row_words
   fits-row = omega arith
 
   digits-pos : 0 < digits
   digits-pos = omega (arith, fits-row)
 
   low-digits : 2 * c.size * digits ≡ low
-  low-digits = sym (mul_left_comm 32 (2 * c.size) (rowWords c))
+  low-digits = sym (mul_left_comm 32 (2 * c.size) (row_words c))
 
-  length_digits : 32 * estimateWords c ≡ low + 32 * c.size
-  unfolding estimateWords
-  length_digits = mul-add 32 (2 * c.size * rowWords c) c.size
+  length_digits : 32 * estimate_words c ≡ low + 32 * c.size
+  unfolding estimate_words
+  length_digits = mul-add 32 (2 * c.size * row_words c) c.size
 
   pub owner-lt : (r : Row) (v : ℕ) → T (allowed c r v) → owner r < c.size
   unfolding allowed
@@ -56,12 +56,12 @@ module _ (c : Code) where
 
   pub place-C : (i v : ℕ) → place c (C i) v ≡ 2 * i * digits + v
   unfolding place base shift
-  place-C i v = let e : 32 * (2 * i * rowWords c) ≡ 2 * i * digits = mul_left_comm 32 (2 * i) (rowWords c) in omega arith
+  place-C i v = let e : 32 * (2 * i * row_words c) ≡ 2 * i * digits = mul_left_comm 32 (2 * i) (row_words c) in omega arith
 
   pub place-B : (i v : ℕ) → place c (B i) v ≡ suc (2 * i) * digits + v
   unfolding place base shift
   place-B i v =
-      let e : 32 * (2 * i * rowWords c) ≡ 2 * i * digits = mul_left_comm 32 (2 * i) (rowWords c) in
+      let e : 32 * (2 * i * row_words c) ≡ 2 * i * digits = mul_left_comm 32 (2 * i) (row_words c) in
       let f : suc (2 * i) * digits ≡ 2 * i * digits + digits = suc-mul (2 * i) digits in
       omega arith
 
@@ -98,7 +98,7 @@ module _ (c : Code) where
   place-used (P i) v h = let a : v < width = span-lt (P i) v h in rw place-P (word-used i v (omega arith))
   place-used (L i) v h = let a : v < 1 = span-lt (L i) v h in rw place-L (word-used i (width + v) (omega arith))
 
-  pub place-lt : (r : Row) (v : ℕ) → T (allowed c r v) → place c r v < 32 * estimateWords c
+  pub place-lt : (r : Row) (v : ℕ) → T (allowed c r v) → place c r v < 32 * estimate_words c
   unfolding owner span
   place-lt (C i) v h =
       let a : i < c.size = owner-lt (C i) v h in
@@ -125,7 +125,7 @@ module _ (c : Code) where
     pub may : T (allowed c row element)
     pub here : n ≡ place c row element
 
-  pub used-place : (n : ℕ) → n < 32 * estimateWords c → T (used c n) → At n
+  pub used-place : (n : ℕ) → n < 32 * estimate_words c → T (used c n) → At n
   unfolding used owner span
   used-place n h u =
       ⊎_elim
@@ -183,43 +183,43 @@ module _ (c : Code) where
 
   -- the row and the element of a digit, from whether it stands among the sets, the parity and the half of its row's number and its place
   -- in the row, whether it stands among the permissions, and the number of its word and its place in the word
-  rowBy : Bool → ℕ → ℕ → Bool → ℕ → Row
-  rowBy true zero h b i = C h
-  rowBy true (suc n) h b i = B h
-  rowBy false n h true i = P i
-  rowBy false n h false i = L i
+  row_by : Bool → ℕ → ℕ → Bool → ℕ → Row
+  row_by true zero h b i = C h
+  row_by true (suc n) h b i = B h
+  row_by false n h true i = P i
+  row_by false n h false i = L i
 
-  elementBy : Bool → ℕ → Bool → ℕ → ℕ
-  elementBy true v b d = v
-  elementBy false v true d = d
-  elementBy false v false d = d - width
+  element_by : Bool → ℕ → Bool → ℕ → ℕ
+  element_by true v b d = v
+  element_by false v true d = d
+  element_by false v false d = d - width
 
   row_at : ℕ → Row
-  row_at n = rowBy (ltb n low) (n / digits % 2) (n / digits / 2) (ltb (n % 32) width) ((n - low) / 32)
+  row_at n = row_by (ltb n low) (n / digits % 2) (n / digits / 2) (ltb (n % 32) width) ((n - low) / 32)
 
-  elementAt : ℕ → ℕ
-  elementAt n = elementBy (ltb n low) (n % digits) (ltb (n % 32) width) (n % 32)
+  element_at : ℕ → ℕ
+  element_at n = element_by (ltb n low) (n % digits) (ltb (n % 32) width) (n % 32)
 
   abbrev Back : ℕ → Row → ℕ → Type 0
-  Back n r v = (row_at n ≡ r) × (elementAt n ≡ v)
+  Back n r v = (row_at n ≡ r) × (element_at n ≡ v)
 
-  row_back : (q v : ℕ) → q < 2 * c.size → v < elements c → Back (q * digits + v) (rowBy true (q % 2) (q / 2) true 0) v
-  unfolding rowBy elementBy row_at elementAt
+  row_back : (q v : ℕ) → q < 2 * c.size → v < elements c → Back (q * digits + v) (row_by true (q % 2) (q / 2) true 0) v
+  unfolding row_by element_by row_at element_at
   row_back q v h k =
       let a : v < digits = omega (arith, fits-row) in
       rw (lt-ltb (q * digits + v) low (row_lt h k), digits_div q a, digits_mod q a) (go (q % 2), refl)
     where
-      go : (n : ℕ) → rowBy true n (q / 2) (ltb ((q * digits + v) % 32) width) ((q * digits + v - low) / 32) ≡ rowBy true n (q / 2) true 0
+      go : (n : ℕ) → row_by true n (q / 2) (ltb ((q * digits + v) % 32) width) ((q * digits + v - low) / 32) ≡ row_by true n (q / 2) true 0
       go zero = refl
       go (suc n) = refl
 
-  word_back : (i d : ℕ) (b : Bool) → d < 32 → ltb d width ≡ b → Back (low + (32 * i + d)) (rowBy false 0 0 b i) (elementBy false 0 b d)
-  unfolding rowBy elementBy row_at elementAt
+  word_back : (i d : ℕ) (b : Bool) → d < 32 → ltb d width ≡ b → Back (low + (32 * i + d)) (row_by false 0 0 b i) (element_by false 0 b d)
+  unfolding row_by element_by row_at element_at
   word_back i d true h t = rw (le-ltb (low + (32 * i + d)) low (omega arith), word-digit i d h, word_number i d h, t) (refl, refl)
   word_back i d false h t = rw (le-ltb (low + (32 * i + d)) low (omega arith), word-digit i d h, word_number i d h, t) (refl, refl)
 
   back : (r : Row) (v : ℕ) → T (allowed c r v) → Back (place c r v) r v
-  unfolding owner span rowBy elementBy
+  unfolding owner span row_by element_by
   back (C i) v h =
       let a : i < c.size = owner-lt (C i) v h in
       let e : 2 * i % 2 ≡ 0 = omega arith in
@@ -241,7 +241,7 @@ module _ (c : Code) where
   pub place-injective : (r : Row) (v : ℕ) (s : Row) (w : ℕ) → T (allowed c r v) → T (allowed c s w) → place c r v ≡ place c s w
       → (r ≡ s) × (v ≡ w)
   place-injective r v s w h k e =
-      (sym (back r v h).0 ∙ ap row_at e ∙ (back s w k).0, sym (back r v h).1 ∙ ap elementAt e ∙ (back s w k).1)
+      (sym (back r v h).0 ∙ ap row_at e ∙ (back s w k).0, sym (back r v h).1 ∙ ap element_at e ∙ (back s w k).1)
 
   -- ---- how many digits are used
 
@@ -266,8 +266,8 @@ module _ (c : Code) where
       let e : 2 * c.size * digits + (i * 32 + j) ≡ low + (32 * i + j) = omega (arith, low-digits) in
       rw (e, le-ltb (low + (32 * i + j)) low (omega arith), le-leb low (low + (32 * i + j)) (omega arith), word-digit i j k)
 
-  pub count-used : count (32 * estimateWords c) (used c) ≡ mostFacts c
-  unfolding mostFacts
+  pub count-used : count (32 * estimate_words c) (used c) ≡ most_facts c
+  unfolding most_facts
   count-used =
       ap (λ (n : ℕ). count n (used c)) (length_digits ∙ ap₂ (λ (a b : ℕ). a + b) (sym low-digits) (mul_comm 32 c.size))
       ∙ count_add (2 * c.size * digits) (c.size * 32) (used c)

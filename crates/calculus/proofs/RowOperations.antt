@@ -12,7 +12,7 @@ use Rattle.permset.proofs.Laws.{member-empty}
 use Rattle.table.specs.Code.{Code}
 use Rattle.calculus.specs.Elements.{elements}
 use Rattle.calculus.specs.Constraint.{Row, C, B, P, L, put, sub}
-use Rattle.calculus.specs.Layout.{pour, mark, owner, rowWords, base, shift, span, place, allowed, sets, content, WellFormed}
+use Rattle.calculus.specs.Layout.{pour, mark, owner, row_words, base, shift, span, place, allowed, sets, content, WellFormed}
 use Rattle.calculus.specs.Estimate.{fire}
 use Rattle.calculus.proofs.Slices.{bit_at}
 use Rattle.calculus.proofs.Places.{place-lt, is-allowed}
@@ -21,8 +21,8 @@ module _ (c : Code) where
   -- ---- where the rows are
 
   -- the rows of words of the code lie inside the estimate
-  pub C-inside : (ws : List ℕ) → WellFormed c ws → (i : ℕ) → i < c.size → base c (C i) + rowWords c ≤ length ws
-  unfolding owner span place shift rowWords
+  pub C-inside : (ws : List ℕ) → WellFormed c ws → (i : ℕ) → i < c.size → base c (C i) + row_words c ≤ length ws
+  unfolding owner span place shift row_words
   C-inside ws w i h = omega (arith, place-lt c (C i) (elements c - 1) (is-allowed c (C i) (elements c - 1) h (omega arith)), w.long)
 
   -- ---- an element put

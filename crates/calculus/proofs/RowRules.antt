@@ -13,10 +13,10 @@ use lib.ListN.{get_or, drop}
 use lib.Seq.{get_or-take, get_or-drop}
 use Rattle.permset.specs.Sets.{width, member}
 use Rattle.table.specs.Code.{Code}
-use Rattle.calculus.specs.Elements.{plain, elements, isString}
+use Rattle.calculus.specs.Elements.{plain, elements, is_string}
 use Rattle.calculus.specs.Constraint.{Row, C, B, P, L, Rule, Obeys, put, only, every}
 use Rattle.calculus.specs.Rules.{fill, pass}
-use Rattle.calculus.specs.Layout.{bit, pour, owner, rowWords, base, shift, span, place, allowed, used, sets, content, Words, WellFormed}
+use Rattle.calculus.specs.Layout.{bit, pour, owner, row_words, base, shift, span, place, allowed, used, sets, content, Words, WellFormed}
 use Rattle.calculus.specs.Estimate.{fire}
 use Rattle.calculus.proofs.Digits.{T_and, T-fst, T-snd, member-lt}
 use Rattle.calculus.proofs.Slices.{bit_word, bit-short, length-pour, pour-words, pour-adds, pour-new, pour-has}
@@ -25,7 +25,7 @@ use Rattle.calculus.proofs.Rows.{sets-allowed, sets-bit, in-sets, content-words,
 use Rattle.calculus.proofs.Firing.{Fits, any_found}
 use Rattle.calculus.proofs.Ranges.{below_in, in-below}
 use Rattle.calculus.specs.Layout.{masked}
-use Rattle.calculus.proofs.Masks.{T_false, bool-ext, getD-masked, bit_masked, masked-words, nonzero, digit-word, word-digit, digit-nonzero, nonzero-digit, string-mask}
+use Rattle.calculus.proofs.Masks.{T_false, bool-ext, get_or-masked, bit_masked, masked-words, nonzero, digit-word, word-digit, digit-nonzero, nonzero-digit, string-mask}
 use Rattle.calculus.proofs.Folds.{found}
 use Rattle.calculus.proofs.Demands.{Demands, found-has, fire-makes}
 
@@ -131,11 +131,11 @@ module _ (c : Code) where
       (λ v m. row_has ws w r xs k v (g v (in-below m))) (λ v h. (v, below_in (f v h), (refl, refl)))
 
 -- the words of a row of values, from its base on
-pub content-word : (c : Code) (ws : List ℕ) (r : Row) → span c r ≡ elements c → (k : ℕ) → k < rowWords c
+pub content-word : (c : Code) (ws : List ℕ) (r : Row) → span c r ≡ elements c → (k : ℕ) → k < row_words c
     → get_or (content c ws r) k 0 ≡ get_or ws (base c r + k) 0
 unfolding content span
-content-word c ws (C i) e k h = get_or-take (rowWords c) (drop (base c (C i)) ws) k 0 h ∙ get_or-drop (base c (C i)) ws k 0
-content-word c ws (B i) e k h = get_or-take (rowWords c) (drop (base c (B i)) ws) k 0 h ∙ get_or-drop (base c (B i)) ws k 0
+content-word c ws (C i) e k h = get_or-take (row_words c) (drop (base c (C i)) ws) k 0 h ∙ get_or-drop (base c (C i)) ws k 0
+content-word c ws (B i) e k h = get_or-take (row_words c) (drop (base c (B i)) ws) k 0 h ∙ get_or-drop (base c (B i)) ws k 0
 content-word c ws (P i) e k h = absurd (omega arith)
 content-word c ws (L i) e k h = absurd (omega arith)
 
@@ -205,25 +205,25 @@ module _ (c : Code) (ws : List ℕ) (w : WellFormed c ws) where
           subst T (sym (digit-found x.0 x.1)) tt)
 
       -- word by word
-      pub found_at : (k : ℕ) → k < rowWords c → (bit_and (get_or m k 0) (get_or ws (base c r + k) 0) ≡ 0 → ⊥) → found c ws r q ≡ true
+      pub found_at : (k : ℕ) → k < row_words c → (bit_and (get_or m k 0) (get_or ws (base c r + k) 0) ≡ 0 → ⊥) → found c ws r q ≡ true
       found_at k h n =
           let x : (v : ℕ) × T (bit (masked m (content c ws r)) v) =
           word-digit (masked m (content c ws r)) (masked-words m (content c ws r) (content-words c ws w r)) k
-          (λ z. n (ap (λ (y : ℕ). bit_and (get_or m k 0) y) (sym (content-word c ws r o.full k h)) ∙ sym (getD-masked m (content c ws r) k) ∙ z))
+          (λ z. n (ap (λ (y : ℕ). bit_and (get_or m k 0) y) (sym (content-word c ws r o.full k h)) ∙ sym (get_or-masked m (content c ws r) k) ∙ z))
           in
           digit-found x.0 x.1
 
-      pub found_none : ((k : ℕ) → k < rowWords c → bit_and (get_or m k 0) (get_or ws (base c r + k) 0) ≡ 0) → found c ws r q ≡ false
+      pub found_none : ((k : ℕ) → k < row_words c → bit_and (get_or m k 0) (get_or ws (base c r + k) 0) ≡ 0) → found c ws r q ≡ false
       found_none n =
           T_false (found c ws r q)
           (λ h. let x : (v : ℕ) × T (bit (masked m (content c ws r)) v) = found-digit h in
           let k : ℕ = x.0 / 32 in
-          let l : k < rowWords c = omega (arith, masked-lt r o x.0 x.1, fits-row c) in
+          let l : k < row_words c = omega (arith, masked-lt r o x.0 x.1, fits-row c) in
           digit-word (masked m (content c ws r)) x.0 x.1
-          (getD-masked m (content c ws r) k ∙ ap (λ (y : ℕ). bit_and (get_or m k 0) y) (content-word c ws r o.full k l) ∙ n k l))
+          (get_or-masked m (content c ws r) k ∙ ap (λ (y : ℕ). bit_and (get_or m k 0) y) (content-word c ws r o.full k l) ∙ n k l))
 
   -- strings are the digits 8 to 31 of the first word
-  pub found-string : (r : Row) → ValueRow c r → found c ws r isString ≡ not (eqb (bit_and (get_or ws (base c r) 0) 0xffffff00) 0)
+  pub found-string : (r : Row) → ValueRow c r → found c ws r is_string ≡ not (eqb (bit_and (get_or ws (base c r) 0) 0xffffff00) 0)
   found-string r o = go (eqb (bit_and (get_or ws (base c r) 0) 0xffffff00) 0) refl
     where
       turned : bit_and 0xffffff00 (get_or ws (base c r + 0) 0) ≡ bit_and (get_or ws (base c r) 0) 0xffffff00
@@ -234,12 +234,12 @@ module _ (c : Code) (ws : List ℕ) (w : WellFormed c ws) where
       word z zero = turned ∙ z
       word z (suc k) = and_zero_l (get_or ws (base c r + suc k) 0)
 
-      go : (b : Bool) → eqb (bit_and (get_or ws (base c r) 0) 0xffffff00) 0 ≡ b → found c ws r isString ≡ not b
+      go : (b : Bool) → eqb (bit_and (get_or ws (base c r) 0) 0xffffff00) 0 ≡ b → found c ws r is_string ≡ not b
       go true e =
-          found_none isString (0xffffff00 ∷ []) (λ v l. string-mask v) r o
+          found_none is_string (0xffffff00 ∷ []) (λ v l. string-mask v) r o
           (λ k l. word (eqb→eq (bit_and (get_or ws (base c r) 0) 0xffffff00) 0 (subst T (sym e) tt)) k)
       go false e =
-          found_at isString (0xffffff00 ∷ []) (λ v l. string-mask v) r o 0 (omega (arith, fits-row c))
+          found_at is_string (0xffffff00 ∷ []) (λ v l. string-mask v) r o 0 (omega (arith, fits-row c))
           (λ z. subst T (sym (ap (λ (y : ℕ). eqb y 0) (sym turned ∙ z)) ∙ e) tt)
 
   -- ---- the permissions that are exercised

@@ -14,7 +14,7 @@ use Rattle.permset.specs.Sets.{width, member}
 use Rattle.table.specs.Code.{Code}
 use Rattle.calculus.specs.Elements.{elements}
 use Rattle.calculus.specs.Constraint.{Row, C, B, P, L, Sets}
-use Rattle.calculus.specs.Layout.{bit, pour, mark, owner, rowWords, base, shift, span, place, allowed, used, sets, content}
+use Rattle.calculus.specs.Layout.{bit, pour, mark, owner, row_words, base, shift, span, place, allowed, used, sets, content}
 use Rattle.calculus.specs.Layout.{Words, WellFormed, LiesIn}
 use Rattle.calculus.proofs.Digits.{T_and, T-fst, T-snd, member-low, member-lt}
 use Rattle.calculus.proofs.Slices.{bit_at, bit_word, bit-short, length-pour, pour-words, pour-new, pour-has, length-mark}
@@ -58,8 +58,8 @@ module _ (c : Code) where
     row-short : (at n m : ℕ) → T (bit (take n (drop at ws)) m) → m < 32 * n
     row-short at n m h = omega (arith, bit-short (take n (drop at ws)) m h, length-take n (drop at ws))
 
-    row_words : (at n : ℕ) → Words (take n (drop at ws))
-    row_words at n k = go (dec_lt k n)
+    row_words_lem : (at n : ℕ) → Words (take n (drop at ws))
+    row_words_lem at n k = go (dec_lt k n)
       where
         go : Dec (k < n) → get_or (take n (drop at ws)) k 0 < 2 ^ 32
         go (yes h) = rw (get_or-take n (drop at ws) k 0 h, get_or-drop at ws k 0) (w.words (at + k))
@@ -69,21 +69,21 @@ module _ (c : Code) where
 
     pub content-words : (r : Row) → Words (content c ws r)
     unfolding content
-    content-words (C i) k = row_words (base c (C i)) (rowWords c) k
-    content-words (B i) k = row_words (base c (B i)) (rowWords c) k
+    content-words (C i) k = row_words_lem (base c (C i)) (row_words c) k
+    content-words (B i) k = row_words_lem (base c (B i)) (row_words c) k
     content-words (P i) zero = omega (arith, mod-lt (get_or ws (base c (P i)) 0) {m = 2 ^ width} (lit< tt))
     content-words (P i) (suc k) = lit< tt
     content-words (L i) k = lit< tt
 
     -- a digit of a row's words is an element of its set
     value-sound : (r : Row) (q m : ℕ) → shift c r ≡ 0 → 32 * base c r ≡ q * digits c → q < 2 * c.size → owner r < c.size
-        → span c r ≡ elements c → T (bit (take (rowWords c) (drop (base c r) ws)) m) → T (sets c ws r m)
+        → span c r ≡ elements c → T (bit (take (row_words c) (drop (base c r) ws)) m) → T (sets c ws r m)
     unfolding place
     value-sound r q m z e l o s h =
-        let k : m < digits c = row-short (base c r) (rowWords c) m h in
+        let k : m < digits c = row-short (base c r) (row_words c) m h in
         let p : place c r m ≡ q * digits c + m = omega arith in
         let b : T (bit ws (place c r m)) =
-        subst T (row-bit (base c r) (rowWords c) m k ∙ ap (λ (n : ℕ). bit ws n) (omega arith)) h
+        subst T (row-bit (base c r) (row_words c) m k ∙ ap (λ (n : ℕ). bit ws n) (omega arith)) h
         in
         let u : m < elements c = used-row c q m l k (subst (λ (n : ℕ). T (used c n)) p (w.clean (place c r m) b)) in
         in-sets ws r m (is-allowed c r m o (omega arith)) b
@@ -104,12 +104,12 @@ module _ (c : Code) where
 
     -- and the other way round
     value-complete : (r : Row) (m : ℕ) → shift c r ≡ 0 → span c r ≡ elements c → T (sets c ws r m)
-        → T (bit (take (rowWords c) (drop (base c r) ws)) m)
+        → T (bit (take (row_words c) (drop (base c r) ws)) m)
     unfolding place
     value-complete r m z s h =
         let k : m < span c r = span-lt c r m (sets-allowed ws r m h) in
         let e : place c r m ≡ 32 * base c r + m = omega arith in
-        subst T (ap (λ (n : ℕ). bit ws n) e ∙ sym (row-bit (base c r) (rowWords c) m (omega (arith, fits-row c)))) (sets-bit ws r m h)
+        subst T (ap (λ (n : ℕ). bit ws n) e ∙ sym (row-bit (base c r) (row_words c) m (omega (arith, fits-row c)))) (sets-bit ws r m h)
 
     pub content-complete : (r : Row) (m : ℕ) → shift c r ≡ 0 → T (sets c ws r m) → T (bit (content c ws r) m)
     unfolding content span shift place

@@ -88,28 +88,28 @@ length-pour (w ∷ ws) zero (x ∷ xs) = ap suc (length-pour ws zero xs)
 length-pour (w ∷ ws) (suc at) xs = ap suc (length-pour ws at xs)
 
 -- a word before the place, one from the place on, and one past the end
-pub getD-pour-before : (ws : List ℕ) (at : ℕ) (xs : List ℕ) (k : ℕ) → k < at → get_or (pour ws at xs) k 0 ≡ get_or ws k 0
+pub get_or-pour-before : (ws : List ℕ) (at : ℕ) (xs : List ℕ) (k : ℕ) → k < at → get_or (pour ws at xs) k 0 ≡ get_or ws k 0
 unfolding pour
-getD-pour-before [] at xs k h = refl
-getD-pour-before (w ∷ ws) zero xs k h = absurd (omega arith)
-getD-pour-before (w ∷ ws) (suc at) xs zero h = refl
-getD-pour-before (w ∷ ws) (suc at) xs (suc k) h = getD-pour-before ws at xs k (omega arith)
+get_or-pour-before [] at xs k h = refl
+get_or-pour-before (w ∷ ws) zero xs k h = absurd (omega arith)
+get_or-pour-before (w ∷ ws) (suc at) xs zero h = refl
+get_or-pour-before (w ∷ ws) (suc at) xs (suc k) h = get_or-pour-before ws at xs k (omega arith)
 
-pub getD-pour : (ws : List ℕ) (at : ℕ) (xs : List ℕ) (k : ℕ) → at ≤ k → k < length ws
+pub get_or-pour : (ws : List ℕ) (at : ℕ) (xs : List ℕ) (k : ℕ) → at ≤ k → k < length ws
     → get_or (pour ws at xs) k 0 ≡ bit_or (get_or ws k 0) (get_or xs (k - at) 0)
 unfolding pour
-getD-pour [] at xs k h l = absurd (omega arith)
-getD-pour (w ∷ ws) zero [] k h l = sym (or_zero_r (get_or (w ∷ ws) k 0))
-getD-pour (w ∷ ws) zero (x ∷ xs) zero h l = refl
-getD-pour (w ∷ ws) zero (x ∷ xs) (suc k) h l =
-    getD-pour ws zero xs k (omega arith) (omega arith) ∙ ap (λ (j : ℕ). bit_or (get_or ws k 0) (get_or xs j 0)) (sub-zero k)
+get_or-pour [] at xs k h l = absurd (omega arith)
+get_or-pour (w ∷ ws) zero [] k h l = sym (or_zero_r (get_or (w ∷ ws) k 0))
+get_or-pour (w ∷ ws) zero (x ∷ xs) zero h l = refl
+get_or-pour (w ∷ ws) zero (x ∷ xs) (suc k) h l =
+    get_or-pour ws zero xs k (omega arith) (omega arith) ∙ ap (λ (j : ℕ). bit_or (get_or ws k 0) (get_or xs j 0)) (sub-zero k)
     ∙ ap (λ (j : ℕ). bit_or (get_or ws k 0) (get_or (x ∷ xs) j 0)) (sym (sub-zero (suc k)))
-getD-pour (w ∷ ws) (suc at) xs zero h l = absurd (omega arith)
-getD-pour (w ∷ ws) (suc at) xs (suc k) h l =
-    getD-pour ws at xs k (omega arith) (omega arith) ∙ ap (λ (j : ℕ). bit_or (get_or ws k 0) (get_or xs j 0)) (sym (suc-sub-suc k at))
+get_or-pour (w ∷ ws) (suc at) xs zero h l = absurd (omega arith)
+get_or-pour (w ∷ ws) (suc at) xs (suc k) h l =
+    get_or-pour ws at xs k (omega arith) (omega arith) ∙ ap (λ (j : ℕ). bit_or (get_or ws k 0) (get_or xs j 0)) (sym (suc-sub-suc k at))
 
-pub getD-pour-past : (ws : List ℕ) (at : ℕ) (xs : List ℕ) (k : ℕ) → length ws ≤ k → get_or (pour ws at xs) k 0 ≡ get_or ws k 0
-getD-pour-past ws at xs k h =
+pub get_or-pour-past : (ws : List ℕ) (at : ℕ) (xs : List ℕ) (k : ℕ) → length ws ≤ k → get_or (pour ws at xs) k 0 ≡ get_or ws k 0
+get_or-pour-past ws at xs k h =
     get_or-eq_default (pour ws at xs) 0 (rw length-pour h) ∙ sym (get_or-eq_default ws 0 h)
 
 -- where word k of the result comes from
@@ -121,9 +121,9 @@ poured : (ws : List ℕ) (at : ℕ) (xs : List ℕ) (k : ℕ) → Poured ws at x
 poured ws at xs k = go (dec_lt k at) (dec_lt k (length ws))
   where
     go : Dec (k < at) → Dec (k < length ws) → Poured ws at xs k
-    go (yes h) d = kept (getD-pour-before ws at xs k h)
-    go (no h) (yes l) = let m : at ≤ k = omega arith in joined m (getD-pour ws at xs k m l)
-    go (no h) (no l) = kept (getD-pour-past ws at xs k (omega arith))
+    go (yes h) d = kept (get_or-pour-before ws at xs k h)
+    go (no h) (yes l) = let m : at ≤ k = omega arith in joined m (get_or-pour ws at xs k m l)
+    go (no h) (no l) = kept (get_or-pour-past ws at xs k (omega arith))
 
 pub pour-words : (ws : List ℕ) (at : ℕ) (xs : List ℕ) → Words ws → Words xs → Words (pour ws at xs)
 pour-words ws at xs hw hx k = go (poured ws at xs k)
@@ -164,7 +164,7 @@ pour-has ws at xs m l h =
     let r : (32 * at + m) % 32 ≡ m % 32 = omega arith in
     let k : at + m / 32 - at ≡ m / 32 = omega arith in
     let e : get_or (pour ws at xs) (at + m / 32) 0 ≡ bit_or (get_or ws (at + m / 32) 0) (get_or xs (at + m / 32 - at) 0) =
-    getD-pour ws at xs (at + m / 32) (omega arith) (omega arith)
+    get_or-pour ws at xs (at + m / 32) (omega arith) (omega arith)
     in
     rw (d, r, e, k, member-or) (T-or-right (member (get_or ws (at + m / 32) 0) (m % 32)) (member (get_or xs (m / 32) 0) (m % 32)) h)
 

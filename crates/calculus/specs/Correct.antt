@@ -4,10 +4,10 @@ use Rattle.std.specs.Prelude.{ℕ, ◌<◌, ◌≡◌, List, Bool, true, false, 
 use Rattle.permset.specs.Sets.{member}
 use Rattle.table.specs.Code.{Code, code}
 use Rattle.calculus.specs.Constraint.{Sets}
-use Rattle.calculus.specs.Rules.{Estimate, leakOf}
-use Rattle.calculus.specs.Layout.{estimateWords, sets, WellFormed, LiesIn}
+use Rattle.calculus.specs.Rules.{Estimate, leak_of}
+use Rattle.calculus.specs.Layout.{estimate_words, sets, WellFormed, LiesIn}
 use Rattle.calculus.specs.Estimate.{facts}
-use Rattle.calculus.specs.Answer.{Answer, refused, verdict, boundUsed}
+use Rattle.calculus.specs.Answer.{Answer, refused, verdict, bound_used}
 use Rattle.calculus.specs.Guarantee.{Covers}
 
 -- The words us hold an estimate without stray bits that obeys every rule and lies inside every other that does; the members of s are the
@@ -16,8 +16,8 @@ pub record Least (c : Code) (ρ : ℕ) (us : List ℕ) (s : ℕ) : Type 0 where
   pub well : WellFormed c us
   pub obeys : Estimate c ρ (sets c us)
   pub least : (e : Sets) → Estimate c ρ e → LiesIn c us e
-  pub leaks : (x : ℕ) → leakOf c ρ (sets c us) x → T (member s x)
-  pub only : (x : ℕ) → T (member s x) → leakOf c ρ (sets c us) x
+  pub leaks : (x : ℕ) → leak_of c ρ (sets c us) x → T (member s x)
+  pub only : (x : ℕ) → T (member s x) → leak_of c ρ (sets c us) x
 
 -- x is in s and not in t
 pub record Outside (s t x : ℕ) : Type 0 where
@@ -34,9 +34,9 @@ unfoldable pub Correct : List ℕ → ℕ → ℕ → (est : List ℕ) → Answe
 unfolding Compared
 Correct ws ρ bound est (refused number place) = Unit {0}
 Correct ws ρ bound est (verdict v) =
-    Least (code ws) ρ (take (estimateWords (code ws)) est) v.leak
-    × Compared v.leak (boundUsed bound) v.over v.first
-    × (v.facts ≡ facts (take (estimateWords (code ws)) est))
+    Least (code ws) ρ (take (estimate_words (code ws)) est) v.leak
+    × Compared v.leak (bound_used bound) v.over v.first
+    × (v.facts ≡ facts (take (estimate_words (code ws)) est))
 
 -- Demand 3 of an answer: whatever the list of events, every permission that is exercised is in the leak.
 unfoldable pub Guaranteed : List ℕ → ℕ → Answer → Type 0

@@ -10,7 +10,7 @@ use Rattle.table.specs.Code.{Code}
 use Rattle.calculus.specs.Elements.{elements}
 use Rattle.calculus.specs.Constraint.{Row, P, Rule, none, put, sub, given, some, only, each, every, ◌and◌}
 use Rattle.calculus.specs.Rules.{rule, guarded}
-use Rattle.calculus.specs.Layout.{mark, pour, estimateWords, base, span, place, sets, content}
+use Rattle.calculus.specs.Layout.{mark, pour, estimate_words, base, span, place, sets, content}
 
 -- ---- computing: `strict` and `whole` hand on a number and a list that are worked out
 
@@ -63,8 +63,8 @@ same (x ∷ xs) [] = false
 same (x ∷ xs) (y ∷ ys) = elim (eqb x y) [ true ↦ same xs ys | false ↦ false ]
 
 -- the most facts that an estimate may have
-unfoldable pub mostFacts : Code → ℕ
-mostFacts c = c.size * (2 * elements c + suc width)
+unfoldable pub most_facts : Code → ℕ
+most_facts c = c.size * (2 * elements c + suc width)
 
 module _ (c : Code) (ρ : ℕ) where
   -- each rule once
@@ -79,8 +79,8 @@ module _ (c : Code) (ρ : ℕ) where
   close (suc n) ws = whole (sweep ws) (λ xs. elim (same xs ws) [ true ↦ ws | false ↦ close n xs ])
 
   unfoldable pub estimate : List ℕ
-  unfolding close estimateWords mostFacts
-  estimate = close (mostFacts c) (replicate (estimateWords c) 0)
+  unfolding close estimate_words most_facts
+  estimate = close (most_facts c) (replicate (estimate_words c) 0)
 
 -- ---- what is read from an estimate
 
@@ -91,16 +91,16 @@ facts (w ∷ ws) = ones_in 32 w + facts ws
 
 module _ (c : Code) (ρ : ℕ) (ws : List ℕ) where
   -- the permissions of a row P as a number
-  unfoldable pub permissionsAt : ℕ → ℕ
+  unfoldable pub permissions_at : ℕ → ℕ
   unfolding content
-  permissionsAt b = get_or (content c ws (P b)) 0 0
+  permissions_at b = get_or (content c ws (P b)) 0 0
 
   -- the union of P(b) over those of the blocks bs with guard within ρ
-  unfoldable pub leakAmong : List ℕ → ℕ
-  unfolding permissionsAt
-  leakAmong [] = 0
-  leakAmong (b ∷ bs) = elim (guarded (c.node b) ρ) [ true ↦ union (permissionsAt b) (leakAmong bs) | false ↦ leakAmong bs ]
+  unfoldable pub leak_among : List ℕ → ℕ
+  unfolding permissions_at
+  leak_among [] = 0
+  leak_among (b ∷ bs) = elim (guarded (c.node b) ρ) [ true ↦ union (permissions_at b) (leak_among bs) | false ↦ leak_among bs ]
 
   unfoldable pub leak : ℕ
-  unfolding leakAmong
-  leak = leakAmong c.blocks
+  unfolding leak_among
+  leak = leak_among c.blocks

@@ -8,6 +8,6 @@ figure false W = W * (2 * (64 + W) + 25)
 figure true W = W * (2 * (96 + W) + 25)
 
 -- that of a table; a wide one starts with kind 5
-unfoldable pub figureOf : List ℕ → ℕ
+unfoldable pub figure_of : List ℕ → ℕ
 unfolding figure
-figureOf ws = figure (eqb (kind (get_or ws 0 0)) 5) (length ws)
+figure_of ws = figure (eqb (kind (get_or ws 0 0)) 5) (length ws)

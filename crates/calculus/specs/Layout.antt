@@ -40,21 +40,21 @@ owner (L i) = i
 
 module _ (c : Code) where
   -- R, the words of a value set or a held set
-  unfoldable pub rowWords : ℕ
-  rowWords = (elements c + 31) / 32
+  unfoldable pub row_words : ℕ
+  row_words = (elements c + 31) / 32
 
   -- 2WR+W, the words of an estimate
-  unfoldable pub estimateWords : ℕ
-  unfolding rowWords
-  estimateWords = 2 * c.size * rowWords + c.size
+  unfoldable pub estimate_words : ℕ
+  unfolding row_words
+  estimate_words = 2 * c.size * row_words + c.size
 
   -- the first word of a row
   unfoldable pub base : Row → ℕ
-  unfolding rowWords
-  base (C i) = 2 * i * rowWords
-  base (B i) = 2 * i * rowWords + rowWords
-  base (P i) = 2 * c.size * rowWords + i
-  base (L i) = 2 * c.size * rowWords + i
+  unfolding row_words
+  base (C i) = 2 * i * row_words
+  base (B i) = 2 * i * row_words + row_words
+  base (P i) = 2 * c.size * row_words + i
+  base (L i) = 2 * c.size * row_words + i
 
   -- the digit of its first element in that word: the flag stands above the permissions
   unfoldable pub shift : Row → ℕ
@@ -87,18 +87,18 @@ module _ (c : Code) where
 
   -- the words of a set that may be passed on to another, its digits from 0 on; a flag is not
   unfoldable pub content : List ℕ → Row → List ℕ
-  unfolding rowWords base
-  content ws (C i) = take rowWords (drop (base (C i)) ws)
-  content ws (B i) = take rowWords (drop (base (B i)) ws)
+  unfolding row_words base
+  content ws (C i) = take row_words (drop (base (C i)) ws)
+  content ws (B i) = take row_words (drop (base (B i)) ws)
   content ws (P i) = get_or ws (base (P i)) 0 % 2 ^ width ∷ []
   content ws (L i) = []
 
   -- digit n is that of an element of a row: "other bits are zero"
   unfoldable pub used : ℕ → Bool
-  unfolding rowWords
+  unfolding row_words
   used n =
-      ltb n (32 * (2 * c.size * rowWords)) && ltb (n % (32 * rowWords)) (elements c)
-      || leb (32 * (2 * c.size * rowWords)) n && ltb (n % 32) (suc width)
+      ltb n (32 * (2 * c.size * row_words)) && ltb (n % (32 * row_words)) (elements c)
+      || leb (32 * (2 * c.size * row_words)) n && ltb (n % 32) (suc width)
 
 -- every word has 32 digits
 abbrev pub Words : List ℕ → Type 0
@@ -106,7 +106,7 @@ Words ws = (k : ℕ) → get_or ws k 0 < 2 ^ 32
 
 -- the words of an estimate: as many as there are to be, and no stray bit
 pub record WellFormed (c : Code) (ws : List ℕ) : Type 0 where
-  pub long : length ws ≡ estimateWords c
+  pub long : length ws ≡ estimate_words c
   pub words : Words ws
   pub clean : (n : ℕ) → T (bit ws n) → T (used c n)
 

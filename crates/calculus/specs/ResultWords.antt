@@ -12,20 +12,20 @@ use Rattle.calculus.specs.Estimate.{same, facts}
 -- ---- add and less
 
 -- entry k of a table where both rows have its signs: the first sign is that of its row, the second that of its column
-unfoldable pub signEntry : List ℕ → (a d k : ℕ) → ℕ
-signEntry t a d k = elim (member a (4 + k / 3) && member d (4 + k % 3)) [ true ↦ get_or t k 0 | false ↦ 0 ]
+unfoldable pub sign_entry : List ℕ → (a d k : ℕ) → ℕ
+sign_entry t a d k = elim (member a (4 + k / 3) && member d (4 + k % 3)) [ true ↦ get_or t k 0 | false ↦ 0 ]
 
 -- the or over the first n entries
-unfoldable pub signsBelow : List ℕ → (a d n : ℕ) → ℕ
-unfolding signEntry
-signsBelow t a d zero = 0
-signsBelow t a d (suc n) = bit_or (signsBelow t a d n) (signEntry t a d n)
+unfoldable pub signs_below : List ℕ → (a d n : ℕ) → ℕ
+unfolding sign_entry
+signs_below t a d zero = 0
+signs_below t a d (suc n) = bit_or (signs_below t a d n) (sign_entry t a d n)
 
-unfoldable pub sumMasks : List ℕ
-sumMasks = 16 ∷ 16 ∷ 112 ∷ 16 ∷ 32 ∷ 64 ∷ 112 ∷ 64 ∷ 64 ∷ []
+unfoldable pub sum_masks : List ℕ
+sum_masks = 16 ∷ 16 ∷ 112 ∷ 16 ∷ 32 ∷ 64 ∷ 112 ∷ 64 ∷ 64 ∷ []
 
-unfoldable pub lessMasks : List ℕ
-lessMasks = 12 ∷ 4 ∷ 4 ∷ 8 ∷ 8 ∷ 4 ∷ 8 ∷ 8 ∷ 12 ∷ []
+unfoldable pub less_masks : List ℕ
+less_masks = 12 ∷ 4 ∷ 4 ∷ 8 ∷ 8 ∷ 4 ∷ 8 ∷ 8 ∷ 12 ∷ []
 
 -- ---- equal, of sides without the opponent's record: true where they share a digit; false where they share one that stands for more than one
 -- value, differ, or have more than one digit
@@ -41,9 +41,9 @@ comparables [] = []
 comparables (x ∷ xs) = bit_and x 0xffffff7f ∷ xs
 
 -- truth where a digit is shared
-unfoldable pub sameMask : (xs ys : List ℕ) → ℕ
+unfoldable pub same_mask : (xs ys : List ℕ) → ℕ
 unfolding nonzero masked
-sameMask xs ys = elim (nonzero (masked xs ys)) [ true ↦ 4 | false ↦ 0 ]
+same_mask xs ys = elim (nonzero (masked xs ys)) [ true ↦ 4 | false ↦ 0 ]
 
 -- two different values: from one shared element that stands for more than one, or from two elements
 unfoldable pub apart : (xs ys : List ℕ) → Bool
@@ -51,19 +51,19 @@ unfolding nonzero masked same facts
 apart xs ys = nonzero (masked (masked xs ys) (0x150 ∷ [])) || (not (same xs ys) || ltb 1 (facts xs))
 
 -- falsehood where there are such
-unfoldable pub apartMask : (xs ys : List ℕ) → ℕ
+unfoldable pub apart_mask : (xs ys : List ℕ) → ℕ
 unfolding apart
-apartMask xs ys = elim (apart xs ys) [ true ↦ 8 | false ↦ 0 ]
+apart_mask xs ys = elim (apart xs ys) [ true ↦ 8 | false ↦ 0 ]
 
-unfoldable pub equalMask : (xs ys : List ℕ) → ℕ
-unfolding nonzero sameMask apartMask
-equalMask xs ys = elim (nonzero xs && nonzero ys) [ true ↦ bit_or (sameMask xs ys) (apartMask xs ys) | false ↦ 0 ]
+unfoldable pub equal_mask : (xs ys : List ℕ) → ℕ
+unfolding nonzero same_mask apart_mask
+equal_mask xs ys = elim (nonzero xs && nonzero ys) [ true ↦ bit_or (same_mask xs ys) (apart_mask xs ys) | false ↦ 0 ]
 
 -- ---- an operation
 
 -- on two sides; signs stand in their first words
-unfoldable pub operationMask : Operation → (xs ys : List ℕ) → ℕ
-unfolding signsBelow sumMasks lessMasks comparables equalMask
-operationMask operations.Add xs ys = signsBelow sumMasks (get_or xs 0 0) (get_or ys 0 0) 9
-operationMask operations.Less xs ys = signsBelow lessMasks (get_or xs 0 0) (get_or ys 0 0) 9
-operationMask operations.Equal xs ys = equalMask (comparables xs) (comparables ys)
+unfoldable pub operation_mask : Operation → (xs ys : List ℕ) → ℕ
+unfolding signs_below sum_masks less_masks comparables equal_mask
+operation_mask operations.Add xs ys = signs_below sum_masks (get_or xs 0 0) (get_or ys 0 0) 9
+operation_mask operations.Less xs ys = signs_below less_masks (get_or xs 0 0) (get_or ys 0 0) 9
+operation_mask operations.Equal xs ys = equal_mask (comparables xs) (comparables ys)

@@ -4,8 +4,8 @@ use Rattle.std.proofs.Math.Option.{Option, none, some}
 use Rattle.std.proofs.Math.ListN.{get_elem?}
 use Rattle.table.specs.Code.{Code}
 use Rattle.delivery.specs.Delivery.{delivered}
-use Rattle.calculus.specs.Rules.{permsOf, guarded, deliveryTo}
-use Rattle.calculus.specs.Values.{Value, Environment, plain, sentAs, datum}
+use Rattle.calculus.specs.Rules.{perms_of, guarded, delivery_to}
+use Rattle.calculus.specs.Values.{Value, Environment, plain, sent_as, datum}
 use Rattle.calculus.specs.Machine.{Control, Frame, Effect, Move, step}
 
 -- an instance: its handler's permissions, what it is at, its frames and its own cells
@@ -40,7 +40,7 @@ joined false x is rs before = before
 unfoldable pub sent : Code → (held required target : ℕ) → Value → Option ℕ → List Instance → List ℕ → (before : World) → World
 sent c held r n v none is rs before = world is rs
 sent c held r n v (some b) is rs before =
-    joined (plain (sentAs v) && delivered (deliveryTo n r held (c.node b))) (started (permsOf (c.node b)) b (sentAs v)) is rs before
+    joined (plain (sent_as v) && delivered (delivery_to n r held (c.node b))) (started (perms_of (c.node b)) b (sent_as v)) is rs before
 
 unfoldable pub effect : Code → (held : ℕ) → Effect → Option ℕ → List Instance → List ℕ → World → World
 effect c held Effect.silent choice is rs before = world is rs
@@ -59,7 +59,7 @@ stepped c i choice (some (running held k fs cs)) is rs = moved c held i choice (
 unfoldable pub act : Code → ℕ → World → Event → World
 act c ρ (world is rs) (steps i choice) = stepped c i choice (get_elem? is i) is rs
 act c ρ (world is rs) (starts b v) =
-    joined (datum v c.names && guarded (c.node b) ρ) (started (permsOf (c.node b)) b v) is rs (world is rs)
+    joined (datum v c.names && guarded (c.node b) ρ) (started (perms_of (c.node b)) b v) is rs (world is rs)
 
 -- the events of a list, each on what the last one left
 unfoldable pub after : Code → ℕ → World → List Event → World

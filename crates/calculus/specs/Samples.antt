@@ -3,9 +3,9 @@
 -- crates/sample_claim/proofs/Claim.antt.
 use Rattle.std.specs.Prelude.{ℕ, ◌+◌, List, [], ◌∷◌, ◌++◌, Bool, true, false, ◌&&◌, length, eqb}
 use Rattle.table.specs.Code.{code}
-use Rattle.calculus.specs.Layout.{estimateWords}
+use Rattle.calculus.specs.Layout.{estimate_words}
 use Rattle.calculus.specs.Estimate.{same, estimate}
-use Rattle.calculus.specs.Answer.{Answer, refused, verdict, answer, standingBound, workWords}
+use Rattle.calculus.specs.Answer.{Answer, refused, verdict, answer, standing_bound, work_words}
 
 -- what a sample is to give: a refusal, or a leak, and the facts and the words of the estimate where they are known; or a leak over its bound,
 -- with the bound used and the lowest permission outside
@@ -35,14 +35,14 @@ agrees s (exceeds l b x) (refused m q) = false
 agrees s (exceeds l b x) (verdict v) = v.over && eqb l v.leak && eqb b v.bound && eqb x v.first
 
 -- the answer to a sample, with the standing bound and slices that are just long enough
-unfoldable pub answerTo : Sample → Answer
+unfoldable pub answer_to : Sample → Answer
 unfolding answer
-answerTo s = answer s.words s.opponent standingBound (estimateWords (code s.words)) (workWords (length s.words))
+answer_to s = answer s.words s.opponent standing_bound (estimate_words (code s.words)) (work_words (length s.words))
 
 unfoldable pub passes : List Sample → Bool
-unfolding agrees answerTo
+unfolding agrees answer_to
 passes [] = true
-passes (s ∷ ss) = elim (agrees s s.expected (answerTo s)) [ true ↦ passes ss | false ↦ false ]
+passes (s ∷ ss) = elim (agrees s s.expected (answer_to s)) [ true ↦ passes ss | false ↦ false ]
 
 -- ---- tables
 
@@ -125,8 +125,8 @@ sent message body l f =
 abbrev tested : (term : List ℕ) (leak facts : ℕ) → Sample
 tested term l f = lone (0x19000000 ∷ term ++ (0x24000001 ∷ 0x24000002 ∷ [])) l f
 
-unfoldable pub testSamples : List Sample
-testSamples =
+unfoldable pub test_samples : List Sample
+test_samples =
     -- while, on false and on the message
     lone (0x1a000000 ∷ 0x10000003 ∷ 0x24000001 ∷ []) 0 70
     ∷ lone (0x1a000000 ∷ 0x14000000 ∷ 0x24000001 ∷ []) 1 138
@@ -140,8 +140,8 @@ testSamples =
     ∷ tested (0x1b000002 ∷ 0x1c000000 ∷ 0x11000000 ∷ []) 0 72
     ∷ []
 
-unfoldable pub recordSamples : List Sample
-recordSamples =
+unfoldable pub record_samples : List Sample
+record_samples =
     -- get: a missing field; one that was set to true; with a number for its key; of the message; after a delete
     tested (0x1d000000 ∷ 0x1c000000 ∷ 0x12000000 ∷ []) 0 73
     ∷ tested (0x1d000000 ∷ 0x1e000000 ∷ 0x1c000000 ∷ 0x12000000 ∷ 0x10000002 ∷ 0x12000000 ∷ []) 1 87
@@ -150,8 +150,8 @@ recordSamples =
     ∷ tested (0x1d000000 ∷ 0x1f000000 ∷ 0x1e000000 ∷ 0x1c000000 ∷ 0x12000000 ∷ 0x10000002 ∷ 0x12000000 ∷ 0x12000000 ∷ []) 1 91
     ∷ []
 
-unfoldable pub cellSamples : List Sample
-cellSamples =
+unfoldable pub cell_samples : List Sample
+cell_samples =
     -- what was put in is read; what is assigned later; a number that is assigned to
     tested (0x21000000 ∷ 0x20000000 ∷ 0x10000003 ∷ []) 2 80
     ∷ lone
@@ -165,8 +165,8 @@ cellSamples =
     ∷ lone (0x17000000 ∷ 0x20000000 ∷ 0x15000000 ∷ 0x24000001 ∷ 0x16000000 ∷ 0x21000000 ∷ 0x14000000 ∷ 0x10000000 ∷ []) 1 89
     ∷ []
 
-unfoldable pub messageSamples : List Sample
-messageSamples =
+unfoldable pub message_samples : List Sample
+message_samples =
     -- a record whose field is the condition of its receiver; a function, which starts nothing; a record that holds one; a number
     sent (0x1e000000 ∷ 0x1c000000 ∷ 0x12000000 ∷ 0x10000002 ∷ [])
     (0x19000000 ∷ 0x1d000000 ∷ 0x14000000 ∷ 0x12000000 ∷ 0x24000001 ∷ 0x24000002 ∷ []) 1 98
@@ -175,6 +175,6 @@ messageSamples =
     ∷ sent (0x11000005 ∷ []) (0x19000000 ∷ 0x1b000002 ∷ 0x14000000 ∷ 0x11000005 ∷ 0x24000001 ∷ 0x24000002 ∷ []) 3 98
     ∷ []
 
-unfoldable pub samplesByKind : List Sample
-unfolding testSamples recordSamples cellSamples messageSamples
-samplesByKind = testSamples ++ (recordSamples ++ (cellSamples ++ messageSamples))
+unfoldable pub samples_by_kind : List Sample
+unfolding test_samples record_samples cell_samples message_samples
+samples_by_kind = test_samples ++ (record_samples ++ (cell_samples ++ message_samples))

@@ -3,22 +3,22 @@ use Rattle.std.specs.Prelude.{ℕ, ◌^◌, ◌<◌, ◌≤◌, ◌≡◌, Bool,
 use Rattle.permset.specs.Sets.{width}
 use Rattle.table.specs.Scan.{accepted, reading}
 use Rattle.table.specs.Code.{code}
-use Rattle.calculus.specs.Layout.{estimateWords}
+use Rattle.calculus.specs.Layout.{estimate_words}
 use Rattle.calculus.specs.Estimate.{estimate}
-use Rattle.calculus.specs.Answer.{refused, verdict, standingBound, workWords, judge, answer}
+use Rattle.calculus.specs.Answer.{refused, verdict, standing_bound, work_words, judge, answer}
 use Rattle.calls.specs.declared.checks.Checked.{Checked}
 use Rattle.calls.specs.declared.checks.Checked.TheVariants.{Fine, Wrong}
-use Rattle.calls.specs.Faults.{faultNumber, faultPlace}
+use Rattle.calls.specs.Faults.{fault_number, fault_place}
 
 -- a bound with bits above the permissions, save the standing bound
-abbrev pub strayBound : ℕ → Bool
-strayBound bound = leb (2 ^ width) bound && not (eqb bound standingBound)
+abbrev pub stray_bound : ℕ → Bool
+stray_bound bound = leb (2 ^ width) bound && not (eqb bound standing_bound)
 
 -- an accepted table, with slices of `est` and `work` words that are long enough
 pub record Fit (ws : List ℕ) (est work : ℕ) : Type 0 where
   pub readable : reading ws ≡ accepted
-  pub long : estimateWords (code ws) ≤ est
-  pub room : workWords (length ws) ≤ work
+  pub long : estimate_words (code ws) ≤ est
+  pub room : work_words (length ws) ≤ work
 
 -- a call that is not refused
 pub record Fits (ws : List ℕ) (ρ bound est work : ℕ) : Type 0 where
@@ -28,4 +28,4 @@ pub record Fits (ws : List ℕ) (ρ bound est work : ℕ) : Type 0 where
 
 abbrev pub CheckedAs : List ℕ → ℕ → ℕ → ℕ → ℕ → Checked → Type 0
 CheckedAs ws ρ bound est work Fine = Fits ws ρ bound est work
-CheckedAs ws ρ bound est work (Wrong f) = answer ws ρ bound est work ≡ refused (faultNumber f) (faultPlace f)
+CheckedAs ws ρ bound est work (Wrong f) = answer ws ρ bound est work ≡ refused (fault_number f) (fault_place f)

@@ -4,18 +4,18 @@ use Rattle.table.specs.Answer.{number, place}
 use Rattle.calls.specs.declared.Fault.{Fault}
 use Rattle.calls.specs.declared.Fault.TheVariants as faults
 
-unfoldable pub faultNumber : Fault → ℕ
+unfoldable pub fault_number : Fault → ℕ
 unfolding number
-faultNumber (faults.Table r) = number r
-faultNumber faults.Rho = 20
-faultNumber faults.Bound = 20
-faultNumber faults.ShortEstimate = 21
-faultNumber faults.ShortWork = 22
+fault_number (faults.Table r) = number r
+fault_number faults.Rho = 20
+fault_number faults.Bound = 20
+fault_number faults.ShortEstimate = 21
+fault_number faults.ShortWork = 22
 
-unfoldable pub faultPlace : Fault → ℕ
+unfoldable pub fault_place : Fault → ℕ
 unfolding place
-faultPlace (faults.Table r) = place r
-faultPlace faults.Rho = 0
-faultPlace faults.Bound = 0
-faultPlace faults.ShortEstimate = 0
-faultPlace faults.ShortWork = 0
+fault_place (faults.Table r) = place r
+fault_place faults.Rho = 0
+fault_place faults.Bound = 0
+fault_place faults.ShortEstimate = 0
+fault_place faults.ShortWork = 0

@@ -3,8 +3,8 @@ ghost use Rattle.std.specs.Prelude.{◌≡◌, ◌^◌, leb};
 ghost use Rattle.permset.specs.Sets.{width};
 ghost use Rattle.table.specs.Scan.{accepted, reading};
 ghost use Rattle.table.specs.Code.{code};
-ghost use Rattle.calculus.specs.Layout.{estimateWords};
-ghost use Rattle.calls.specs.Calls.{strayBound, CheckedAs};
+ghost use Rattle.calculus.specs.Layout.{estimate_words};
+ghost use Rattle.calls.specs.Calls.{stray_bound, CheckedAs};
 
 use crate::Fault;
 use permset::PermSet;
@@ -30,7 +30,7 @@ pub fn malformed(bits: u32) -> bool
 
 // A bound that is no set, save the standing bound.
 fn stray_bound(bound: u32) -> bool
-    ensures { result ≡ strayBound bound }
+    ensures { result ≡ stray_bound bound }
 {
     malformed(bound) && bound != STANDING
 }
@@ -38,7 +38,7 @@ fn stray_bound(bound: u32) -> bool
 // The words of an estimate of an accepted table.
 pub fn words_needed(words: &[u32]) -> usize
     requires { reading words.now ≡ accepted }
-    ensures { result ≡ estimateWords (code words.now) }
+    ensures { result ≡ estimate_words (code words.now) }
 {
     Layout::of(words).words()
 }

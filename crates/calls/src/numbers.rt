@@ -1,12 +1,12 @@
 // Document 01's numbers and places in code.
 ghost use Rattle.std.specs.Prelude.{◌≡◌};
-ghost use Rattle.calls.specs.Faults.{faultNumber, faultPlace};
+ghost use Rattle.calls.specs.Faults.{fault_number, fault_place};
 
 use crate::Fault;
 use table::numbers::{refusal_number, refusal_place};
 
 pub fn fault_number(f: Fault) -> u32
-    ensures { result ≡ faultNumber f }
+    ensures { result ≡ fault_number f }
 {
     match f {
         Fault::Table(r) => refusal_number(r),
@@ -18,7 +18,7 @@ pub fn fault_number(f: Fault) -> u32
 }
 
 pub fn fault_place(f: Fault) -> usize
-    ensures { result ≡ faultPlace f }
+    ensures { result ≡ fault_place f }
 {
     match f {
         Fault::Table(r) => refusal_place(r),

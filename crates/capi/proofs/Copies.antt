@@ -13,46 +13,46 @@ use Rattle.table.specs.Scan.{accepted, reading}
 use Rattle.table.specs.Code.{code}
 use Rattle.table.proofs.Linked.{linked}
 use Rattle.table.proofs.Widths.{names-most}
-use Rattle.calculus.specs.Layout.{rowWords, estimateWords}
+use Rattle.calculus.specs.Layout.{row_words, estimate_words}
 use Rattle.calculus.specs.Estimate.{estimate, facts}
-use Rattle.calculus.specs.Answer.{Answer, refused, verdict, answer, workWords, workAfter}
+use Rattle.calculus.specs.Answer.{Answer, refused, verdict, answer, work_words, work_after}
 use Rattle.calculus.proofs.Least.{estimate-well}
-use Rattle.solver.specs.Ceiling.{wordsWithin}
-use Rattle.verdict.specs.Limits.{estimateUnder}
+use Rattle.solver.specs.Ceiling.{words_within}
+use Rattle.verdict.specs.Limits.{estimate_under}
 use Rattle.verdict.proofs.Room.{estimate-capped, work-capped}
-use Rattle.little_endian.specs.LittleEndian.{wordsOf, bytesOf}
+use Rattle.little_endian.specs.LittleEndian.{words_of, bytes_of}
 use Rattle.little_endian.proofs.Laws.{Below, replaced-words}
-use Rattle.capi.specs.Large.{estimatePut, workPut, putWords, putBytes}
+use Rattle.capi.specs.Large.{estimate_put, work_put, put_words, put_bytes}
 use Rattle.capi.proofs.Refusals.{verdict-fit}
 use Rattle.capi.proofs.Written.{written, read-most, read_first, read_length}
 
 -- ---- a slice of bytes around a call on its words
 
-module _ (bs own now : List ℕ) (n : ℕ) (count : n ≡ min (length bs / 4) (length own)) (content : now ≡ take n (wordsOf bs) ++ drop n own) where
+module _ (bs own now : List ℕ) (n : ℕ) (count : n ≡ min (length bs / 4) (length own)) (content : now ≡ take n (words_of bs) ++ drop n own) where
   pub put_back : Below 256 bs → (es new rest : List ℕ) (m : ℕ) (after : List ℕ) → length es ≤ n → length new ≡ length (take n now)
-      → new ≡ putWords es (take n now) → m ≡ min (length bs / 4) (length (take n (new ++ rest)))
-      → after ≡ bytesOf (take m (take n (new ++ rest))) ++ drop (4 * m) bs → after ≡ putBytes es bs
+      → new ≡ put_words es (take n now) → m ≡ min (length bs / 4) (length (take n (new ++ rest)))
+      → after ≡ bytes_of (take m (take n (new ++ rest))) ++ drop (4 * m) bs → after ≡ put_bytes es bs
   put_back low es new rest m after fits long e c w =
       written bs new rest n m after (long ∙ read_length bs own now n count content) (read-most bs own now n count content) c w
-      ∙ ap (λ (us : List ℕ). bytesOf us ++ drop (4 * n) bs) (e ∙ ap (putWords es) (read_first bs own now n count content))
+      ∙ ap (λ (us : List ℕ). bytes_of us ++ drop (4 * n) bs) (e ∙ ap (put_words es) (read_first bs own now n count content))
       ∙ replaced-words es bs n low fits (read-most bs own now n count content)
 
 -- ---- room for 1,024 words
 
 module _ (ws : List ℕ) (h : length ws ≤ 1024) where
-  pub large-estimate : estimateWords (code ws) ≤ 72704
-  unfolding estimateWords rowWords code
+  pub large-estimate : estimate_words (code ws) ≤ 72704
+  unfolding estimate_words row_words code
   large-estimate =
       let row : (32 + names_of (get_or ws 0 0) + length ws + 31) / 32 ≤ 35 = omega (arith, names-most (get_or ws 0 0)) in
       let twice : 2 * length ws ≤ 2048 = omega arith in
       let all : 2 * length ws * ((32 + names_of (get_or ws 0 0) + length ws + 31) / 32) ≤ 2048 * 35 = mul-le-mul twice row in
       omega arith
 
-  pub large-work : workWords (code ws).size ≤ 4096
+  pub large-work : work_words (code ws).size ≤ 4096
   unfolding code
   large-work = omega arith
 
-  module _ (bs own now : List ℕ) (n : ℕ) (count : n ≡ min (length bs / 4) (length own)) (content : now ≡ take n (wordsOf bs) ++ drop n own) (ρ bound : ℕ) where
+  module _ (bs own now : List ℕ) (n : ℕ) (count : n ≡ min (length bs / 4) (length own)) (content : now ≡ take n (words_of bs) ++ drop n own) (ρ bound : ℕ) where
     -- a slice that is cut to an array of this size answers as the whole
     pub work-same : length own ≡ 4096 → (est : ℕ) → answer ws ρ bound est (length (take n now)) ≡ answer ws ρ bound est (length bs / 4)
     work-same room est =
@@ -67,43 +67,43 @@ module _ (ws : List ℕ) (h : length ws ≤ 1024) where
 -- ---- what a call puts
 
 module _ (ws : List ℕ) (ρ bound n : ℕ) where
-  within-length : reading ws ≡ accepted → length (wordsWithin (code ws) ρ n) ≡ estimateWords (code ws)
-  unfolding wordsWithin
+  within-length : reading ws ≡ accepted → length (words_within (code ws) ρ n) ≡ estimate_words (code ws)
+  unfolding words_within
   within-length r = go (ltb n (facts (estimate (code ws) ρ)))
     where
-      go : (b : Bool) → length {A = ℕ} (elim b as (λ x. List ℕ) [ true ↦ replicate (estimateWords (code ws)) 0 | false ↦ estimate (code ws) ρ ])
-          ≡ estimateWords (code ws)
-      go true = length-replicate (estimateWords (code ws)) 0
+      go : (b : Bool) → length {A = ℕ} (elim b as (λ x. List ℕ) [ true ↦ replicate (estimate_words (code ws)) 0 | false ↦ estimate (code ws) ρ ])
+          ≡ estimate_words (code ws)
+      go true = length-replicate (estimate_words (code ws)) 0
       go false = (estimate-well (code ws) (linked ws r) ρ).long
 
   pub estimate-put : (est work : List ℕ) (a : Answer) → answer ws ρ bound (length est) (length work) ≡ a
-      → estimateUnder ws ρ bound n est work ≡ putWords (estimatePut ws ρ n a) est
-  unfolding estimateUnder estimatePut
-  estimate-put est work (refused k at) e = rw (e, estimateUnder)
+      → estimate_under ws ρ bound n est work ≡ put_words (estimate_put ws ρ n a) est
+  unfolding estimate_under estimate_put
+  estimate-put est work (refused k at) e = rw (e, estimate_under)
   estimate-put est work (verdict v) e =
-      rw (e, estimateUnder)
-      (ap (λ (k : ℕ). wordsWithin (code ws) ρ n ++ drop k est) (sym (within-length (verdict-fit ws ρ bound (length est) (length work) v e).readable)))
+      rw (e, estimate_under)
+      (ap (λ (k : ℕ). words_within (code ws) ρ n ++ drop k est) (sym (within-length (verdict-fit ws ρ bound (length est) (length work) v e).readable)))
 
   -- by another name of the answer
-  pub put_same : (x y : Answer) (us new : List ℕ) → new ≡ putWords (estimatePut ws ρ n x) us → x ≡ y → new ≡ putWords (estimatePut ws ρ n y) us
-  put_same x y us new e q = e ∙ ap (λ (a : Answer). putWords (estimatePut ws ρ n a) us) q
+  pub put_same : (x y : Answer) (us new : List ℕ) → new ≡ put_words (estimate_put ws ρ n x) us → x ≡ y → new ≡ put_words (estimate_put ws ρ n y) us
+  put_same x y us new e q = e ∙ ap (λ (a : Answer). put_words (estimate_put ws ρ n a) us) q
 
   pub work-put : (est work : List ℕ) (a : Answer) → answer ws ρ bound (length est) (length work) ≡ a
-      → workAfter ws ρ bound est work ≡ putWords (workPut ws a) work
-  unfolding workAfter workPut
-  work-put est work (refused k at) e = rw (e, workAfter)
+      → work_after ws ρ bound est work ≡ put_words (work_put ws a) work
+  unfolding work_after work_put
+  work-put est work (refused k at) e = rw (e, work_after)
   work-put est work (verdict v) e =
-      rw (e, workAfter)
-      (ap (λ (k : ℕ). replicate (workWords (length ws)) 0 ++ drop k work) (sym (length-replicate (workWords (length ws)) 0)))
+      rw (e, work_after)
+      (ap (λ (k : ℕ). replicate (work_words (length ws)) 0 ++ drop k work) (sym (length-replicate (work_words (length ws)) 0)))
 
-  pub estimate-fits : (est work : ℕ) (a : Answer) → answer ws ρ bound est work ≡ a → length (estimatePut ws ρ n a) ≤ est
-  unfolding estimatePut
+  pub estimate-fits : (est work : ℕ) (a : Answer) → answer ws ρ bound est work ≡ a → length (estimate_put ws ρ n a) ≤ est
+  unfolding estimate_put
   estimate-fits est work (refused k at) e = omega arith
   estimate-fits est work (verdict v) e =
       let f = verdict-fit ws ρ bound est work v e in omega (arith, within-length f.readable, f.long)
 
-  pub work-fits : (est work : ℕ) (a : Answer) → answer ws ρ bound est work ≡ a → length (workPut ws a) ≤ work
-  unfolding workPut
+  pub work-fits : (est work : ℕ) (a : Answer) → answer ws ρ bound est work ≡ a → length (work_put ws a) ≤ work
+  unfolding work_put
   work-fits est work (refused k at) e = omega arith
   work-fits est work (verdict v) e =
-      let f = verdict-fit ws ρ bound est work v e in omega (arith, length-replicate {A = ℕ} (workWords (length ws)) 0, f.room)
+      let f = verdict-fit ws ρ bound est work v e in omega (arith, length-replicate {A = ℕ} (work_words (length ws)) 0, f.room)

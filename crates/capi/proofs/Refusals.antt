@@ -11,11 +11,11 @@ use Rattle.permset.specs.Sets.{width}
 use Rattle.table.specs.Scan.{Outcome, accepted, refused as unreadable, first_of, reading}
 use Rattle.table.specs.Code.{code}
 use Rattle.table.proofs.Refusals.{reading-bounded, bounded-place}
-use Rattle.calculus.specs.Layout.{estimateWords}
+use Rattle.calculus.specs.Layout.{estimate_words}
 use Rattle.calculus.specs.Estimate.{whole, estimate}
-use Rattle.calculus.specs.Answer.{Verdict, Answer, refused, verdict, workWords, callerTests, judge, analysis, answer}
+use Rattle.calculus.specs.Answer.{Verdict, Answer, refused, verdict, work_words, caller_tests, judge, analysis, answer}
 use Rattle.calculus.proofs.Firing.{whole_is}
-use Rattle.calls.specs.Faults.{faultNumber, faultPlace}
+use Rattle.calls.specs.Faults.{fault_number, fault_place}
 use Rattle.calls.specs.Calls.{Fit}
 use Rattle.comparison.specs.declared.Verdict.{Verdict as Declared-as-Verdict}
 use Rattle.comparison.specs.declared.Verdict.TheVariants as variants
@@ -33,7 +33,7 @@ none-holds false false false false h = (refl, refl)
 
 module _ (ws : List ℕ) (ρ bound est work : ℕ) where
   abbrev found : ℕ
-  found = first_of (callerTests (code ws) ρ bound est work)
+  found = first_of (caller_tests (code ws) ρ bound est work)
 
   -- the answer of an accepted table, by the number of the caller's first fault
   abbrev called : ℕ → Answer
@@ -41,10 +41,10 @@ module _ (ws : List ℕ) (ρ bound est work : ℕ) where
       elim n [ zero ↦ whole (estimate (code ws) ρ) (λ us. verdict (judge (code ws) ρ bound us)) | suc m ↦ refused (suc m) 0 ]
 
   room : reading ws ≡ accepted → found ≡ 0 → Fit ws est work
-  unfolding callerTests code
+  unfolding caller_tests code
   room r e =
-      let t = none-holds (leb (2 ^ width) ρ) _ (ltb est (estimateWords (code ws))) (ltb work (workWords (length ws))) e in
-      record { readable = r; long = ltb-false est (estimateWords (code ws)) t.0; room = ltb-false work (workWords (length ws)) t.1 }
+      let t = none-holds (leb (2 ^ width) ρ) _ (ltb est (estimate_words (code ws))) (ltb work (work_words (length ws))) e in
+      record { readable = r; long = ltb-false est (estimate_words (code ws)) t.0; room = ltb-false work (work_words (length ws)) t.1 }
 
   pub verdict-fit : (v : Verdict) → answer ws ρ bound est work ≡ verdict v → Fit ws est work
   unfolding answer analysis
@@ -79,6 +79,6 @@ module _ (ws : List ℕ) (ρ bound est work : ℕ) where
 
   pub place-fits : (v : Declared-as-Verdict) → answer_of v ≡ answer ws ρ bound est work → length ws < 65536 → PlaceFits v
   unfolding answer_of
-  place-fits (variants.Refused f) e h = omega (arith, answer-place (faultNumber f) (faultPlace f) (sym e))
+  place-fits (variants.Refused f) e h = omega (arith, answer-place (fault_number f) (fault_place f) (sym e))
   place-fits (variants.Within r) e h = tt
   place-fits (variants.Over r x) e h = tt

@@ -1,8 +1,8 @@
 // The check of an estimate from elsewhere for programs in C, over bytes that are only read.
 ghost use Rattle.std.specs.Prelude.{◌≡◌, ◌+◌, ◌*◌, ◌^◌, ◌<◌, ◌≤◌, length};
-ghost use Rattle.little_endian.specs.LittleEndian.{wordsOf};
+ghost use Rattle.little_endian.specs.LittleEndian.{words_of};
 ghost use Rattle.audit.specs.Audited.{said, number_of, place_of, audited};
-ghost use Rattle.capi.specs.Check.{checkNumber, estimateFrom, bytesAudited, ExactNumber, TakenIn};
+ghost use Rattle.capi.specs.Check.{check_number, estimate_from, bytes_audited, ExactNumber, TakenIn};
 ghost use Rattle.capi.specs.Macros.{CheckRead};
 
 use audit::Audit;
@@ -22,7 +22,7 @@ fn refusal(a: Audit) -> u64
 // What is said of an estimate, as one number.
 fn check_number(a: Audit) -> u64
     requires { place_of (said a) < 65536 }
-    ensures { result ≡ checkNumber (said a) }
+    ensures { result ≡ check_number (said a) }
 {
     match a {
         Audit::Table(_) => refusal(a),
@@ -51,7 +51,7 @@ fn take_words(bytes: &[u8], room: &mut [u32]) -> usize
 // The check of an estimate over words for it that are lent.
 fn of_room(words: &[u32], rho: u32, estimate: &[u8], room: &mut [u32]) -> u64
     requires { (length words.now ≤ 256) × (length room.old ≡ 5888) }
-    ensures { result ≡ checkNumber (audited words.now rho (estimateFrom estimate.now)) }
+    ensures { result ≡ check_number (audited words.now rho (estimate_from estimate.now)) }
 {
     let n = take_words(estimate, room);
     check_number(audit(words, rho, &room[..n]))
@@ -60,7 +60,7 @@ fn of_room(words: &[u32], rho: u32, estimate: &[u8], room: &mut [u32]) -> u64
 // The same over an array of words.
 fn of_words(words: &[u32], rho: u32, estimate: &[u8]) -> u64
     requires { length words.now ≤ 256 }
-    ensures { result ≡ checkNumber (audited words.now rho (estimateFrom estimate.now)) }
+    ensures { result ≡ check_number (audited words.now rho (estimate_from estimate.now)) }
 {
     let mut room = [0u32; 5888];
     of_room(words, rho, estimate, &mut room)
@@ -69,7 +69,7 @@ fn of_words(words: &[u32], rho: u32, estimate: &[u8]) -> u64
 // The same for the words of a system, over words that are lent.
 fn of_system(system: &[u8], rho: u32, estimate: &[u8], words: &mut [u32]) -> u64
     requires { (length system.now ≤ 1024) × (length words.old ≡ 256) }
-    ensures { result ≡ checkNumber (audited (wordsOf system.now) rho (estimateFrom estimate.now)) }
+    ensures { result ≡ check_number (audited (words_of system.now) rho (estimate_from estimate.now)) }
 {
     let n = words_of(system, words);
     of_words(&words[..n], rho, estimate)
@@ -79,8 +79,8 @@ fn of_system(system: &[u8], rho: u32, estimate: &[u8], words: &mut [u32]) -> u64
 // place. Nothing is written.
 #[unsafe(no_mangle)]
 pub extern "C" fn wiphosega_check(system: &[u8], rho: u32, estimate: &[u8]) -> u64
-    ensures answer { result ≡ checkNumber (bytesAudited system.now rho estimate.now) }
-    ensures macros { CheckRead (bytesAudited system.now rho estimate.now) result }
+    ensures answer { result ≡ check_number (bytes_audited system.now rho estimate.now) }
+    ensures macros { CheckRead (bytes_audited system.now rho estimate.now) result }
     ensures exact { ExactNumber system.now rho estimate.now result }
 {
     let fault = system_fault(system.len());

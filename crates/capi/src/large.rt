@@ -1,13 +1,13 @@
 // The verdict for programs in C on systems of up to 1,024 words, under a ceiling on facts, over bytes.
 ghost use Rattle.std.specs.Prelude.{◌≡◌, ◌+◌, ◌*◌, ◌/◌, ◌%◌, ◌^◌, ◌<◌, ◌≤◌, length};
-ghost use Rattle.little_endian.specs.LittleEndian.{wordsOf};
+ghost use Rattle.little_endian.specs.LittleEndian.{words_of};
 ghost use Rattle.table.specs.Scan.{first_of};
 ghost use Rattle.calculus.specs.Answer.{answer};
 ghost use Rattle.solver.specs.Ceiling.{under};
 ghost use Rattle.comparison.specs.Values.{answer_of};
-ghost use Rattle.verdict.specs.Limits.{limitedAnswer};
+ghost use Rattle.verdict.specs.Limits.{limited_answer};
 ghost use Rattle.capi.specs.Interface.{CorrectNumber, GuaranteedNumber};
-ghost use Rattle.capi.specs.Large.{largeTests, largeAnswer, largeNumber, estimatePut, workPut, putWords, putBytes, LargeAnswered, SmallPlace};
+ghost use Rattle.capi.specs.Large.{large_tests, large_answer, large_number, estimate_put, work_put, put_words, put_bytes, LargeAnswered, SmallPlace};
 
 use calls::numbers::{fault_number, fault_place};
 use comparison::Verdict;
@@ -16,7 +16,7 @@ use verdict::limit::{Limited, verdict_within};
 
 // The number that refuses a system of this many bytes before it is read, and 0 where none does.
 fn large_fault(size: usize) -> u32
-    ensures { result ≡ first_of (largeTests size) }
+    ensures { result ≡ first_of (large_tests size) }
 {
     if 4096 < size {
         return 31;
@@ -37,7 +37,7 @@ fn refusal(number: u32, place: usize) -> u64
 // A verdict as one number.
 fn verdict_number(v: Verdict) -> u64
     requires { SmallPlace (answer_of v) }
-    ensures { result ≡ largeNumber (answer_of v) }
+    ensures { result ≡ large_number (answer_of v) }
 {
     match v {
         Verdict::Refused(f) => refusal(fault_number(f), fault_place(f)),
@@ -54,8 +54,8 @@ fn verdict_number(v: Verdict) -> u64
 
 // An answer as one number.
 fn limited_number(l: Limited) -> u64
-    requires { SmallPlace (limitedAnswer l) }
-    ensures { result ≡ largeNumber (limitedAnswer l) }
+    requires { SmallPlace (limited_answer l) }
+    ensures { result ≡ large_number (limited_answer l) }
 {
     match l {
         Limited::Judged(v) => verdict_number(v),
@@ -74,10 +74,10 @@ fn with_own(
     own: &mut [u32],
 ) -> Limited
     requires { (length words.now ≤ 1024) × (length own.old ≡ 4096) }
-    ensures result_value { limitedAnswer result ≡ under ceiling (answer words.now rho bound (length est.old) (length work.old / 4)) }
-    ensures est_after { est.new ≡ putWords (estimatePut words.now rho ceiling
+    ensures result_value { limited_answer result ≡ under ceiling (answer words.now rho bound (length est.old) (length work.old / 4)) }
+    ensures est_after { est.new ≡ put_words (estimate_put words.now rho ceiling
         (answer words.now rho bound (length est.old) (length work.old / 4))) est.old }
-    ensures work_after { work.new ≡ putBytes (workPut words.now
+    ensures work_after { work.new ≡ put_bytes (work_put words.now
         (answer words.now rho bound (length est.old) (length work.old / 4))) work.old }
 {
     let n = words_of(work, own);
@@ -96,10 +96,10 @@ fn with_work(
     work: &mut [u8],
 ) -> Limited
     requires { length words.now ≤ 1024 }
-    ensures result_value { limitedAnswer result ≡ under ceiling (answer words.now rho bound (length est.old) (length work.old / 4)) }
-    ensures est_after { est.new ≡ putWords (estimatePut words.now rho ceiling
+    ensures result_value { limited_answer result ≡ under ceiling (answer words.now rho bound (length est.old) (length work.old / 4)) }
+    ensures est_after { est.new ≡ put_words (estimate_put words.now rho ceiling
         (answer words.now rho bound (length est.old) (length work.old / 4))) est.old }
-    ensures work_after { work.new ≡ putBytes (workPut words.now
+    ensures work_after { work.new ≡ put_bytes (work_put words.now
         (answer words.now rho bound (length est.old) (length work.old / 4))) work.old }
 {
     let mut own = [0u32; 4096];
@@ -117,11 +117,11 @@ fn with_room(
     room: &mut [u32],
 ) -> Limited
     requires { (length words.now ≤ 1024) × (length room.old ≡ 72704) }
-    ensures result_value { limitedAnswer result
+    ensures result_value { limited_answer result
         ≡ under ceiling (answer words.now rho bound (length estimate.old / 4) (length work.old / 4)) }
-    ensures estimate_after { estimate.new ≡ putBytes (estimatePut words.now rho ceiling
+    ensures estimate_after { estimate.new ≡ put_bytes (estimate_put words.now rho ceiling
         (answer words.now rho bound (length estimate.old / 4) (length work.old / 4))) estimate.old }
-    ensures work_after { work.new ≡ putBytes (workPut words.now
+    ensures work_after { work.new ≡ put_bytes (work_put words.now
         (answer words.now rho bound (length estimate.old / 4) (length work.old / 4))) work.old }
 {
     let n = words_of(estimate, room);
@@ -140,11 +140,11 @@ fn with_bytes(
     work: &mut [u8],
 ) -> Limited
     requires { length words.now ≤ 1024 }
-    ensures result_value { limitedAnswer result
+    ensures result_value { limited_answer result
         ≡ under ceiling (answer words.now rho bound (length estimate.old / 4) (length work.old / 4)) }
-    ensures estimate_after { estimate.new ≡ putBytes (estimatePut words.now rho ceiling
+    ensures estimate_after { estimate.new ≡ put_bytes (estimate_put words.now rho ceiling
         (answer words.now rho bound (length estimate.old / 4) (length work.old / 4))) estimate.old }
-    ensures work_after { work.new ≡ putBytes (workPut words.now
+    ensures work_after { work.new ≡ put_bytes (work_put words.now
         (answer words.now rho bound (length estimate.old / 4) (length work.old / 4))) work.old }
 {
     let mut room = [0u32; 72704];
@@ -179,7 +179,7 @@ fn of_system(
     words: &mut [u32],
 ) -> u64
     requires { (length system.now ≤ 4096) × (length words.old ≡ 1024) × (ceiling < 2 ^ 32) }
-    ensures { LargeAnswered (wordsOf system.now) rho ceiling (answer (wordsOf system.now) rho bound
+    ensures { LargeAnswered (words_of system.now) rho ceiling (answer (words_of system.now) rho bound
         (length estimate.old / 4) (length work.old / 4)) estimate.old work.old result estimate.new
         work.new }
 {
@@ -198,14 +198,14 @@ pub extern "C" fn wiphosega_judge(
     estimate: &mut [u8],
     work: &mut [u8],
 ) -> u64
-    ensures answer { result ≡ largeNumber (under ceiling (largeAnswer system.now rho bound (length estimate.old)
+    ensures answer { result ≡ large_number (under ceiling (large_answer system.now rho bound (length estimate.old)
         (length work.old))) }
-    ensures estimate { estimate.new ≡ putBytes (estimatePut (wordsOf system.now) rho ceiling
-        (largeAnswer system.now rho bound (length estimate.old) (length work.old))) estimate.old }
-    ensures work { work.new ≡ putBytes (workPut (wordsOf system.now)
-        (largeAnswer system.now rho bound (length estimate.old) (length work.old))) work.old }
-    ensures correct { CorrectNumber (wordsOf system.now) rho bound estimate.new result }
-    ensures guarantee { GuaranteedNumber (wordsOf system.now) rho result }
+    ensures estimate { estimate.new ≡ put_bytes (estimate_put (words_of system.now) rho ceiling
+        (large_answer system.now rho bound (length estimate.old) (length work.old))) estimate.old }
+    ensures work { work.new ≡ put_bytes (work_put (words_of system.now)
+        (large_answer system.now rho bound (length estimate.old) (length work.old))) work.old }
+    ensures correct { CorrectNumber (words_of system.now) rho bound estimate.new result }
+    ensures guarantee { GuaranteedNumber (words_of system.now) rho result }
 {
     let fault = large_fault(system.len());
     if fault != 0 {

@@ -4,10 +4,10 @@ pub mod large;
 mod slices;
 
 ghost use Rattle.std.specs.Prelude.{◌≡◌, ◌/◌, ◌≤◌, length};
-ghost use Rattle.little_endian.specs.LittleEndian.{wordsOf};
+ghost use Rattle.little_endian.specs.LittleEndian.{words_of};
 ghost use Rattle.calculus.specs.Answer.{answer};
-ghost use Rattle.interface.specs.Numbers.{answerNumber};
-ghost use Rattle.capi.specs.Interface.{bytesAnswer, estimateBytes, workBytes, Answered, CorrectNumber, GuaranteedNumber};
+ghost use Rattle.interface.specs.Numbers.{answer_number};
+ghost use Rattle.capi.specs.Interface.{bytes_answer, estimate_bytes, work_bytes, Answered, CorrectNumber, GuaranteedNumber};
 ghost use Rattle.capi.specs.Macros.{VerdictRead};
 
 use crate::slices::with_bytes;
@@ -33,7 +33,7 @@ fn of_system(
     words: &mut [u32],
 ) -> u64
     requires { (length system.now ≤ 1024) × (length words.old ≡ 256) }
-    ensures { Answered (wordsOf system.now) rho (answer (wordsOf system.now) rho bound
+    ensures { Answered (words_of system.now) rho (answer (words_of system.now) rho bound
         (length estimate.old / 4) (length work.old / 4)) estimate.old work.old result estimate.new
         work.new }
 {
@@ -51,14 +51,14 @@ pub extern "C" fn wiphosega_verdict(
     estimate: &mut [u8],
     work: &mut [u8],
 ) -> u64
-    ensures answer { result ≡ answerNumber (bytesAnswer system.now rho bound (length estimate.old) (length work.old)) }
-    ensures macros { VerdictRead (bytesAnswer system.now rho bound (length estimate.old) (length work.old)) result }
-    ensures estimate { estimate.new ≡ estimateBytes (wordsOf system.now) rho
-        (bytesAnswer system.now rho bound (length estimate.old) (length work.old)) estimate.old }
-    ensures work { work.new ≡ workBytes (wordsOf system.now) (bytesAnswer system.now rho bound
+    ensures answer { result ≡ answer_number (bytes_answer system.now rho bound (length estimate.old) (length work.old)) }
+    ensures macros { VerdictRead (bytes_answer system.now rho bound (length estimate.old) (length work.old)) result }
+    ensures estimate { estimate.new ≡ estimate_bytes (words_of system.now) rho
+        (bytes_answer system.now rho bound (length estimate.old) (length work.old)) estimate.old }
+    ensures work { work.new ≡ work_bytes (words_of system.now) (bytes_answer system.now rho bound
         (length estimate.old) (length work.old)) work.old }
-    ensures correct { CorrectNumber (wordsOf system.now) rho bound estimate.new result }
-    ensures guarantee { GuaranteedNumber (wordsOf system.now) rho result }
+    ensures correct { CorrectNumber (words_of system.now) rho bound estimate.new result }
+    ensures guarantee { GuaranteedNumber (words_of system.now) rho result }
 {
     let fault = system_fault(system.len());
     if fault != 0 {

@@ -2,7 +2,7 @@
 ghost use Rattle.std.specs.Prelude.{◌≡◌, ◌/◌, ◌≤◌, length};
 ghost use Rattle.calculus.specs.Answer.{answer};
 ghost use Rattle.comparison.specs.Values.{answer_of};
-ghost use Rattle.capi.specs.Interface.{estimateLeft, estimateBytes, workBytes};
+ghost use Rattle.capi.specs.Interface.{estimate_left, estimate_bytes, work_bytes};
 
 use comparison::Verdict;
 use little_endian::{bytes_of, words_of};
@@ -19,8 +19,8 @@ fn with_own(
 ) -> Verdict
     requires { (length words.now ≤ 256) × (length own.old ≡ 1024) }
     ensures result_value { answer_of result ≡ answer words.now rho bound (length est.old) (length work.old / 4) }
-    ensures est_after { est.new ≡ estimateLeft words.now rho (answer_of result) est.old }
-    ensures work_after { work.new ≡ workBytes words.now (answer_of result) work.old }
+    ensures est_after { est.new ≡ estimate_left words.now rho (answer_of result) est.old }
+    ensures work_after { work.new ≡ work_bytes words.now (answer_of result) work.old }
 {
     let n = words_of(work, own);
     let v = verdict(words, rho, bound, est, &mut own[..n]);
@@ -32,8 +32,8 @@ fn with_own(
 fn with_work(words: &[u32], rho: u32, bound: u32, est: &mut [u32], work: &mut [u8]) -> Verdict
     requires { length words.now ≤ 256 }
     ensures result_value { answer_of result ≡ answer words.now rho bound (length est.old) (length work.old / 4) }
-    ensures est_after { est.new ≡ estimateLeft words.now rho (answer_of result) est.old }
-    ensures work_after { work.new ≡ workBytes words.now (answer_of result) work.old }
+    ensures est_after { est.new ≡ estimate_left words.now rho (answer_of result) est.old }
+    ensures work_after { work.new ≡ work_bytes words.now (answer_of result) work.old }
 {
     let mut own = [0u32; 1024];
     with_own(words, rho, bound, est, work, &mut own)
@@ -50,8 +50,8 @@ fn with_room(
 ) -> Verdict
     requires { (length words.now ≤ 256) × (length room.old ≡ 5888) }
     ensures result_value { answer_of result ≡ answer words.now rho bound (length estimate.old / 4) (length work.old / 4) }
-    ensures estimate_after { estimate.new ≡ estimateBytes words.now rho (answer_of result) estimate.old }
-    ensures work_after { work.new ≡ workBytes words.now (answer_of result) work.old }
+    ensures estimate_after { estimate.new ≡ estimate_bytes words.now rho (answer_of result) estimate.old }
+    ensures work_after { work.new ≡ work_bytes words.now (answer_of result) work.old }
 {
     let n = words_of(estimate, room);
     let v = with_work(words, rho, bound, &mut room[..n], work);
@@ -69,8 +69,8 @@ pub fn with_bytes(
 ) -> Verdict
     requires { length words.now ≤ 256 }
     ensures result_value { answer_of result ≡ answer words.now rho bound (length estimate.old / 4) (length work.old / 4) }
-    ensures estimate_after { estimate.new ≡ estimateBytes words.now rho (answer_of result) estimate.old }
-    ensures work_after { work.new ≡ workBytes words.now (answer_of result) work.old }
+    ensures estimate_after { estimate.new ≡ estimate_bytes words.now rho (answer_of result) estimate.old }
+    ensures work_after { work.new ≡ work_bytes words.now (answer_of result) work.old }
 {
     let mut room = [0u32; 5888];
     with_room(words, rho, bound, estimate, work, &mut room)

@@ -11,29 +11,29 @@ use Rattle.table.specs.Scan.{Outcome, accepted, refused as unreadable, first_of,
 use Rattle.table.specs.Code.{code}
 use Rattle.table.proofs.Refusals.{reading-bounded, bounded-place}
 use Rattle.calculus.specs.Estimate.{whole, estimate}
-use Rattle.calculus.specs.Answer.{Answer, refused, verdict, callerTests, judge, analysis, answer}
+use Rattle.calculus.specs.Answer.{Answer, refused, verdict, caller_tests, judge, analysis, answer}
 use Rattle.calculus.proofs.Firing.{whole_is}
-use Rattle.little_endian.specs.LittleEndian.{wordsOf}
-use Rattle.little_endian.proofs.Laws.{length-wordsOf, words-read}
-use Rattle.interface.specs.Numbers.{systemTests}
+use Rattle.little_endian.specs.LittleEndian.{words_of}
+use Rattle.little_endian.proofs.Laws.{length-words_of, words-read}
+use Rattle.interface.specs.Numbers.{system_tests}
 
 -- all words of a system of at most 1,024 bytes
-pub system-read : (bs own now : List ℕ) (n : ℕ) → n ≡ min (length bs / 4) (length own) → now ≡ take n (wordsOf bs) ++ drop n own
-    → length own ≡ 256 → length bs ≤ 1024 → take n now ≡ wordsOf bs
+pub system-read : (bs own now : List ℕ) (n : ℕ) → n ≡ min (length bs / 4) (length own) → now ≡ take n (words_of bs) ++ drop n own
+    → length own ≡ 256 → length bs ≤ 1024 → take n now ≡ words_of bs
 system-read bs own now n count content room most = words-read bs own now n count content (omega arith)
 
-pub read_length : (bs own now : List ℕ) (n : ℕ) → n ≡ min (length bs / 4) (length own) → now ≡ take n (wordsOf bs) ++ drop n own → length (take n now) ≡ n
+pub read_length : (bs own now : List ℕ) (n : ℕ) → n ≡ min (length bs / 4) (length own) → now ≡ take n (words_of bs) ++ drop n own → length (take n now) ≡ n
 read_length bs own now n count content =
-    let l : length (take n (wordsOf bs)) ≡ n = length-take-le n (wordsOf bs) (omega (arith, length-wordsOf bs)) in
-    ap length (ap (take n) content ∙ take_at (take n (wordsOf bs)) (drop n own) n l) ∙ l
+    let l : length (take n (words_of bs)) ≡ n = length-take-le n (words_of bs) (omega (arith, length-words_of bs)) in
+    ap length (ap (take n) content ∙ take_at (take n (words_of bs)) (drop n own) n l) ∙ l
 
 first-left : (a b : Bool) → first_of ((a, 31) ∷ (b, 30) ∷ []) ≡ 0 → a ≡ false
 unfolding first_of
 first-left true b h = absurd (omega arith)
 first-left false b h = refl
 
-pub system-size : (size : ℕ) → first_of (systemTests size) ≡ 0 → size ≤ 1024
-unfolding systemTests
+pub system-size : (size : ℕ) → first_of (system_tests size) ≡ 0 → size ≤ 1024
+unfolding system_tests
 system-size size h = ltb-false 1024 size (first-left _ _ h)
 
 -- a refusal's place is in the table or its end
@@ -56,7 +56,7 @@ module _ (ws : List ℕ) (ρ bound est work : ℕ) where
 
       go : (o : Outcome) → reading ws ≡ o
           → (elim o as (λ u. Answer) [ accepted ↦ analysis (code ws) ρ bound est work | unreadable m q ↦ refused m q ]) ≡ refused n p → p ≤ length ws
-      go accepted r h = start (first_of (callerTests (code ws) ρ bound est work)) h
+      go accepted r h = start (first_of (caller_tests (code ws) ρ bound est work)) h
       go (unreadable m q) r h =
           let same : q ≡ p = cc in
           omega (arith, bounded-place (length ws) (reading ws) m q (reading-bounded ws) r)

@@ -1,8 +1,8 @@
 // Why a permission leaks, for programs in C, over bytes.
 ghost use Rattle.std.specs.Prelude.{◌≡◌, ℕ, ◌+◌, ◌*◌, ◌/◌, ◌^◌, ◌≤◌, ◌<◌, length};
-ghost use Rattle.little_endian.specs.LittleEndian.{wordsOf};
-ghost use Rattle.leak_path.specs.Reply.{replyOf, reply, path as Path·words};
-ghost use Rattle.capi_path.specs.Why.{replyNumber, bytesReply, leftBytes, Fitting};
+ghost use Rattle.little_endian.specs.LittleEndian.{words_of};
+ghost use Rattle.leak_path.specs.Reply.{reply_of, reply, path as Path·words};
+ghost use Rattle.capi_path.specs.Why.{reply_number, bytes_reply, left_bytes, Fitting};
 
 use calls::numbers::{fault_number, fault_place};
 use interface::system_fault;
@@ -19,9 +19,9 @@ fn refusal(number: u32, place: usize) -> u64
 
 // The answer as one number, and the words of the path, from the start of `own`, as bytes.
 fn hand_out(found: Path, own: &[u32], path: &mut [u8]) -> u64
-    requires { Fitting (replyOf found) (length own.now) (length path.old) }
-    ensures value { result ≡ replyNumber (replyOf found) }
-    ensures path_after { path.new ≡ leftBytes (replyOf found) own.now path.old }
+    requires { Fitting (reply_of found) (length own.now) (length path.old) }
+    ensures value { result ≡ reply_number (reply_of found) }
+    ensures path_after { path.new ≡ left_bytes (reply_of found) own.now path.old }
 {
     match found {
         Path::Refused(f) => refusal(fault_number(f), fault_place(f)),
@@ -37,8 +37,8 @@ fn hand_out(found: Path, own: &[u32], path: &mut [u8]) -> u64
 // Over words for the path that are lent.
 fn with_own(words: &[u32], rho: u32, permission: u32, own: &mut [u32], path: &mut [u8]) -> u64
     requires { (length words.now ≤ 256) × (4 * length own.old ≤ length path.old) }
-    ensures value { result ≡ replyNumber (reply words.now rho permission 5888 1024 (length own.old)) }
-    ensures path_after { path.new ≡ leftBytes (reply words.now rho permission 5888 1024 (length own.old))
+    ensures value { result ≡ reply_number (reply words.now rho permission 5888 1024 (length own.old)) }
+    ensures path_after { path.new ≡ left_bytes (reply words.now rho permission 5888 1024 (length own.old))
         (Path·words words.now rho permission) path.old }
 {
     let mut est = [0u32; 5888];
@@ -58,8 +58,8 @@ fn room(bytes: usize) -> usize
 // Over an array of words.
 fn of_words(words: &[u32], rho: u32, permission: u32, path: &mut [u8]) -> u64
     requires { length words.now ≤ 256 }
-    ensures value { result ≡ replyNumber (reply words.now rho permission 5888 1024 (length path.old / 4)) }
-    ensures path_after { path.new ≡ leftBytes (reply words.now rho permission 5888 1024 (length path.old / 4))
+    ensures value { result ≡ reply_number (reply words.now rho permission 5888 1024 (length path.old / 4)) }
+    ensures path_after { path.new ≡ left_bytes (reply words.now rho permission 5888 1024 (length path.old / 4))
         (Path·words words.now rho permission) path.old }
 {
     let mut own = [0u32; 256];
@@ -70,9 +70,9 @@ fn of_words(words: &[u32], rho: u32, permission: u32, path: &mut [u8]) -> u64
 // The same for the words of a system, over words that are lent.
 fn of_system(system: &[u8], rho: u32, permission: u32, path: &mut [u8], words: &mut [u32]) -> u64
     requires { (length system.now ≤ 1024) × (length words.old ≡ 256) }
-    ensures value { result ≡ replyNumber (reply (wordsOf system.now) rho permission 5888 1024 (length path.old / 4)) }
-    ensures path_after { path.new ≡ leftBytes (reply (wordsOf system.now) rho permission 5888 1024 (length path.old / 4))
-        (Path·words (wordsOf system.now) rho permission) path.old }
+    ensures value { result ≡ reply_number (reply (words_of system.now) rho permission 5888 1024 (length path.old / 4)) }
+    ensures path_after { path.new ≡ left_bytes (reply (words_of system.now) rho permission 5888 1024 (length path.old / 4))
+        (Path·words (words_of system.now) rho permission) path.old }
 {
     let n = words_of(system, words);
     of_words(&words[..n], rho, permission, path)
@@ -82,9 +82,9 @@ fn of_system(system: &[u8], rho: u32, permission: u32, path: &mut [u8], words: &
 // 2^32 + number × 65,536 + place. The path counts whole words, and needs as many as the system has; its words are written from its start.
 #[unsafe(no_mangle)]
 pub extern "C" fn wiphosega_why(system: &[u8], rho: u32, permission: u32, path: &mut [u8]) -> u64
-    ensures answer { result ≡ replyNumber (bytesReply system.now rho permission (length path.old)) }
-    ensures path { path.new ≡ leftBytes (bytesReply system.now rho permission (length path.old))
-        (Path·words (wordsOf system.now) rho permission) path.old }
+    ensures answer { result ≡ reply_number (bytes_reply system.now rho permission (length path.old)) }
+    ensures path { path.new ≡ left_bytes (bytes_reply system.now rho permission (length path.old))
+        (Path·words (words_of system.now) rho permission) path.old }
 {
     let fault = system_fault(system.len());
     if fault != 0 {

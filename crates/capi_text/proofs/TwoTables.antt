@@ -8,29 +8,29 @@ use lib.Dec.{ltb}
 use lib.ListN.{length, take, length-take}
 use lib.Seq.{take_all}
 use Rattle.table.specs.Words.{narrow, size}
-use Rattle.table.specs.Scan.{Outcome, accepted, refused, first_of, narrowReading}
+use Rattle.table.specs.Scan.{Outcome, accepted, refused, first_of, narrow_reading}
 use Rattle.listing.proofs.Depths.{narrow_size}
 use Rattle.table.proofs.Stack.{refused-not-accepted}
-use Rattle.little_endian.specs.LittleEndian.{wordsOf}
+use Rattle.little_endian.specs.LittleEndian.{words_of}
 use Rattle.listing.specs.Listing.{Answered, done, refusal}
 use Rattle.table.proofs.Refusals.{first_small, no-test-small}
 use Rattle.listing.proofs.Places.{table-place, table-number, reading-first}
 use Rattle.blocks.specs.Blocks.{blocks}
-use Rattle.overlay.specs.Lookup.{tablesRead, Sought, nothing, found, sought, Place, inBase, inOverlay, place_of}
+use Rattle.overlay.specs.Lookup.{tables_read, Sought, nothing, found, sought, Place, in_base, in_overlay, place_of}
 use Rattle.overlay.specs.Lookup as lookup
-use Rattle.overlay.specs.Join.{joinedBlocks, joined, Answer, written, joinFault, joinAnswer}
+use Rattle.overlay.specs.Join.{joined_blocks, joined, Answer, written, join_fault, join_answer}
 use Rattle.overlay.specs.Join as join
 use Rattle.overlay.proofs.Refusals.{base-refused, overlay-refused, both-accepted, tables-accepted}
 use Rattle.overlay.proofs.Seek.{sought-part}
 use Rattle.overlay.proofs.Places.{place-refused, place_found}
 use Rattle.overlay.proofs.Joins.{join-refused, out-refused, join-stopped, join_written}
-use Rattle.capi_text.specs.Interface.{answerNumber, placed}
-use Rattle.capi_text.specs.Overlay.{oddNumber, lookupAnswer, placeNumber, joinBytes, joinedAnswer}
+use Rattle.capi_text.specs.Interface.{answer_number, placed}
+use Rattle.capi_text.specs.Overlay.{odd_number, lookup_answer, place_number, join_bytes, joined_answer}
 
 -- ---- of more than 1,024 words the first 1,025 decide
 
-tables-first : (b o : List ℕ) → tablesRead (take 1025 b) (take 1025 o) ≡ tablesRead b o
-unfolding tablesRead
+tables-first : (b o : List ℕ) → tables_read (take 1025 b) (take 1025 o) ≡ tables_read b o
+unfolding tables_read
 tables-first b o = ap₂ both (reading-first b) (reading-first o)
   where
     both : Outcome → Outcome → Outcome
@@ -39,11 +39,11 @@ tables-first b o = ap₂ both (reading-first b) (reading-first o)
 
 -- of everything that is refused by the two tables alone
 module _ {A : Type 0} (f : List ℕ → List ℕ → A) (g : ℕ → ℕ → A)
-    (stops : (b o : List ℕ) (n p : ℕ) → tablesRead b o ≡ refused n p → f b o ≡ g n p) where
+    (stops : (b o : List ℕ) (n p : ℕ) → tables_read b o ≡ refused n p → f b o ≡ g n p) where
   first-same : (b o : List ℕ) → f (take 1025 b) (take 1025 o) ≡ f b o
-  first-same b o = go (tablesRead b o) refl
+  first-same b o = go (tables_read b o) refl
     where
-      go : (r : Outcome) → tablesRead b o ≡ r → f (take 1025 b) (take 1025 o) ≡ f b o
+      go : (r : Outcome) → tables_read b o ≡ r → f (take 1025 b) (take 1025 o) ≡ f b o
       go (refused n p) e = stops (take 1025 b) (take 1025 o) n p (tables-first b o ∙ e) ∙ sym (stops b o n p e)
       go accepted e =
           let t = tables-accepted b o e in
@@ -52,23 +52,23 @@ module _ {A : Type 0} (f : List ℕ → List ℕ → A) (g : ℕ → ℕ → A)
 pub place-first : (b o : List ℕ) (n s : ℕ) → place_of (take 1025 b) (take 1025 o) n s ≡ place_of b o n s
 place-first b o n s = first-same (λ (x y : List ℕ). place_of x y n s) lookup.refusal (λ x y. place-refused x y n s) b o
 
-pub join_first : (b o out : List ℕ) → joinAnswer (take 1025 b) (take 1025 o) (length out) ≡ joinAnswer b o (length out)
-join_first b o out = first-same (λ (x y : List ℕ). joinAnswer x y (length out)) join.refusal (λ x y. join-refused x y out) b o
+pub join_first : (b o out : List ℕ) → join_answer (take 1025 b) (take 1025 o) (length out) ≡ join_answer b o (length out)
+join_first b o out = first-same (λ (x y : List ℕ). join_answer x y (length out)) join.refusal (λ x y. join-refused x y out) b o
 
-pub out_first : (b o out : List ℕ) → join.outAfter (take 1025 b) (take 1025 o) out ≡ join.outAfter b o out
-out_first b o out = first-same (λ (x y : List ℕ). join.outAfter x y out) (λ n p. out) (λ x y. out-refused x y out) b o
+pub out_first : (b o out : List ℕ) → join.out_after (take 1025 b) (take 1025 o) out ≡ join.out_after b o out
+out_first b o out = first-same (λ (x y : List ℕ). join.out_after x y out) (λ n p. out) (λ x y. out-refused x y out) b o
 
 -- ---- the room
 
 -- an answer given for 1,024 words of room, for another room
-unfoldable inRoom : ℕ → Answer → Answer
-inRoom room (written n) = elim (ltb room n) [ true ↦ join.refusal 50 0 | false ↦ written n ]
-inRoom room (join.refusal n p) = join.refusal n p
+unfoldable in_room : ℕ → Answer → Answer
+in_room room (written n) = elim (ltb room n) [ true ↦ join.refusal 50 0 | false ↦ written n ]
+in_room room (join.refusal n p) = join.refusal n p
 
 module _ (b o : List ℕ) (room : ℕ) where
-  join-room : joinAnswer b o room ≡ inRoom room (joinAnswer b o 1024)
-  unfolding joinAnswer joinFault inRoom first_of
-  join-room = go (tablesRead b o)
+  join-room : join_answer b o room ≡ in_room room (join_answer b o 1024)
+  unfolding join_answer join_fault in_room first_of
+  join-room = go (tables_read b o)
     where
       words : ℕ
       words = length (joined b o)
@@ -81,7 +81,7 @@ module _ (b o : List ℕ) (room : ℕ) where
       last true = refl
       last false = refl
 
-      tests : (h w : Bool) → answer h w (ltb room words) ≡ inRoom room (answer h w w)
+      tests : (h w : Bool) → answer h w (ltb room words) ≡ in_room room (answer h w w)
       tests true w = refl
       tests false true = refl
       tests false false = last (ltb room words)
@@ -89,28 +89,28 @@ module _ (b o : List ℕ) (room : ℕ) where
       go : (t : Outcome)
           → (elim t as (λ x. Answer) [
             | refused n p ↦ join.refusal n p
-            | accepted ↦ answer (ltb narrow (length (joinedBlocks (blocks b) (blocks o)))) (ltb size words) (ltb room words)
+            | accepted ↦ answer (ltb narrow (length (joined_blocks (blocks b) (blocks o)))) (ltb size words) (ltb room words)
           ])
-          ≡ inRoom room (elim t as (λ x. Answer) [
+          ≡ in_room room (elim t as (λ x. Answer) [
             | refused n p ↦ join.refusal n p
-            | accepted ↦ answer (ltb narrow (length (joinedBlocks (blocks b) (blocks o)))) (ltb size words) (ltb 1024 words)
+            | accepted ↦ answer (ltb narrow (length (joined_blocks (blocks b) (blocks o)))) (ltb size words) (ltb 1024 words)
           ])
       go (refused n p) = refl
-      go accepted = tests (ltb narrow (length (joinedBlocks (blocks b) (blocks o)))) (ltb size words)
+      go accepted = tests (ltb narrow (length (joined_blocks (blocks b) (blocks o)))) (ltb size words)
 
 module _ (b o : List ℕ) (bytes : ℕ) where
-  pub join-done : (n : ℕ) → joinAnswer b o 1024 ≡ written n → placed 50 n bytes ≡ joinBytes (joinAnswer b o (bytes / 4))
-  unfolding placed joinBytes inRoom
-  join-done n e = go (ltb (bytes / 4) n) ∙ sym (ap joinBytes (join-room b o (bytes / 4) ∙ ap (inRoom (bytes / 4)) e))
+  pub join-done : (n : ℕ) → join_answer b o 1024 ≡ written n → placed 50 n bytes ≡ join_bytes (join_answer b o (bytes / 4))
+  unfolding placed join_bytes in_room
+  join-done n e = go (ltb (bytes / 4) n) ∙ sym (ap join_bytes (join-room b o (bytes / 4) ∙ ap (in_room (bytes / 4)) e))
     where
       go : (t : Bool)
-          → ◌≡◌ {A = Answered} (elim t [ true ↦ refusal 50 0 | false ↦ done (4 * n) ]) (joinBytes (elim t [ true ↦ join.refusal 50 0 | false ↦ written n ]))
+          → ◌≡◌ {A = Answered} (elim t [ true ↦ refusal 50 0 | false ↦ done (4 * n) ]) (join_bytes (elim t [ true ↦ join.refusal 50 0 | false ↦ written n ]))
       go true = refl
       go false = refl
 
-  pub join-not : (n p : ℕ) → joinAnswer b o 1024 ≡ join.refusal n p → refusal n p ≡ joinBytes (joinAnswer b o (bytes / 4))
-  unfolding joinBytes inRoom
-  join-not n p e = sym (ap joinBytes (join-room b o (bytes / 4) ∙ ap (inRoom (bytes / 4)) e))
+  pub join-not : (n p : ℕ) → join_answer b o 1024 ≡ join.refusal n p → refusal n p ≡ join_bytes (join_answer b o (bytes / 4))
+  unfolding join_bytes in_room
+  join-not n p e = sym (ap join_bytes (join-room b o (bytes / 4) ∙ ap (in_room (bytes / 4)) e))
 
 -- ---- bytes that are no whole words
 
@@ -122,21 +122,21 @@ even-case : {A : Type 0} (f : ℕ → A) (x : A) (k : ℕ) → k ≡ 0 → (elim
 even-case f x k e = rw e
 
 module _ (base overlay : List ℕ) where
-  pub odd_base : (length base % 4 ≡ 0 → ⊥) → oddNumber base overlay ≡ 30
-  unfolding oddNumber
+  pub odd_base : (length base % 4 ≡ 0 → ⊥) → odd_number base overlay ≡ 30
+  unfolding odd_number
   odd_base h = odd-case (λ n. 30) _ (length base % 4) h
 
   module _ (e : length base % 4 ≡ 0) where
-    pub odd-overlay : (length overlay % 4 ≡ 0 → ⊥) → oddNumber base overlay ≡ 130
-    unfolding oddNumber
+    pub odd-overlay : (length overlay % 4 ≡ 0 → ⊥) → odd_number base overlay ≡ 130
+    unfolding odd_number
     odd-overlay h = even-case (λ n. 30) _ (length base % 4) e ∙ odd-case (λ n. 130) 0 (length overlay % 4) h
 
-    pub even-both : length overlay % 4 ≡ 0 → oddNumber base overlay ≡ 0
-    unfolding oddNumber
+    pub even-both : length overlay % 4 ≡ 0 → odd_number base overlay ≡ 0
+    unfolding odd_number
     even-both h = even-case (λ n. 30) _ (length base % 4) e ∙ even-case (λ n. 130) 0 (length overlay % 4) h
 
-  pub odd-small : oddNumber base overlay ≤ 130
-  unfolding oddNumber
+  pub odd-small : odd_number base overlay ≤ 130
+  unfolding odd_number
   odd-small = go (length base % 4) (length overlay % 4)
     where
       go : (x y : ℕ) → (elim x as (λ n. ℕ) [ suc n ↦ 30 | zero ↦ elim y as (λ n. ℕ) [ suc n ↦ 130 | zero ↦ 0 ] ]) ≤ 130
@@ -144,47 +144,47 @@ module _ (base overlay : List ℕ) where
       go zero (suc n) = omega arith
       go zero zero = omega arith
 
-  module _ (odd : oddNumber base overlay ≡ 0 → ⊥) where
-    pub lookup-odd : (n s : ℕ) → lookupAnswer base overlay n s ≡ lookup.refusal (oddNumber base overlay) 0
-    unfolding lookupAnswer
-    lookup-odd n s = odd-case (λ k. lookup.refusal k 0) _ (oddNumber base overlay) odd
+  module _ (odd : odd_number base overlay ≡ 0 → ⊥) where
+    pub lookup-odd : (n s : ℕ) → lookup_answer base overlay n s ≡ lookup.refusal (odd_number base overlay) 0
+    unfolding lookup_answer
+    lookup-odd n s = odd-case (λ k. lookup.refusal k 0) _ (odd_number base overlay) odd
 
-    pub join-odd : (bytes : ℕ) → joinedAnswer base overlay bytes ≡ refusal (oddNumber base overlay) 0
-    unfolding joinedAnswer
-    join-odd bytes = odd-case (λ k. refusal k 0) _ (oddNumber base overlay) odd
+    pub join-odd : (bytes : ℕ) → joined_answer base overlay bytes ≡ refusal (odd_number base overlay) 0
+    unfolding joined_answer
+    join-odd bytes = odd-case (λ k. refusal k 0) _ (odd_number base overlay) odd
 
   -- as numbers
-  module _ (r : ℕ) (q : r ≡ oddNumber base overlay) (h : r ≡ 0 → ⊥) where
-    pub lookup-odd-number : (n s : ℕ) → 4294967296 + r * 65536 ≡ placeNumber (lookupAnswer base overlay n s)
-    unfolding placeNumber
-    lookup-odd-number n s = let e = ap placeNumber (lookup-odd (λ z. h (q ∙ z)) n s) in omega arith
+  module _ (r : ℕ) (q : r ≡ odd_number base overlay) (h : r ≡ 0 → ⊥) where
+    pub lookup-odd-number : (n s : ℕ) → 4294967296 + r * 65536 ≡ place_number (lookup_answer base overlay n s)
+    unfolding place_number
+    lookup-odd-number n s = let e = ap place_number (lookup-odd (λ z. h (q ∙ z)) n s) in omega arith
 
-    pub join-odd-number : (bytes : ℕ) → 4294967296 + r * 65536 ≡ answerNumber (joinedAnswer base overlay bytes)
-    unfolding answerNumber
-    join-odd-number bytes = let e = ap answerNumber (join-odd (λ z. h (q ∙ z)) bytes) in omega arith
+    pub join-odd-number : (bytes : ℕ) → 4294967296 + r * 65536 ≡ answer_number (joined_answer base overlay bytes)
+    unfolding answer_number
+    join-odd-number bytes = let e = ap answer_number (join-odd (λ z. h (q ∙ z)) bytes) in omega arith
 
-  module _ (even : oddNumber base overlay ≡ 0) where
-    pub lookup-even : (n s : ℕ) → lookupAnswer base overlay n s ≡ place_of (wordsOf base) (wordsOf overlay) n s
-    unfolding lookupAnswer
-    lookup-even n s = even-case (λ k. lookup.refusal k 0) _ (oddNumber base overlay) even
+  module _ (even : odd_number base overlay ≡ 0) where
+    pub lookup-even : (n s : ℕ) → lookup_answer base overlay n s ≡ place_of (words_of base) (words_of overlay) n s
+    unfolding lookup_answer
+    lookup-even n s = even-case (λ k. lookup.refusal k 0) _ (odd_number base overlay) even
 
-    pub join-even : (bytes : ℕ) → joinedAnswer base overlay bytes ≡ joinBytes (joinAnswer (wordsOf base) (wordsOf overlay) (bytes / 4))
-    unfolding joinedAnswer
-    join-even bytes = even-case (λ k. refusal k 0) _ (oddNumber base overlay) even
+    pub join-even : (bytes : ℕ) → joined_answer base overlay bytes ≡ join_bytes (join_answer (words_of base) (words_of overlay) (bytes / 4))
+    unfolding joined_answer
+    join-even bytes = even-case (λ k. refusal k 0) _ (odd_number base overlay) even
 
 -- ---- the parts of an answer
 
-reading_small : (ws : List ℕ) (n p : ℕ) → narrowReading ws ≡ refused n p → (n ≤ 12) × (p ≤ 1025)
+reading_small : (ws : List ℕ) (n p : ℕ) → narrow_reading ws ≡ refused n p → (n ≤ 12) × (p ≤ 1025)
 reading_small ws n p e =
     (table-number ws n p e, omega (arith, table-place (take 1025 ws) n p (reading-first ws ∙ e), length-take 1025 ws))
 
-pub tables-small : (b o : List ℕ) (n p : ℕ) → tablesRead b o ≡ refused n p → (n ≤ 112) × (p ≤ 1025)
-tables-small b o n p e = go (narrowReading b) (narrowReading o) refl refl
+pub tables-small : (b o : List ℕ) (n p : ℕ) → tables_read b o ≡ refused n p → (n ≤ 112) × (p ≤ 1025)
+tables-small b o n p e = go (narrow_reading b) (narrow_reading o) refl refl
   where
-    same : (k q : ℕ) → tablesRead b o ≡ refused k q → (k ≡ n) × (q ≡ p)
+    same : (k q : ℕ) → tables_read b o ≡ refused k q → (k ≡ n) × (q ≡ p)
     same k q f = (cc, cc)
 
-    go : (x y : Outcome) → narrowReading b ≡ x → narrowReading o ≡ y → (n ≤ 112) × (p ≤ 1025)
+    go : (x y : Outcome) → narrow_reading b ≡ x → narrow_reading o ≡ y → (n ≤ 112) × (p ≤ 1025)
     go (refused k q) y f g =
         let s = same k q (base-refused b o k q f) in
         let t = reading_small b k q f in
@@ -197,14 +197,14 @@ tables-small b o n p e = go (narrowReading b) (narrowReading o) refl refl
 
 -- a part lies within 1,024 words, and a refusal has a small number and place
 abbrev pub Inside : Place → Type 0
-Inside (inBase a e) = (a ≤ e) × (e ≤ 1024)
-Inside (inOverlay a e) = (a ≤ e) × (e ≤ 1024)
+Inside (in_base a e) = (a ≤ e) × (e ≤ 1024)
+Inside (in_overlay a e) = (a ≤ e) × (e ≤ 1024)
 Inside (lookup.refusal n p) = (n ≤ 130) × (p ≤ 1025)
 
 pub place-small : (b o : List ℕ) (n s : ℕ) → Inside (place_of b o n s)
-place-small b o n s = go (tablesRead b o) (sought b n s) (sought o n s) refl refl refl
+place-small b o n s = go (tables_read b o) (sought b n s) (sought o n s) refl refl refl
   where
-    go : (t : Outcome) (x y : Sought) → tablesRead b o ≡ t → sought b n s ≡ x → sought o n s ≡ y → Inside (place_of b o n s)
+    go : (t : Outcome) (x y : Sought) → tables_read b o ≡ t → sought b n s ≡ x → sought o n s ≡ y → Inside (place_of b o n s)
     go (refused k p) x y t ex ey =
         let q = tables-small b o k p t in
         subst Inside (sym (place-refused b o n s k p t)) (omega arith, omega arith)
@@ -219,18 +219,18 @@ place-small b o n s = go (tablesRead b o) (sought b n s) (sought o n s) refl ref
     go accepted nothing nothing t ex ey =
         subst Inside (sym (place_found b o n s t nothing nothing ex ey)) (omega arith, omega arith)
 
-fault-small : (b o : List ℕ) (room : ℕ) → joinFault b o room ≤ 50
-unfolding joinFault
+fault-small : (b o : List ℕ) (room : ℕ) → join_fault b o room ≤ 50
+unfolding join_fault
 fault-small b o room =
     first_small _ 48 50 _ (omega arith) (first_small _ 49 50 _ (omega arith) (first_small _ 50 50 _ (omega arith) (no-test-small 50)))
 
-pub join-refused-small : (b o out : List ℕ) (n p : ℕ) → joinAnswer b o (length out) ≡ join.refusal n p → (n ≤ 112) × (p ≤ 1025)
-join-refused-small b o out n p e = go (tablesRead b o) (joinFault b o (length out)) refl refl
+pub join-refused-small : (b o out : List ℕ) (n p : ℕ) → join_answer b o (length out) ≡ join.refusal n p → (n ≤ 112) × (p ≤ 1025)
+join-refused-small b o out n p e = go (tables_read b o) (join_fault b o (length out)) refl refl
   where
-    same : (k q : ℕ) → joinAnswer b o (length out) ≡ join.refusal k q → (k ≡ n) × (q ≡ p)
+    same : (k q : ℕ) → join_answer b o (length out) ≡ join.refusal k q → (k ≡ n) × (q ≡ p)
     same k q f = (cc, cc)
 
-    go : (t : Outcome) (k : ℕ) → tablesRead b o ≡ t → joinFault b o (length out) ≡ k → (n ≤ 112) × (p ≤ 1025)
+    go : (t : Outcome) (k : ℕ) → tables_read b o ≡ t → join_fault b o (length out) ≡ k → (n ≤ 112) × (p ≤ 1025)
     go (refused k q) m t f =
         let s = same k q (join-refused b o out k q t) in
         let u = tables-small b o k q t in

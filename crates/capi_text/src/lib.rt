@@ -6,7 +6,7 @@ mod overlays;
 
 ghost use Rattle.std.specs.Prelude.{◌≡◌, ◌+◌, ◌*◌, ◌^◌, ◌<◌, ◌≤◌, length};
 ghost use Rattle.listing.specs.Answer.{number, place};
-ghost use Rattle.capi_text.specs.Interface.{answerNumber, writeAnswer, textAfter, readAnswer, systemAfter, PutAs};
+ghost use Rattle.capi_text.specs.Interface.{answer_number, write_answer, text_after, read_answer, system_after, PutAs};
 ghost use Rattle.capi_text.specs.Macros.{CountRead};
 
 use fields::refusal;
@@ -27,9 +27,9 @@ fn refusal_answer(r: Refusal) -> u64
 // The listing of the bytes of a system: how many bytes it has; refused, 2^32 + number × 65,536 + place.
 #[unsafe(no_mangle)]
 pub extern "C" fn wiphosega_listing_write(system: &[u8], text: &mut [u8]) -> u64
-    ensures answer { result ≡ answerNumber (writeAnswer system.now (length text.old)) }
-    ensures macros { CountRead (writeAnswer system.now (length text.old)) result }
-    ensures text { text.new ≡ textAfter system.now text.old }
+    ensures answer { result ≡ answer_number (write_answer system.now (length text.old)) }
+    ensures macros { CountRead (write_answer system.now (length text.old)) result }
+    ensures text { text.new ≡ text_after system.now text.old }
 {
     if system.len() % 4 != 0 {
         return 4296933376;
@@ -58,9 +58,9 @@ fn put_words(words: &[u32], count: usize, bytes: &mut [u8], number: u32) -> u64
 // words.
 #[unsafe(no_mangle)]
 pub extern "C" fn wiphosega_listing_read(text: &[u8], system: &mut [u8]) -> u64
-    ensures answer { result ≡ answerNumber (readAnswer text.now (length system.old)) }
-    ensures macros { CountRead (readAnswer text.now (length system.old)) result }
-    ensures system { system.new ≡ systemAfter text.now system.old }
+    ensures answer { result ≡ answer_number (read_answer text.now (length system.old)) }
+    ensures macros { CountRead (read_answer text.now (length system.old)) result }
+    ensures system { system.new ≡ system_after text.now system.old }
 {
     let mut words = [0u32; 1024];
     match read(text, &mut words) {

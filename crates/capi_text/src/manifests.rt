@@ -2,7 +2,7 @@
 ghost use Rattle.std.specs.Prelude.{◌≡◌, ◌+◌, ◌*◌, ◌^◌, ◌≤◌};
 ghost use Rattle.manifest.specs.Answer.{number};
 ghost use Rattle.manifest.specs.Manifest.{judged};
-ghost use Rattle.capi_text.specs.Manifest.{outcomeNumber};
+ghost use Rattle.capi_text.specs.Manifest.{outcome_number};
 ghost use Rattle.capi_text.specs.Macros.{ManifestRead};
 
 use fields::refusal;
@@ -28,7 +28,7 @@ fn manifest_refusal(r: Refusal) -> u64
 // What a manifest says: set + version × 2^24 + how many strings set nothing × 2^40; refused, 2^32 + number × 65,536.
 #[unsafe(no_mangle)]
 pub extern "C" fn wiphosega_manifest(json: &[u8]) -> u64
-    ensures answer { result ≡ outcomeNumber (judged json.now) }
+    ensures answer { result ≡ outcome_number (judged json.now) }
     ensures macros { ManifestRead (judged json.now) result }
 {
     match read(json) {

@@ -1,11 +1,11 @@
 // A table laid over another, for programs in C, over bytes.
 ghost use Rattle.std.specs.Prelude.{◌≡◌, ◌+◌, ◌-◌, ◌*◌, ◌^◌, ◌<◌, ◌≤◌, length};
-ghost use Rattle.little_endian.specs.LittleEndian.{wordsOf};
+ghost use Rattle.little_endian.specs.LittleEndian.{words_of};
 ghost use Rattle.overlay.specs.Lookup.{place_of};
-ghost use Rattle.overlay.specs.Join.{joinAnswer, outAfter as wordsAfter};
-ghost use Rattle.overlay.specs.Answers.{faultNumber, faultPlace, foundAs, joinedAs};
-ghost use Rattle.capi_text.specs.Interface.{answerNumber};
-ghost use Rattle.capi_text.specs.Overlay.{oddNumber, lookupAnswer, placeNumber, joinedAnswer, outAfter};
+ghost use Rattle.overlay.specs.Join.{join_answer, out_after as words_after};
+ghost use Rattle.overlay.specs.Answers.{fault_number, fault_place, found_as, joined_as};
+ghost use Rattle.capi_text.specs.Interface.{answer_number};
+ghost use Rattle.capi_text.specs.Overlay.{odd_number, lookup_answer, place_number, joined_answer, out_after};
 ghost use Rattle.capi_text.specs.Macros.{CountRead, PlaceRead};
 
 use crate::put_words;
@@ -18,8 +18,8 @@ use overlay::{Fault, Found, Joined};
 
 // A refusal as one number.
 fn fault_answer(f: Fault) -> u64
-    requires { faultPlace f < 65536 }
-    ensures { result ≡ 2 ^ 32 + faultNumber f * 65536 + faultPlace f }
+    requires { fault_place f < 65536 }
+    ensures { result ≡ 2 ^ 32 + fault_number f * 65536 + fault_place f }
 {
     refusal(fault_number(f), fault_place(f))
 }
@@ -34,7 +34,7 @@ fn part_answer(start: usize, end: usize) -> u64
 
 // 30 where the base's bytes are no whole words, then 130 for the overlay's, 0 where both are.
 fn odd_number(base: &[u8], overlay: &[u8]) -> u64
-    ensures { result ≡ oddNumber base.now overlay.now }
+    ensures { result ≡ odd_number base.now overlay.now }
 {
     if base.len() % 4 != 0 {
         return 30;
@@ -44,7 +44,7 @@ fn odd_number(base: &[u8], overlay: &[u8]) -> u64
 
 // `find` over the whole words of bytes: of more than 1,025 words the first decide.
 fn find_in(base: &[u8], overlay: &[u8], name: u32, perms: u32) -> Found
-    ensures { foundAs result ≡ place_of (wordsOf base.now) (wordsOf overlay.now) name perms }
+    ensures { found_as result ≡ place_of (words_of base.now) (words_of overlay.now) name perms }
 {
     let mut under = [0u32; 1025];
     let b = words_of(base, &mut under);
@@ -55,8 +55,8 @@ fn find_in(base: &[u8], overlay: &[u8], name: u32, perms: u32) -> Found
 
 // `join` over the whole words of bytes.
 fn join_in(base: &[u8], overlay: &[u8], out: &mut [u32]) -> Joined
-    ensures answer { joinedAs result ≡ joinAnswer (wordsOf base.now) (wordsOf overlay.now) (length out.old) }
-    ensures out { out.new ≡ wordsAfter (wordsOf base.now) (wordsOf overlay.now) out.old }
+    ensures answer { joined_as result ≡ join_answer (words_of base.now) (words_of overlay.now) (length out.old) }
+    ensures out { out.new ≡ words_after (words_of base.now) (words_of overlay.now) out.old }
 {
     let mut under = [0u32; 1025];
     let b = words_of(base, &mut under);
@@ -68,8 +68,8 @@ fn join_in(base: &[u8], overlay: &[u8], out: &mut [u32]) -> Joined
 // Where a block is: offset + length × 2^16, in bytes, + 2^33 in the overlay; refused, 2^32 + number × 65,536 + place.
 #[unsafe(no_mangle)]
 pub extern "C" fn wiphosega_lookup(base: &[u8], overlay: &[u8], name: u32, perms: u32) -> u64
-    ensures answer { result ≡ placeNumber (lookupAnswer base.now overlay.now name perms) }
-    ensures macros { PlaceRead (lookupAnswer base.now overlay.now name perms) result }
+    ensures answer { result ≡ place_number (lookup_answer base.now overlay.now name perms) }
+    ensures macros { PlaceRead (lookup_answer base.now overlay.now name perms) result }
 {
     let number = odd_number(base, overlay);
     if number != 0 {
@@ -85,9 +85,9 @@ pub extern "C" fn wiphosega_lookup(base: &[u8], overlay: &[u8], name: u32, perms
 // The joined table: how many bytes it has; refused, 2^32 + number × 65,536 + place. The output counts whole words.
 #[unsafe(no_mangle)]
 pub extern "C" fn wiphosega_join(base: &[u8], overlay: &[u8], out: &mut [u8]) -> u64
-    ensures answer { result ≡ answerNumber (joinedAnswer base.now overlay.now (length out.old)) }
-    ensures macros { CountRead (joinedAnswer base.now overlay.now (length out.old)) result }
-    ensures out { out.new ≡ outAfter base.now overlay.now out.old }
+    ensures answer { result ≡ answer_number (joined_answer base.now overlay.now (length out.old)) }
+    ensures macros { CountRead (joined_answer base.now overlay.now (length out.old)) result }
+    ensures out { out.new ≡ out_after base.now overlay.now out.old }
 {
     let number = odd_number(base, overlay);
     if number != 0 {

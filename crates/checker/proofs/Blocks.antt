@@ -10,20 +10,20 @@ use lib.Dec.{T}
 use lib.ListN.{length, get_or}
 use Rattle.delivery.specs.Delivery.{delivered}
 use Rattle.table.specs.Words.{argument}
-use Rattle.table.specs.Item.{handlerAt}
-use Rattle.table.specs.Links.{linkAt, LinksOf}
+use Rattle.table.specs.Item.{handler_at}
+use Rattle.table.specs.Links.{link_at, LinksOf}
 use Rattle.table.specs.Scan.{name, accepted, reading}
-use Rattle.table.specs.Code.{Code, block, code, taskAt, nodeFor, end_of}
+use Rattle.table.specs.Code.{Code, block, code, task_at, node_for, end_of}
 use Rattle.table.proofs.Blocks.{Follows, block as Block-words, blocks-first, blocks-next, blocks_end}
-use Rattle.table.proofs.BlockLoop.{blocksOn, named-there, follows-first, next-is, follows_next, next-later}
-use Rattle.calculus.specs.Elements.{made, nameElement}
+use Rattle.table.proofs.BlockLoop.{blocks_on, named-there, follows-first, next-is, follows_next, next-later}
+use Rattle.calculus.specs.Elements.{made, name_element}
 use Rattle.calculus.specs.Constraint.{C, Sets, Rule, put}
-use Rattle.calculus.specs.Rules.{name_of, permissions, deliveryTo, delivering}
+use Rattle.calculus.specs.Rules.{name_of, permissions, delivery_to, delivering}
 use Rattle.calculus.specs.Layout.{sets}
 use Rattle.calculus.proofs.Digits.{T_and, T-fst, T-snd}
 use Rattle.rows.specs.declared.layout.Layout.{Layout}
 use Rattle.rows.proofs.Numbered.{row-C}
-use Rattle.queries.specs.Starts.{startsAt}
+use Rattle.queries.specs.Starts.{starts_at}
 use Rattle.checker.specs.declared.sends.Sending.{Sending}
 use Rattle.checker.specs.Lowered.{Lowered}
 use Rattle.checker.specs.Sends.{delivery, AskedFor, Sent}
@@ -32,7 +32,7 @@ use Rattle.checker.proofs.Laws.{Under, idle}
 
 -- ---- one block
 
-module _ {ws masks est : List ℕ} {l : Layout} {s : Sending} (h : Sent ws masks est l s) (b : ℕ) (i : b < length ws) (t : taskAt ws b ≡ name) where
+module _ {ws masks est : List ℕ} {l : Layout} {s : Sending} (h : Sent ws masks est l s) (b : ℕ) (i : b < length ws) (t : task_at ws b ≡ name) where
   abbrev c : Code
   c = code ws
 
@@ -40,7 +40,7 @@ module _ {ws masks est : List ℕ} {l : Layout} {s : Sending} (h : Sent ws masks
   unfolding code
   size_is = h.laid.size
 
-  pub name_in : nameElement (argument (get_or ws b 0)) < 32 * l.lead
+  pub name_in : name_element (argument (get_or ws b 0)) < 32 * l.lead
   unfolding code
   name_in = omega (arith, (Block-words ws h.readable b i t).named, h.laid.lead)
 
@@ -48,18 +48,18 @@ module _ {ws masks est : List ℕ} {l : Layout} {s : Sending} (h : Sent ws masks
   e = sets c est
 
   abbrev named : Bool
-  named = e (C (s.p + 1)) (nameElement (name_of (c.node b)))
+  named = e (C (s.p + 1)) (name_element (name_of (c.node b)))
 
   abbrev answer : Bool
-  answer = delivered (deliveryTo (name_of (c.node b)) s.required.bits (permissions c s.p) (c.node b))
+  answer = delivered (delivery_to (name_of (c.node b)) s.required.bits (permissions c s.p) (c.node b))
 
   abbrev starting : Bool
-  starting = startsAt c ws est s.p s.required.bits s.own.bits b
+  starting = starts_at c ws est s.p s.required.bits s.own.bits b
 
   starts_is : starting ≡ named && answer
-  unfolding code nodeFor name_of deliveryTo handlerAt
+  unfolding code node_for name_of delivery_to handler_at
   starts_is =
-      let n : c.node b ≡ block (argument (get_or ws b 0)) (argument (get_or ws (b + 1) 0)) (argument (get_or ws (b + 2) 0)) = ap (nodeFor ws b) t in
+      let n : c.node b ≡ block (argument (get_or ws b 0)) (argument (get_or ws (b + 1) 0)) (argument (get_or ws (b + 2) 0)) = ap (node_for ws b) t in
       rw (n, row-C (s.p + 1), h.own) refl
 
   -- what is asked where the send starts b
@@ -83,7 +83,7 @@ Among bs A w = (x : ℕ) → Memᴰ x bs → A x w
 
 -- b is a block or the end; what the blocks from b on ask is still to be looked at, from m down
 abbrev pub Looked : List ℕ → (ℕ → ℕ → Type 0) → (below b m : ℕ) → Type 0
-Looked ws A below b m = Follows ws b × ((r : ℕ) → Lowered (Among (blocksOn ws b) A) m r → Lowered (Among (code ws).blocks A) below r)
+Looked ws A below b m = Follows ws b × ((r : ℕ) → Lowered (Among (blocks_on ws b) A) m r → Lowered (Among (code ws).blocks A) below r)
 
 module _ (ws : List ℕ) (q : reading ws ≡ accepted) (A : ℕ → ℕ → Type 0) {below : ℕ} where
   pub looked-start : Looked ws A below 1 below
@@ -91,7 +91,7 @@ module _ (ws : List ℕ) (q : reading ws ≡ accepted) (A : ℕ → ℕ → Type
   looked-start = (follows-first ws q, λ r x. subst (λ (bs : List ℕ). Lowered (Among bs A) below r) (sym (blocks-first ws q)) x)
 
   module _ {b m : ℕ} (k : Looked ws A below b m) where
-    pub looked-next : b < length ws → {links : List ℕ} → LinksOf ws links → {x : ℕ} → x ≡ (linkAt links (b + 3)).end → {n : ℕ} → Lowered (A b) m n
+    pub looked-next : b < length ws → {links : List ℕ} → LinksOf ws links → {x : ℕ} → x ≡ (link_at links (b + 3)).end → {n : ℕ} → Lowered (A b) m n
         → Looked ws A below x n × (b < x)
     looked-next i {links} l {x} e {n} y =
         let t = named-there ws q b k.0 i in
@@ -103,7 +103,7 @@ module _ (ws : List ℕ) (q : reading ws ≡ accepted) (A : ℕ → ℕ → Type
                 (lowered-same
                 (λ w h a o g. ⊎_elim (λ u. subst (λ (v : ℕ). A v w) (sym u) a.0) (a.1 o) (Memᴰ.cases_cons g))
                 (λ w h a. (a b (Memᴰ.head refl), λ o g. a o (Memᴰ.tail g)))
-                (lowered-then y (subst (λ (u : ℕ). Lowered (Among (blocksOn ws u) A) n r) z f)))),
+                (lowered-then y (subst (λ (u : ℕ). Lowered (Among (blocks_on ws u) A) n r) z f)))),
           ),
           omega (arith, next-later ws q b i t),
         )
@@ -111,4 +111,4 @@ module _ (ws : List ℕ) (q : reading ws ≡ accepted) (A : ℕ → ℕ → Type
     pub looked-all : length ws ≤ b → Lowered (Among (code ws).blocks A) below m
     looked-all h =
         let z : b ≡ length ws = ⊎_elim (λ y. y) (λ y. absurd (omega (arith, y.0))) k.0 in
-        k.1 m (lowered_none (λ w i x o. absurd (Memᴰ.not-nil (subst (Memᴰ x) (ap (blocksOn ws) z ∙ blocks_end ws q) o))))
+        k.1 m (lowered_none (λ w i x o. absurd (Memᴰ.not-nil (subst (Memᴰ x) (ap (blocks_on ws) z ∙ blocks_end ws q) o))))

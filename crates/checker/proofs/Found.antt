@@ -11,18 +11,18 @@ use lib.ListN.{get_or}
 use Rattle.permset.specs.Sets.{member}
 use Rattle.permset.proofs.Laws.{member-and}
 use Rattle.table.specs.Code.{Code}
-use Rattle.calculus.specs.Elements.{plain, elements, made, opponentRecord, Making, isFunction, isRecord, isCell, makes, making, anyRecord}
+use Rattle.calculus.specs.Elements.{plain, elements, made, opponent_record, Making, is_function, is_record, is_cell, makes, making, any_record}
 use Rattle.calculus.specs.Constraint.{C, Rule, Obeys}
-use Rattle.calculus.specs.Rules.{eachMade}
+use Rattle.calculus.specs.Rules.{each_made}
 use Rattle.calculus.specs.Layout.{bit, sets, WellFormed}
 use Rattle.calculus.proofs.Digits.{T_and, T-fst, T-snd, T_true}
 use Rattle.calculus.proofs.Fitting.{body-lt}
 use Rattle.calculus.proofs.Ranges.{below_in, in-below}
 use Rattle.rows.specs.declared.layout.Layout.{Layout}
 use Rattle.rows.specs.Laid.{LaidOut}
-use Rattle.rows.specs.Mask.{madeAs}
-use Rattle.rows.proofs.Laws.{getD-row}
-use Rattle.rows.specs.Numbered.{sortAt, thingAt}
+use Rattle.rows.specs.Mask.{made_as}
+use Rattle.rows.proofs.Laws.{get_or-row}
+use Rattle.rows.specs.Numbered.{sort_at, thing_at}
 use Rattle.queries.specs.Passes.{Masked}
 use Rattle.queries.specs.Things.{both, Next, Searched}
 use Rattle.queries.proofs.Laws.{row_in, mask-in, has-is, C-sets}
@@ -39,19 +39,19 @@ suits actions.Hand m h = (h, λ e. absurd (let z : ◌≡◌ {A = ℕ} 0 1 = cc 
 -- ---- things by their digits
 
 -- the element that a word makes is in the mask of the things that it makes
-made-sort : (c : Code) (q : Making → Bool) (f : ℕ) → madeAs c q (made c f) ≡ q (makes (c.node f))
+made-sort : (c : Code) (q : Making → Bool) (f : ℕ) → made_as c q (made c f) ≡ q (makes (c.node f))
 unfolding making
 made-sort c q f =
     let e : made c f - plain c ≡ f = omega arith in
     ap (λ (b : Bool). b && q (making c (made c f))) (T_true (leb (plain c) (made c f)) (le→leb (plain c) (made c f) (omega arith)))
     ∙ ap (λ (i : ℕ). q (makes (c.node i))) e
 
-thing-sort : (c : Code) (m f : ℕ) → m < 3 → sortAt m c (made c f) ≡ thingAt m (makes (c.node f))
-unfolding sortAt thingAt anyRecord
-thing-sort c zero f h = made-sort c isFunction f
+thing-sort : (c : Code) (m f : ℕ) → m < 3 → sort_at m c (made c f) ≡ thing_at m (makes (c.node f))
+unfolding sort_at thing_at any_record
+thing-sort c zero f h = made-sort c is_function f
 thing-sort c (suc zero) f h =
-    ap (λ (b : Bool). b || madeAs c isRecord (made c f)) (ne_eqb (made c f) opponentRecord (λ z. omega arith)) ∙ made-sort c isRecord f
-thing-sort c (suc (suc zero)) f h = made-sort c isCell f
+    ap (λ (b : Bool). b || made_as c is_record (made c f)) (ne_eqb (made c f) opponent_record (λ z. omega arith)) ∙ made-sort c is_record f
+thing-sort c (suc (suc zero)) f h = made-sort c is_cell f
 thing-sort c (suc (suc (suc m))) f h = absurd (omega arith)
 
 -- ---- the search in the value set of the first part of p, by the mask m
@@ -94,7 +94,7 @@ module _ {l : Layout} {est masks : List ℕ} {p : ℕ} (t : Term l est p) {m : �
 
   -- a digit of the row and of the mask
   here-is : (c : Code) → LaidOut c l → Masked c l masks → (f : ℕ) → f < l.size
-      → here l est masks p m f ≡ sets c est (C (p + 1)) (made c f) && thingAt m (makes (c.node f))
+      → here l est masks p m f ≡ sets c est (C (p + 1)) (made c f) && thing_at m (makes (c.node f))
   unfolding bit
   here-is c o k f h =
       let i : made c f / 32 ≡ l.lead + f / 32 = omega (arith, o.lead) in
@@ -104,33 +104,33 @@ module _ {l : Layout} {est masks : List ℕ} {p : ℕ} (t : Term l est p) {m : �
       ∙ rw (← i, ← j)
       (ap₂ (λ (x y : Bool). x && y)
       (has-is c l o est (2 * (p + 1)) (made c f) (omega (arith, t.first)) g ∙ C-sets c est (p + 1) (made c f))
-      (ap (λ (x : ℕ). member x (made c f % 32)) (sym (getD-row masks (m * l.row) l.row (made c f / 32) (omega (arith, t.sized.wide, o.lead))))
+      (ap (λ (x : ℕ). member x (made c f % 32)) (sym (get_or-row masks (m * l.row) l.row (made c f / 32) (omega (arith, t.sized.wide, o.lead))))
       ∙ (k.mask m (omega arith)).digits (made c f) g ∙ thing-sort c m f hm))
 
   -- the body of a function that is found
   pub body-in : MasksOf l masks → m ≡ 0 → (f : ℕ) → f < l.size → here l est masks p m f ≡ true → f + 1 < l.size
-  unfolding thingAt
+  unfolding thing_at
   body-in y z f h b =
       let c = y.code in
-      let g = T-snd (sets c est (C (p + 1)) (made c f)) (thingAt m (makes (c.node f))) (subst T (sym b ∙ here-is c y.laid y.masked f h) tt) in
-      omega (arith, body-lt c y.linked f (omega (arith, y.laid.size)) (subst (λ (n : ℕ). T (thingAt n (makes (c.node f)))) z g), y.laid.size)
+      let g = T-snd (sets c est (C (p + 1)) (made c f)) (thing_at m (makes (c.node f))) (subst T (sym b ∙ here-is c y.laid y.masked f h) tt) in
+      omega (arith, body-lt c y.linked f (omega (arith, y.laid.size)) (subst (λ (n : ℕ). T (thing_at n (makes (c.node f)))) z g), y.laid.size)
 
   -- ---- what is asked for all things
 
   module _ {k : ℕ → Rule} {f : ℕ} (x : Looked l est masks p m k f) where
-    pub all-passed : l.size ≤ f → CheckedBy l est masks (λ c. eachMade c (thingAt m) (C (p + 1)) k) true
+    pub all-passed : l.size ≤ f → CheckedBy l est masks (λ c. each_made c (thing_at m) (C (p + 1)) k) true
     all-passed h c j o w q =
         record {
           yes = λ u g i a b. let z : g < l.size = omega (arith, in-below i, o.size) in
-              x.passed c o w g (omega arith) (here-is c o q g z ∙ T_true (sets c est (C (p + 1)) (made c g) && thingAt m (makes (c.node g))) (T_and (sets c est (C (p + 1)) (made c g)) (thingAt m (makes (c.node g))) b a));
+              x.passed c o w g (omega arith) (here-is c o q g z ∙ T_true (sets c est (C (p + 1)) (made c g) && thing_at m (makes (c.node g))) (T_and (sets c est (C (p + 1)) (made c g)) (thing_at m (makes (c.node g))) b a));
           no = λ z. tt;
         }
 
-    pub one-fails : {r : Bool} → f < l.size → Checked l est (λ c. k f) r → not r ≡ true → CheckedBy l est masks (λ c. eachMade c (thingAt m) (C (p + 1)) k) false
+    pub one-fails : {r : Bool} → f < l.size → Checked l est (λ c. k f) r → not r ≡ true → CheckedBy l est masks (λ c. each_made c (thing_at m) (C (p + 1)) k) false
     one-fails {r} h d n c j o w q =
-        let u : T (sets c est (C (p + 1)) (made c f) && thingAt m (makes (c.node f))) = subst T (sym (x.found h) ∙ here-is c o q f h) tt in
+        let u : T (sets c est (C (p + 1)) (made c f) && thing_at m (makes (c.node f))) = subst T (sym (x.found h) ∙ here-is c o q f h) tt in
         record {
           yes = λ z. absurd z;
-          no = λ z. subst T (not-true r n) ((d c o w).no (z f (below_in (omega (arith, o.size))) (T-snd (sets c est (C (p + 1)) (made c f)) (thingAt m (makes (c.node f))) u)
-              (T-fst (sets c est (C (p + 1)) (made c f)) (thingAt m (makes (c.node f))) u)));
+          no = λ z. subst T (not-true r n) ((d c o w).no (z f (below_in (omega (arith, o.size))) (T-snd (sets c est (C (p + 1)) (made c f)) (thing_at m (makes (c.node f))) u)
+              (T-fst (sets c est (C (p + 1)) (made c f)) (thing_at m (makes (c.node f))) u)));
         }

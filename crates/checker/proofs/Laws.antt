@@ -23,7 +23,7 @@ use Rattle.rows.specs.Numbered.{row_at}
 use Rattle.queries.proofs.Laws.{C-found}
 use Rattle.checker.specs.Decides.{Decides}
 use Rattle.checker.specs.Lowered.{Lowered}
-use Rattle.checker.specs.Obeyed.{all_of, firstFrom, obeys, firstBroken}
+use Rattle.checker.specs.Obeyed.{all_of, first_from, obeys, first_broken}
 use Rattle.checker.proofs.Lowered.{lowered_none, lowered-one}
 
 -- l asks for k exactly where the test t holds
@@ -149,13 +149,13 @@ module _ (c : Code) (ws : List ℕ) where
 
 -- ---- the lowest word whose rule is not obeyed
 
-first-from : (q : ℕ → Bool) (n i : ℕ) → (i ≤ firstFrom n i q) × Lowered (λ j. i ≤ j → T (q j)) (i + n) (firstFrom n i q)
-unfolding firstFrom
+first-from : (q : ℕ → Bool) (n i : ℕ) → (i ≤ first_from n i q) × Lowered (λ j. i ≤ j → T (q j)) (i + n) (first_from n i q)
+unfolding first_from
 first-from q zero i = (omega arith, record { most = omega arith; obeyed = λ j h l. absurd (omega arith); broken = λ h. absurd (omega arith) })
 first-from q (suc n) i = go (q i) refl (first-from q n (suc i))
   where
-    go : (t : Bool) → q i ≡ t → (suc i ≤ firstFrom n (suc i) q) × Lowered (λ j. suc i ≤ j → T (q j)) (suc i + n) (firstFrom n (suc i) q)
-        → (i ≤ elim t [ true ↦ firstFrom n (suc i) q | false ↦ i ]) × Lowered (λ j. i ≤ j → T (q j)) (i + suc n) (elim t [ true ↦ firstFrom n (suc i) q | false ↦ i ])
+    go : (t : Bool) → q i ≡ t → (suc i ≤ first_from n (suc i) q) × Lowered (λ j. suc i ≤ j → T (q j)) (suc i + n) (first_from n (suc i) q)
+        → (i ≤ elim t [ true ↦ first_from n (suc i) q | false ↦ i ]) × Lowered (λ j. i ≤ j → T (q j)) (i + suc n) (elim t [ true ↦ first_from n (suc i) q | false ↦ i ])
     go false z f = (omega arith, record { most = omega arith; obeyed = λ j h l. absurd (omega arith); broken = λ h x. subst T z (x (omega arith)) })
     go true z f = (
       omega (arith, f.0),
@@ -171,8 +171,8 @@ first-from q (suc n) i = go (q i) refl (first-from q n (suc i))
         here j (no s) g l = g (omega arith)
 
 module _ (c : Code) (ρ : ℕ) (ws : List ℕ) where
-  pub first-broken : Lowered (λ p. Obeys (sets c ws) (rule c ρ p)) c.size (firstBroken c ρ ws)
-  unfolding firstBroken
+  pub first-broken : Lowered (λ p. Obeys (sets c ws) (rule c ρ p)) c.size (first_broken c ρ ws)
+  unfolding first_broken
   first-broken =
       let f = (first-from (λ p. obeys c (rule c ρ p) ws) c.size 0).1 in
       record {
@@ -182,14 +182,14 @@ module _ (c : Code) (ρ : ℕ) (ws : List ℕ) where
       }
 
   -- nothing is broken exactly where the words are an estimate
-  pub unbroken : firstBroken c ρ ws ≡ c.size → Estimate c ρ (sets c ws)
+  pub unbroken : first_broken c ρ ws ≡ c.size → Estimate c ρ (sets c ws)
   unbroken h p l = first-broken.obeyed p (omega arith)
 
-  pub estimate-unbroken : Estimate c ρ (sets c ws) → firstBroken c ρ ws ≡ c.size
+  pub estimate-unbroken : Estimate c ρ (sets c ws) → first_broken c ρ ws ≡ c.size
   estimate-unbroken s = lowered-one refl first-broken (lowered_none s)
 
-  pub broken-most : firstBroken c ρ ws ≤ c.size
+  pub broken-most : first_broken c ρ ws ≤ c.size
   broken-most = first-broken.most
 
-  pub broken-disobeys : firstBroken c ρ ws < c.size → Obeys (sets c ws) (rule c ρ (firstBroken c ρ ws)) → ⊥
+  pub broken-disobeys : first_broken c ρ ws < c.size → Obeys (sets c ws) (rule c ρ (first_broken c ρ ws)) → ⊥
   broken-disobeys = first-broken.broken

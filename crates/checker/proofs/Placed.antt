@@ -10,8 +10,8 @@ use Rattle.table.specs.declared.Item.TheVariants as items
 use Rattle.table.specs.declared.Term.{Term as TableTerm}
 use Rattle.table.specs.declared.Term.TheVariants as terms
 use Rattle.table.specs.Item.{item_at}
-use Rattle.table.specs.Links.{linkAt, LinksOf}
-use Rattle.table.specs.Code.{Code, Node, Within, NodeLinked, code, termNode}
+use Rattle.table.specs.Links.{link_at, LinksOf}
+use Rattle.table.specs.Code.{Code, Node, Within, NodeLinked, code, term_node}
 use Rattle.table.proofs.Nodes.{binder-link}
 use Rattle.calculus.specs.Constraint.{C, Sets, Rule, put}
 use Rattle.calculus.specs.Rules.{flow}
@@ -78,25 +78,25 @@ module _ {ws links masks est : List ℕ} {l : Layout} {p : ℕ} (g : At ws links
     pub there : item_at ws p ≡ items.Term t
     there = i ∙ ap items.Term q
 
-    module _ {d n : ℕ} (z : d ≡ (linkAt links (p + 1)).end) (s : n ≡ (linkAt links (linkAt links (p + 1)).end).end) where
-      pub node-here : c.node p ≡ termNode t (p + 1) d n
+    module _ {d n : ℕ} (z : d ≡ (link_at links (p + 1)).end) (s : n ≡ (link_at links (link_at links (p + 1)).end).end) where
+      pub node-here : c.node p ≡ term_node t (p + 1) d n
       node-here =
-          subst (λ (ls : List ℕ). c.node p ≡ termNode t (p + 1) (linkAt ls (p + 1)).end (linkAt ls (linkAt ls (p + 1)).end).end) (sym y.from)
+          subst (λ (ls : List ℕ). c.node p ≡ term_node t (p + 1) (link_at ls (p + 1)).end (link_at ls (link_at ls (p + 1)).end).end) (sym y.from)
           (sited ws y.readable y.slice y.room p t there).node
-          ∙ ap₂ (termNode t (p + 1)) (sym z) (sym s)
+          ∙ ap₂ (term_node t (p + 1)) (sym z) (sym s)
 
-      pub linked-here : NodeLinked c p (termNode t (p + 1) d n)
+      pub linked-here : NodeLinked c p (term_node t (p + 1) d n)
       linked-here = subst (NodeLinked c p) node-here ((linked-code y).nodes p in_code)
 
-      pub out : {r : Bool} → Decides e (flow c p (termNode t (p + 1) d n)) r → Decides e (flow c p (c.node p)) r
+      pub out : {r : Bool} → Decides e (flow c p (term_node t (p + 1) d n)) r → Decides e (flow c p (c.node p)) r
       out {r} x = subst (λ (m : Node). Decides e (flow c p m) r) (sym node-here) x
 
   -- ---- a variable
 
-  module _ {n b : ℕ} (i : item_at ws p ≡ items.Term (terms.Variable n)) (q : b ≡ (linkAt links p).binder) where
+  module _ {n b : ℕ} (i : item_at ws p ≡ items.Term (terms.Variable n)) (q : b ≡ (link_at links p).binder) where
     pub binder-is : b ≡ get_or (c.scope p) n 0
     binder-is =
-        q ∙ sym (binder-link ws y.readable y.slice y.room p n i ∙ ap (λ (ls : List ℕ). (linkAt ls p).binder) (sym y.from))
+        q ∙ sym (binder-link ws y.readable y.slice y.room p n i ∙ ap (λ (ls : List ℕ). (link_at ls p).binder) (sym y.from))
 
     pub binder-in : n < length (c.scope p) → b < l.size
     binder-in k = omega (arith, (linked-code y).binders p n in_code k, binder-is, y.laid.size)

@@ -15,7 +15,7 @@ use Rattle.table.specs.declared.Operation.{Operation}
 use Rattle.table.specs.Code.{Code, operation}
 use Rattle.calculus.specs.Elements.{plain, elements}
 use Rattle.calculus.specs.Constraint.{C, B, P, Sets, Rule, Obeys, put, sub, only, every}
-use Rattle.calculus.specs.Rules.{fill, pass, twoRule}
+use Rattle.calculus.specs.Rules.{fill, pass, two_rule}
 use Rattle.calculus.specs.Layout.{bit, masked, base, span, sets, content, Words, WellFormed}
 use Rattle.calculus.proofs.Digits.{T_and, T-fst, T-snd, T_true, member-low}
 use Rattle.calculus.proofs.Slices.{◌≼◌, bit_at}
@@ -24,15 +24,15 @@ use Rattle.calculus.proofs.Places.{span-lt}
 use Rattle.calculus.proofs.Rows.{sets-allowed, content-words, content-sound}
 use Rattle.calculus.proofs.Ranges.{below_in, in-below}
 use Rattle.calculus.proofs.RowOperations.{sets-P}
-use Rattle.calculus.proofs.OperationMasks.{results-in, results-only, side, side-bit, resultMask, results-lt as mask_lt}
-use Rattle.calculus.proofs.OperationResults.{operationMask, side-mask}
+use Rattle.calculus.proofs.OperationMasks.{results-in, results-only, side, side-bit, result_mask, results-lt as mask_lt}
+use Rattle.calculus.proofs.OperationResults.{operation_mask, side-mask}
 use Rattle.calculus.proofs.Fitting.{results-lt}
 use Rattle.rows.specs.declared.layout.Layout.{Layout}
 use Rattle.rows.specs.Laid.{LaidOut, Sized}
 use Rattle.rows.specs.Mask.{Mask}
 use Rattle.rows.specs.Rows.{lacking}
 use Rattle.rows.proofs.Full.{full-digit}
-use Rattle.rows.proofs.Laws.{length-row, getD-row, length-masked-row}
+use Rattle.rows.proofs.Laws.{length-row, get_or-row, length-masked-row}
 use Rattle.rows.specs.Numbered.{row_at}
 use Rattle.rows.proofs.Numbered.{row-C, row-B, base-row, content-row, value_row}
 use Rattle.queries.proofs.Laws.{row_in, has-is, C-sets}
@@ -90,8 +90,8 @@ module _ (l : Layout) (est : List ℕ) (s : Sized l est) (c : Code) (o : LaidOut
     row_is : content c est (row_at r) ≡ row_of l est r
     row_is = content-row c est r ∙ ap (λ (x : ℕ). take x (drop (r * x) est)) o.row
 
-    row_words : Words (row_of l est r)
-    row_words = subst Words row_is (content-words c est w (row_at r))
+    row_words_lem : Words (row_of l est r)
+    row_words_lem = subst Words row_is (content-words c est w (row_at r))
 
     has-row : (v : ℕ) → T (bit (row_of l est r) v) → T (e (row_at r) v)
     has-row v x =
@@ -104,7 +104,7 @@ module _ (l : Layout) (est : List ℕ) (s : Sized l est) (c : Code) (o : LaidOut
     unfolding bit
     row_has v x =
         let i : v < elements c = row_lt v x in
-        subst T (sym (ap (λ (y : ℕ). member y (v % 32)) (getD-row est (r * l.row) l.row (v / 32) (omega (arith, s.wide, o.size, o.lead))) ∙ has-is c l o est r v h i)) x
+        subst T (sym (ap (λ (y : ℕ). member y (v % 32)) (get_or-row est (r * l.row) l.row (v / 32) (omega (arith, s.wide, o.size, o.lead))) ∙ has-is c l o est r v h i)) x
 
     row-long : length (row_of l est r) ≡ l.row
     row-long = length-row est (r * l.row) l.row (row_in s r h)
@@ -112,13 +112,13 @@ module _ (l : Layout) (est : List ℕ) (s : Sized l est) (c : Code) (o : LaidOut
   module _ (a b : ℕ) (ha : a < 2 * l.size) (hb : b < 2 * l.size) where
     pub passed_is : Decides e (sub (row_at a) (row_at b)) (not (lacking (row_of l est a) (row_of l est b)))
     passed_is =
-        lacks-is _ _ (row-long a ha ∙ sym (row-long b hb)) (row_words a ha) (λ f v x. has-row b hb v (f v (row_has a ha v x)))
+        lacks-is _ _ (row-long a ha ∙ sym (row-long b hb)) (row_words_lem a ha) (λ f v x. has-row b hb v (f v (row_has a ha v x)))
         (λ f v x. row_has b hb v (f v (has-row a ha v x)))
 
     pub passed-by-is : (q : ℕ → Bool) (m : List ℕ) → Mask c q m
         → Decides e (pass c (row_at a) q (row_at b)) (not (lacking (masked m (row_of l est a)) (row_of l est b)))
     passed-by-is q m k =
-        lacks-is _ _ (length-masked-row m est (a * l.row) l.row (k.long ∙ o.row) (row_in s a ha) ∙ sym (row-long b hb)) (masked-words m _ (row_words a ha))
+        lacks-is _ _ (length-masked-row m est (a * l.row) l.row (k.long ∙ o.row) (row_in s a ha) ∙ sym (row-long b hb)) (masked-words m _ (row_words_lem a ha))
         (λ f v n g x. has-row b hb v (f v (subst T (sym (bit_masked m (row_of l est a) v)) (T_and (bit m v) (bit (row_of l est a) v) (subst T (sym (k.digits v (in-below n))) g) (row_has a ha v x)))))
         (λ f v t. let d = subst T (bit_masked m (row_of l est a) v) t in
         let x = has-row a ha v (T-snd (bit m v) (bit (row_of l est a) v) d) in
@@ -194,12 +194,12 @@ module _ (l : Layout) (est : List ℕ) (s : Sized l est) (c : Code) (o : LaidOut
         let r : z % 32 ≡ z = omega arith in
         sym (C-sets c est p z) ∙ sym (has-is c l o est (2 * p) z (omega arith) (omega arith)) ∙ ap₂ (λ (x y : ℕ). member (get_or est x 0) y) q r
 
-    pub operation-is : Decides e (twoRule c p (operation f) a d) (within (operationMask f (from a) (from d)) (get_or est (2 * p * l.row) 0))
-    unfolding twoRule
+    pub operation-is : Decides e (two_rule c p (operation f) a d) (within (operation_mask f (from a) (from d)) (get_or est (2 * p * l.row) 0))
+    unfolding two_rule
     operation-is =
-        subst (λ (x : ℕ). Decides e (twoRule c p (operation f) a d) (within x (get_or est (2 * p * l.row) 0)))
-        (ap₂ (resultMask c f) (sym (side-is a)) (sym (side-is d)) ∙ side-mask c l.lead o.lead est w a d (word-in ha) (word-in hd) f ∙ ap₂ (operationMask f) (side-is a) (side-is d))
-        (within-is 7 (resultMask c f (from a) (from d)) _ (mask_lt c f (from a) (from d))
+        subst (λ (x : ℕ). Decides e (two_rule c p (operation f) a d) (within x (get_or est (2 * p * l.row) 0)))
+        (ap₂ (result_mask c f) (sym (side-is a)) (sym (side-is d)) ∙ side-mask c l.lead o.lead est w a d (word-in ha) (word-in hd) f ∙ ap₂ (operation_mask f) (side-is a) (side-is d))
+        (within-is 7 (result_mask c f (from a) (from d)) _ (mask_lt c f (from a) (from d))
         (λ t x mx tx y my ty z mz.
         subst T (sym (low-set z (results-lt c f x y z mz)))
         (t z (results-lt c f x y z mz)

@@ -10,18 +10,18 @@ use Rattle.table.specs.declared.Item.TheVariants as items
 use Rattle.table.specs.declared.Term.{Term as TableTerm}
 use Rattle.table.specs.declared.Term.TheVariants as terms
 use Rattle.table.specs.Item.{item_at}
-use Rattle.table.specs.Code.{Code, Node, code, termNode, gap, two, send}
+use Rattle.table.specs.Code.{Code, Node, code, term_node, gap, two, send}
 use Rattle.calculus.specs.Elements.{sendable, unit}
 use Rattle.calculus.specs.Constraint.{C, L, Sets, Obeys, put, some, each, ◌and◌}
-use Rattle.calculus.specs.Rules.{guarded, part, twoRule, flow, entry, sender, twoSender}
+use Rattle.calculus.specs.Rules.{guarded, part, two_rule, flow, entry, sender, two_sender}
 use Rattle.calculus.specs.Layout.{sets}
 use Rattle.calculus.proofs.Folds.{found}
 use Rattle.rows.specs.declared.layout.Layout.{Layout}
 use Rattle.rows.specs.Numbered.{row_at}
 use Rattle.queries.specs.Ready.{At}
 use Rattle.checker.specs.Lowered.{Lowered}
-use Rattle.checker.specs.Sends.{toBlock, toSender, AskedFor, AskedToSend}
-use Rattle.checker.specs.Words.{NoSend, ownRule, AskedBy}
+use Rattle.checker.specs.Sends.{to_block, to_sender, AskedFor, AskedToSend}
+use Rattle.checker.specs.Words.{NoSend, own_rule, AskedBy}
 use Rattle.checker.proofs.Laws.{idle, on_value}
 use Rattle.checker.proofs.Blocks.{Among}
 use Rattle.checker.proofs.Guards.{gap-node, no-guard, block-node}
@@ -33,8 +33,8 @@ use Rattle.checker.proofs.Lowered.{lowered_none, lowered-same, lowered-then}
 module _ (c : Code) (est : List ℕ) (p d r : ℕ) {t : Bool} (f : t ≡ found c est (row_at (2 * d)) (sendable c)) where
   pub nothing-sent : not t ≡ true → {below : ℕ} → Lowered (AskedToSend c (sets c est) p d r) below below
   nothing-sent q = lowered_none (λ w h. (
-    λ z. (idle (on_value c est {k = each c.blocks (toBlock c p d r)} f) q).yes tt,
-    λ m. (idle (on_value c est {k = toSender c p r w} f) q).yes tt,
+    λ z. (idle (on_value c est {k = each c.blocks (to_block c p d r)} f) q).yes tt,
+    λ m. (idle (on_value c est {k = to_sender c p r w} f) q).yes tt,
   ))
 
   pub something-sent : not t ≡ false → {below n : ℕ} → Lowered (Among c.blocks (AskedFor c (sets c est) p d r)) below n
@@ -44,16 +44,16 @@ module _ (c : Code) (est : List ℕ) (p d r : ℕ) {t : Bool} (f : t ≡ found c
       lowered-same
       (λ w h a. (λ z v t i b m. (a b m).0 z, λ m v t i. (a w m).1 refl))
       (λ w h a b m. (
-        λ z. (on_value c est {k = each c.blocks (toBlock c p d r)} f).asks (a.0 z) so b m,
-        λ z. (on_value c est {k = toSender c p r b} f).asks (subst (λ (u : ℕ). Obeys (sets c est) (some (C d) (sendable c) (toSender c p r u))) z (a.1 (subst (λ (u : ℕ). Memᴰ u c.blocks) (sym z) m))) so,
+        λ z. (on_value c est {k = each c.blocks (to_block c p d r)} f).asks (a.0 z) so b m,
+        λ z. (on_value c est {k = to_sender c p r b} f).asks (subst (λ (u : ℕ). Obeys (sets c est) (some (C d) (sendable c) (to_sender c p r u))) z (a.1 (subst (λ (u : ℕ). Memᴰ u c.blocks) (sym z) m))) so,
       ))
       x
 
 -- ---- what a word asks of its receivers
 
 -- a term that is no send asks nothing
-quiet : (c : Code) (e : Sets) (b p x y z : ℕ) (t : TableTerm) → NoSend t → Obeys e (sender c b p (termNode t x y z))
-unfolding termNode sender twoSender
+quiet : (c : Code) (e : Sets) (b p x y z : ℕ) (t : TableTerm) → NoSend t → Obeys e (sender c b p (term_node t x y z))
+unfolding term_node sender two_sender
 quiet c e b p x y z (terms.Constant k) n = tt
 quiet c e b p x y z (terms.Number k) n = tt
 quiet c e b p x y z (terms.Literal k) n = tt
@@ -77,8 +77,8 @@ quiet c e b p x y z (terms.Send r) n = absurd (n r refl)
 quiet c e b p x y z (terms.Exercise r) n = tt
 
 -- a term that is not live asks nothing
-dull : (c : Code) (e : Sets) (b p x y z : ℕ) → (T (e (L p) 0) → ⊥) → (t : TableTerm) → Obeys e (sender c b p (termNode t x y z))
-unfolding termNode sender twoSender
+dull : (c : Code) (e : Sets) (b p x y z : ℕ) → (T (e (L p) 0) → ⊥) → (t : TableTerm) → Obeys e (sender c b p (term_node t x y z))
+unfolding term_node sender two_sender
 dull c e b p x y z n (terms.Constant k) = tt
 dull c e b p x y z n (terms.Number k) = tt
 dull c e b p x y z n (terms.Literal k) = tt
@@ -113,7 +113,7 @@ module _ {ws links masks est : List ℕ} {l : Layout} {p : ℕ} (g : At ws links
       lowered_none (λ w h. (λ z. rw n ((λ u. absurd u), λ u. tt), λ m. rw n tt))
 
   -- a block asks nothing of its receivers
-  pub block-silent : {k : Handler} {below r : ℕ} → item_at ws p ≡ items.Block k → Lowered (λ q. q ≡ p → Obeys e (ownRule c ρ p)) below r
+  pub block-silent : {k : Handler} {below r : ℕ} → item_at ws p ≡ items.Block k → Lowered (λ q. q ≡ p → Obeys e (own_rule c ρ p)) below r
       → Lowered (AskedBy c e ρ p) below r
   unfolding sender
   block-silent i x =
@@ -124,7 +124,7 @@ module _ {ws links masks est : List ℕ} {l : Layout} {p : ℕ} (g : At ws links
     unfolding entry
     no-entry x = absurd (no-guard (accepted-at g) p i ρ x)
 
-    asks : (b : ℕ) → ((x y z : ℕ) → Obeys e (sender c b p (termNode t x y z))) → Obeys e (sender c b p (c.node p))
+    asks : (b : ℕ) → ((x y z : ℕ) → Obeys e (sender c b p (term_node t x y z))) → Obeys e (sender c b p (c.node p))
     asks b f = subst (λ (n : Node). Obeys e (sender c b p n)) (sym (node-here g i refl refl refl)) (f _ _ _)
 
     pub term-idle : {live : Bool} → live ≡ e (L p) 0 → not live ≡ true → {below : ℕ} → Lowered (AskedBy c e ρ p) below below
@@ -144,7 +144,7 @@ module _ {ws links masks est : List ℕ} {l : Layout} {p : ℕ} (g : At ws links
 
     pub send-live : {r d : ℕ} → c.node p ≡ two (send r) (p + 1) d → T (e (L p) 0) → {below m n : ℕ} → Lowered (AskedToSend c e p d r) below m
         → Lowered (λ w. w ≡ p → Obeys e ((part p (p + 1) and part p d) and put (C p) unit)) m n → Lowered (AskedBy c e ρ p) below n
-    unfolding sender twoSender flow twoRule
+    unfolding sender two_sender flow two_rule
     send-live {r} {d} j on x y =
         lowered-same
         (λ w h a. (

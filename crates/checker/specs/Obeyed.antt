@@ -13,9 +13,9 @@ all_of [] q = true
 all_of (x ∷ xs) q = elim (q x) [ true ↦ all_of xs q | false ↦ false ]
 
 -- the first of the n numbers from i on that fails the test, the number after them where none fails
-unfoldable pub firstFrom : ℕ → ℕ → (ℕ → Bool) → ℕ
-firstFrom zero i q = i
-firstFrom (suc n) i q = elim (q i) [ true ↦ firstFrom n (suc i) q | false ↦ i ]
+unfoldable pub first_from : ℕ → ℕ → (ℕ → Bool) → ℕ
+first_from zero i q = i
+first_from (suc n) i q = elim (q i) [ true ↦ first_from n (suc i) q | false ↦ i ]
 
 module _ (c : Code) where
   unfoldable pub obeys : Rule → List ℕ → Bool
@@ -31,6 +31,6 @@ module _ (c : Code) where
   obeys (k and l) ws = elim (obeys k ws) [ true ↦ obeys l ws | false ↦ false ]
 
 -- the lowest word whose rule is not obeyed, the size of the table where there is none
-unfoldable pub firstBroken : Code → ℕ → List ℕ → ℕ
-unfolding firstFrom obeys
-firstBroken c ρ ws = firstFrom c.size 0 (λ p. obeys c (rule c ρ p) ws)
+unfoldable pub first_broken : Code → ℕ → List ℕ → ℕ
+unfolding first_from obeys
+first_broken c ρ ws = first_from c.size 0 (λ p. obeys c (rule c ρ p) ws)

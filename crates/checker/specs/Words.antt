@@ -28,12 +28,12 @@ pub record Accepted (ws : List ℕ) (l : Layout) : Type 0 where
   pub laid : LaidOut (code ws) l
 
 -- the rule of the word p but for its senders
-abbrev pub ownRule : Code → (ρ p : ℕ) → Rule
-ownRule c ρ p = entry c ρ p and given (L p) 0 (flow c p (c.node p))
+abbrev pub own_rule : Code → (ρ p : ℕ) → Rule
+own_rule c ρ p = entry c ρ p and given (L p) 0 (flow c p (c.node p))
 
 -- what the word p asks of the word q: of itself its own rule, of a block to know its sender
 abbrev pub AskedBy : Code → Sets → (ρ p q : ℕ) → Type 0
-AskedBy c e ρ p q = (q ≡ p → Obeys e (ownRule c ρ p)) × (Memᴰ q c.blocks → Obeys e (sender c q p (c.node p)))
+AskedBy c e ρ p q = (q ≡ p → Obeys e (own_rule c ρ p)) × (Memᴰ q c.blocks → Obeys e (sender c q p (c.node p)))
 
 -- r is `below`, or the lowest word below it that does not obey what p asks
 abbrev pub WordLowered : (ws est : List ℕ) → (ρ p below r : ℕ) → Type 0

@@ -12,8 +12,8 @@ ghost use Rattle.calculus.specs.Rules.{flow as Flow};
 ghost use Rattle.calculus.specs.Layout.{WellFormed};
 ghost use Rattle.queries.specs.Ready.{Ready, At};
 ghost use Rattle.checker.specs.Decides.{CheckedIf};
-ghost use Rattle.checker.specs.Obeyed.{firstBroken};
-ghost use Rattle.checker.specs.Words.{NoSend, Obeyed, WordLowered, ownRule};
+ghost use Rattle.checker.specs.Obeyed.{first_broken};
+ghost use Rattle.checker.specs.Words.{NoSend, Obeyed, WordLowered, own_rule};
 ghost use Rattle.rows.specs.Laid.{Sized};
 
 use crate::sends::send;
@@ -70,7 +70,7 @@ fn term(
 // Whether the rule of the block h at p is obeyed but for its senders: its entry, where its guard lets in who has rho, and what it asks where it is live.
 fn block(est: &[u32], l: Layout, rho: PermSet, p: usize, h: Handler) -> bool
     requires { Sized l est.now × (p + 3 < l.size) }
-    ensures { CheckedIf l est.now (λ c. c.node p ≡ Block h.name h.perms.bits h.guard.bits) (λ c. ownRule c rho.bits p) result }
+    ensures { CheckedIf l est.now (λ c. c.node p ≡ Block h.name h.perms.bits h.guard.bits) (λ c. own_rule c rho.bits p) result }
 {
     let guard = h.guard;
     let live = is_live(est, l, p);
@@ -132,7 +132,7 @@ pub fn broken(
     rho: PermSet,
 ) -> usize
     requires { Ready words.now links.now masks.now l × WellFormed (code words.now) est.now }
-    ensures { result ≡ firstBroken (code words.now) rho.bits est.now }
+    ensures { result ≡ first_broken (code words.now) rho.bits est.now }
 {
     let mut lowest = l.size;
     let mut p = 0;

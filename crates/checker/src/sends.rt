@@ -4,7 +4,7 @@ ghost use Rattle.table.specs.declared.Item.TheVariants as items;
 ghost use Rattle.table.specs.declared.Term.TheVariants as terms;
 ghost use Rattle.table.specs.Item.{item_at};
 ghost use Rattle.table.specs.Scan.{name};
-ghost use Rattle.table.specs.Code.{code, taskAt};
+ghost use Rattle.table.specs.Code.{code, task_at};
 ghost use Rattle.table.specs.Links.{LinksOf};
 ghost use Rattle.calculus.specs.Constraint.{L};
 ghost use Rattle.calculus.specs.Layout.{sets};
@@ -42,7 +42,7 @@ fn to_block(
     b: usize,
     below: usize,
 ) -> usize
-    requires { Sent words.now masks.now est.now l s × (b < length words.now) × (taskAt words.now b ≡ name) }
+    requires { Sent words.now masks.now est.now l s × (b < length words.now) × (task_at words.now b ≡ name) }
     ensures { Lowered (AskedFor (code words.now) (sets (code words.now) est.now) s.p s.d s.required.bits b)
         below result }
 {

@@ -4,7 +4,7 @@ ghost use Rattle.permset.specs.Sets.{width};
 ghost use Rattle.table.specs.Code.{cell as Cell, read as Read, exercise as Exercise, one, two, bind as Bind, while, branch as Branch, update as Update};
 ghost use Rattle.table.specs.Code.{apply as Apply, sequence as Sequence, get as Get, delete as Delete, assign as Assign, operation as Op};
 ghost use Rattle.calculus.specs.Constraint.{◌and◌};
-ghost use Rattle.calculus.specs.Rules.{part as Part, permissions, leafRule, flow};
+ghost use Rattle.calculus.specs.Rules.{part as Part, permissions, leaf_rule, flow};
 ghost use Rattle.rows.specs.Laid.{Sized};
 ghost use Rattle.checker.specs.Decides.{Checked, CheckedIf, CheckedBy, MasksOf, Term};
 
@@ -28,7 +28,7 @@ pub fn parts(est: &[u32], l: Layout, p: usize, d: usize) -> bool
 
 pub fn exercise(est: &[u32], l: Layout, p: usize, set: PermSet, own: PermSet) -> bool
     requires { Sized l est.now × (p < l.size) × (set.bits < 2 ^ width) }
-    ensures { CheckedIf l est.now (λ c. own.bits ≡ permissions c p) (λ c. leafRule c p (Exercise set.bits)) result }
+    ensures { CheckedIf l est.now (λ c. own.bits ≡ permissions c p) (λ c. leaf_rule c p (Exercise set.bits)) result }
 {
     if !set.within(own) {
         return true;

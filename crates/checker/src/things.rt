@@ -1,9 +1,9 @@
 // What a term asks for each thing in the value set of its first part.
 ghost use Rattle.std.specs.Prelude.{◌≡◌, ◌+◌, ◌*◌, ◌<◌};
 ghost use Rattle.calculus.specs.Constraint.{C};
-ghost use Rattle.calculus.specs.Rules.{eachMade};
+ghost use Rattle.calculus.specs.Rules.{each_made};
 ghost use Rattle.rows.specs.Laid.{Sized};
-ghost use Rattle.rows.specs.Numbered.{thingAt};
+ghost use Rattle.rows.specs.Numbered.{thing_at};
 ghost use Rattle.checker.specs.Decides.{Checked, CheckedBy, MasksOf, Term};
 ghost use Rattle.checker.specs.Things.{asked, Suits};
 ghost use Rattle.checker.specs.declared.things.Action.TheVariants as actions;
@@ -47,7 +47,7 @@ pub fn things(
     y: usize,
 ) -> bool
     requires { Term l est.now p × (y < 2 * l.size) × MasksOf l masks.now × Suits action m }
-    ensures { CheckedBy l est.now masks.now (λ c. eachMade c (thingAt m) (C (p + 1)) (asked action p y)) result }
+    ensures { CheckedBy l est.now masks.now (λ c. each_made c (thing_at m) (C (p + 1)) (asked action p y)) result }
 {
     let size = l.size;
     let mut f = next_thing(est, masks, l, 2 * (p + 1), m, 0);

@@ -5,8 +5,8 @@ use Rattle.std.specs.Prelude.{ℕ, ◌+◌, ◌*◌, ◌/◌, ◌%◌}
 abbrev pub choice_of : (k p f : ℕ) → ℕ
 choice_of k p f = (k % 4096 * 1024 + p % 1024) * 1024 + f % 1024
 
-abbrev pub clauseOf : ℕ → ℕ
-clauseOf w = w / 1048576
+abbrev pub clause_of : ℕ → ℕ
+clause_of w = w / 1048576
 
 abbrev pub place_of : ℕ → ℕ
 place_of w = w / 1024 % 1024

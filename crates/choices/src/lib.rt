@@ -1,7 +1,7 @@
 // Choices of a schedule: clause k of the word p, for the target f of its effect or (0) for all of them, each packed into a word of a list whose first word
 // counts them. What a list says is never trusted, and past its end it reads 0.
 ghost use Rattle.std.specs.Prelude.{◌≡◌, ◌<◌, get_or};
-ghost use Rattle.choices.specs.Choices.{choice_of, clauseOf, place_of, target_of};
+ghost use Rattle.choices.specs.Choices.{choice_of, clause_of, place_of, target_of};
 
 // A choice has room for targets and words below PLACES, and for clauses below CLAUSES.
 const PLACES: usize = 1024;
@@ -24,7 +24,7 @@ pub fn choice_word(k: usize, p: usize, f: usize) -> u32
 }
 
 pub fn choice_clause(w: u32) -> usize
-    ensures { (result ≡ clauseOf w) × (result < 4096) }
+    ensures { (result ≡ clause_of w) × (result < 4096) }
 {
     w as usize / (PLACES * PLACES)
 }

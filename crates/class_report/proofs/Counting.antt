@@ -10,15 +10,15 @@ use lib.Seq.{length-take-le, take_all, get_or-append-add, get_or-drop}
 use Rattle.little_endian.proofs.Laws.{copy_more}
 use Rattle.permset.specs.Sets.{member}
 use Rattle.class_report.specs.declared.Tally.{Tally}
-use Rattle.class_report.specs.Stream.{mostSystems}
+use Rattle.class_report.specs.Stream.{most_systems}
 use Rattle.class_report.specs.Report.{refusal, leak}
 use Rattle.class_report.specs.Tally.{raised, counted, tallied}
 
-pub raised-more : (n : ℕ) → n < mostSystems → n + 1 ≡ raised true n
+pub raised-more : (n : ℕ) → n < most_systems → n + 1 ≡ raised true n
 unfolding raised
 raised-more n h = omega arith
 
-pub raised-full : (n : ℕ) → mostSystems ≤ n → mostSystems ≡ raised true n
+pub raised-full : (n : ℕ) → most_systems ≤ n → most_systems ≡ raised true n
 unfolding raised
 raised-full n h = omega arith
 

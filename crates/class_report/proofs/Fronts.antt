@@ -9,7 +9,7 @@ use borrow.Author.Tests.{lt-ltb, le-ltb, eq-eqb, ne_eqb}
 use Rattle.little_endian.specs.LittleEndian.{number as number_of}
 use Rattle.class_report.specs.declared.Fault.TheVariants.{TooLong, CutShort}
 use Rattle.class_report.specs.declared.Front.TheVariants.{Nothing, Broken, Whole}
-use Rattle.class_report.specs.Stream.{word_at, span, mostWords, sized, front}
+use Rattle.class_report.specs.Stream.{word_at, span, most_words, sized, front}
 
 -- the four bytes of a word
 pub four_bytes : (s : List ℕ) (at : ℕ) → at + 4 ≤ length s
@@ -38,14 +38,14 @@ module _ (s : List ℕ) where
     front-sized l = rw (ne_eqb (length s) 0 h, le-ltb (length s) 4 l, front)
 
   module _ (size : ℕ) where
-    pub sized-long : mostWords < size → sized s size ≡ Broken TooLong
+    pub sized-long : most_words < size → sized s size ≡ Broken TooLong
     unfolding sized
-    sized-long l = rw (lt-ltb mostWords size l, sized)
+    sized-long l = rw (lt-ltb most_words size l, sized)
 
-    pub sized-short : size ≤ mostWords → length s < span size → sized s size ≡ Broken CutShort
+    pub sized-short : size ≤ most_words → length s < span size → sized s size ≡ Broken CutShort
     unfolding sized
-    sized-short k l = rw (le-ltb mostWords size k, lt-ltb (length s) (span size) l, sized)
+    sized-short k l = rw (le-ltb most_words size k, lt-ltb (length s) (span size) l, sized)
 
-    pub sized-whole : size ≤ mostWords → span size ≤ length s → sized s size ≡ Whole size
+    pub sized-whole : size ≤ most_words → span size ≤ length s → sized s size ≡ Whole size
     unfolding sized
-    sized-whole k l = rw (le-ltb mostWords size k, le-ltb (length s) (span size) l, sized)
+    sized-whole k l = rw (le-ltb most_words size k, le-ltb (length s) (span size) l, sized)

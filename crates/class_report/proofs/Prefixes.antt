@@ -12,7 +12,7 @@ use Rattle.little_endian.specs.LittleEndian.{number as number_of}
 use Rattle.class_report.specs.declared.Fault.TheVariants.{TooLong, CutShort}
 use Rattle.class_report.specs.declared.Front.{Front}
 use Rattle.class_report.specs.declared.Front.TheVariants.{Nothing, Broken, Whole}
-use Rattle.class_report.specs.Stream.{mostWords, word_at, span, sized, front, systemAt, after}
+use Rattle.class_report.specs.Stream.{most_words, word_at, span, sized, front, system_at, after}
 use Rattle.class_report.proofs.Fronts.{front-nothing, front-short, front-sized, sized-long, sized-short, sized-whole}
 
 -- ---- what a front says of the stream
@@ -21,12 +21,12 @@ use Rattle.class_report.proofs.Fronts.{front-nothing, front-short, front-sized, 
 pub record Sized (s : List ℕ) (n : ℕ) : Type 0 where
   pub long : 4 ≤ length s
   pub word : n ≡ word_at 0 s
-  pub few : n ≤ mostWords
+  pub few : n ≤ most_words
   pub fits : span n ≤ length s
 
 pub record Lengthy (s : List ℕ) : Type 0 where
   pub long : 4 ≤ length s
-  pub over : mostWords < word_at 0 s
+  pub over : most_words < word_at 0 s
 
 module _ (s : List ℕ) where
   -- the four tests in turn
@@ -34,20 +34,20 @@ module _ (s : List ℕ) where
       → (length s < span (word_at 0 s) → P (Broken CutShort)) → ((n : ℕ) → Sized s n → P (Whole n)) → P (front s)
   by_tests P p q r t u = first (eqb (length s) 0) refl
     where
-      fourth : (length s ≡ 0 → ⊥) → 4 ≤ length s → word_at 0 s ≤ mostWords → (b : Bool) → ltb (length s) (span (word_at 0 s)) ≡ b → P (front s)
+      fourth : (length s ≡ 0 → ⊥) → 4 ≤ length s → word_at 0 s ≤ most_words → (b : Bool) → ltb (length s) (span (word_at 0 s)) ≡ b → P (front s)
       fourth h l k true e = rw (front-sized s h l, sized-short s (word_at 0 s) k (ltb-true (length s) (span (word_at 0 s)) e)) (t (ltb-true (length s) (span (word_at 0 s)) e))
       fourth h l k false e =
           let f : span (word_at 0 s) ≤ length s = ltb-false (length s) (span (word_at 0 s)) e in
           rw (front-sized s h l, sized-whole s (word_at 0 s) k f) (u (word_at 0 s) (record { long = l; word = refl; few = k; fits = f }))
 
-      third : (length s ≡ 0 → ⊥) → 4 ≤ length s → (b : Bool) → ltb mostWords (word_at 0 s) ≡ b → P (front s)
+      third : (length s ≡ 0 → ⊥) → 4 ≤ length s → (b : Bool) → ltb most_words (word_at 0 s) ≡ b → P (front s)
       third h l true e =
-          let o : mostWords < word_at 0 s = ltb-true mostWords (word_at 0 s) e in rw (front-sized s h l, sized-long s (word_at 0 s) o) (r (record { long = l; over = o }))
-      third h l false e = fourth h l (ltb-false mostWords (word_at 0 s) e) (ltb (length s) (span (word_at 0 s))) refl
+          let o : most_words < word_at 0 s = ltb-true most_words (word_at 0 s) e in rw (front-sized s h l, sized-long s (word_at 0 s) o) (r (record { long = l; over = o }))
+      third h l false e = fourth h l (ltb-false most_words (word_at 0 s) e) (ltb (length s) (span (word_at 0 s))) refl
 
       second : (length s ≡ 0 → ⊥) → (b : Bool) → ltb (length s) 4 ≡ b → P (front s)
       second h true e = let l : length s < 4 = ltb-true (length s) 4 e in rw (front-short s h l) (q l)
-      second h false e = third h (ltb-false (length s) 4 e) (ltb mostWords (word_at 0 s)) refl
+      second h false e = third h (ltb-false (length s) 4 e) (ltb most_words (word_at 0 s)) refl
 
       first : (b : Bool) → eqb (length s) 0 ≡ b → P (front s)
       first true e = let z : length s ≡ 0 = eqb-true (length s) 0 e in rw (front-nothing s z) (p z)
@@ -78,8 +78,8 @@ module _ (s x : List ℕ) where
       front-sized (s ++ x) (not-empty z.long) (omega (arith, length-append s x, z.long))
       ∙ sized-long (s ++ x) (word_at 0 (s ++ x)) (omega (arith, z.over))
 
-  pub system-kept : (n : ℕ) → span n ≤ length s → systemAt (s ++ x) n ≡ systemAt s n
-  unfolding systemAt
+  pub system-kept : (n : ℕ) → span n ≤ length s → system_at (s ++ x) n ≡ system_at s n
+  unfolding system_at
   system-kept n h =
       ap₂ (λ (r : ℕ) (b : List ℕ). record { rho = r; bytes = b }) (word_kept 4 (omega arith))
       (ap (take (4 * n)) (drop-append-le 8 s x (omega arith)) ∙ take-append-le (4 * n) (drop 8 s) x (omega (arith, length-drop 8 s)))

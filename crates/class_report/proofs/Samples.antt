@@ -4,36 +4,36 @@ use mathlib.Core.Path.{◌≡◌, refl}
 use mathlib.Core.List.{List, [], ◌∷◌, ◌++◌, map}
 use lib.Count.{ones_in}
 use Rattle.permset.specs.Sets.{within, member, union, difference, lowest}
-use Rattle.table.specs.Words.{partsByKind, limitsByKind, parts, arity, limit, constantNumber, constant_of, operationOf, termsByKind, termOf, names_of}
+use Rattle.table.specs.Words.{parts_by_kind, limits_by_kind, parts, arity, limit, constant_number, constant_of, operation_of, terms_by_kind, term_of, names_of}
 use Rattle.table.specs.Scan.{first_of, has, tests, fault, missing, keep, under, next, scan, reading}
-use Rattle.table.specs.Code.{code, skip, part, trace, tasks, taskAt, termNode, nodeFor, scopeFor, homeFor, blocks_from}
+use Rattle.table.specs.Code.{code, skip, part, trace, tasks, task_at, term_node, node_for, scope_for, home_for, blocks_from}
 use Rattle.delivery.specs.Delivery.{judged, delivered}
-use Rattle.calculus.specs.Elements.{constantElement, sign, isString, leafMakes, oneMakes, makes, isFunction, isRecord, isCell, making}
-use Rattle.calculus.specs.Elements.{sendable, anyRecord, isSign, signPlace, sumSigns, lessSigns, bySigns, comparable, isMany, equalResults, results}
+use Rattle.calculus.specs.Elements.{constant_element, sign, is_string, leaf_makes, one_makes, makes, is_function, is_record, is_cell, making}
+use Rattle.calculus.specs.Elements.{sendable, any_record, is_sign, sign_place, sum_signs, less_signs, by_signs, comparable, is_many, equal_results, results}
 use Rattle.calculus.specs.Constraint.{range}
-use Rattle.calculus.specs.Rules.{name_of, permsOf, guarded, isBlock, permissions, deliveryTo, leafRule, oneRule, twoRule, flow, entry}
-use Rattle.calculus.specs.Rules.{twoSender, sender, senders, rule}
-use Rattle.calculus.specs.Layout.{rowWords, estimateWords}
-use Rattle.little_endian.specs.LittleEndian.{wordsOf, bytesOf}
-use Rattle.fingerprint.specs.Fnv.{step, hashFrom, fnv1a}
-use Rattle.text.specs.Text.{bytes, decimal, set, hexWord}
-use Rattle.report.specs.Lines.{refusalLine}
+use Rattle.calculus.specs.Rules.{name_of, perms_of, guarded, is_block, permissions, delivery_to, leaf_rule, one_rule, two_rule, flow, entry}
+use Rattle.calculus.specs.Rules.{two_sender, sender, senders, rule}
+use Rattle.calculus.specs.Layout.{row_words, estimate_words}
+use Rattle.little_endian.specs.LittleEndian.{words_of, bytes_of}
+use Rattle.fingerprint.specs.Fnv.{step, hash_from, fnv1a}
+use Rattle.text.specs.Text.{bytes, decimal, set, hex_word}
+use Rattle.report.specs.Lines.{refusal_line}
 use Rattle.class_report.specs.Stream.{number}
 use Rattle.class_report.specs.Report.{report}
 
 abbrev streams : List (List ℕ)
 streams =
     -- a system of length 0 with ρ 0, alone; no system
-    bytesOf (0 ∷ 0 ∷ [])
+    bytes_of (0 ∷ 0 ∷ [])
     ∷ []
     -- direct
-    ∷ bytesOf (5 ∷ 0 ∷ 0x01000001 ∷ 0x02000000 ∷ 0x03000003 ∷ 0x04000000 ∷ 0x24000002 ∷ [])
+    ∷ bytes_of (5 ∷ 0 ∷ 0x01000001 ∷ 0x02000000 ∷ 0x03000003 ∷ 0x04000000 ∷ 0x24000002 ∷ [])
     -- the same with bits above 23 in ρ, then a byte more
-    ∷ (bytesOf (5 ∷ 0x1000000 ∷ 0x01000001 ∷ 0x02000000 ∷ 0x03000003 ∷ 0x04000000 ∷ 0x24000002 ∷ []) ++ 0 ∷ [])
+    ∷ (bytes_of (5 ∷ 0x1000000 ∷ 0x01000001 ∷ 0x02000000 ∷ 0x03000003 ∷ 0x04000000 ∷ 0x24000002 ∷ []) ++ 0 ∷ [])
     -- a length over 256, after a system; three of its four bytes; a word less than the length says
-    ∷ bytesOf (0 ∷ 0 ∷ 257 ∷ [])
+    ∷ bytes_of (0 ∷ 0 ∷ 257 ∷ [])
     ∷ (1 ∷ 1 ∷ 0 ∷ [])
-    ∷ bytesOf (256 ∷ 0 ∷ 0x01000000 ∷ [])
+    ∷ bytes_of (256 ∷ 0 ∷ 0x01000000 ∷ [])
     ∷ []
 
 pub samples-reported :
@@ -64,9 +64,9 @@ pub samples-reported :
     ∷ bytes "refused 58 at 0\n"
     ∷ bytes "refused 58 at 0\n"
     ∷ []
-unfolding ones_in partsByKind limitsByKind parts arity limit constantNumber constant_of operationOf termsByKind termOf names_of first_of has tests
-    fault missing keep under next scan reading code skip part trace tasks taskAt termNode nodeFor scopeFor homeFor blocks_from within member union
-    difference lowest constantElement sign isString leafMakes oneMakes makes isFunction isRecord isCell making sendable anyRecord isSign signPlace
-    sumSigns lessSigns bySigns comparable isMany equalResults results range name_of permsOf guarded isBlock permissions deliveryTo judged delivered leafRule oneRule twoRule
-    flow entry twoSender sender senders rule rowWords estimateWords wordsOf bytesOf step hashFrom fnv1a decimal set hexWord refusalLine number report
+unfolding ones_in parts_by_kind limits_by_kind parts arity limit constant_number constant_of operation_of terms_by_kind term_of names_of first_of has tests
+    fault missing keep under next scan reading code skip part trace tasks task_at term_node node_for scope_for home_for blocks_from within member union
+    difference lowest constant_element sign is_string leaf_makes one_makes makes is_function is_record is_cell making sendable any_record is_sign sign_place
+    sum_signs less_signs by_signs comparable is_many equal_results results range name_of perms_of guarded is_block permissions delivery_to judged delivered leaf_rule one_rule two_rule
+    flow entry two_sender sender senders rule row_words estimate_words words_of bytes_of step hash_from fnv1a decimal set hex_word refusal_line number report
 samples-reported = refl

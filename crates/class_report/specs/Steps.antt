@@ -5,9 +5,9 @@ use Rattle.table.specs.Code.{code}
 use Rattle.calculus.specs.Estimate.{estimate}
 use Rattle.calculus.specs.Guarantee.{Covers}
 use Rattle.calculus.specs.Correct.{Least}
-use Rattle.little_endian.specs.LittleEndian.{wordsOf}
+use Rattle.little_endian.specs.LittleEndian.{words_of}
 use Rattle.fingerprint.specs.Fnv.{fnv1a}
-use Rattle.report.specs.Lines.{refusalLine}
+use Rattle.report.specs.Lines.{refusal_line}
 use Rattle.class_report.specs.declared.Fault.{Fault}
 use Rattle.class_report.specs.declared.Fault.TheVariants.{TooMany, TooLong, CutShort}
 use Rattle.class_report.specs.declared.Front.{Front}
@@ -17,81 +17,81 @@ use Rattle.class_report.specs.declared.Task.{Task}
 use Rattle.class_report.specs.declared.Task.TheVariants as tasks
 use Rattle.class_report.specs.declared.Status.TheVariants as statuses
 use Rattle.class_report.specs.declared.Step.{Step}
-use Rattle.class_report.specs.Stream.{System, mostSystems, number, span, front, systemAt}
+use Rattle.class_report.specs.Stream.{System, most_systems, number, span, front, system_at}
 use Rattle.class_report.specs.Report.{Told, refusal, leak, outcome, line, totals}
 use Rattle.class_report.specs.Tally.{fresh, position, tallied}
-use Rattle.class_report.specs.Writing.{countIn}
+use Rattle.class_report.specs.Writing.{count_in}
 
 -- ---- what a piece calls for: the bytes at the front of a stream, all that are left of it where it has ended
 
 -- what is known only where the stream has ended
-unfoldable pub atEnd : Bool → Task → Task
-atEnd true t = t
-atEnd false t = tasks.More
+unfoldable pub at_end : Bool → Task → Task
+at_end true t = t
+at_end false t = tasks.More
 
-unfoldable pub brokenTask : (ended : Bool) → Fault → Task
-unfolding atEnd
-brokenTask ended TooMany = tasks.Refusal TooMany
-brokenTask ended TooLong = tasks.Refusal TooLong
-brokenTask ended CutShort = atEnd ended (tasks.Refusal CutShort)
+unfoldable pub broken_task : (ended : Bool) → Fault → Task
+unfolding at_end
+broken_task ended TooMany = tasks.Refusal TooMany
+broken_task ended TooLong = tasks.Refusal TooLong
+broken_task ended CutShort = at_end ended (tasks.Refusal CutShort)
 
-unfoldable pub frontTask : (ended : Bool) → Front → Task
-unfolding atEnd brokenTask
-frontTask ended Nothing = atEnd ended tasks.Totals
-frontTask ended (Broken f) = brokenTask ended f
-frontTask ended (Whole size) = tasks.System size
+unfoldable pub front_task : (ended : Bool) → Front → Task
+unfolding at_end broken_task
+front_task ended Nothing = at_end ended tasks.Totals
+front_task ended (Broken f) = broken_task ended f
+front_task ended (Whole size) = tasks.System size
 
 -- after the last system that a stream may have
-unfoldable pub fullTask : (ended : Bool) → List ℕ → Task
-unfolding atEnd
-fullTask ended piece = elim (eqb (length piece) 0) [ true ↦ atEnd ended tasks.Totals | false ↦ tasks.Refusal TooMany ]
+unfoldable pub full_task : (ended : Bool) → List ℕ → Task
+unfolding at_end
+full_task ended piece = elim (eqb (length piece) 0) [ true ↦ at_end ended tasks.Totals | false ↦ tasks.Refusal TooMany ]
 
-unfoldable pub taskFor : (position : ℕ) (ended : Bool) → List ℕ → Task
-unfolding frontTask front fullTask
-taskFor p ended piece = elim (ltb p mostSystems) [ true ↦ frontTask ended (front piece) | false ↦ fullTask ended piece ]
+unfoldable pub task_for : (position : ℕ) (ended : Bool) → List ℕ → Task
+unfolding front_task front full_task
+task_for p ended piece = elim (ltb p most_systems) [ true ↦ front_task ended (front piece) | false ↦ full_task ended piece ]
 
 -- ---- a step
 
 module _ (t : Tally) (piece : List ℕ) where
-  unfoldable pub textFor : Task → List ℕ
-  textFor tasks.More = []
-  textFor tasks.Totals = totals t.accepted t.refused (countIn t.leaks)
-  textFor (tasks.Refusal f) = refusalLine (number f) (position t)
-  textFor (tasks.System size) = line (position t) (fnv1a (systemAt piece size).bytes) (outcome (systemAt piece size))
+  unfoldable pub text_for : Task → List ℕ
+  text_for tasks.More = []
+  text_for tasks.Totals = totals t.accepted t.refused (count_in t.leaks)
+  text_for (tasks.Refusal f) = refusal_line (number f) (position t)
+  text_for (tasks.System size) = line (position t) (fnv1a (system_at piece size).bytes) (outcome (system_at piece size))
 
-  unfoldable pub stepFor : Task → Step
-  unfolding textFor
-  stepFor tasks.More = record { status = statuses.More; tally = t; used = 0; size = 0 }
-  stepFor tasks.Totals = record { status = statuses.Done; tally = t; used = 0; size = length (textFor tasks.Totals) }
-  stepFor (tasks.Refusal f) = record { status = statuses.Done; tally = t; used = 0; size = length (textFor (tasks.Refusal f)) }
-  stepFor (tasks.System size) =
+  unfoldable pub step_for : Task → Step
+  unfolding text_for
+  step_for tasks.More = record { status = statuses.More; tally = t; used = 0; size = 0 }
+  step_for tasks.Totals = record { status = statuses.Done; tally = t; used = 0; size = length (text_for tasks.Totals) }
+  step_for (tasks.Refusal f) = record { status = statuses.Done; tally = t; used = 0; size = length (text_for (tasks.Refusal f)) }
+  step_for (tasks.System size) =
       record {
         status = statuses.Line;
-        tally = tallied t (outcome (systemAt piece size));
+        tally = tallied t (outcome (system_at piece size));
         used = span size;
-        size = length (textFor (tasks.System size));
+        size = length (text_for (tasks.System size));
       }
 
   unfoldable pub text : (ended : Bool) → List ℕ
-  unfolding taskFor textFor
-  text ended = textFor (taskFor (position t) ended piece)
+  unfolding task_for text_for
+  text ended = text_for (task_for (position t) ended piece)
 
   unfoldable pub step : (ended : Bool) → Step
-  unfolding taskFor stepFor
-  step ended = stepFor (taskFor (position t) ended piece)
+  unfolding task_for step_for
+  step ended = step_for (task_for (position t) ended piece)
 
 -- room for the text of every step: 25 lines of at most 96 bytes
 abbrev pub room : ℕ
 room = 2400
 
 -- the bytes of the output after a text was written to its start
-abbrev pub outAfter : (text before : List ℕ) → List ℕ
-outAfter text before = text ++ drop (length text) before
+abbrev pub out_after : (text before : List ℕ) → List ℕ
+out_after text before = text ++ drop (length text) before
 
 -- what was asked for is done: what the step says, and the bytes of the output from those before
 pub record Done (t : Tally) (piece : List ℕ) (k : Task) (before : List ℕ) (r : Step) (after : List ℕ) : Type 0 where
-  pub says : r ≡ stepFor t piece k
-  pub bytes : after ≡ outAfter (textFor t piece k) before
+  pub says : r ≡ step_for t piece k
+  pub bytes : after ≡ out_after (text_for t piece k) before
   pub fits : r.size ≤ room
 
 -- ---- what a leak means
@@ -100,12 +100,12 @@ pub record Done (t : Tally) (piece : List ℕ) (k : Task) (before : List ℕ) (r
 unfoldable pub Sound : System → Told → Type 0
 Sound s (refusal n at) = Unit {0}
 Sound s (leak l) =
-    Least (code (wordsOf s.bytes)) s.rho (estimate (code (wordsOf s.bytes)) s.rho) l
-    × Covers (code (wordsOf s.bytes)) s.rho l
+    Least (code (words_of s.bytes)) s.rho (estimate (code (words_of s.bytes)) s.rho) l
+    × Covers (code (words_of s.bytes)) s.rho l
 
 -- of the system at the front of a piece
 abbrev pub SoundFor : List ℕ → Type 0
-SoundFor piece = (size : ℕ) → front piece ≡ Whole size → Sound (systemAt piece size) (outcome (systemAt piece size))
+SoundFor piece = (size : ℕ) → front piece ≡ Whole size → Sound (system_at piece size) (outcome (system_at piece size))
 
 -- ---- a caller
 
@@ -130,7 +130,7 @@ run (suc n) t held pieces =
 -- a step for each system, one for each piece, and one for the end
 unfoldable pub printed : (pieces : List (List ℕ)) → List ℕ
 unfolding run
-printed pieces = run (suc (mostSystems + length pieces)) fresh [] pieces
+printed pieces = run (suc (most_systems + length pieces)) fresh [] pieces
 
 -- the stream that comes in these pieces
 unfoldable pub joined : List (List ℕ) → List ℕ

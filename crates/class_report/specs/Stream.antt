@@ -7,11 +7,11 @@ use Rattle.class_report.specs.declared.Front.{Front}
 use Rattle.class_report.specs.declared.Front.TheVariants.{Nothing, Broken, Whole}
 
 -- the most systems of a stream, and the most words of a system
-abbrev pub mostSystems : ℕ
-mostSystems = 10000
+abbrev pub most_systems : ℕ
+most_systems = 10000
 
-abbrev pub mostWords : ℕ
-mostWords = 256
+abbrev pub most_words : ℕ
+most_words = 256
 
 -- the opponent's set and the bytes of a system, without its length
 pub record System : Type 0 where
@@ -36,7 +36,7 @@ span size = 8 + 4 * size
 -- the whole length word is there, and says so many words
 unfoldable pub sized : List ℕ → (size : ℕ) → Front
 sized stream size =
-    elim (ltb mostWords size) [
+    elim (ltb most_words size) [
       | true ↦ Broken TooLong
       | false ↦ elim (ltb (length stream) (span size)) [ true ↦ Broken CutShort | false ↦ Whole size ]
     ]
@@ -50,9 +50,9 @@ front stream =
     ]
 
 -- the system at the front, and what follows it
-unfoldable pub systemAt : List ℕ → (size : ℕ) → System
+unfoldable pub system_at : List ℕ → (size : ℕ) → System
 unfolding word_at
-systemAt stream size = record { rho = word_at 4 stream; bytes = take (4 * size) (drop 8 stream) }
+system_at stream size = record { rho = word_at 4 stream; bytes = take (4 * size) (drop 8 stream) }
 
 abbrev pub after : List ℕ → (size : ℕ) → List ℕ
 after stream size = drop (span size) stream
@@ -77,11 +77,11 @@ full stream = elim (eqb (length stream) 0) [ true ↦ whole | false ↦ broken T
 
 -- a stream in which so many systems may follow
 unfoldable pub cut : (left : ℕ) → List ℕ → Cut
-unfolding front systemAt full
+unfolding front system_at full
 cut zero stream = record { systems = []; ending = full stream }
 cut (suc left) stream =
     elim (front stream) [
       | Nothing ↦ record { systems = []; ending = whole }
       | Broken f ↦ record { systems = []; ending = broken f }
-      | Whole size ↦ further (systemAt stream size) (cut left (after stream size))
+      | Whole size ↦ further (system_at stream size) (cut left (after stream size))
     ]

@@ -2,7 +2,7 @@
 use Rattle.std.specs.Prelude.{ℕ, suc, ◌+◌, min, Bool, true, false, List, [], ◌∷◌, replicate}
 use Rattle.permset.specs.Sets.{width, member}
 use Rattle.class_report.specs.declared.Tally.{Tally}
-use Rattle.class_report.specs.Stream.{mostSystems}
+use Rattle.class_report.specs.Stream.{most_systems}
 use Rattle.class_report.specs.Report.{Told, refusal, leak}
 
 -- before the first system
@@ -15,7 +15,7 @@ position t = t.accepted + t.refused
 
 -- one more, up to the most systems of a stream
 unfoldable pub raised : Bool → ℕ → ℕ
-raised true n = min mostSystems (suc n)
+raised true n = min most_systems (suc n)
 raised false n = n
 
 -- the counts of the permissions from i on, with one more for those in the set

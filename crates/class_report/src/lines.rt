@@ -2,8 +2,8 @@
 ghost use Rattle.std.specs.Prelude.{◌≡◌, ◌+◌, ◌≤◌, length};
 ghost use Rattle.permset.specs.Sets.{width};
 ghost use Rattle.text.specs.Writing.{Wrote};
-ghost use Rattle.class_report.specs.Report.{leak as Told·leak, toldBy, outcomeText, line, permissionLine, permissionLines, countLine, totals};
-ghost use Rattle.class_report.specs.Writing.{countIn};
+ghost use Rattle.class_report.specs.Report.{leak as Told·leak, told_by, outcome_text, line, permission_line, permission_lines, count_line, totals};
+ghost use Rattle.class_report.specs.Writing.{count_in};
 
 use crate::Outcome;
 use permset::PermSet;
@@ -13,7 +13,7 @@ use text::{hex_field, number_field, put, set_field};
 // The leak, and a line feed.
 fn put_leak(out: &mut [u8], at: usize, leak: PermSet) -> usize
     requires { at + 12 ≤ length out.old }
-    ensures { Wrote out.old at (outcomeText (Told·leak leak.bits)) out.new result }
+    ensures { Wrote out.old at (outcome_text (Told·leak leak.bits)) out.new result }
 {
     let next = set_field(out, at, b"leak ", leak.bits);
     put(out, next, b"\n")
@@ -22,7 +22,7 @@ fn put_leak(out: &mut [u8], at: usize, leak: PermSet) -> usize
 // What an analysis says of a system, and a line feed.
 fn put_outcome(out: &mut [u8], at: usize, outcome: Outcome) -> usize
     requires { at + 96 ≤ length out.old }
-    ensures { Wrote out.old at (outcomeText (toldBy outcome)) out.new result }
+    ensures { Wrote out.old at (outcome_text (told_by outcome)) out.new result }
 {
     match outcome {
         Outcome::Leak(s) => put_leak(out, at, s),
@@ -33,7 +33,7 @@ fn put_outcome(out: &mut [u8], at: usize, outcome: Outcome) -> usize
 // The line of a system, at the start of out.
 pub fn system_line(out: &mut [u8], position: usize, fingerprint: u32, outcome: Outcome) -> usize
     requires { 126 ≤ length out.old }
-    ensures { Wrote out.old 0 (line position fingerprint (toldBy outcome)) out.new result }
+    ensures { Wrote out.old 0 (line position fingerprint (told_by outcome)) out.new result }
 {
     let a = number_field(out, 0, b"", position as u64);
     let b = hex_field(out, a, b" ", fingerprint);
@@ -44,7 +44,7 @@ pub fn system_line(out: &mut [u8], position: usize, fingerprint: u32, outcome: O
 // The line of a permission.
 fn permission_line(out: &mut [u8], at: usize, permission: usize, leaks: u32, of: u32) -> usize
     requires { at + 96 ≤ length out.old }
-    ensures wrote { Wrote out.old at (permissionLine permission leaks of) out.new result }
+    ensures wrote { Wrote out.old at (permission_line permission leaks of) out.new result }
     ensures upper_bound { result ≤ at + 96 }
 {
     let a = number_field(out, at, b"permission ", permission as u64);
@@ -56,7 +56,7 @@ fn permission_line(out: &mut [u8], at: usize, permission: usize, leaks: u32, of:
 // The lines of all permissions.
 fn permission_lines(out: &mut [u8], start: usize, leaks: &[u32], of: u32) -> usize
     requires { (start + 2304 ≤ length out.old) × (length leaks.now ≡ width) }
-    ensures { Wrote out.old start (permissionLines width 0 of (countIn leaks.now)) out.new result }
+    ensures { Wrote out.old start (permission_lines width 0 of (count_in leaks.now)) out.new result }
 {
     let mut at = start;
     let mut i = 0;
@@ -70,7 +70,7 @@ fn permission_lines(out: &mut [u8], start: usize, leaks: &[u32], of: u32) -> usi
 // The first line of the totals.
 fn count_line(out: &mut [u8], accepted: u32, refused: u32) -> usize
     requires { 96 ≤ length out.old }
-    ensures wrote { Wrote out.old 0 (countLine accepted refused) out.new result }
+    ensures wrote { Wrote out.old 0 (count_line accepted refused) out.new result }
     ensures upper_bound { result ≤ 96 }
 {
     let a = number_field(out, 0, b"accepted ", accepted as u64);
@@ -81,7 +81,7 @@ fn count_line(out: &mut [u8], accepted: u32, refused: u32) -> usize
 // The totals, at the start of out.
 pub fn put_totals(out: &mut [u8], accepted: u32, refused: u32, leaks: &[u32]) -> usize
     requires { (2400 ≤ length out.old) × (length leaks.now ≡ width) }
-    ensures { Wrote out.old 0 (totals accepted refused (countIn leaks.now)) out.new result }
+    ensures { Wrote out.old 0 (totals accepted refused (count_in leaks.now)) out.new result }
 {
     let at = count_line(out, accepted, refused);
     permission_lines(out, at, leaks, accepted)

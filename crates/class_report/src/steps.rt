@@ -1,7 +1,7 @@
 // One step of the report: what a piece of the stream calls for, and its text.
 ghost use Rattle.std.specs.Prelude.{◌≡◌, ◌+◌, ◌*◌, ◌≤◌, length};
 ghost use Rattle.class_report.specs.Stream.{number};
-ghost use Rattle.class_report.specs.Steps.{atEnd, brokenTask, frontTask, fullTask, taskFor, room, outAfter, Done, SoundFor};
+ghost use Rattle.class_report.specs.Steps.{at_end, broken_task, front_task, full_task, task_for, room, out_after, Done, SoundFor};
 ghost use Rattle.class_report.specs.Steps.{text as Steps·text, step as Steps-step};
 
 use crate::counts::{position, tallied};
@@ -14,13 +14,13 @@ use report::refusal_line;
 
 // What is known only where the stream has ended.
 fn at_end(ended: bool, task: Task) -> Task
-    ensures { result ≡ atEnd ended task }
+    ensures { result ≡ at_end ended task }
 {
     if ended { task } else { Task::More }
 }
 
 fn broken_task(ended: bool, fault: Fault) -> Task
-    ensures { result ≡ brokenTask ended fault }
+    ensures { result ≡ broken_task ended fault }
 {
     match fault {
         Fault::TooMany => Task::Refusal(Fault::TooMany),
@@ -30,7 +30,7 @@ fn broken_task(ended: bool, fault: Fault) -> Task
 }
 
 fn front_task(ended: bool, front: Front) -> Task
-    ensures { result ≡ frontTask ended front }
+    ensures { result ≡ front_task ended front }
 {
     match front {
         Front::Nothing => at_end(ended, Task::Totals),
@@ -41,7 +41,7 @@ fn front_task(ended: bool, front: Front) -> Task
 
 // After the last system that a stream may have.
 fn full_task(ended: bool, piece: &[u8]) -> Task
-    ensures { result ≡ fullTask ended piece.now }
+    ensures { result ≡ full_task ended piece.now }
 {
     if piece.len() == 0 {
         at_end(ended, Task::Totals)
@@ -52,7 +52,7 @@ fn full_task(ended: bool, piece: &[u8]) -> Task
 
 // What a piece calls for.
 fn task_for(position: usize, ended: bool, piece: &[u8]) -> Task
-    ensures { result ≡ taskFor position ended piece.now }
+    ensures { result ≡ task_for position ended piece.now }
 {
     if position < 10000 {
         front_task(ended, front_of(piece))
@@ -121,7 +121,7 @@ fn system_step(tally: Tally, piece: &[u8], words: usize, out: &mut [u8; 2400]) -
 // the fault; and nothing where more bytes are needed.
 pub fn step(tally: Tally, piece: &[u8], ended: bool, out: &mut [u8; 2400]) -> Step
     ensures says { result ≡ Steps-step tally piece.now ended }
-    ensures text { out.new ≡ outAfter (Steps·text tally piece.now ended) out.old }
+    ensures text { out.new ≡ out_after (Steps·text tally piece.now ended) out.old }
     ensures fits { result.size ≤ room }
     ensures used { result.used ≤ length piece.now }
     ensures sound { SoundFor piece.now }

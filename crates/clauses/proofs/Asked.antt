@@ -7,9 +7,9 @@ use lib.Dec.{T}
 use lib.ListN.{get_or}
 use Rattle.delivery.specs.Delivery.{delivered}
 use Rattle.table.specs.Code.{Code, Node, NodeLinked, Linked, gap, block, leaf, one, two, bind, while, branch, update}
-use Rattle.calculus.specs.Elements.{made, nothing, isFunction, isRecord, isCell, makes}
+use Rattle.calculus.specs.Elements.{made, nothing, is_function, is_record, is_cell, makes}
 use Rattle.calculus.specs.Constraint.{C, Sets, Obeys, Rule}
-use Rattle.calculus.specs.Rules.{name_of, guarded, deliveryTo, permissions}
+use Rattle.calculus.specs.Rules.{name_of, guarded, delivery_to, permissions}
 use Rattle.calculus.proofs.Deliveries.{delivered-parts}
 use Rattle.calculus.proofs.Ranges.{below_in}
 use Rattle.clauses.specs.declared.Clause.{Clause}
@@ -17,8 +17,8 @@ use Rattle.clauses.specs.declared.Test.{Test}
 use Rattle.clauses.specs.declared.Test.TheVariants as tests
 use Rattle.clauses.specs.declared.What.{What}
 use Rattle.clauses.specs.declared.What.TheVariants as whats
-use Rattle.rows.specs.Numbered.{thingAt}
-use Rattle.clauses.specs.Asks.{under, forThing, things, blocks, effect, asks}
+use Rattle.rows.specs.Numbered.{thing_at}
+use Rattle.clauses.specs.Asks.{under, for_thing, things, blocks, effect, asks}
 use Rattle.clauses.specs.Clauses.{never}
 
 -- each clause of a list
@@ -51,13 +51,13 @@ module _ (c : Code) (k : Linked c) (e : Sets) where
     under-map tests.TextHas o = λ w s h m. g (o w s h m)
     under-map tests.TextSome o = λ w s h x r m. g (o w s h x r m)
 
-  nothing-thing : (z : ℕ) → T (thingAt z nothing) → ⊥
-  unfolding thingAt isFunction isRecord isCell
+  nothing-thing : (z : ℕ) → T (thing_at z nothing) → ⊥
+  unfolding thing_at is_function is_record is_cell
   nothing-thing zero t = t
   nothing-thing (suc zero) t = t
   nothing-thing (suc (suc n)) t = t
 
-  pub gap-thing : (z f : ℕ) → c.size ≤ f → T (thingAt z (makes (c.node f))) → ⊥
+  pub gap-thing : (z f : ℕ) → c.size ≤ f → T (thing_at z (makes (c.node f))) → ⊥
   unfolding makes
   gap-thing z f h t = nothing-thing z (rw (k.outside f h) at t)
 
@@ -66,7 +66,7 @@ module _ (c : Code) (k : Linked c) (e : Sets) where
   things-narrow w x y z zero o = o
   things-narrow w x y z (suc f) o = λ t. go t (dec_lt (suc f) c.size)
     where
-      go : T (thingAt z (makes (c.node (suc f)))) → Dec (suc f < c.size) → T (e (C (x + 1)) (made c (suc f))) → Obeys e (forThing w x y (suc f))
+      go : T (thing_at z (makes (c.node (suc f)))) → Dec (suc f < c.size) → T (e (C (x + 1)) (made c (suc f))) → Obeys e (for_thing w x y (suc f))
       go t (yes i) = o (suc f) (below_in i) t
       go t (no i) = absurd (gap-thing z (suc f) (omega arith) t)
 
@@ -91,7 +91,7 @@ module _ (c : Code) (k : Linked c) (e : Sets) where
       go (yes i) = listed-node b (c.node b) (k.nodes b i) s t
       go (no i) = absurd (rw (k.outside b (omega arith)) at t)
 
-  pub admitted-listed : (n r s b : ℕ) → T (delivered (deliveryTo n r s (c.node b))) → Memᴰ b c.blocks
+  pub admitted-listed : (n r s b : ℕ) → T (delivered (delivery_to n r s (c.node b))) → Memᴰ b c.blocks
   admitted-listed n r s b t = listed-guarded b s (delivered-parts n r s (c.node b) t).2
 
   blocks-narrow : (x y z f : ℕ) → Obeys e (blocks c x y z 0) → Obeys e (blocks c x y z f)

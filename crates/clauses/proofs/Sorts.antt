@@ -8,9 +8,9 @@ use native.Mathlib.Nat.{add-sub_cancel_left}
 use native.Mathlib.Omega.{arith}
 use lib.Dec.{T, eqb, leb, eqb→eq, leb→le, le→leb}
 use Rattle.table.specs.Code.{Code, Linked}
-use Rattle.calculus.specs.Elements.{plain, made, opponentRecord, Making, nothing, isRecord, isCell, makes, making, anyRecord}
+use Rattle.calculus.specs.Elements.{plain, made, opponent_record, Making, nothing, is_record, is_cell, makes, making, any_record}
 use Rattle.calculus.proofs.Digits.{T-or, T-or-right, T_and, T-fst, T-snd}
-use Rattle.rows.specs.Mask.{madeAs}
+use Rattle.rows.specs.Mask.{made_as}
 
 module _ (c : Code) (k : Linked c) where
   -- the word that makes an element
@@ -20,7 +20,7 @@ module _ (c : Code) (k : Linked c) where
     pub makes-it : T (m (makes (c.node word)))
     pub element : v ≡ made c word
 
-  made_by : (m : Making → Bool) → (T (m nothing) → ⊥) → (v : ℕ) → T (madeAs c m v) → MadeBy m v
+  made_by : (m : Making → Bool) → (T (m nothing) → ⊥) → (v : ℕ) → T (made_as c m v) → MadeBy m v
   unfolding making makes
   made_by m z v t = go (dec_lt (v - plain c) c.size)
     where
@@ -34,23 +34,23 @@ module _ (c : Code) (k : Linked c) where
       go (yes i) = record { word = v - plain c; inside = i; makes-it = here; element = omega (arith, low) }
       go (no i) = absurd (z (rw (k.outside (v - plain c) (omega arith)) at here))
 
-  pub cell-by : (v : ℕ) → T (madeAs c isCell v) → MadeBy isCell v
-  unfolding isCell
-  cell-by = made_by isCell (λ t. t)
+  pub cell-by : (v : ℕ) → T (made_as c is_cell v) → MadeBy is_cell v
+  unfolding is_cell
+  cell-by = made_by is_cell (λ t. t)
 
   -- 7, or made as a record
-  pub record-by : (v : ℕ) → T (anyRecord c v) → (v ≡ opponentRecord) ⊎ MadeBy isRecord v
-  unfolding anyRecord isRecord
+  pub record-by : (v : ℕ) → T (any_record c v) → (v ≡ opponent_record) ⊎ MadeBy is_record v
+  unfolding any_record is_record
   record-by v t =
-      ⊎_elim (λ a. inl (eqb→eq v opponentRecord a)) (λ b. inr (made_by isRecord (λ z. z) v b))
-      (T-or (eqb v opponentRecord) (leb (plain c) v && isRecord (making c v)) t)
+      ⊎_elim (λ a. inl (eqb→eq v opponent_record a)) (λ b. inr (made_by is_record (λ z. z) v b))
+      (T-or (eqb v opponent_record) (leb (plain c) v && is_record (making c v)) t)
 
   -- what a word makes is of its sort
-  pub is_made : (m : Making → Bool) (q : ℕ) → T (m (makes (c.node q))) → T (madeAs c m (made c q))
+  pub is_made_lem : (m : Making → Bool) (q : ℕ) → T (m (makes (c.node q))) → T (made_as c m (made c q))
   unfolding making
-  is_made m q t =
+  is_made_lem m q t =
       T_and (leb (plain c) (made c q)) (m (making c (made c q))) (le→leb (plain c) (made c q) (omega arith)) (rw add-sub_cancel_left t)
 
-  pub is-record : (q : ℕ) → T (isRecord (makes (c.node q))) → T (anyRecord c (made c q))
-  unfolding anyRecord
-  is-record q t = T-or-right (eqb (made c q) opponentRecord) (leb (plain c) (made c q) && isRecord (making c (made c q))) (is_made isRecord q t)
+  pub is-record : (q : ℕ) → T (is_record (makes (c.node q))) → T (any_record c (made c q))
+  unfolding any_record
+  is-record q t = T-or-right (eqb (made c q) opponent_record) (leb (plain c) (made c q) && is_record (making c (made c q))) (is_made_lem is_record q t)

@@ -1,12 +1,12 @@
 -- What a clause asks, as a rule: its guard is a condition on the sets, its effect what has to be in them.
 use Rattle.std.specs.Prelude.{ℕ, zero, suc, ◌+◌, not, eqb}
 use Rattle.permset.specs.Sets.{width, member}
-use Rattle.table.specs.Words.{operationOf}
+use Rattle.table.specs.Words.{operation_of}
 use Rattle.table.specs.Code.{Code}
-use Rattle.calculus.specs.Elements.{plain, made, isString, makes, sendable, results}
+use Rattle.calculus.specs.Elements.{plain, made, is_string, makes, sendable, results}
 use Rattle.calculus.specs.Constraint.{C, B, P, Rule, none, put, sub, given, some, only, each, every, ◌and◌}
 use Rattle.calculus.specs.Rules.{delivering, live, fill, pass, part, waiting}
-use Rattle.rows.specs.Numbered.{row_at, sortAt, thingAt}
+use Rattle.rows.specs.Numbered.{row_at, sort_at, thing_at}
 use Rattle.clauses.specs.declared.Test.{Test}
 use Rattle.clauses.specs.declared.Test.TheVariants as tests
 use Rattle.clauses.specs.declared.What.{What}
@@ -19,36 +19,36 @@ unfoldable pub under : Code → Test → (d a v : ℕ) → Rule → Rule
 under c tests.Never d a v k = none
 under c tests.Free d a v k = k
 under c tests.Has d a v k = given (C a) v k
-under c tests.Some d a v k = some (C a) (sortAt v c) k
-under c tests.Text d a v k = some (C d) isString k
-under c tests.TextHas d a v k = some (C d) isString (given (C a) v k)
-under c tests.TextSome d a v k = some (C d) isString (some (C a) (sortAt v c) k)
+under c tests.Some d a v k = some (C a) (sort_at v c) k
+under c tests.Text d a v k = some (C d) is_string k
+under c tests.TextHas d a v k = some (C d) is_string (given (C a) v k)
+under c tests.TextSome d a v k = some (C d) is_string (some (C a) (sort_at v c) k)
 
 -- ---- effects
 
 -- what is asked for the thing f
-unfoldable pub forThing : What → (x y f : ℕ) → Rule
-forThing whats.Live x y f = none
-forThing whats.Put x y f = none
-forThing whats.Fill x y f = none
-forThing whats.Flow x y f = none
-forThing whats.Pass x y f = none
-forThing whats.Permit x y f = none
-forThing whats.Operate x y f = none
-forThing whats.Part x y f = none
-forThing whats.Parts x y f = none
-forThing whats.Branches x y f = none
-forThing whats.Enter x y f = live (suc f)
-forThing whats.Lower x y f = sub (P (suc f)) (P x)
-forThing whats.Hand x y f = sub (row_at y) (B f)
-forThing whats.Take x y f = sub (B f) (row_at y)
-forThing whats.Back x y f = sub (C (suc f)) (row_at y)
-forThing whats.Send x y f = none
+unfoldable pub for_thing : What → (x y f : ℕ) → Rule
+for_thing whats.Live x y f = none
+for_thing whats.Put x y f = none
+for_thing whats.Fill x y f = none
+for_thing whats.Flow x y f = none
+for_thing whats.Pass x y f = none
+for_thing whats.Permit x y f = none
+for_thing whats.Operate x y f = none
+for_thing whats.Part x y f = none
+for_thing whats.Parts x y f = none
+for_thing whats.Branches x y f = none
+for_thing whats.Enter x y f = live (suc f)
+for_thing whats.Lower x y f = sub (P (suc f)) (P x)
+for_thing whats.Hand x y f = sub (row_at y) (B f)
+for_thing whats.Take x y f = sub (B f) (row_at y)
+for_thing whats.Back x y f = sub (C (suc f)) (row_at y)
+for_thing whats.Send x y f = none
 
 module _ (c : Code) where
   -- the thing f of the mask z, where C(x + 1) has it
-  abbrev pub atThing : What → (x y z f : ℕ) → Rule
-  atThing w x y z f = only (thingAt z (makes (c.node f))) (given (C (x + 1)) (made c f) (forThing w x y f))
+  abbrev pub at_thing : What → (x y z f : ℕ) → Rule
+  at_thing w x y z f = only (thing_at z (makes (c.node f))) (given (C (x + 1)) (made c f) (for_thing w x y f))
 
   -- the block b, where the send at x may start it for a name in C(x + 1)
   abbrev pub at_block : (x y z b : ℕ) → Rule
@@ -58,8 +58,8 @@ module _ (c : Code) where
 
   -- all targets, or the one target f where it is not 0
   unfoldable pub things : What → (x y z f : ℕ) → Rule
-  things w x y z zero = every c.size (atThing w x y z)
-  things w x y z (suc f) = atThing w x y z (suc f)
+  things w x y z zero = every c.size (at_thing w x y z)
+  things w x y z (suc f) = at_thing w x y z (suc f)
 
   unfoldable pub blocks : (x y z f : ℕ) → Rule
   blocks x y z zero = each c.blocks (at_block x y z)
@@ -70,11 +70,11 @@ module _ (c : Code) where
   effect whats.Put x y z f = put (row_at x) y
   effect whats.Fill x y z f = fill c (row_at x)
   effect whats.Flow x y z f = sub (row_at x) (row_at y)
-  effect whats.Pass x y z f = pass c (row_at x) (sortAt z c) (row_at y)
+  effect whats.Pass x y z f = pass c (row_at x) (sort_at z c) (row_at y)
   effect whats.Permit x y z f = every width (λ i. only (member y i) (put (P x) i))
   effect whats.Operate x y z f =
       every (plain c)
-      (λ u. given (C (x + 1)) u (every (plain c) (λ v. given (C y) v (each (results c (operationOf z) u v) (λ w. put (C x) w)))))
+      (λ u. given (C (x + 1)) u (every (plain c) (λ v. given (C y) v (each (results c (operation_of z) u v) (λ w. put (C x) w)))))
   effect whats.Part x y z f = part x y
   effect whats.Parts x y z f = part x (x + 1) and only (not (eqb y 0)) (part x y) and only (not (eqb z 0)) (part x z)
   effect whats.Branches x y z f = part x (x + 1) and waiting x y and only (not (eqb z 0)) (waiting x z)

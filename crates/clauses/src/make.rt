@@ -1,9 +1,9 @@
 // Clause k of the word p. It comes from the words and links of the table alone: nothing here sees an estimate.
 ghost use Rattle.std.specs.Prelude.{◌≡◌, ◌<◌, ◌≤◌, length, get_or};
-ghost use Rattle.table.specs.Words.{operationNumber};
-ghost use Rattle.clauses.specs.Clauses.{when as When, of as Of, never as Never, siteAt, ofTerm, clauseAt};
-ghost use Rattle.clauses.specs.Clauses.{ofValue, ofVariable, ofPermitted, ofExercise, ofApply, ofLet, ofSequence, ofIf, ofWhile, ofOperation};
-ghost use Rattle.clauses.specs.Clauses.{ofGet, ofSet, ofDelete, ofCell, ofRead, ofAssign, ofSend, ofBlock};
+ghost use Rattle.table.specs.Words.{operation_number};
+ghost use Rattle.clauses.specs.Clauses.{when as When, of as Of, never as Never, site_at, of_term, clause_at};
+ghost use Rattle.clauses.specs.Clauses.{of_value, of_variable, of_permitted, of_exercise, of_apply, of_let, of_sequence, of_if, of_while, of_operation};
+ghost use Rattle.clauses.specs.Clauses.{of_get, of_set, of_delete, of_cell, of_read, of_assign, of_send, of_block};
 ghost use Rattle.clauses.specs.declared.Test.TheVariants as tests;
 ghost use Rattle.clauses.specs.declared.What.TheVariants as whats;
 
@@ -114,7 +114,7 @@ fn text_some(d: usize, a: usize, v: usize, effect: Effect) -> Clause
 
 fn of_value(p: usize, v: usize, k: usize) -> Clause
     requires { p < 1024 }
-    ensures { result ≡ get_or (ofValue p v) k Never }
+    ensures { result ≡ get_or (of_value p v) k Never }
 {
     match k {
         0 => free(put(value(p), v)),
@@ -124,7 +124,7 @@ fn of_value(p: usize, v: usize, k: usize) -> Clause
 
 fn of_variable(p: usize, binder: usize, k: usize) -> Clause
     requires { (p < 1024) × (binder < 2048) }
-    ensures { result ≡ get_or (ofVariable p binder) k Never }
+    ensures { result ≡ get_or (of_variable p binder) k Never }
 {
     match k {
         0 => free(flow(held(binder), value(p))),
@@ -134,7 +134,7 @@ fn of_variable(p: usize, binder: usize, k: usize) -> Clause
 
 fn of_apply(p: usize, d: usize, k: usize) -> Clause
     requires { (p < 1024) × (d < 2048) }
-    ensures { result ≡ get_or (ofApply p d) k Never }
+    ensures { result ≡ get_or (of_apply p d) k Never }
 {
     match k {
         0 => free(parts(p, d, 0)),
@@ -148,7 +148,7 @@ fn of_apply(p: usize, d: usize, k: usize) -> Clause
 
 fn of_let(p: usize, d: usize, k: usize) -> Clause
     requires { (p < 1024) × (d < 2048) }
-    ensures { result ≡ get_or (ofLet p d) k Never }
+    ensures { result ≡ get_or (of_let p d) k Never }
 {
     match k {
         0 => free(parts(p, d, 0)),
@@ -160,7 +160,7 @@ fn of_let(p: usize, d: usize, k: usize) -> Clause
 
 fn of_sequence(p: usize, d: usize, k: usize) -> Clause
     requires { (p < 1024) × (d < 2048) }
-    ensures { result ≡ get_or (ofSequence p d) k Never }
+    ensures { result ≡ get_or (of_sequence p d) k Never }
 {
     match k {
         0 => free(parts(p, d, 0)),
@@ -171,7 +171,7 @@ fn of_sequence(p: usize, d: usize, k: usize) -> Clause
 
 fn of_if(p: usize, d: usize, e: usize, k: usize) -> Clause
     requires { (p < 1024) × (d < 2048) × (e < 2048) }
-    ensures { result ≡ get_or (ofIf p d e) k Never }
+    ensures { result ≡ get_or (of_if p d e) k Never }
 {
     match k {
         0 => free(branches(p, d, e)),
@@ -185,7 +185,7 @@ fn of_if(p: usize, d: usize, e: usize, k: usize) -> Clause
 
 fn of_while(p: usize, d: usize, k: usize) -> Clause
     requires { (p < 1024) × (d < 2048) }
-    ensures { result ≡ get_or (ofWhile p d) k Never }
+    ensures { result ≡ get_or (of_while p d) k Never }
 {
     match k {
         0 => free(branches(p, d, 0)),
@@ -197,7 +197,7 @@ fn of_while(p: usize, d: usize, k: usize) -> Clause
 
 fn of_operation(p: usize, d: usize, o: usize, k: usize) -> Clause
     requires { (p < 1024) × (d < 2048) }
-    ensures { result ≡ get_or (ofOperation p d o) k Never }
+    ensures { result ≡ get_or (of_operation p d o) k Never }
 {
     match k {
         0 => free(parts(p, d, 0)),
@@ -208,7 +208,7 @@ fn of_operation(p: usize, d: usize, o: usize, k: usize) -> Clause
 
 fn of_get(p: usize, d: usize, k: usize) -> Clause
     requires { (p < 1024) × (d < 2048) }
-    ensures { result ≡ get_or (ofGet p d) k Never }
+    ensures { result ≡ get_or (of_get p d) k Never }
 {
     match k {
         0 => free(parts(p, d, 0)),
@@ -221,7 +221,7 @@ fn of_get(p: usize, d: usize, k: usize) -> Clause
 
 fn of_set(p: usize, d: usize, e: usize, own: usize, k: usize) -> Clause
     requires { (p < 1024) × (d < 2048) × (e < 2048) }
-    ensures { result ≡ get_or (ofSet p d e own) k Never }
+    ensures { result ≡ get_or (of_set p d e own) k Never }
 {
     match k {
         0 => free(parts(p, d, e)),
@@ -235,7 +235,7 @@ fn of_set(p: usize, d: usize, e: usize, own: usize, k: usize) -> Clause
 
 fn of_delete(p: usize, d: usize, k: usize) -> Clause
     requires { (p < 1024) × (d < 2048) }
-    ensures { result ≡ get_or (ofDelete p d) k Never }
+    ensures { result ≡ get_or (of_delete p d) k Never }
 {
     match k {
         0 => free(parts(p, d, 0)),
@@ -246,7 +246,7 @@ fn of_delete(p: usize, d: usize, k: usize) -> Clause
 
 fn of_cell(p: usize, own: usize, k: usize) -> Clause
     requires { p < 1024 }
-    ensures { result ≡ get_or (ofCell p own) k Never }
+    ensures { result ≡ get_or (of_cell p own) k Never }
 {
     match k {
         0 => free(parts(p, 0, 0)),
@@ -258,7 +258,7 @@ fn of_cell(p: usize, own: usize, k: usize) -> Clause
 
 fn of_read(p: usize, k: usize) -> Clause
     requires { p < 1024 }
-    ensures { result ≡ get_or (ofRead p) k Never }
+    ensures { result ≡ get_or (of_read p) k Never }
 {
     match k {
         0 => free(parts(p, 0, 0)),
@@ -269,7 +269,7 @@ fn of_read(p: usize, k: usize) -> Clause
 
 fn of_assign(p: usize, d: usize, k: usize) -> Clause
     requires { (p < 1024) × (d < 2048) }
-    ensures { result ≡ get_or (ofAssign p d) k Never }
+    ensures { result ≡ get_or (of_assign p d) k Never }
 {
     match k {
         0 => free(parts(p, d, 0)),
@@ -281,7 +281,7 @@ fn of_assign(p: usize, d: usize, k: usize) -> Clause
 
 fn of_send(p: usize, d: usize, set: usize, k: usize) -> Clause
     requires { (p < 1024) × (d < 2048) }
-    ensures { result ≡ get_or (ofSend p d set) k Never }
+    ensures { result ≡ get_or (of_send p d set) k Never }
 {
     match k {
         0 => free(parts(p, d, 0)),
@@ -293,7 +293,7 @@ fn of_send(p: usize, d: usize, set: usize, k: usize) -> Clause
 
 fn of_block(p: usize, k: usize) -> Clause
     requires { p < 1024 }
-    ensures { result ≡ get_or (ofBlock p) k Never }
+    ensures { result ≡ get_or (of_block p) k Never }
 {
     match k {
         0 => free(of(What::Part, p, body_of(p), 0)),
@@ -304,7 +304,7 @@ fn of_block(p: usize, k: usize) -> Clause
 // An exercise that its block's permissions allow.
 fn of_permitted(p: usize, set: usize, k: usize) -> Clause
     requires { p < 1024 }
-    ensures { result ≡ get_or (ofPermitted p set) k Never }
+    ensures { result ≡ get_or (of_permitted p set) k Never }
 {
     match k {
         0 => free(put(value(p), UNIT)),
@@ -315,7 +315,7 @@ fn of_permitted(p: usize, set: usize, k: usize) -> Clause
 
 // The number of an operation.
 fn operation_number(o: Operation) -> usize
-    ensures { result ≡ operationNumber o }
+    ensures { result ≡ operation_number o }
 {
     match o {
         Operation::Add => 0,
@@ -326,7 +326,7 @@ fn operation_number(o: Operation) -> usize
 
 fn of_exercise(p: usize, set: PermSet, own: PermSet, k: usize) -> Clause
     requires { p < 1024 }
-    ensures { result ≡ get_or (ofExercise p set.bits own.bits) k Never }
+    ensures { result ≡ get_or (of_exercise p set.bits own.bits) k Never }
 {
     if set.within(own) {
         of_permitted(p, set.bits as usize, k)
@@ -340,7 +340,7 @@ fn of_exercise(p: usize, set: PermSet, own: PermSet, k: usize) -> Clause
 // Clause k of the term t at p, where made things start at the element `plain`.
 fn of_term(words: &[u32], links: &[u32], plain: usize, p: usize, t: Term, k: usize) -> Clause
     requires { (p < 1024) × (plain ≤ 1024) }
-    ensures { result ≡ get_or (ofTerm p t (siteAt words.now links.now plain p)) k Never }
+    ensures { result ≡ get_or (of_term p t (site_at words.now links.now plain p)) k Never }
 {
     match t {
         Term::Constant(c) => of_value(p, constant_element(c), k),
@@ -370,7 +370,7 @@ fn of_term(words: &[u32], links: &[u32], plain: usize, p: usize, t: Term, k: usi
 // Clause k of the word p, where made things start at the element `plain`.
 pub fn clause(words: &[u32], links: &[u32], plain: usize, p: usize, k: usize) -> Clause
     requires { (p < length words.now) × (length words.now ≤ 1024) × (plain ≤ 1024) }
-    ensures { result ≡ clauseAt words.now links.now plain p k }
+    ensures { result ≡ clause_at words.now links.now plain p k }
 {
     match item_at(words, p) {
         Item::Gap => never(),

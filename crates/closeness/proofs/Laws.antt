@@ -9,7 +9,7 @@ use lib.Dec.{leb}
 use borrow.Author.Tests.{eq-eqb, ne_eqb, leb-true, leb-false}
 use lib.ListN.{length, get_or, drop, drop_of_length-le}
 use lib.Seq.{drop-cons}
-use Rattle.closeness.specs.Closeness.{same, shared, agree, exchanged, closeFrom}
+use Rattle.closeness.specs.Closeness.{same, shared, agree, exchanged, close_from}
 
 pub past_end : (l : List ℕ) (i : ℕ) → length l ≤ i → get_or l i 0 ≡ 0
 past_end [] i h = refl
@@ -73,18 +73,18 @@ module _ (x y : List ℕ) (i : ℕ) where
   unfolding exchanged
   exchanged-rest e f = rw (exchanged, eq-eqb (get_or x i 0) (get_or y (i + 1) 0) e, eq-eqb (get_or x (i + 1) 0) (get_or y i 0) f)
 
-  pub close-changed : agree x (i + 1) y (i + 1) ≡ true → closeFrom x y i ≡ true
-  unfolding closeFrom
-  close-changed t = rw (closeFrom, t)
+  pub close-changed : agree x (i + 1) y (i + 1) ≡ true → close_from x y i ≡ true
+  unfolding close_from
+  close-changed t = rw (close_from, t)
 
-  pub close-added : agree x (i + 1) y (i + 1) ≡ false → agree x i y (i + 1) ≡ true → closeFrom x y i ≡ true
-  unfolding closeFrom
-  close-added f t = rw (closeFrom, f, t)
+  pub close-added : agree x (i + 1) y (i + 1) ≡ false → agree x i y (i + 1) ≡ true → close_from x y i ≡ true
+  unfolding close_from
+  close-added f t = rw (close_from, f, t)
 
-  pub close-left : agree x (i + 1) y (i + 1) ≡ false → agree x i y (i + 1) ≡ false → agree x (i + 1) y i ≡ true → closeFrom x y i ≡ true
-  unfolding closeFrom
-  close-left f g t = rw (closeFrom, f, g, t)
+  pub close-left : agree x (i + 1) y (i + 1) ≡ false → agree x i y (i + 1) ≡ false → agree x (i + 1) y i ≡ true → close_from x y i ≡ true
+  unfolding close_from
+  close-left f g t = rw (close_from, f, g, t)
 
-  pub close-exchanged : agree x (i + 1) y (i + 1) ≡ false → agree x i y (i + 1) ≡ false → agree x (i + 1) y i ≡ false → exchanged x y i ≡ closeFrom x y i
-  unfolding closeFrom
-  close-exchanged f g t = rw (closeFrom, f, g, t)
+  pub close-exchanged : agree x (i + 1) y (i + 1) ≡ false → agree x i y (i + 1) ≡ false → agree x (i + 1) y i ≡ false → exchanged x y i ≡ close_from x y i
+  unfolding close_from
+  close-exchanged f g t = rw (close_from, f, g, t)

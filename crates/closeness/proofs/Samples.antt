@@ -5,7 +5,7 @@ use Prim.Native.String.{String, [] as ε, ◌∷◌ as ◌◂◌}
 use mathlib.Core.Path.{◌≡◌, refl}
 use mathlib.Core.Bool.{Bool, true, false}
 use mathlib.Core.List.{List, [], ◌∷◌, map}
-use Rattle.closeness.specs.Closeness.{same, shared, agree, exchanged, closeFrom, close}
+use Rattle.closeness.specs.Closeness.{same, shared, agree, exchanged, close_from, close}
 
 abbrev letters : String → List ℕ
 letters ε = []
@@ -22,9 +22,9 @@ abbrev far : List (List ℕ)
 far = letters "HANDLER" ∷ letters "hondlar" ∷ letters "hand" ∷ letters "handlers!" ∷ letters "hdnaler" ∷ letters "ahdnler" ∷ [] ∷ []
 
 pub all_near : map (λ w. close w (letters "handler")) near ≡ true ∷ true ∷ true ∷ true ∷ true ∷ true ∷ true ∷ true ∷ true ∷ true ∷ true ∷ true ∷ []
-unfolding same shared agree exchanged closeFrom close
+unfolding same shared agree exchanged close_from close
 all_near = refl
 
 pub all-far : map (λ w. close w (letters "handler")) far ≡ false ∷ false ∷ false ∷ false ∷ false ∷ false ∷ false ∷ []
-unfolding same shared agree exchanged closeFrom close
+unfolding same shared agree exchanged close_from close
 all-far = refl

@@ -25,10 +25,10 @@ unfolding agree
 exchanged x y i = eqb (get_or x i 0) (get_or y (i + 1) 0) && (eqb (get_or x (i + 1) 0) (get_or y i 0) && agree x (i + 2) y (i + 2))
 
 -- words that agree up to i: behind it a letter is changed, is missing in x, or is missing in y, or two are exchanged
-unfoldable pub closeFrom : (x y : List ℕ) (i : ℕ) → Bool
+unfoldable pub close_from : (x y : List ℕ) (i : ℕ) → Bool
 unfolding agree exchanged
-closeFrom x y i = agree x (i + 1) y (i + 1) || (agree x i y (i + 1) || (agree x (i + 1) y i || exchanged x y i))
+close_from x y i = agree x (i + 1) y (i + 1) || (agree x i y (i + 1) || (agree x (i + 1) y i || exchanged x y i))
 
 unfoldable pub close : (x y : List ℕ) → Bool
-unfolding shared closeFrom
-close x y = closeFrom x y (shared x y)
+unfolding shared close_from
+close x y = close_from x y (shared x y)

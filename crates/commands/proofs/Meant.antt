@@ -8,32 +8,32 @@ use borrow.Author.Tests.{lt-ltb, le-ltb, eq-eqb, ne_eqb}
 use lib.ListN.{length, get_or, take, drop, drop_of_length-le, length-drop}
 use lib.Seq.{drop-cons, drop-drop}
 use Rattle.text.specs.Text.{bytes}
-use Rattle.listing.specs.Decoding.{lineSize}
-use Rattle.commands.specs.Meanings.{fromLine, line_at, linesAt, numbers, position, meaning, sentence}
+use Rattle.listing.specs.Decoding.{line_size}
+use Rattle.commands.specs.Meanings.{from_line, line_at, lines_at, numbers, position, meaning, sentence}
 
 pub from_next : (text : List ℕ) (at left : ℕ) → 0 < left
-    → fromLine left (drop at text) ≡ fromLine (left - 1) (drop (at + lineSize (drop at text)) text)
-unfolding fromLine
+    → from_line left (drop at text) ≡ from_line (left - 1) (drop (at + line_size (drop at text)) text)
+unfolding from_line
 from_next text at zero h = absurd (omega arith)
 from_next text at (suc m) h =
     let e : m ≡ suc m - 1 = omega arith in
-    ap (fromLine m) (drop-drop (lineSize (drop at text)) at text) ∙ ap (λ (k : ℕ). fromLine k (drop (at + lineSize (drop at text)) text)) e
+    ap (from_line m) (drop-drop (line_size (drop at text)) at text) ∙ ap (λ (k : ℕ). from_line k (drop (at + line_size (drop at text)) text)) e
 
-pub part-line : (text : List ℕ) (start end k : ℕ) → drop start text ≡ fromLine k text → end ≡ start + lineSize (drop start text)
+pub part-line : (text : List ℕ) (start end k : ℕ) → drop start text ≡ from_line k text → end ≡ start + line_size (drop start text)
     → take (end - start) (drop start text) ≡ line_at k text
 unfolding line_at
 part-line text start end k e f =
-    let n : end - start ≡ lineSize (drop start text) = omega arith in
-    ap (λ (m : ℕ). take m (drop start text)) n ∙ ap (λ (l : List ℕ). take (lineSize l) l) e
+    let n : end - start ≡ line_size (drop start text) = omega arith in
+    ap (λ (m : ℕ). take m (drop start text)) n ∙ ap (λ (l : List ℕ). take (line_size l) l) e
 
-pub part-lines : (text : List ℕ) (start end k count : ℕ) → drop start text ≡ fromLine k text → drop end text ≡ fromLine count (drop start text)
-    → start ≤ end → end ≤ length text → take (end - start) (drop start text) ≡ linesAt k count text
-unfolding linesAt
+pub part-lines : (text : List ℕ) (start end k count : ℕ) → drop start text ≡ from_line k text → drop end text ≡ from_line count (drop start text)
+    → start ≤ end → end ≤ length text → take (end - start) (drop start text) ≡ lines_at k count text
+unfolding lines_at
 part-lines text start end k count e f g h =
     let x = ap length f in
-    let n : end - start ≡ length (drop start text) - length (fromLine count (drop start text)) =
+    let n : end - start ≡ length (drop start text) - length (from_line count (drop start text)) =
     omega (arith, ap length f, length-drop start text, length-drop end text) in
-    ap (λ (m : ℕ). take m (drop start text)) n ∙ ap (λ (l : List ℕ). take (length l - length (fromLine count l)) l) e
+    ap (λ (m : ℕ). take m (drop start text)) n ∙ ap (λ (l : List ℕ). take (length l - length (from_line count l)) l) e
 
 pub numbers-long : length numbers ≡ 39
 unfolding numbers

@@ -9,19 +9,19 @@ use borrow.Author.Tests.{lt-ltb, le-ltb}
 use lib.Dec.{ltb}
 use lib.ListN.{length, take, drop}
 use lib.Seq.{take_all}
-use Rattle.table.specs.Scan.{Outcome, accepted, refused, first_of, narrowReading}
+use Rattle.table.specs.Scan.{Outcome, accepted, refused, first_of, narrow_reading}
 use Rattle.listing.proofs.Depths.{narrow_size}
 use Rattle.text.specs.Writing.{Wrote}
 use Rattle.text.proofs.Writing.{reworded}
-use Rattle.little_endian.specs.LittleEndian.{wordsOf, bytesOf, wholeWords}
-use Rattle.little_endian.proofs.Laws.{length-bytesOf}
-use Rattle.listing.specs.Listing.{Answered, done, refusal, left, tested, most, listing, written, readAs}
-use Rattle.listing.specs.Listing.{wordsOf as Listing·wordsOf}
+use Rattle.little_endian.specs.LittleEndian.{words_of, bytes_of, whole_words}
+use Rattle.little_endian.proofs.Laws.{length-bytes_of}
+use Rattle.listing.specs.Listing.{Answered, done, refusal, left, tested, most, listing, written, read_as}
+use Rattle.listing.specs.Listing.{words_of as Listing·words_of}
 use Rattle.listing.proofs.Answers.{write-refused}
 use Rattle.listing.proofs.Places.{reading-first, read-few, read-words}
 use Rattle.listing.proofs.Theorems.{read_count, write-fits}
-use Rattle.report.specs.Lines.{refusalLine}
-use Rattle.commands.specs.Printed.{answerText, listingText, textText, wordsText}
+use Rattle.report.specs.Lines.{refusal_line}
+use Rattle.commands.specs.Printed.{answer_text, listing_text, text_text, words_text}
 
 -- a writer on a slice that a call left as it was
 pub unchanged : {before middle text after : List ℕ} {at next : ℕ} → middle ≡ before → Wrote middle at text after next → Wrote before at text after next
@@ -49,9 +49,9 @@ module _ (ws : List ℕ) where
   by room (refused n p) = refusal n p
   by room accepted = answer (ltb most (length (listing ws))) (ltb room (length (listing ws)))
 
-  written-by : (room : ℕ) → written ws room ≡ by room (narrowReading ws)
+  written-by : (room : ℕ) → written ws room ≡ by room (narrow_reading ws)
   unfolding written
-  written-by room = go (narrowReading ws)
+  written-by room = go (narrow_reading ws)
     where
       go : (o : Outcome)
           → ◌≡◌ {A = Answered}
@@ -63,7 +63,7 @@ module _ (ws : List ℕ) where
   -- a slice of the most bytes is as good as a longer one
   write-room : (room : ℕ) → most ≤ room → written ws room ≡ written ws most
   unfolding tested first_of
-  write-room room h = written-by room ∙ go (narrowReading ws) (dec_lt most (length (listing ws))) ∙ sym (written-by most)
+  write-room room h = written-by room ∙ go (narrow_reading ws) (dec_lt most (length (listing ws))) ∙ sym (written-by most)
     where
       go : (o : Outcome) → Dec (most < length (listing ws)) → by room o ≡ by most o
       go (refused n p) d = refl
@@ -74,25 +74,25 @@ module _ (ws : List ℕ) where
           ap (answer (ltb most (length (listing ws)))) (le-ltb room (length (listing ws)) m ∙ sym (le-ltb most (length (listing ws)) k))
 
   pub write-count : (room n : ℕ) → written ws room ≡ done n → n ≡ length (listing ws)
-  write-count room n e = go (narrowReading ws) (sym (written-by room) ∙ e)
+  write-count room n e = go (narrow_reading ws) (sym (written-by room) ∙ e)
     where
       go : (o : Outcome) → by room o ≡ done n → n ≡ length (listing ws)
       go (refused k p) f = let z : ◌≡◌ {A = ℕ} 0 1 = cc in absurd (omega arith)
       go accepted f = sym (tested-done _ _ n f)
 
   module _ (out after : List ℕ) (h : most ≤ length out) (q : after ≡ left (written ws (length out)) (listing ws) out) where
-    pub listing-done : (n : ℕ) → written ws (length out) ≡ done n → Wrote out 0 (listingText ws) after n
-    unfolding listingText answerText left
+    pub listing-done : (n : ℕ) → written ws (length out) ≡ done n → Wrote out 0 (listing_text ws) after n
+    unfolding listing_text answer_text left
     listing-done n e =
-        let t : listingText ws ≡ listing ws = ap (λ (a : Answered). answerText a (listing ws)) (sym (write-room (length out) h) ∙ e) in
+        let t : listing_text ws ≡ listing ws = ap (λ (a : Answered). answer_text a (listing ws)) (sym (write-room (length out) h) ∙ e) in
         reworded (sym t)
         (at-start (listing ws) out after n (write-count (length out) n e) (write-fits ws (length out) n e)
         (q ∙ ap (λ (a : Answered). left a (listing ws) out) e))
 
     module _ (k p : ℕ) (e : written ws (length out) ≡ refusal k p) where
-      pub listing-refused : refusalLine k p ≡ listingText ws
-      unfolding listingText answerText
-      listing-refused = sym (ap (λ (a : Answered). answerText a (listing ws)) (sym (write-room (length out) h) ∙ e))
+      pub listing-refused : refusal_line k p ≡ listing_text ws
+      unfolding listing_text answer_text
+      listing-refused = sym (ap (λ (a : Answered). answer_text a (listing ws)) (sym (write-room (length out) h) ∙ e))
 
       pub listing-left : after ≡ out
       unfolding left
@@ -101,50 +101,50 @@ module _ (ws : List ℕ) where
 -- of more than 1,024 words the first 1,025 decide what a refusal decides
 pub first-decides : (f : List ℕ → List ℕ) (g : (n p : ℕ) → List ℕ) → ((vs : List ℕ) (n p : ℕ) → written vs most ≡ refusal n p → f vs ≡ g n p)
     → (ws : List ℕ) → f (take 1025 ws) ≡ f ws
-first-decides f g h ws = go (narrowReading ws) refl
+first-decides f g h ws = go (narrow_reading ws) refl
   where
-    go : (o : Outcome) → narrowReading ws ≡ o → f (take 1025 ws) ≡ f ws
+    go : (o : Outcome) → narrow_reading ws ≡ o → f (take 1025 ws) ≡ f ws
     go (refused n p) e =
         h (take 1025 ws) n p (write-refused (take 1025 ws) most n p (reading-first ws ∙ e)) ∙ sym (h ws n p (write-refused ws most n p e))
     go accepted e = ap f (take_all 1025 ws (omega (arith, narrow_size ws e)))
 
-pub listing-first : (ws : List ℕ) → listingText (take 1025 ws) ≡ listingText ws
-unfolding listingText answerText
-listing-first ws = first-decides listingText refusalLine (λ vs n p e. ap (λ (a : Answered). answerText a (listing vs)) e) ws
+pub listing-first : (ws : List ℕ) → listing_text (take 1025 ws) ≡ listing_text ws
+unfolding listing_text answer_text
+listing-first ws = first-decides listing_text refusal_line (λ vs n p e. ap (λ (a : Answered). answer_text a (listing vs)) e) ws
 
 module _ (input : List ℕ) where
-  pub text-even : length input % 4 ≡ 0 → listingText (wordsOf input) ≡ textText input
-  unfolding textText
-  text-even e = rw (textText, e)
+  pub text-even : length input % 4 ≡ 0 → listing_text (words_of input) ≡ text_text input
+  unfolding text_text
+  text-even e = rw (text_text, e)
 
-  pub text-odd : (length input % 4 ≡ 0 → ⊥) → refusalLine 30 0 ≡ textText input
-  unfolding textText
+  pub text-odd : (length input % 4 ≡ 0 → ⊥) → refusal_line 30 0 ≡ text_text input
+  unfolding text_text
   text-odd h = go (length input % 4) h
     where
-      go : (k : ℕ) → (k ≡ 0 → ⊥) → ◌≡◌ {A = List ℕ} (refusalLine 30 0) (elim k [ zero ↦ listingText (wordsOf input) | suc n ↦ refusalLine 30 0 ])
+      go : (k : ℕ) → (k ≡ 0 → ⊥) → ◌≡◌ {A = List ℕ} (refusal_line 30 0) (elim k [ zero ↦ listing_text (words_of input) | suc n ↦ refusal_line 30 0 ])
       go zero g = absurd (g refl)
       go (suc n) g = refl
 
 -- ---- a listing in, its words out
 
 module _ (text : List ℕ) where
-  pub words-refused : (n p : ℕ) → readAs text 1024 ≡ refusal n p → refusalLine n p ≡ wordsText text
-  unfolding wordsText answerText
-  words-refused n p e = sym (ap (λ (a : Answered). answerText a (bytesOf (Listing·wordsOf text))) e)
+  pub words-refused : (n p : ℕ) → read_as text 1024 ≡ refusal n p → refusal_line n p ≡ words_text text
+  unfolding words_text answer_text
+  words-refused n p e = sym (ap (λ (a : Answered). answer_text a (bytes_of (Listing·words_of text))) e)
 
-  module _ (words zeros out after : List ℕ) (n k : ℕ) (e : readAs text 1024 ≡ done n) (q : words ≡ left (readAs text 1024) (Listing·wordsOf text) zeros)
-      (h : most ≤ length out) (c : k ≡ wholeWords out (take n words)) where
+  module _ (words zeros out after : List ℕ) (n k : ℕ) (e : read_as text 1024 ≡ done n) (q : words ≡ left (read_as text 1024) (Listing·words_of text) zeros)
+      (h : most ≤ length out) (c : k ≡ whole_words out (take n words)) where
     count : k ≡ n
     count =
         omega (arith, c, ap length (read-words text words zeros n e q), read_count text 1024 n e, read-few text n e)
 
-    pub words-done : after ≡ bytesOf (take k (take n words)) ++ drop (4 * k) out → Wrote out 0 (wordsText text) after (4 * k)
-    unfolding wordsText answerText
+    pub words-done : after ≡ bytes_of (take k (take n words)) ++ drop (4 * k) out → Wrote out 0 (words_text text) after (4 * k)
+    unfolding words_text answer_text
     words-done w =
-        let t : wordsText text ≡ bytesOf (Listing·wordsOf text) = ap (λ (a : Answered). answerText a (bytesOf (Listing·wordsOf text))) e in
+        let t : words_text text ≡ bytes_of (Listing·words_of text) = ap (λ (a : Answered). answer_text a (bytes_of (Listing·words_of text))) e in
         let m = read_count text 1024 n e in
-        let ws : take k (take n words) ≡ Listing·wordsOf text =
-        ap (take k) (read-words text words zeros n e q) ∙ take_all k (Listing·wordsOf text) (omega (arith, count, m)) in
+        let ws : take k (take n words) ≡ Listing·words_of text =
+        ap (take k) (read-words text words zeros n e q) ∙ take_all k (Listing·words_of text) (omega (arith, count, m)) in
         reworded (sym t)
-        (at-start (bytesOf (Listing·wordsOf text)) out after (4 * k) (omega (arith, length-bytesOf (Listing·wordsOf text), count, m))
-        (omega (arith, count, read-few text n e)) (w ∙ ap (λ (l : List ℕ). bytesOf l ++ drop (4 * k) out) ws))
+        (at-start (bytes_of (Listing·words_of text)) out after (4 * k) (omega (arith, length-bytes_of (Listing·words_of text), count, m))
+        (omega (arith, count, read-few text n e)) (w ∙ ap (λ (l : List ℕ). bytes_of l ++ drop (4 * k) out) ws))

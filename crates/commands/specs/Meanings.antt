@@ -1,28 +1,28 @@
 -- The meaning of each number of a refusal (document 02, all wishes that refuse).
 use Rattle.std.specs.Prelude.{ℕ, zero, suc, ◌-◌, ◌≤◌, ◌≡◌, true, false, List, [], ◌∷◌, ◌++◌, eqb, ltb, length, take, drop}
 use Rattle.text.specs.Text.{bytes}
-use Rattle.listing.specs.Decoding.{lineSize}
+use Rattle.listing.specs.Decoding.{line_size}
 
 -- ---- lines
 
 -- a text from line k on, counted from 0
-unfoldable pub fromLine : ℕ → List ℕ → List ℕ
-fromLine zero text = text
-fromLine (suc k) text = fromLine k (drop (lineSize text) text)
+unfoldable pub from_line : ℕ → List ℕ → List ℕ
+from_line zero text = text
+from_line (suc k) text = from_line k (drop (line_size text) text)
 
 -- line k with its line feed, nothing behind the last one
 unfoldable pub line_at : ℕ → List ℕ → List ℕ
-unfolding fromLine
-line_at k text = take (lineSize (fromLine k text)) (fromLine k text)
+unfolding from_line
+line_at k text = take (line_size (from_line k text)) (from_line k text)
 
 -- so many lines, from line k on
-unfoldable pub linesAt : (k count : ℕ) → List ℕ → List ℕ
-unfolding fromLine
-linesAt k count text = take (length (fromLine k text) - length (fromLine count (fromLine k text))) (fromLine k text)
+unfoldable pub lines_at : (k count : ℕ) → List ℕ → List ℕ
+unfolding from_line
+lines_at k count text = take (length (from_line k text) - length (from_line count (from_line k text))) (from_line k text)
 
 -- the place behind k lines from a place on
 pub record Behind (text : List ℕ) (start k place : ℕ) : Type 0 where
-  pub rest : drop place text ≡ fromLine k (drop start text)
+  pub rest : drop place text ≡ from_line k (drop start text)
   pub after : start ≤ place
   pub inside : place ≤ length text
 

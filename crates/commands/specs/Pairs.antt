@@ -1,25 +1,25 @@
 -- What the reading of two listings says.
 use Rattle.std.specs.Prelude.{ℕ, ◌≤◌, ◌≡◌, List, take}
-use Rattle.listing.specs.Listing.{wordsOf}
+use Rattle.listing.specs.Listing.{words_of}
 use Rattle.overlay.specs.Lookup.{Place}
 use Rattle.text.specs.Writing.{Wrote}
-use Rattle.report.specs.Lines.{refusalLine}
+use Rattle.report.specs.Lines.{refusal_line}
 use Rattle.commands.specs.declared.overlays.Pair.{Pair}
 use Rattle.commands.specs.declared.overlays.Pair.TheVariants.{Words, Refused}
-use Rattle.commands.specs.Printed.{pairText, placeText}
+use Rattle.commands.specs.Printed.{pair_text, place_text}
 
 -- both listings are read, into 1,024 words each
 pub record Both (first second under over : List ℕ) (m n : ℕ) : Type 0 where
-  pub text : (t : List ℕ) → pairText first second t ≡ t
-  pub base : take m under ≡ wordsOf first
-  pub overlay : take n over ≡ wordsOf second
+  pub text : (t : List ℕ) → pair_text first second t ≡ t
+  pub base : take m under ≡ words_of first
+  pub overlay : take n over ≡ words_of second
   pub few : m ≤ 1024
   pub fit : n ≤ 1024
 
 abbrev pub PairAs : (first second under over : List ℕ) → Pair → Type 0
 PairAs first second under over (Words m n) = Both first second under over m n
-PairAs first second under over (Refused number place) = (t : List ℕ) → pairText first second t ≡ refusalLine number place
+PairAs first second under over (Refused number place) = (t : List ℕ) → pair_text first second t ≡ refusal_line number place
 
 -- the lines of a block are written, where it stands
 abbrev pub PlacedAs : (first second : List ℕ) → Place → (before after : List ℕ) (next : ℕ) → Type 0
-PlacedAs first second place before after next = Wrote before 0 (placeText first second place) after next
+PlacedAs first second place before after next = Wrote before 0 (place_text first second place) after next

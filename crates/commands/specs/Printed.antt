@@ -1,129 +1,129 @@
 -- What commands print of the bytes of their input (document 02, wishes 1, 4, 5, 13 and 14).
 use Rattle.std.specs.Prelude.{ℕ, zero, suc, ◌+◌, ◌-◌, ◌%◌, Bool, true, false, ◌&&◌, List, [], ◌∷◌, ◌++◌, eqb, ltb, length, get_or, take, drop}
 use Rattle.text.specs.Text.{bytes, decimal, set}
-use Rattle.little_endian.specs.LittleEndian.{wordsOf, bytesOf}
+use Rattle.little_endian.specs.LittleEndian.{words_of, bytes_of}
 use Rattle.listing.specs.Spelling.{feed}
-use Rattle.listing.specs.Listing.{Answered, done, refusal, most, listing, written, readAs}
-use Rattle.listing.specs.Listing.{wordsOf as Listing·wordsOf}
+use Rattle.listing.specs.Listing.{Answered, done, refusal, most, listing, written, read_as}
+use Rattle.listing.specs.Listing.{words_of as Listing·words_of}
 use Rattle.manifest.specs.Manifest.{Outcome, accepted, refused, judged}
-use Rattle.overlay.specs.Lookup.{Place, inBase, inOverlay, place_of}
+use Rattle.overlay.specs.Lookup.{Place, in_base, in_overlay, place_of}
 use Rattle.overlay.specs.Lookup as lookup
-use Rattle.overlay.specs.Join.{joined, joinAnswer}
+use Rattle.overlay.specs.Join.{joined, join_answer}
 use Rattle.overlay.specs.Join as join
-use Rattle.widths.specs.Converters.{converted, convertAnswer}
+use Rattle.widths.specs.Converters.{converted, convert_answer}
 use Rattle.widths.specs.Converters as widths
-use Rattle.report.specs.Lines.{refusalLine}
-use Rattle.commands.specs.Meanings.{linesAt}
+use Rattle.report.specs.Lines.{refusal_line}
+use Rattle.commands.specs.Meanings.{lines_at}
 
 -- a text, or the line of the refusal
-unfoldable pub answerText : Answered → List ℕ → List ℕ
-answerText (done n) text = text
-answerText (refusal number place) text = refusalLine number place
+unfoldable pub answer_text : Answered → List ℕ → List ℕ
+answer_text (done n) text = text
+answer_text (refusal number place) text = refusal_line number place
 
 -- ---- manifest
 
-unfoldable pub outcomeText : Outcome → List ℕ
-outcomeText (accepted version permissions others) =
+unfoldable pub outcome_text : Outcome → List ℕ
+outcome_text (accepted version permissions others) =
     (bytes "version " ++ decimal version) ++ (bytes " set " ++ set permissions) ++ (bytes " other " ++ decimal others) ++ bytes "\n"
-outcomeText (refused number place) = refusalLine number place
+outcome_text (refused number place) = refusal_line number place
 
-abbrev pub manifestText : (input : List ℕ) → List ℕ
-manifestText input = outcomeText (judged input)
+abbrev pub manifest_text : (input : List ℕ) → List ℕ
+manifest_text input = outcome_text (judged input)
 
 -- ---- text, words
 
 -- words in, their listing out
-unfoldable pub listingText : List ℕ → List ℕ
-listingText words = answerText (written words most) (listing words)
+unfoldable pub listing_text : List ℕ → List ℕ
+listing_text words = answer_text (written words most) (listing words)
 
-unfoldable pub textText : (input : List ℕ) → List ℕ
-unfolding listingText
-textText input = elim (length input % 4) [ zero ↦ listingText (wordsOf input) | suc n ↦ refusalLine 30 0 ]
+unfoldable pub text_text : (input : List ℕ) → List ℕ
+unfolding listing_text
+text_text input = elim (length input % 4) [ zero ↦ listing_text (words_of input) | suc n ↦ refusal_line 30 0 ]
 
 -- a listing in, its words out
-unfoldable pub wordsText : (input : List ℕ) → List ℕ
-unfolding answerText
-wordsText input = answerText (readAs input 1024) (bytesOf (Listing·wordsOf input))
+unfoldable pub words_text : (input : List ℕ) → List ℕ
+unfolding answer_text
+words_text input = answer_text (read_as input 1024) (bytes_of (Listing·words_of input))
 
 -- ---- join, block NAME SET: two listings, one after the other
 
 -- `system` stands here
-unfoldable pub startsSystem : List ℕ → Bool
-startsSystem l =
+unfoldable pub starts_system : List ℕ → Bool
+starts_system l =
     eqb (get_or l 0 0) 115
     && (eqb (get_or l 1 0) 121 && (eqb (get_or l 2 0) 115 && (eqb (get_or l 3 0) 116 && (eqb (get_or l 4 0) 101 && eqb (get_or l 5 0) 109))))
 
 -- how many bytes stand before the next line that starts with `system`; `start` says whether a line starts here
 unfoldable pub before : (start : Bool) → List ℕ → ℕ
-unfolding startsSystem
+unfolding starts_system
 before start [] = 0
-before start (b ∷ bs) = elim (start && startsSystem (b ∷ bs)) [ true ↦ 0 | false ↦ suc (before (eqb b feed) bs) ]
+before start (b ∷ bs) = elim (start && starts_system (b ∷ bs)) [ true ↦ 0 | false ↦ suc (before (eqb b feed) bs) ]
 
 -- the second listing starts with the first line but line 1 that starts with `system`
-unfoldable pub firstListing : List ℕ → List ℕ
+unfoldable pub first_listing : List ℕ → List ℕ
 unfolding before
-firstListing input = take (before false input) input
+first_listing input = take (before false input) input
 
-unfoldable pub secondListing : List ℕ → List ℕ
+unfoldable pub second_listing : List ℕ → List ℕ
 unfolding before
-secondListing input = drop (before false input) input
+second_listing input = drop (before false input) input
 
 -- a text, or the refusal of the first listing, or that of the second, whose number is 100 more
-unfoldable pub pairText : (first second : List ℕ) → List ℕ → List ℕ
-pairText first second text =
-    elim (readAs first 1024) [
-      | refusal number place ↦ refusalLine number place
-      | done m ↦ elim (readAs second 1024) [ refusal number place ↦ refusalLine (100 + number) place | done n ↦ text ]
+unfoldable pub pair_text : (first second : List ℕ) → List ℕ → List ℕ
+pair_text first second text =
+    elim (read_as first 1024) [
+      | refusal number place ↦ refusal_line number place
+      | done m ↦ elim (read_as second 1024) [ refusal number place ↦ refusal_line (100 + number) place | done n ↦ text ]
     ]
 
 -- the listing of the joined system
-unfoldable pub joinedText : (base overlay : List ℕ) → List ℕ
-unfolding listingText
-joinedText base overlay =
-    elim (joinAnswer base overlay 1024) [
-      | join.written n ↦ listingText (joined base overlay)
-      | join.refusal number place ↦ refusalLine number place
+unfoldable pub joined_text : (base overlay : List ℕ) → List ℕ
+unfolding listing_text
+joined_text base overlay =
+    elim (join_answer base overlay 1024) [
+      | join.written n ↦ listing_text (joined base overlay)
+      | join.refusal number place ↦ refusal_line number place
     ]
 
-unfoldable pub joinText : (input : List ℕ) → List ℕ
-unfolding firstListing secondListing pairText joinedText
-joinText input =
-    pairText (firstListing input) (secondListing input)
-    (joinedText (Listing·wordsOf (firstListing input)) (Listing·wordsOf (secondListing input)))
+unfoldable pub join_text : (input : List ℕ) → List ℕ
+unfolding first_listing second_listing pair_text joined_text
+join_text input =
+    pair_text (first_listing input) (second_listing input)
+    (joined_text (Listing·words_of (first_listing input)) (Listing·words_of (second_listing input)))
 
 -- the lines of a block, where it stands: a word is a line
-unfoldable pub placeText : (first second : List ℕ) → Place → List ℕ
-unfolding linesAt
-placeText first second (inBase a e) = linesAt a (e - a) first
-placeText first second (inOverlay a e) = linesAt a (e - a) second
-placeText first second (lookup.refusal number place) = refusalLine number place
+unfoldable pub place_text : (first second : List ℕ) → Place → List ℕ
+unfolding lines_at
+place_text first second (in_base a e) = lines_at a (e - a) first
+place_text first second (in_overlay a e) = lines_at a (e - a) second
+place_text first second (lookup.refusal number place) = refusal_line number place
 
-unfoldable pub foundText : (name permissions : ℕ) (input : List ℕ) → List ℕ
-unfolding firstListing secondListing pairText placeText
-foundText name permissions input =
-    pairText (firstListing input) (secondListing input)
-    (placeText (firstListing input) (secondListing input)
-    (place_of (Listing·wordsOf (firstListing input)) (Listing·wordsOf (secondListing input)) name permissions))
+unfoldable pub found_text : (name permissions : ℕ) (input : List ℕ) → List ℕ
+unfolding first_listing second_listing pair_text place_text
+found_text name permissions input =
+    pair_text (first_listing input) (second_listing input)
+    (place_text (first_listing input) (second_listing input)
+    (place_of (Listing·words_of (first_listing input)) (Listing·words_of (second_listing input)) name permissions))
 
 -- ---- pack RHO: a listing in, a system of the stream of a class out
 
 -- the length, ρ and the words
 abbrev pub packed : (ρ : ℕ) (words : List ℕ) → List ℕ
-packed ρ words = bytesOf (length words ∷ ρ ∷ words)
+packed ρ words = bytes_of (length words ∷ ρ ∷ words)
 
 -- a system of more than 256 words is none of a stream
-unfoldable pub systemText : (ρ : ℕ) (words : List ℕ) → List ℕ
-systemText ρ words = elim (ltb 256 (length words)) [ true ↦ refusalLine 59 0 | false ↦ packed ρ words ]
+unfoldable pub system_text : (ρ : ℕ) (words : List ℕ) → List ℕ
+system_text ρ words = elim (ltb 256 (length words)) [ true ↦ refusal_line 59 0 | false ↦ packed ρ words ]
 
 -- ---- widen, narrow: the words of a system in, those of the converted system out
 
-unfoldable pub convertedText : (wide : Bool) → List ℕ → List ℕ
-convertedText wide words =
-    elim (convertAnswer wide words 1024) [
-      | widths.written n ↦ bytesOf (converted wide words)
-      | widths.refusal number place ↦ refusalLine number place
+unfoldable pub converted_text : (wide : Bool) → List ℕ → List ℕ
+converted_text wide words =
+    elim (convert_answer wide words 1024) [
+      | widths.written n ↦ bytes_of (converted wide words)
+      | widths.refusal number place ↦ refusal_line number place
     ]
 
-unfoldable pub convertText : (wide : Bool) (input : List ℕ) → List ℕ
-unfolding convertedText
-convertText wide input = elim (length input % 4) [ zero ↦ convertedText wide (wordsOf input) | suc n ↦ refusalLine 30 0 ]
+unfoldable pub convert_text : (wide : Bool) (input : List ℕ) → List ℕ
+unfolding converted_text
+convert_text wide input = elim (length input % 4) [ zero ↦ converted_text wide (words_of input) | suc n ↦ refusal_line 30 0 ]

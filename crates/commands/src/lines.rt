@@ -1,7 +1,7 @@
 // The lines of a text, counted from 0.
 ghost use Rattle.std.specs.Prelude.{◌+◌, ◌≤◌, length};
 ghost use Rattle.text.specs.Writing.{Wrote};
-ghost use Rattle.commands.specs.Meanings.{line_at, linesAt, Behind};
+ghost use Rattle.commands.specs.Meanings.{line_at, lines_at, Behind};
 
 use listing::read::line_end;
 use text::put;
@@ -34,7 +34,7 @@ pub fn put_line(out: &mut [u8], at: usize, text: &[u8], k: usize) -> usize
 // So many lines of a text, from line k on.
 pub fn put_lines(out: &mut [u8], text: &[u8], k: usize, count: usize) -> usize
     requires { length text.now ≤ length out.old }
-    ensures { Wrote out.old 0 (linesAt k count text.now) out.new result }
+    ensures { Wrote out.old 0 (lines_at k count text.now) out.new result }
 {
     let start = behind(text, 0, k);
     let end = behind(text, start, count);

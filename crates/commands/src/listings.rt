@@ -1,7 +1,7 @@
 // The commands `text` and `words`.
 ghost use Rattle.std.specs.Prelude.{◌≤◌, length};
 ghost use Rattle.text.specs.Writing.{Wrote};
-ghost use Rattle.commands.specs.Printed.{listingText, textText, wordsText};
+ghost use Rattle.commands.specs.Printed.{listing_text, text_text, words_text};
 
 use listing::Answer;
 use listing::numbers::{refusal_number, refusal_place};
@@ -13,7 +13,7 @@ use report::refusal_line;
 // The listing of words.
 pub fn listing_text(words: &[u32], out: &mut [u8]) -> usize
     requires { 65536 ≤ length out.old }
-    ensures { Wrote out.old 0 (listingText words.now) out.new result }
+    ensures { Wrote out.old 0 (listing_text words.now) out.new result }
 {
     match write(words, out) {
         Answer::Done(n) => n,
@@ -24,7 +24,7 @@ pub fn listing_text(words: &[u32], out: &mut [u8]) -> usize
 // Words in, their listing out: of more than 1,025 words the first decide.
 pub fn text_text(input: &[u8], out: &mut [u8]) -> usize
     requires { 65536 ≤ length out.old }
-    ensures { Wrote out.old 0 (textText input.now) out.new result }
+    ensures { Wrote out.old 0 (text_text input.now) out.new result }
 {
     if input.len() % 4 != 0 {
         return refusal_line(out, 0, 30, 0);
@@ -37,7 +37,7 @@ pub fn text_text(input: &[u8], out: &mut [u8]) -> usize
 // A listing in, its words out.
 pub fn words_text(input: &[u8], out: &mut [u8]) -> usize
     requires { 65536 ≤ length out.old }
-    ensures { Wrote out.old 0 (wordsText input.now) out.new result }
+    ensures { Wrote out.old 0 (words_text input.now) out.new result }
 {
     let mut words = [0u32; 1024];
     match read(input, &mut words) {

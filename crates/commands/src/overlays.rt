@@ -2,7 +2,7 @@
 ghost use Rattle.std.specs.Prelude.{◌≡◌, false, ◌+◌, ◌≤◌, length, get_or, drop};
 ghost use Rattle.text.specs.Writing.{Wrote};
 ghost use Rattle.overlay.specs.Lookup.{place_of};
-ghost use Rattle.commands.specs.Printed.{startsSystem, before as Printed·before, joinedText, joinText, foundText};
+ghost use Rattle.commands.specs.Printed.{starts_system, before as Printed·before, joined_text, join_text, found_text};
 ghost use Rattle.commands.specs.Pairs.{PairAs, PlacedAs};
 
 use crate::lines::put_lines;
@@ -32,7 +32,7 @@ fn byte_at(text: &[u8], i: usize) -> u8
 // Whether `system` stands at a place.
 fn starts_system(text: &[u8], at: usize) -> bool
     requires { at ≤ length text.now }
-    ensures { result ≡ startsSystem (drop at text.now) }
+    ensures { result ≡ starts_system (drop at text.now) }
 {
     let s = byte_at(text, at) == 115;
     let y = byte_at(text, at + 1) == 121;
@@ -78,7 +78,7 @@ fn read_pair(first: &[u8], second: &[u8], under: &mut [u32], over: &mut [u32]) -
 // The listing of the joined system.
 fn joined_text(base: &[u32], overlay: &[u32], out: &mut [u8]) -> usize
     requires { 65536 ≤ length out.old }
-    ensures { Wrote out.old 0 (joinedText base.now overlay.now) out.new result }
+    ensures { Wrote out.old 0 (joined_text base.now overlay.now) out.new result }
 {
     let mut words = [0u32; 1024];
     match join(base, overlay, &mut words) {
@@ -90,7 +90,7 @@ fn joined_text(base: &[u32], overlay: &[u32], out: &mut [u8]) -> usize
 // Two listings in, the second laid over the first; the joined listing out.
 pub fn join_text(input: &[u8], out: &mut [u8]) -> usize
     requires { 65536 ≤ length out.old }
-    ensures { Wrote out.old 0 (joinText input.now) out.new result }
+    ensures { Wrote out.old 0 (join_text input.now) out.new result }
 {
     let k = second_start(input);
     let mut under = [0u32; 1024];
@@ -125,7 +125,7 @@ fn place_text(
 // Two listings in, the lines of one handler out.
 pub fn found_text(name: u32, perms: u32, input: &[u8], out: &mut [u8]) -> usize
     requires { (length input.now ≤ length out.old) × (96 ≤ length out.old) }
-    ensures { Wrote out.old 0 (foundText name perms input.now) out.new result }
+    ensures { Wrote out.old 0 (found_text name perms input.now) out.new result }
 {
     let k = second_start(input);
     let mut under = [0u32; 1024];

@@ -1,7 +1,7 @@
 // The text of `pack`: a system of the stream of a class.
 ghost use Rattle.std.specs.Prelude.{◌≤◌, length};
 ghost use Rattle.text.specs.Writing.{Wrote};
-ghost use Rattle.commands.specs.Printed.{packed, systemText};
+ghost use Rattle.commands.specs.Printed.{packed, system_text};
 
 use little_endian::bytes_of;
 use report::refusal_line;
@@ -20,7 +20,7 @@ fn put_packed(rho: u32, words: &[u32], out: &mut [u8]) -> usize
 // Of at most 256 words.
 pub fn put_system(rho: u32, words: &[u32], out: &mut [u8]) -> usize
     requires { 65536 ≤ length out.old }
-    ensures { Wrote out.old 0 (systemText rho words.now) out.new result }
+    ensures { Wrote out.old 0 (system_text rho words.now) out.new result }
 {
     if 256 < words.len() {
         return refusal_line(out, 0, 59, 0);

@@ -7,16 +7,16 @@ use lib.Bits.{bit_and}
 use lib.Count.{count_trailing_zeros, trailing_of_zero}
 use borrow.Author.Tests.{eqb-true, eq-eqb, ne_eqb}
 use Rattle.permset.specs.Sets.{difference, within, lowest}
-use Rattle.calculus.specs.Answer.{verdict, standingBound, boundUsed}
+use Rattle.calculus.specs.Answer.{verdict, standing_bound, bound_used}
 use Rattle.comparison.specs.Values.{compare}
 
-pub standing-bound : (bound : ℕ) → bound ≡ standingBound → 0 ≡ boundUsed bound
-unfolding boundUsed
-standing-bound bound e = sym (rw (eq-eqb bound standingBound e, boundUsed))
+pub standing-bound : (bound : ℕ) → bound ≡ standing_bound → 0 ≡ bound_used bound
+unfolding bound_used
+standing-bound bound e = sym (rw (eq-eqb bound standing_bound e, bound_used))
 
-pub given-bound : (bound : ℕ) → (bound ≡ standingBound → ⊥) → bound ≡ boundUsed bound
-unfolding boundUsed
-given-bound bound e = sym (rw (ne_eqb bound standingBound e, boundUsed))
+pub given-bound : (bound : ℕ) → (bound ≡ standing_bound → ⊥) → bound ≡ bound_used bound
+unfolding bound_used
+given-bound bound e = sym (rw (ne_eqb bound standing_bound e, bound_used))
 
 pub within-bound : (leak bound facts : ℕ) → within leak bound ≡ true
     → verdict (record { leak = leak; bound = bound; over = false; first = 32; facts = facts }) ≡ compare leak bound facts

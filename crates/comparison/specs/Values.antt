@@ -2,14 +2,14 @@
 use Rattle.std.specs.Prelude.{ℕ, true, false, not}
 use Rattle.permset.specs.Sets.{difference, within, lowest}
 use Rattle.calculus.specs.Answer.{Answer, refused, verdict}
-use Rattle.calls.specs.Faults.{faultNumber, faultPlace}
+use Rattle.calls.specs.Faults.{fault_number, fault_place}
 use Rattle.comparison.specs.declared.Verdict.{Verdict}
 use Rattle.comparison.specs.declared.Verdict.TheVariants.{Refused, Within, Over}
 
 -- a leak within the bound has no lowest permission outside, for which 32 stands
 unfoldable pub answer_of : Verdict → Answer
-unfolding faultNumber faultPlace
-answer_of (Refused f) = refused (faultNumber f) (faultPlace f)
+unfolding fault_number fault_place
+answer_of (Refused f) = refused (fault_number f) (fault_place f)
 answer_of (Within r) =
     verdict (record { leak = r.leak.bits; bound = r.bound.bits; over = false; first = 32; facts = r.facts })
 answer_of (Over r first) =

@@ -1,6 +1,6 @@
 // A leak compared with a bound: what a verdict is, and what it says of what was found.
 ghost use Rattle.std.specs.Prelude.{◌≡◌};
-ghost use Rattle.calculus.specs.Answer.{boundUsed};
+ghost use Rattle.calculus.specs.Answer.{bound_used};
 ghost use Rattle.comparison.specs.Values.{answer_of, compare};
 
 use calls::Fault;
@@ -32,7 +32,7 @@ pub struct Findings {
 
 // The bound that a leak is compared with: 80000000 hex means the empty set.
 pub fn bound_used(bound: u32) -> PermSet
-    ensures { result.bits ≡ boundUsed bound }
+    ensures { result.bits ≡ bound_used bound }
 {
     if bound == 0x80000000 {
         PermSet { bits: 0 }

@@ -10,7 +10,7 @@ use Rattle.table.specs.Code.{code}
 use Rattle.table.proofs.Widths.{names-most}
 use Rattle.calculus.specs.Elements.{elements}
 use Rattle.calculus.specs.Constraint.{L}
-use Rattle.calculus.specs.Layout.{rowWords, base, sets}
+use Rattle.calculus.specs.Layout.{row_words, base, sets}
 use Rattle.calculus.proofs.RowOperations.{sets-L}
 use Rattle.rows.specs.declared.layout.Layout.{Layout}
 use Rattle.rows.specs.Laid.{LaidOut}
@@ -22,7 +22,7 @@ unfolding code
 laid-size ws h l o = omega (arith, o.size)
 
 pub row-few : (ws : List ℕ) → length ws ≤ 1024 → (l : Layout) → LaidOut (code ws) l → l.row < 64
-unfolding code rowWords
+unfolding code row_words
 row-few ws h l o = omega (arith, o.row, names-most (get_or ws 0 0))
 
 module _ (ws est : List ℕ) (asked : Bool) (p : ℕ) where

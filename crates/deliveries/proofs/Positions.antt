@@ -12,7 +12,7 @@ use lib.Seq.{drop-cons}
 use Rattle.table.specs.Words.{kind}
 use Rattle.text.specs.Added.{Added}
 use Rattle.text.proofs.Adding.{added-nothing, added_then, added-as}
-use Rattle.deliveries.specs.Positions.{counted, eachWord}
+use Rattle.deliveries.specs.Positions.{counted, each_word}
 
 pub counted-block : (w count : ℕ) → kind w ≡ 2 → counted w count ≡ count + 1
 unfolding counted
@@ -43,21 +43,21 @@ past_end ws q h = go (drop q ws) (length-drop q ws)
 module _ (f : ℕ → ℕ → ℕ → List ℕ) (ws : List ℕ) where
   -- what is left from a word on
   abbrev pub rest : (p count : ℕ) → List ℕ
-  rest p count = eachWord f p count (drop p ws)
+  rest p count = each_word f p count (drop p ws)
 
   pub rest_end : (p count : ℕ) → length ws ≤ p → rest p count ≡ []
-  unfolding eachWord
-  rest_end p count h = ap (eachWord f p count) (past_end ws p h)
+  unfolding each_word
+  rest_end p count h = ap (each_word f p count) (past_end ws p h)
 
   pub rest-here : (p count : ℕ) → p < length ws → rest p count ≡ f p count (get_or ws p 0) ++ rest (p + 1) (counted (get_or ws p 0) count)
-  unfolding eachWord
-  rest-here p count h = ap (eachWord f p count) (drop-cons ws p 0 h) ∙ rw add-one refl
+  unfolding each_word
+  rest-here p count h = ap (each_word f p count) (drop-cons ws p 0 h) ∙ rw add-one refl
 
   -- A loop over the words that writes what f makes of each, at most so many bytes: what it added, with what is left, is the whole.
   pub record Filled (most : ℕ) (before : List ℕ) (at p count : ℕ) (after : List ℕ) (next : ℕ) : Type 0 where
     pub done : List ℕ
     pub added : Added before at done after next
-    pub whole : done ++ rest p count ≡ eachWord f 0 0 ws
+    pub whole : done ++ rest p count ≡ each_word f 0 0 ws
     pub near : next ≤ at + most * p
     pub few : count ≤ p
     pub inside : p ≤ length ws
@@ -85,6 +85,6 @@ module _ (f : ℕ → ℕ → ℕ → List ℕ) (ws : List ℕ) where
             inside = omega arith;
           }
 
-      pub filled-end : length ws ≤ p → Added before at (eachWord f 0 0 ws) after next
+      pub filled-end : length ws ≤ p → Added before at (each_word f 0 0 ws) after next
       filled-end h =
           added-as (sym (append-nil i.done) ∙ ap (λ (l : List ℕ). i.done ++ l) (sym (rest_end p count h)) ∙ i.whole) i.added

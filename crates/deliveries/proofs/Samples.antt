@@ -5,9 +5,9 @@ use mathlib.Core.Bool.{true, false}
 use mathlib.Core.List.{List, [], ◌∷◌, ◌++◌, map}
 use Rattle.permset.specs.Sets.{within, difference}
 use Rattle.delivery.specs.Delivery.{judged}
-use Rattle.table.specs.Item.{handlerAt}
+use Rattle.table.specs.Item.{handler_at}
 use Rattle.text.specs.Text.{bytes, decimal, set}
-use Rattle.deliveries.specs.Text.{textBy, text}
+use Rattle.deliveries.specs.Text.{text_by, text}
 
 -- relay with this send and target
 abbrev relay : (perms send target : ℕ) → List ℕ
@@ -38,12 +38,12 @@ pub texts :
     ++ bytes "send 4 from 0 to 2 delivered  line 5 to line 12\n")
     ∷ []
     ∷ []
-unfolding within difference judged handlerAt decimal set textBy
+unfolding within difference judged handler_at decimal set text_by
 texts = refl
 
 -- quiet about other names, where no word is live
 pub texts-quiet :
-    map (λ ws. textBy ws true (λ p. false)) systems
+    map (λ ws. text_by ws true (λ p. false)) systems
     ≡ bytes "send 4 from 0 to 1 not live  line 5 to line 8\n"
     ∷ bytes "send 4 from 0 to 1 lacks 000004  line 5 to line 8\n"
     ∷ bytes "send 4 from 0 to 1 needs 000008  line 5 to line 8\n"
@@ -51,5 +51,5 @@ pub texts-quiet :
     ∷ (bytes "send 4 from 0 to 1 lacks 000004  line 5 to line 8\n" ++ bytes "send 4 from 0 to 2 not live  line 5 to line 12\n")
     ∷ []
     ∷ []
-unfolding within difference judged handlerAt decimal set textBy
+unfolding within difference judged handler_at decimal set text_by
 texts-quiet = refl

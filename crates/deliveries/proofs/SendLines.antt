@@ -12,33 +12,33 @@ use Rattle.permset.specs.declared.PermSet.{PermSet}
 use Rattle.delivery.specs.declared.Delivery.{Delivery}
 use Rattle.delivery.specs.Delivery.{judged}
 use Rattle.table.specs.declared.Handler.{Handler}
-use Rattle.table.specs.Item.{handlerAt}
+use Rattle.table.specs.Item.{handler_at}
 use Rattle.table.specs.Links.{block_at}
 use Rattle.table.specs.Words.{kind, argument}
 use Rattle.deliveries.specs.Positions.{counted}
-use Rattle.deliveries.specs.Text.{nameFor, line, hides, shown, answerAt, receiver, receivers, lines_of, sends}
+use Rattle.deliveries.specs.Text.{name_for, line, hides, shown, answer_at, receiver, receivers, lines_of, sends}
 use Rattle.deliveries.proofs.Positions.{past_end}
 
 -- the name that is compared
-pub target_name : (t own : ℕ) → kind t ≡ 19 → nameFor t own ≡ argument t
-unfolding nameFor
-target_name t own k = rw (eq-eqb (kind t) 19 k, nameFor)
+pub target_name : (t own : ℕ) → kind t ≡ 19 → name_for t own ≡ argument t
+unfolding name_for
+target_name t own k = rw (eq-eqb (kind t) 19 k, name_for)
 
-pub own_name : (t own : ℕ) → (kind t ≡ 19 → ⊥) → nameFor t own ≡ own
-unfolding nameFor
-own_name t own k = rw (ne_eqb (kind t) 19 k, nameFor)
+pub own_name : (t own : ℕ) → (kind t ≡ 19 → ⊥) → name_for t own ≡ own
+unfolding name_for
+own_name t own k = rw (ne_eqb (kind t) 19 k, name_for)
 
-pub answer-is : (ws : List ℕ) (p home q : ℕ) (h g : Handler) (w a v n : ℕ) (r : PermSet) (d : Delivery) → h ≡ handlerAt ws q → g ≡ handlerAt ws home
-    → w ≡ get_or ws p 0 → a ≡ argument w → r ≡ record { bits = a } → v ≡ get_or ws (p + 1) 0 → n ≡ nameFor v h.name
-    → d ≡ judged n r.bits g.perms.bits h → d ≡ answerAt ws p home q
-unfolding answerAt
+pub answer-is : (ws : List ℕ) (p home q : ℕ) (h g : Handler) (w a v n : ℕ) (r : PermSet) (d : Delivery) → h ≡ handler_at ws q → g ≡ handler_at ws home
+    → w ≡ get_or ws p 0 → a ≡ argument w → r ≡ record { bits = a } → v ≡ get_or ws (p + 1) 0 → n ≡ name_for v h.name
+    → d ≡ judged n r.bits g.perms.bits h → d ≡ answer_at ws p home q
+unfolding answer_at
 answer-is ws p home q h g w a v n r d e f i j k l m o =
     o
-    ∙ ap (λ (z : ℕ). judged z r.bits g.perms.bits h) (m ∙ ap (λ (z : ℕ). nameFor z h.name) l)
-    ∙ ap (λ (z : PermSet). judged (nameFor (get_or ws (p + 1) 0) h.name) z.bits g.perms.bits h)
+    ∙ ap (λ (z : ℕ). judged z r.bits g.perms.bits h) (m ∙ ap (λ (z : ℕ). name_for z h.name) l)
+    ∙ ap (λ (z : PermSet). judged (name_for (get_or ws (p + 1) 0) h.name) z.bits g.perms.bits h)
     (k ∙ ap (λ (z : ℕ). record { bits = z }) (j ∙ ap argument i))
-    ∙ ap (λ (z : Handler). judged (nameFor (get_or ws (p + 1) 0) h.name) (argument (get_or ws p 0)) z.perms.bits h) f
-    ∙ ap (λ (z : Handler). judged (nameFor (get_or ws (p + 1) 0) z.name) (argument (get_or ws p 0)) (handlerAt ws home).perms.bits z) e
+    ∙ ap (λ (z : Handler). judged (name_for (get_or ws (p + 1) 0) h.name) (argument (get_or ws p 0)) z.perms.bits h) f
+    ∙ ap (λ (z : Handler). judged (name_for (get_or ws (p + 1) 0) z.name) (argument (get_or ws p 0)) (handler_at ws home).perms.bits z) e
 
 module _ (quiet : Bool) (d : Delivery) (l : List ℕ) where
   pub hidden : hides quiet d ≡ true → shown quiet d l ≡ []
@@ -53,7 +53,7 @@ module _ (ws : List ℕ) where
   module _ (quiet : Bool) where
     module _ (live : Bool) (p home from q to : ℕ) where
       pub receiver-block : kind (get_or ws q 0) ≡ 2
-          → receiver ws quiet live p home from q to (get_or ws q 0) ≡ shown quiet (answerAt ws p home q) (line p q from to live (answerAt ws p home q))
+          → receiver ws quiet live p home from q to (get_or ws q 0) ≡ shown quiet (answer_at ws p home q) (line p q from to live (answer_at ws p home q))
       unfolding receiver
       receiver-block k = rw (eq-eqb (kind (get_or ws q 0)) 2 k, receiver)
 

@@ -4,10 +4,10 @@ use Rattle.table.specs.Scan.{Outcome, accepted, refused}
 use Rattle.listing.specs.Listing.{Answered, done, refusal, left}
 
 -- of the reading of the table, the text, and how many bytes there are for it
-unfoldable pub answerFor : Outcome → List ℕ → ℕ → Answered
-answerFor (refused n p) text room = refusal n p
-answerFor accepted text room = elim (ltb room (length text)) [ true ↦ refusal 42 0 | false ↦ done (length text) ]
+unfoldable pub answer_for : Outcome → List ℕ → ℕ → Answered
+answer_for (refused n p) text room = refusal n p
+answer_for accepted text room = elim (ltb room (length text)) [ true ↦ refusal 42 0 | false ↦ done (length text) ]
 
 -- the bytes of the output slice after the call, from those before it
-abbrev pub bytesAfter : Outcome → List ℕ → List ℕ → List ℕ
-bytesAfter o text out = left (answerFor o text (length out)) text out
+abbrev pub bytes_after : Outcome → List ℕ → List ℕ → List ℕ
+bytes_after o text out = left (answer_for o text (length out)) text out

@@ -7,7 +7,7 @@ unfoldable pub counted : (w count : ℕ) → ℕ
 counted w count = elim (eqb (kind w) 2) [ true ↦ count + 1 | false ↦ count ]
 
 -- what f makes of each of the words vs, which stand from p on, after `count` blocks: of its place, the blocks before it, and the word
-unfoldable pub eachWord : (ℕ → ℕ → ℕ → List ℕ) → (p count : ℕ) → List ℕ → List ℕ
+unfoldable pub each_word : (ℕ → ℕ → ℕ → List ℕ) → (p count : ℕ) → List ℕ → List ℕ
 unfolding counted
-eachWord f p count [] = []
-eachWord f p count (w ∷ vs) = f p count w ++ eachWord f (suc p) (counted w count) vs
+each_word f p count [] = []
+each_word f p count (w ∷ vs) = f p count w ++ each_word f (suc p) (counted w count) vs

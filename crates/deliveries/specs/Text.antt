@@ -7,7 +7,7 @@ use Rattle.delivery.specs.declared.Delivery.TheVariants as deliveries
 use Rattle.delivery.specs.Delivery.{judged}
 use Rattle.table.specs.Words.{kind, argument}
 use Rattle.table.specs.Scan.{reading}
-use Rattle.table.specs.Item.{handlerAt}
+use Rattle.table.specs.Item.{handler_at}
 use Rattle.table.specs.Links.{block_at}
 use Rattle.table.specs.Code.{code}
 use Rattle.calculus.specs.Constraint.{L}
@@ -15,8 +15,8 @@ use Rattle.calculus.specs.Layout.{sets}
 use Rattle.handler_lines.specs.Parts.{line_of}
 use Rattle.text.specs.Text.{bytes, decimal, set, choice}
 use Rattle.listing.specs.Listing.{Answered}
-use Rattle.deliveries.specs.Answers.{answerFor, bytesAfter}
-use Rattle.deliveries.specs.Positions.{counted, eachWord}
+use Rattle.deliveries.specs.Answers.{answer_for, bytes_after}
+use Rattle.deliveries.specs.Positions.{counted, each_word}
 
 -- ---- one line
 
@@ -55,27 +55,27 @@ shown quiet d l = choice (hides quiet d) [] l
 
 -- the name that a send to this target is compared with: "Where the send's target is a name word, that name is compared; where it is any
 -- other term, each block counts as being named."
-unfoldable pub nameFor : (target own : ℕ) → ℕ
-nameFor target own = elim (eqb (kind target) 19) [ true ↦ argument target | false ↦ own ]
+unfoldable pub name_for : (target own : ℕ) → ℕ
+name_for target own = elim (eqb (kind target) 19) [ true ↦ argument target | false ↦ own ]
 
 module _ (ws : List ℕ) where
   -- the send at p, in the block whose first word is `home`, to the block whose first word is q
-  unfoldable pub answerAt : (p home q : ℕ) → Delivery
-  unfolding nameFor
-  answerAt p home q =
-      judged (nameFor (get_or ws (p + 1) 0) (handlerAt ws q).name) (argument (get_or ws p 0)) (handlerAt ws home).perms.bits (handlerAt ws q)
+  unfoldable pub answer_at : (p home q : ℕ) → Delivery
+  unfolding name_for
+  answer_at p home q =
+      judged (name_for (get_or ws (p + 1) 0) (handler_at ws q).name) (argument (get_or ws p 0)) (handler_at ws home).perms.bits (handler_at ws q)
 
   module _ (quiet : Bool) where
     -- the line of the send for the word v at q, if a block starts there, which then has the position `to`
     unfoldable pub receiver : (live : Bool) (p home from : ℕ) → (q to v : ℕ) → List ℕ
-    unfolding line answerAt shown
+    unfolding line answer_at shown
     receiver live p home from q to v =
-        elim (eqb (kind v) 2) [ true ↦ shown quiet (answerAt p home q) (line p q from to live (answerAt p home q)) | false ↦ [] ]
+        elim (eqb (kind v) 2) [ true ↦ shown quiet (answer_at p home q) (line p q from to live (answer_at p home q)) | false ↦ [] ]
 
     -- the lines of a send
     unfoldable pub receivers : (live : Bool) (p home from : ℕ) → List ℕ
-    unfolding receiver eachWord
-    receivers live p home from = eachWord (receiver live p home from) 0 0 ws
+    unfolding receiver each_word
+    receivers live p home from = each_word (receiver live p home from) 0 0 ws
 
     module _ (live : ℕ → Bool) where
       -- the lines of a word
@@ -90,14 +90,14 @@ module _ (ws : List ℕ) where
       sends p home count (w ∷ vs) = lines_of p home (count - 1) w ++ sends (suc p) (block_at w p home) (counted w count) vs
 
 -- room for the lines of any word of an accepted table: 64 handlers, and a line of at most 61 bytes for each
-abbrev pub sendRoom : ℕ
-sendRoom = 3904
+abbrev pub send_room : ℕ
+send_room = 3904
 
 -- ---- of an accepted table, quiet about other names or not, where these words are live
 
-unfoldable pub textBy : (ws : List ℕ) (quiet : Bool) (live : ℕ → Bool) → List ℕ
+unfoldable pub text_by : (ws : List ℕ) (quiet : Bool) (live : ℕ → Bool) → List ℕ
 unfolding sends
-textBy ws quiet live = sends ws quiet live 0 0 0 ws
+text_by ws quiet live = sends ws quiet live 0 0 0 ws
 
 -- the words that are live by an estimate's words, where it is to be asked; words past their end count as zero
 abbrev pub alive : (ws est : List ℕ) (asked : Bool) → ℕ → Bool
@@ -106,27 +106,27 @@ alive ws est true = λ p. sets (code ws) est (L p) 0
 
 -- every send and every block
 abbrev pub text : List ℕ → List ℕ
-text ws = textBy ws false (λ p. true)
+text ws = text_by ws false (λ p. true)
 
 -- by an estimate: no other names, and whether a send that is delivered is live
-abbrev pub liveText : (ws est : List ℕ) → List ℕ
-liveText ws est = textBy ws true (alive ws est true)
+abbrev pub live_text : (ws est : List ℕ) → List ℕ
+live_text ws est = text_by ws true (alive ws est true)
 
 -- ---- the calls
 
 unfoldable pub written_by : (ws : List ℕ) → (text : List ℕ) → ℕ → Answered
-unfolding answerFor
-written_by ws text room = answerFor (reading ws) text room
+unfolding answer_for
+written_by ws text room = answer_for (reading ws) text room
 
 abbrev pub written : List ℕ → ℕ → Answered
 written ws room = written_by ws (text ws) room
 
-abbrev pub writtenLive : (ws est : List ℕ) → ℕ → Answered
-writtenLive ws est room = written_by ws (liveText ws est) room
+abbrev pub written_live : (ws est : List ℕ) → ℕ → Answered
+written_live ws est room = written_by ws (live_text ws est) room
 
 -- the bytes of the output slice after the call, from those before it
-abbrev pub textAfter : List ℕ → List ℕ → List ℕ
-textAfter ws out = bytesAfter (reading ws) (text ws) out
+abbrev pub text_after : List ℕ → List ℕ → List ℕ
+text_after ws out = bytes_after (reading ws) (text ws) out
 
 abbrev pub live_after : (ws est : List ℕ) → List ℕ → List ℕ
-live_after ws est out = bytesAfter (reading ws) (liveText ws est) out
+live_after ws est out = bytes_after (reading ws) (live_text ws est) out

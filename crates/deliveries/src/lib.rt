@@ -5,9 +5,9 @@ mod live;
 ghost use Rattle.std.specs.Prelude.{◌≡◌, ◌+◌, ◌*◌, ◌≤◌, ◌<◌, ◌-◌, length, get_or};
 ghost use Rattle.table.specs.Scan.{accepted, reading};
 ghost use Rattle.listing.specs.Answer.{answered};
-ghost use Rattle.deliveries.specs.Text.{nameFor, answerAt, receiver, receivers, lines_of, textBy, alive, written_by, written, writtenLive, textAfter, live_after};
+ghost use Rattle.deliveries.specs.Text.{name_for, answer_at, receiver, receivers, lines_of, text_by, alive, written_by, written, written_live, text_after, live_after};
 ghost use Rattle.deliveries.specs.Positions.{counted as Positions·counted};
-ghost use Rattle.deliveries.specs.Answers.{bytesAfter};
+ghost use Rattle.deliveries.specs.Answers.{bytes_after};
 ghost use Rattle.text.specs.Added.{Added};
 
 use crate::lines::add_shown;
@@ -20,7 +20,7 @@ use table_links::{block_of, handler_at};
 
 // The name that a send to this target is compared with, where the receiver has the name `own`.
 fn name_for(target: u32, own: u32) -> u32
-    ensures { result ≡ nameFor target own }
+    ensures { result ≡ name_for target own }
 {
     if kind_of(target) == 19 {
         argument_of(target)
@@ -39,7 +39,7 @@ pub fn word_at(words: &[u32], p: usize) -> u32
 // What becomes of the send at p, in the block at `home`, for the block at q.
 fn answer(words: &[u32], p: usize, home: usize, q: usize) -> Delivery
     requires { (p < 1024) × (home < length words.now) × (q < length words.now) }
-    ensures { result ≡ answerAt words.now p home q }
+    ensures { result ≡ answer_at words.now p home q }
 {
     let receiver = handler_at(words, q);
     let sender = handler_at(words, home);
@@ -144,7 +144,7 @@ pub fn last(count: usize) -> usize
 // The lines of all words, as far as there is room, and their length.
 fn put_words(words: &[u32], est: &[u32], asked: bool, out: &mut [u8]) -> usize
     requires { length words.now ≤ 1024 }
-    ensures { Added out.old 0 (textBy words.now asked (alive words.now est.now asked)) out.new result }
+    ensures { Added out.old 0 (text_by words.now asked (alive words.now est.now asked)) out.new result }
 {
     let mut next = 0;
     let mut home = 0;
@@ -162,9 +162,9 @@ fn put_words(words: &[u32], est: &[u32], asked: bool, out: &mut [u8]) -> usize
 // The text, at the start of out, and its length: measured first, since a text without room changes nothing.
 fn write_accepted(words: &[u32], est: &[u32], asked: bool, out: &mut [u8]) -> Answer
     requires { reading words.now ≡ accepted }
-    ensures answer { answered result ≡ written_by words.now (textBy words.now asked
+    ensures answer { answered result ≡ written_by words.now (text_by words.now asked
         (alive words.now est.now asked)) (length out.old) }
-    ensures text { out.new ≡ bytesAfter (reading words.now) (textBy words.now asked
+    ensures text { out.new ≡ bytes_after (reading words.now) (text_by words.now asked
         (alive words.now est.now asked)) out.old }
 {
     let n = put_words(words, est, asked, &mut out[..0]);
@@ -177,9 +177,9 @@ fn write_accepted(words: &[u32], est: &[u32], asked: bool, out: &mut [u8]) -> An
 
 // The text of any table.
 fn write_by(words: &[u32], est: &[u32], asked: bool, out: &mut [u8]) -> Answer
-    ensures answer { answered result ≡ written_by words.now (textBy words.now asked
+    ensures answer { answered result ≡ written_by words.now (text_by words.now asked
         (alive words.now est.now asked)) (length out.old) }
-    ensures text { out.new ≡ bytesAfter (reading words.now) (textBy words.now asked
+    ensures text { out.new ≡ bytes_after (reading words.now) (text_by words.now asked
         (alive words.now est.now asked)) out.old }
 {
     if let Reading::Refused(r) = table::read::read(words) {
@@ -191,14 +191,14 @@ fn write_by(words: &[u32], est: &[u32], asked: bool, out: &mut [u8]) -> Answer
 // The deliveries of a system as text, at the start of out, and its length.
 pub fn write(words: &[u32], out: &mut [u8]) -> Answer
     ensures answer { answered result ≡ written words.now (length out.old) }
-    ensures text { out.new ≡ textAfter words.now out.old }
+    ensures text { out.new ≡ text_after words.now out.old }
 {
     write_by(words, words, false, out)
 }
 
 // The deliveries by the words of an estimate: without other names, and a send that is not live in it is not delivered.
 pub fn write_live(words: &[u32], est: &[u32], out: &mut [u8]) -> Answer
-    ensures answer { answered result ≡ writtenLive words.now est.now (length out.old) }
+    ensures answer { answered result ≡ written_live words.now est.now (length out.old) }
     ensures text { out.new ≡ live_after words.now est.now out.old }
 {
     write_by(words, est, true, out)

@@ -10,11 +10,11 @@ use lib.Dec.{ltb}
 use lib.ListN.{length, get_or, drop, drop_of_length-le}
 use lib.Seq.{drop-cons}
 use Rattle.listing.specs.Spelling.{space}
-use Rattle.lines.specs.Lines.{bareLine}
+use Rattle.lines.specs.Lines.{bare_line}
 use Rattle.closeness.specs.Closeness.{agree, close}
 use Rattle.diagnosis.specs.Pages.{names}
 use Rattle.diagnosis.specs.Shown.{printable}
-use Rattle.diagnosis.specs.Mistakes.{or_else, odd, word_size, fits, kindFrom, kindNamed}
+use Rattle.diagnosis.specs.Mistakes.{or_else, odd, word_size, fits, kind_from, kind_named}
 
 pub or-true : (t : Bool) (a b : ℕ) → t ≡ true → a ≡ or_else t a b
 unfolding or_else
@@ -51,7 +51,7 @@ module _ (l : List ℕ) (i : ℕ) where
 
 -- ---- keywords
 
-module _ (w : List ℕ) (k : ℕ) (keyword : List ℕ) (e : keyword ≡ bareLine k names) (exact : Bool) where
+module _ (w : List ℕ) (k : ℕ) (keyword : List ℕ) (e : keyword ≡ bare_line k names) (exact : Bool) where
   pub fits-exact : exact ≡ true → agree w 0 keyword 0 ≡ fits exact w k
   unfolding fits
   fits-exact t = rw (t, fits, e)
@@ -64,15 +64,15 @@ module _ (exact : Bool) (w : List ℕ) (k : ℕ) (h : k < 37) where
   left : 37 - k ≡ suc (37 - (k + 1))
   left = omega arith
 
-  pub kind-here : fits exact w k ≡ true → k ≡ kindFrom exact w (37 - k) k
-  unfolding kindFrom
-  kind-here t = sym (ap (λ (n : ℕ). kindFrom exact w n k) left ∙ rw (kindFrom, t))
+  pub kind-here : fits exact w k ≡ true → k ≡ kind_from exact w (37 - k) k
+  unfolding kind_from
+  kind-here t = sym (ap (λ (n : ℕ). kind_from exact w n k) left ∙ rw (kind_from, t))
 
-  pub kind-more : fits exact w k ≡ false → kindFrom exact w (37 - (k + 1)) (k + 1) ≡ kindFrom exact w (37 - k) k
-  unfolding kindFrom
+  pub kind-more : fits exact w k ≡ false → kind_from exact w (37 - (k + 1)) (k + 1) ≡ kind_from exact w (37 - k) k
+  unfolding kind_from
   kind-more t =
-      ap (kindFrom exact w (37 - (k + 1))) (add-one k) ∙ sym (ap (λ (n : ℕ). kindFrom exact w n k) left ∙ rw (kindFrom, t))
+      ap (kind_from exact w (37 - (k + 1))) (add-one k) ∙ sym (ap (λ (n : ℕ). kind_from exact w n k) left ∙ rw (kind_from, t))
 
-pub kind-none : (exact : Bool) (w : List ℕ) (k : ℕ) → 37 ≤ k → 0 ≡ kindFrom exact w (37 - k) k
-unfolding kindFrom
-kind-none exact w k h = let z : 37 - k ≡ 0 = omega arith in sym (ap (λ (n : ℕ). kindFrom exact w n k) z)
+pub kind-none : (exact : Bool) (w : List ℕ) (k : ℕ) → 37 ≤ k → 0 ≡ kind_from exact w (37 - k) k
+unfolding kind_from
+kind-none exact w k h = let z : 37 - k ≡ 0 = omega arith in sym (ap (λ (n : ℕ). kind_from exact w n k) z)

@@ -3,24 +3,24 @@ use Prim.Native.Nat.{ℕ}
 use mathlib.Core.Path.{◌≡◌, refl}
 use mathlib.Core.Bool.{true, false}
 use mathlib.Core.List.{List, [], ◌∷◌, ◌++◌, map}
-use Rattle.table.specs.Words.{parts, partsByKind, arity, names_of}
+use Rattle.table.specs.Words.{parts, parts_by_kind, arity, names_of}
 use Rattle.text.specs.Text.{bytes, numeral, digits, glyph, decimal}
 use Rattle.listing.specs.Listing.{indent}
-use Rattle.listing.specs.Decoding.{lineSize}
-use Rattle.closeness.specs.Closeness.{same, shared, agree, exchanged, closeFrom, close}
-use Rattle.lines.specs.Lines.{fromLine, bare, bareLine}
+use Rattle.listing.specs.Decoding.{line_size}
+use Rattle.closeness.specs.Closeness.{same, shared, agree, exchanged, close_from, close}
+use Rattle.lines.specs.Lines.{from_line, bare, bare_line}
 use Rattle.diagnosis.specs.Pages.{sentences, names}
 use Rattle.diagnosis.specs.Shown.{printable, escaped, each, shown}
-use Rattle.diagnosis.specs.Terms.{leftover, ownerFrom, owner, weight, aroundFrom, around, one, handlers, keyed, before}
-use Rattle.diagnosis.specs.Mistakes.{or_else, odd, word_size, first_word, last_of, marked, fits, kindFrom, kindNamed, rowBy, lineRow, block_row, termRow, endRow, tableRow}
-use Rattle.diagnosis.specs.Sentences.{hole, sentence, lineValues, sizeValues, ownerKind, phraseLine, twinLine, tableValues, lineSentence, tableSentence}
+use Rattle.diagnosis.specs.Terms.{leftover, owner_from, owner, weight, around_from, around, one, handlers, keyed, before}
+use Rattle.diagnosis.specs.Mistakes.{or_else, odd, word_size, first_word, last_of, marked, fits, kind_from, kind_named, row_by, line_row, block_row, term_row, end_row, table_row}
+use Rattle.diagnosis.specs.Sentences.{hole, sentence, line_values, size_values, owner_kind, phrase_line, twin_line, table_values, line_sentence, table_sentence}
 
 -- a line with its line feed, behind the first one
-abbrev ofLine : List ℕ → List ℕ
-ofLine l = lineSentence false true l
+abbrev of_line : List ℕ → List ℕ
+of_line l = line_sentence false true l
 
 pub lines :
-    map ofLine (bytes "handlr 1" ∷ bytes "  snd 000000" ∷ bytes "frobnicate" ∷ bytes "    send 12" ∷ bytes "name 01" ∷ bytes "if 0" ∷ bytes "exercise 000002 " ∷ bytes "   " ∷ bytes " # a" ∷ (bytes "if" ++ 13 ∷ []) ∷ (9 ∷ bytes "if") ∷ [])
+    map of_line (bytes "handlr 1" ∷ bytes "  snd 000000" ∷ bytes "frobnicate" ∷ bytes "    send 12" ∷ bytes "name 01" ∷ bytes "if 0" ∷ bytes "exercise 000002 " ∷ bytes "   " ∷ bytes " # a" ∷ (bytes "if" ++ 13 ∷ []) ∷ (9 ∷ bytes "if") ∷ [])
     ≡ bytes "No keyword is spelled `handlr`: `handler` is close.\n"
     ∷ bytes "No keyword is spelled `snd`: `send` is close.\n"
     ∷ bytes "No keyword is spelled `frobnicate`: a line is a keyword and its argument, as in `exercise 000002`.\n"
@@ -33,5 +33,5 @@ pub lines :
     ∷ bytes "The line ends in a carriage return: save the file with line feeds alone.\n"
     ∷ bytes "The line has a tab, shown as \\x09: write spaces.\n"
     ∷ []
-unfolding numeral digits glyph decimal indent lineSize same shared agree exchanged closeFrom close fromLine bare bareLine sentences names printable escaped each shown or_else odd word_size first_word last_of marked fits kindFrom kindNamed rowBy lineRow hole sentence lineValues lineSentence
+unfolding numeral digits glyph decimal indent line_size same shared agree exchanged close_from close from_line bare bare_line sentences names printable escaped each shown or_else odd word_size first_word last_of marked fits kind_from kind_named row_by line_row hole sentence line_values line_sentence
 lines = refl

@@ -8,7 +8,7 @@ use borrow.Author.Tests.{lt-ltb, le-ltb}
 use lib.ListN.{length, get_or, take, drop}
 use Rattle.text.specs.Text.{decimal}
 use Rattle.listing.specs.Listing.{indent}
-use Rattle.lines.specs.Lines.{bareLine}
+use Rattle.lines.specs.Lines.{bare_line}
 use Rattle.lines.proofs.Laws.{short, short-line}
 use Rattle.diagnosis.specs.Pages.{keyword, typed, sentences, names}
 use Rattle.diagnosis.specs.Shown.{shown}
@@ -23,10 +23,10 @@ sentences-short : short 140 140 sentences ≡ true
 unfolding short sentences
 sentences-short = refl
 
-pub name-short : (k : ℕ) → length (bareLine k names) ≤ 64
+pub name-short : (k : ℕ) → length (bare_line k names) ≤ 64
 name-short k = short-line 64 names names-short k
 
-pub sentence-short : (k : ℕ) → length (bareLine k sentences) ≤ 140
+pub sentence-short : (k : ℕ) → length (bare_line k sentences) ≤ 140
 sentence-short k = short-line 140 sentences sentences-short k
 
 module _ (values word : List ℕ) (b : ℕ) where
@@ -38,7 +38,7 @@ module _ (values word : List ℕ) (b : ℕ) where
   unfolding hole
   hole-number h k v e = rw (hole, le-ltb b 128 h, lt-ltb b 140 k, e)
 
-  pub hole-name : 140 ≤ b → b < 143 → (v : ℕ) → v ≡ get_or values (b - 128) 0 → bareLine v names ≡ hole values word b
+  pub hole-name : 140 ≤ b → b < 143 → (v : ℕ) → v ≡ get_or values (b - 128) 0 → bare_line v names ≡ hole values word b
   unfolding hole
   hole-name h k v e = rw (hole, le-ltb b 128 (omega arith), le-ltb b 140 h, lt-ltb b 143 k, e)
 
@@ -47,8 +47,8 @@ module _ (values word : List ℕ) (b : ℕ) where
   hole-word h = rw (hole, le-ltb b 128 (omega arith), le-ltb b 140 (omega arith), le-ltb b 143 h)
 
 -- the row of the page, cut out of it
-pub page-part : (page : List ℕ) (row : ℕ) (part : List ℕ) → page ≡ sentences → part ≡ bareLine row page → part ≡ bareLine row sentences
-page-part page row part e p = p ∙ ap (bareLine row) e
+pub page-part : (page : List ℕ) (row : ℕ) (part : List ℕ) → page ≡ sentences → part ≡ bare_line row page → part ≡ bare_line row sentences
+page-part page row part e p = p ∙ ap (bare_line row) e
 
 pub line_word : (l : List ℕ) (s e : ℕ) → s ≡ indent l → e ≡ s + word_size (drop s l) → take (e - s) (drop s l) ≡ first_word l
 unfolding first_word

@@ -11,7 +11,7 @@ use lib.ListN.{length, get_or, drop, drop_of_length-le}
 use lib.Seq.{drop-cons, get_or-drop}
 use Rattle.table.specs.Words.{kind, argument, arity, parts, mark}
 use Rattle.diagnosis.specs.declared.terms.Owner.{Owner}
-use Rattle.diagnosis.specs.Terms.{leftover, ownerFrom, owner, weight, aroundFrom, around, one, handlers, keyed, before}
+use Rattle.diagnosis.specs.Terms.{leftover, owner_from, owner, weight, around_from, around, one, handlers, keyed, before}
 
 pub leftover-less : (w whole : ℕ) → whole < arity w → 0 ≡ leftover w whole
 unfolding leftover
@@ -49,40 +49,40 @@ module _ (ws : List ℕ) (whole q : ℕ) (h : 0 < q) where
   last : q ≡ suc (q - 1)
   last = omega arith
 
-  pub owner-block : kind (get_or ws (q - 1) 0) < 16 → nobody ≡ ownerFrom ws whole q
-  unfolding ownerFrom
-  owner-block k = sym (ap (ownerFrom ws whole) last ∙ rw (ownerFrom, lt-ltb (kind (get_or ws (q - 1) 0)) 16 k))
+  pub owner-block : kind (get_or ws (q - 1) 0) < 16 → nobody ≡ owner_from ws whole q
+  unfolding owner_from
+  owner-block k = sym (ap (owner_from ws whole) last ∙ rw (owner_from, lt-ltb (kind (get_or ws (q - 1) 0)) 16 k))
 
   pub owner_here : 16 ≤ kind (get_or ws (q - 1) 0) → whole < arity (get_or ws (q - 1) 0)
-      → ◌≡◌ {A = Owner} (record { line = q - 1 + 1; part = whole }) (ownerFrom ws whole q)
-  unfolding ownerFrom
+      → ◌≡◌ {A = Owner} (record { line = q - 1 + 1; part = whole }) (owner_from ws whole q)
+  unfolding owner_from
   owner_here k a =
       ap (λ (n : ℕ). record { line = n; part = whole }) (add-one (q - 1))
-      ∙ sym (ap (ownerFrom ws whole) last ∙ rw (ownerFrom, le-ltb (kind (get_or ws (q - 1) 0)) 16 k, lt-ltb whole (arity (get_or ws (q - 1) 0)) a))
+      ∙ sym (ap (owner_from ws whole) last ∙ rw (owner_from, le-ltb (kind (get_or ws (q - 1) 0)) 16 k, lt-ltb whole (arity (get_or ws (q - 1) 0)) a))
 
   pub owner-back : 16 ≤ kind (get_or ws (q - 1) 0) → arity (get_or ws (q - 1) 0) ≤ whole
-      → ownerFrom ws (leftover (get_or ws (q - 1) 0) whole) (q - 1) ≡ ownerFrom ws whole q
-  unfolding ownerFrom
+      → owner_from ws (leftover (get_or ws (q - 1) 0) whole) (q - 1) ≡ owner_from ws whole q
+  unfolding owner_from
   owner-back k a =
-      sym (ap (ownerFrom ws whole) last ∙ rw (ownerFrom, le-ltb (kind (get_or ws (q - 1) 0)) 16 k, le-ltb whole (arity (get_or ws (q - 1) 0)) a))
+      sym (ap (owner_from ws whole) last ∙ rw (owner_from, le-ltb (kind (get_or ws (q - 1) 0)) 16 k, le-ltb whole (arity (get_or ws (q - 1) 0)) a))
 
   module _ (binders : Bool) where
-    pub around-block : kind (get_or ws (q - 1) 0) < 16 → 0 ≡ aroundFrom binders ws whole q
-    unfolding aroundFrom
-    around-block k = sym (ap (aroundFrom binders ws whole) last ∙ rw (aroundFrom, lt-ltb (kind (get_or ws (q - 1) 0)) 16 k))
+    pub around-block : kind (get_or ws (q - 1) 0) < 16 → 0 ≡ around_from binders ws whole q
+    unfolding around_from
+    around-block k = sym (ap (around_from binders ws whole) last ∙ rw (around_from, lt-ltb (kind (get_or ws (q - 1) 0)) 16 k))
 
     pub around-back : 16 ≤ kind (get_or ws (q - 1) 0)
-        → weight binders (get_or ws (q - 1) 0) whole + aroundFrom binders ws (leftover (get_or ws (q - 1) 0) whole) (q - 1) ≡ aroundFrom binders ws whole q
-    unfolding aroundFrom
-    around-back k = sym (ap (aroundFrom binders ws whole) last ∙ rw (aroundFrom, le-ltb (kind (get_or ws (q - 1) 0)) 16 k))
+        → weight binders (get_or ws (q - 1) 0) whole + around_from binders ws (leftover (get_or ws (q - 1) 0) whole) (q - 1) ≡ around_from binders ws whole q
+    unfolding around_from
+    around-back k = sym (ap (around_from binders ws whole) last ∙ rw (around_from, le-ltb (kind (get_or ws (q - 1) 0)) 16 k))
 
-pub owner-start : (ws : List ℕ) (whole q : ℕ) → q ≤ 0 → nobody ≡ ownerFrom ws whole q
-unfolding ownerFrom
+pub owner-start : (ws : List ℕ) (whole q : ℕ) → q ≤ 0 → nobody ≡ owner_from ws whole q
+unfolding owner_from
 owner-start ws whole zero h = refl
 owner-start ws whole (suc q) h = absurd (omega arith)
 
-pub around-start : (binders : Bool) (ws : List ℕ) (whole q : ℕ) → q ≤ 0 → 0 ≡ aroundFrom binders ws whole q
-unfolding aroundFrom
+pub around-start : (binders : Bool) (ws : List ℕ) (whole q : ℕ) → q ≤ 0 → 0 ≡ around_from binders ws whole q
+unfolding around_from
 around-start binders ws whole zero h = refl
 around-start binders ws whole (suc q) h = absurd (omega arith)
 

@@ -2,18 +2,18 @@
 -- sentence that fits the mistake.
 use Rattle.std.specs.Prelude.{ℕ, zero, suc, ◌-◌, ◌*◌, Bool, true, false, List, [], ◌∷◌, ◌++◌, eqb, leb, ltb, length, get_or, take, drop, replicate}
 use Rattle.table.specs.Words.{kind}
-use Rattle.text.specs.Text.{bytes, decimal, choice, hexWord}
+use Rattle.text.specs.Text.{bytes, decimal, choice, hex_word}
 use Rattle.listing.specs.Spelling.{space}
 use Rattle.table.specs.Scan.{Outcome, accepted, refused, reading}
-use Rattle.listing.specs.Listing.{Answered, done, refusal, indent, word_in, wordsOf, readAs}
-use Rattle.listing.specs.Decoding.{lineSize}
-use Rattle.report.specs.Lines.{refusalLine}
+use Rattle.listing.specs.Listing.{Answered, done, refusal, indent, word_in, words_of, read_as}
+use Rattle.listing.specs.Decoding.{line_size}
+use Rattle.report.specs.Lines.{refusal_line}
 use Rattle.notes.specs.Notes.{notes}
-use Rattle.lines.specs.Lines.{fromLine, bareLine}
-use Rattle.diagnosis.specs.Pages.{indentationRow, tooLongRow, noWordsRow}
+use Rattle.lines.specs.Lines.{from_line, bare_line}
+use Rattle.diagnosis.specs.Pages.{indentation_row, too_long_row, no_words_row}
 use Rattle.diagnosis.specs.Shown.{shown}
 use Rattle.diagnosis.specs.Terms.{around}
-use Rattle.diagnosis.specs.Sentences.{sentence, sizeValues, lineSentence, tableSentence}
+use Rattle.diagnosis.specs.Sentences.{sentence, size_values, line_sentence, table_sentence}
 
 -- ---- lines
 
@@ -23,97 +23,97 @@ unfolding shown
 numbered k l = (bytes "line " ++ decimal (suc k)) ++ bytes ": " ++ shown 120 l ++ bytes "\n"
 
 -- line k of a text, where it has one
-unfoldable pub textLine : (k : ℕ) → List ℕ → List ℕ
-unfolding numbered bareLine
-textLine k text = choice (eqb (length (fromLine k text)) 0) [] (numbered k (bareLine k text))
+unfoldable pub text_line : (k : ℕ) → List ℕ → List ℕ
+unfolding numbered bare_line
+text_line k text = choice (eqb (length (from_line k text)) 0) [] (numbered k (bare_line k text))
 
 -- ---- sentences about a text
 
 -- of a listing of more than 1,024 words the first 1,025 decide
-unfoldable pub firstWords : List ℕ → List ℕ
-firstWords text = take 1025 (wordsOf text)
+unfoldable pub first_words : List ℕ → List ℕ
+first_words text = take 1025 (words_of text)
 
 -- the word that line k spells, 0 where it spells none
-unfoldable pub lineWordAt : (k : ℕ) → List ℕ → ℕ
-unfolding fromLine
-lineWordAt k text = word_in (take (lineSize (fromLine k text)) (fromLine k text))
+unfoldable pub line_word_at : (k : ℕ) → List ℕ → ℕ
+unfolding from_line
+line_word_at k text = word_in (take (line_size (from_line k text)) (from_line k text))
 
 -- the leading spaces that the word at k has to have: two for each depth
-unfoldable pub spacesAt : (ws : List ℕ) (k : ℕ) → ℕ
+unfoldable pub spaces_at : (ws : List ℕ) (k : ℕ) → ℕ
 unfolding around
-spacesAt ws k = elim (ltb (kind (get_or ws k 0)) 16) [ true ↦ 0 | false ↦ 2 * suc (around false ws k) ]
+spaces_at ws k = elim (ltb (kind (get_or ws k 0)) 16) [ true ↦ 0 | false ↦ 2 * suc (around false ws k) ]
 
 -- the line as it should be
-unfoldable pub rightLine : (spaces k : ℕ) (l : List ℕ) → List ℕ
+unfoldable pub right_line : (spaces k : ℕ) (l : List ℕ) → List ℕ
 unfolding shown
-rightLine spaces k l =
+right_line spaces k l =
     (bytes "right, line " ++ decimal (suc k)) ++ bytes ": " ++ replicate spaces space ++ shown 120 (drop (indent l) l) ++ bytes "\n"
 
 -- and the sentence
-unfoldable pub spacesText : (spaces k : ℕ) (l : List ℕ) → List ℕ
-unfolding rightLine sentence sizeValues
-spacesText spaces k l = rightLine spaces k l ++ sentence (sizeValues (indent l) spaces 0) [] indentationRow
+unfoldable pub spaces_text : (spaces k : ℕ) (l : List ℕ) → List ℕ
+unfolding right_line sentence size_values
+spaces_text spaces k l = right_line spaces k l ++ sentence (size_values (indent l) spaces 0) [] indentation_row
 
 -- of line k, which spells no word: the first line or another, with its line feed or without
-unfoldable pub badLine : (k : ℕ) → List ℕ → List ℕ
-unfolding fromLine bareLine lineSentence
-badLine k text = lineSentence (eqb k 0) (ltb (length (bareLine k text)) (length (fromLine k text))) (bareLine k text)
+unfoldable pub bad_line : (k : ℕ) → List ℕ → List ℕ
+unfolding from_line bare_line line_sentence
+bad_line k text = line_sentence (eqb k 0) (ltb (length (bare_line k text)) (length (from_line k text))) (bare_line k text)
 
 -- of line k, whose leading spaces are wrong: only one of the first 1,024 is
-unfoldable pub movedLine : (k : ℕ) → List ℕ → List ℕ
-unfolding spacesText spacesAt firstWords bareLine
-movedLine k text = elim (ltb 1024 k) [ true ↦ [] | false ↦ spacesText (spacesAt (firstWords text) k) k (bareLine k text) ]
+unfoldable pub moved_line : (k : ℕ) → List ℕ → List ℕ
+unfolding spaces_text spaces_at first_words bare_line
+moved_line k text = elim (ltb 1024 k) [ true ↦ [] | false ↦ spaces_text (spaces_at (first_words text) k) k (bare_line k text) ]
 
 -- of line k, which is refused as a line
-unfoldable pub lineText : (k : ℕ) → List ℕ → List ℕ
-unfolding lineWordAt badLine movedLine
-lineText k text = elim (eqb (lineWordAt k text) 0) [ true ↦ badLine k text | false ↦ movedLine k text ]
+unfoldable pub line_text : (k : ℕ) → List ℕ → List ℕ
+unfolding line_word_at bad_line moved_line
+line_text k text = elim (eqb (line_word_at k text) 0) [ true ↦ bad_line k text | false ↦ moved_line k text ]
 
 -- ---- a refused text
 
 -- by the table's numbers, 40, and 41
-unfoldable pub refusedText : (number place : ℕ) → List ℕ → List ℕ
-unfolding textLine lineText tableSentence firstWords sentence sizeValues
-refusedText number place text =
+unfoldable pub refused_text : (number place : ℕ) → List ℕ → List ℕ
+unfolding text_line line_text table_sentence first_words sentence size_values
+refused_text number place text =
     elim (eqb number 40) [
-      | true ↦ textLine (place - 1) text ++ lineText (place - 1) text
+      | true ↦ text_line (place - 1) text ++ line_text (place - 1) text
       | false ↦
           elim (ltb number 40) [
-            | true ↦ textLine place text ++ tableSentence (firstWords text) number place
-            | false ↦ sentence (sizeValues 0 0 0) [] tooLongRow
+            | true ↦ text_line place text ++ table_sentence (first_words text) number place
+            | false ↦ sentence (size_values 0 0 0) [] too_long_row
           ]
     ]
 
 -- ---- check
 
-unfoldable pub acceptedText : (count : ℕ) (ws : List ℕ) → List ℕ
-acceptedText count ws = (bytes "accepted " ++ decimal count) ++ bytes " words\n" ++ notes ws
+unfoldable pub accepted_text : (count : ℕ) (ws : List ℕ) → List ℕ
+accepted_text count ws = (bytes "accepted " ++ decimal count) ++ bytes " words\n" ++ notes ws
 
-unfoldable pub checkedText : Answered → List ℕ → List ℕ
-unfolding acceptedText refusedText
-checkedText (done n) text = acceptedText n (wordsOf text)
-checkedText (refusal number place) text = refusalLine number place ++ refusedText number place text
+unfoldable pub checked_text : Answered → List ℕ → List ℕ
+unfolding accepted_text refused_text
+checked_text (done n) text = accepted_text n (words_of text)
+checked_text (refusal number place) text = refusal_line number place ++ refused_text number place text
 
 -- a listing
-unfoldable pub checkText : (input : List ℕ) → List ℕ
-unfolding checkedText
-checkText input = checkedText (readAs input 1024) input
+unfoldable pub check_text : (input : List ℕ) → List ℕ
+unfolding checked_text
+check_text input = checked_text (read_as input 1024) input
 
 -- the word at p in hexadecimal digits, where there is one
 unfoldable pub word_line : (p : ℕ) → List ℕ → List ℕ
-word_line p ws = choice (ltb p (length ws)) ((bytes "line " ++ decimal (suc p)) ++ (bytes ": " ++ hexWord (get_or ws p 0)) ++ bytes "\n") []
+word_line p ws = choice (ltb p (length ws)) ((bytes "line " ++ decimal (suc p)) ++ (bytes ": " ++ hex_word (get_or ws p 0)) ++ bytes "\n") []
 
-unfoldable pub outcomeText : Outcome → List ℕ → List ℕ
-unfolding acceptedText word_line tableSentence
-outcomeText accepted ws = acceptedText (length ws) ws
-outcomeText (refused number place) ws = refusalLine number place ++ word_line place ws ++ tableSentence ws number place
+unfoldable pub outcome_text : Outcome → List ℕ → List ℕ
+unfolding accepted_text word_line table_sentence
+outcome_text accepted ws = accepted_text (length ws) ws
+outcome_text (refused number place) ws = refusal_line number place ++ word_line place ws ++ table_sentence ws number place
 
 -- the words of a system of either width: line n is word n - 1
-unfoldable pub checkWords : List ℕ → List ℕ
-unfolding outcomeText
-checkWords ws = outcomeText (reading ws) ws
+unfoldable pub check_words : List ℕ → List ℕ
+unfolding outcome_text
+check_words ws = outcome_text (reading ws) ws
 
 -- bytes that are no whole words
-unfoldable pub oddText : (size : ℕ) → List ℕ
-unfolding sentence sizeValues
-oddText size = refusalLine 30 0 ++ sentence (sizeValues 0 0 size) [] noWordsRow
+unfoldable pub odd_text : (size : ℕ) → List ℕ
+unfolding sentence size_values
+odd_text size = refusal_line 30 0 ++ sentence (size_values 0 0 size) [] no_words_row

@@ -17,8 +17,8 @@ most = 130
 abbrev pub highest : ℕ  -- the highest name
 highest = 131
 
-abbrev pub ownerLine : ℕ  -- the line of the term that wants a part
-ownerLine = 132
+abbrev pub owner_line : ℕ  -- the line of the term that wants a part
+owner_line = 132
 
 abbrev pub above : ℕ  -- the line before
 above = 133
@@ -38,15 +38,15 @@ right = 137
 abbrev pub size : ℕ  -- how many bytes there are
 size = 138
 
-abbrev pub handlerLine : ℕ  -- the line of the handler without a body
-handlerLine = 139
+abbrev pub handler_line : ℕ  -- the line of the handler without a body
+handler_line = 139
 
 -- lines of `names`
 abbrev pub keyword : ℕ  -- a keyword that is close
 keyword = 140
 
-abbrev pub ownerKeyword : ℕ  -- the keyword of the term that wants a part
-ownerKeyword = 141
+abbrev pub owner_keyword : ℕ  -- the keyword of the term that wants a part
+owner_keyword = 141
 
 abbrev pub phrase : ℕ  -- which part it wants
 phrase = 142
@@ -119,97 +119,97 @@ sentences =
     ++ (bytes "The body above ended at line " ++ above ∷ bytes ": `handler` has to stand here, or this line belongs to an earlier place.\n")
     ++ (bytes "The name of a handler is from 0 to " ++ highest ∷ bytes ".\n")
     ++ (bytes "The handler at line " ++ twin ∷ bytes " has the same name and the same permissions: change one of the two.\n")
-    ++ (bytes "The handler at line " ++ handlerLine ∷ bytes " has no body: a term has to stand here.\n")
-    ++ (bytes "line " ++ ownerLine ∷ bytes ": `" ++ ownerKeyword ∷ bytes "` has " ++ phrase ∷ bytes " is missing.\n")
+    ++ (bytes "The handler at line " ++ handler_line ∷ bytes " has no body: a term has to stand here.\n")
+    ++ (bytes "line " ++ owner_line ∷ bytes ": `" ++ owner_keyword ∷ bytes "` has " ++ phrase ∷ bytes " is missing.\n")
     ++ (bytes "The highest variable here is " ++ variable ∷ bytes ": 0 is the innermost binder.\n")
     ++ bytes "The term has depth 65, and 64 is the most: move a part of the body into another handler.\n"
     ++ (bytes "The body of the last handler ended at line " ++ above ∷ bytes ": take this line away, or it belongs to an earlier place.\n")
     ++ (bytes "There are " ++ size ∷ bytes " bytes: a word has four.\n")
 
 -- the lines of the other mistakes
-abbrev pub carriageReturnRow : ℕ
-carriageReturnRow = 37
+abbrev pub carriage_return_row : ℕ
+carriage_return_row = 37
 
-abbrev pub markRow : ℕ
-markRow = 38
+abbrev pub mark_row : ℕ
+mark_row = 38
 
-abbrev pub tabRow : ℕ
-tabRow = 39
+abbrev pub tab_row : ℕ
+tab_row = 39
 
-abbrev pub unprintedRow : ℕ
-unprintedRow = 40
+abbrev pub unprinted_row : ℕ
+unprinted_row = 40
 
-abbrev pub blankRow : ℕ
-blankRow = 41
+abbrev pub blank_row : ℕ
+blank_row = 41
 
-abbrev pub commentRow : ℕ
-commentRow = 42
+abbrev pub comment_row : ℕ
+comment_row = 42
 
-abbrev pub trailingRow : ℕ
-trailingRow = 43
+abbrev pub trailing_row : ℕ
+trailing_row = 43
 
-abbrev pub unfedRow : ℕ
-unfedRow = 44
+abbrev pub unfed_row : ℕ
+unfed_row = 44
 
-abbrev pub nearRow : ℕ
-nearRow = 45
+abbrev pub near_row : ℕ
+near_row = 45
 
-abbrev pub unknownRow : ℕ
-unknownRow = 46
+abbrev pub unknown_row : ℕ
+unknown_row = 46
 
-abbrev pub indentationRow : ℕ
-indentationRow = 47
+abbrev pub indentation_row : ℕ
+indentation_row = 47
 
-abbrev pub tooLongRow : ℕ
-tooLongRow = 48
+abbrev pub too_long_row : ℕ
+too_long_row = 48
 
-abbrev pub noSystemRow : ℕ
-noSystemRow = 49
+abbrev pub no_system_row : ℕ
+no_system_row = 49
 
-abbrev pub tooManyLinesRow : ℕ
-tooManyLinesRow = 50
+abbrev pub too_many_lines_row : ℕ
+too_many_lines_row = 50
 
-abbrev pub tooManyHandlersRow : ℕ
-tooManyHandlersRow = 51
+abbrev pub too_many_handlers_row : ℕ
+too_many_handlers_row = 51
 
-abbrev pub noPermissionsRow : ℕ
-noPermissionsRow = 52
+abbrev pub no_permissions_row : ℕ
+no_permissions_row = 52
 
-abbrev pub noGuardRow : ℕ
-noGuardRow = 53
+abbrev pub no_guard_row : ℕ
+no_guard_row = 53
 
-abbrev pub countsRow : ℕ
-countsRow = 54
+abbrev pub counts_row : ℕ
+counts_row = 54
 
-abbrev pub noHandlerRow : ℕ
-noHandlerRow = 55
+abbrev pub no_handler_row : ℕ
+no_handler_row = 55
 
-abbrev pub bodyEndedRow : ℕ
-bodyEndedRow = 56
+abbrev pub body_ended_row : ℕ
+body_ended_row = 56
 
-abbrev pub nameRangeRow : ℕ
-nameRangeRow = 57
+abbrev pub name_range_row : ℕ
+name_range_row = 57
 
-abbrev pub twinFirstRow : ℕ
-twinFirstRow = 58
+abbrev pub twin_first_row : ℕ
+twin_first_row = 58
 
-abbrev pub noBodyRow : ℕ
-noBodyRow = 59
+abbrev pub no_body_row : ℕ
+no_body_row = 59
 
-abbrev pub partMissingRow : ℕ
-partMissingRow = 60
+abbrev pub part_missing_row : ℕ
+part_missing_row = 60
 
-abbrev pub noBinderRow : ℕ
-noBinderRow = 61
+abbrev pub no_binder_row : ℕ
+no_binder_row = 61
 
-abbrev pub tooDeepRow : ℕ
-tooDeepRow = 62
+abbrev pub too_deep_row : ℕ
+too_deep_row = 62
 
-abbrev pub lastEndedRow : ℕ
-lastEndedRow = 63
+abbrev pub last_ended_row : ℕ
+last_ended_row = 63
 
-abbrev pub noWordsRow : ℕ
-noWordsRow = 64
+abbrev pub no_words_row : ℕ
+no_words_row = 64
 
 -- ---- names: the keyword of each kind, then three lines for each of kinds 21 to 35, what is missing where a part is
 

@@ -10,23 +10,23 @@ leftover w whole = elim (ltb whole (arity w)) [ true ↦ 0 | false ↦ suc whole
 
 -- the last term before the place q that lacks a part, where so many whole terms stand from q on: its line, and how many parts it has; line
 -- 0 where a block's words come first
-unfoldable pub ownerFrom : (ws : List ℕ) (whole q : ℕ) → Owner
+unfoldable pub owner_from : (ws : List ℕ) (whole q : ℕ) → Owner
 unfolding leftover
-ownerFrom ws whole zero = record { line = 0; part = 0 }
-ownerFrom ws whole (suc q) =
+owner_from ws whole zero = record { line = 0; part = 0 }
+owner_from ws whole (suc q) =
     elim (ltb (kind (get_or ws q 0)) 16) [
       | true ↦ record { line = 0; part = 0 }
       | false ↦
           elim (ltb whole (arity (get_or ws q 0))) [
             | true ↦ record { line = suc q; part = whole }
-            | false ↦ ownerFrom ws (leftover (get_or ws q 0) whole) q
+            | false ↦ owner_from ws (leftover (get_or ws q 0) whole) q
           ]
     ]
 
 -- the term of which the word at p is a part, or would be
 unfoldable pub owner : (ws : List ℕ) (p : ℕ) → Owner
-unfolding ownerFrom
-owner ws p = ownerFrom ws 0 p
+unfolding owner_from
+owner ws p = owner_from ws 0 p
 
 -- what a term counts for in the next part that it lacks: one for the depth, or one if it binds a variable there
 unfoldable pub weight : (binders : Bool) (w part : ℕ) → ℕ
@@ -34,18 +34,18 @@ weight true w part = mark (get_or (parts w) part false)
 weight false w part = elim (ltb part (arity w)) [ true ↦ 1 | false ↦ 0 ]
 
 -- all terms that the place is inside of
-unfoldable pub aroundFrom : (binders : Bool) (ws : List ℕ) (whole q : ℕ) → ℕ
+unfoldable pub around_from : (binders : Bool) (ws : List ℕ) (whole q : ℕ) → ℕ
 unfolding leftover weight
-aroundFrom binders ws whole zero = 0
-aroundFrom binders ws whole (suc q) =
+around_from binders ws whole zero = 0
+around_from binders ws whole (suc q) =
     elim (ltb (kind (get_or ws q 0)) 16) [
       | true ↦ 0
-      | false ↦ weight binders (get_or ws q 0) whole + aroundFrom binders ws (leftover (get_or ws q 0) whole) q
+      | false ↦ weight binders (get_or ws q 0) whole + around_from binders ws (leftover (get_or ws q 0) whole) q
     ]
 
 unfoldable pub around : (binders : Bool) (ws : List ℕ) (p : ℕ) → ℕ
-unfolding aroundFrom
-around binders ws p = aroundFrom binders ws 0 p
+unfolding around_from
+around binders ws p = around_from binders ws 0 p
 
 -- ---- handlers
 

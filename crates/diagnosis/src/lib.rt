@@ -11,7 +11,7 @@ ghost use Rattle.std.specs.Prelude.{◌≡◌, ◌+◌, ◌≤◌, length};
 ghost use Rattle.text.specs.Writing.{Wrote};
 ghost use Rattle.table.specs.Scan.{refused};
 ghost use Rattle.listing.specs.Listing.{refusal};
-ghost use Rattle.diagnosis.specs.Diagnosis.{acceptedText, checkedText, checkText, word_line, outcomeText, checkWords, oddText};
+ghost use Rattle.diagnosis.specs.Diagnosis.{accepted_text, checked_text, check_text, word_line, outcome_text, check_words, odd_text};
 
 use crate::sentences::{size_sentence, table_sentence};
 use crate::terms::word_at;
@@ -27,7 +27,7 @@ use text::{hex_field, number_field, put};
 // Of an accepted system with so many words.
 fn accepted_text(count: usize, words: &[u32], out: &mut [u8]) -> usize
     requires { (length words.now ≤ 1024) × (100000 ≤ length out.old) }
-    ensures { Wrote out.old 0 (acceptedText count words.now) out.new result }
+    ensures { Wrote out.old 0 (accepted_text count words.now) out.new result }
 {
     let a = number_field(out, 0, b"accepted ", count as u64);
     let b = put(out, a, b" words\n");
@@ -36,7 +36,7 @@ fn accepted_text(count: usize, words: &[u32], out: &mut [u8]) -> usize
 
 fn refusal_text(number: u32, place: usize, input: &[u8], out: &mut [u8]) -> usize
     requires { (place ≤ 65536) × (100000 ≤ length out.old) }
-    ensures { Wrote out.old 0 (checkedText (refusal number place) input.now) out.new result }
+    ensures { Wrote out.old 0 (checked_text (refusal number place) input.now) out.new result }
 {
     let next = refusal_line(out, 0, number, place);
     refused_text(out, next, number, place, input)
@@ -45,7 +45,7 @@ fn refusal_text(number: u32, place: usize, input: &[u8], out: &mut [u8]) -> usiz
 // What `check` prints of a listing, at the start of out, and its length.
 pub fn check_text(input: &[u8], out: &mut [u8]) -> usize
     requires { 100000 ≤ length out.old }
-    ensures { Wrote out.old 0 (checkText input.now) out.new result }
+    ensures { Wrote out.old 0 (check_text input.now) out.new result }
 {
     let mut words = [0u32; 1024];
     match read(input, &mut words) {
@@ -70,7 +70,7 @@ fn word_line(out: &mut [u8], at: usize, p: usize, words: &[u32]) -> usize
 
 fn refused_words(number: u32, place: usize, words: &[u32], out: &mut [u8]) -> usize
     requires { (place ≤ 65536) × (length words.now ≤ 65536) × (100000 ≤ length out.old) }
-    ensures { Wrote out.old 0 (outcomeText (refused number place) words.now) out.new result }
+    ensures { Wrote out.old 0 (outcome_text (refused number place) words.now) out.new result }
 {
     let a = refusal_line(out, 0, number, place);
     let b = word_line(out, a, place, words);
@@ -80,7 +80,7 @@ fn refused_words(number: u32, place: usize, words: &[u32], out: &mut [u8]) -> us
 // What `check` prints of the words of a system of either width, at the start of out, and its length.
 pub fn check_words(words: &[u32], out: &mut [u8]) -> usize
     requires { (length words.now ≤ 65536) × (100000 ≤ length out.old) }
-    ensures { Wrote out.old 0 (checkWords words.now) out.new result }
+    ensures { Wrote out.old 0 (check_words words.now) out.new result }
 {
     match table::read::read(words) {
         Reading::Accepted => accepted_text(words.len(), words, out),
@@ -96,7 +96,7 @@ pub fn check_words(words: &[u32], out: &mut [u8]) -> usize
 // What `check` prints of so many bytes, which are no whole words.
 pub fn check_odd(size: usize, out: &mut [u8]) -> usize
     requires { 100000 ≤ length out.old }
-    ensures { Wrote out.old 0 (oddText size) out.new result }
+    ensures { Wrote out.old 0 (odd_text size) out.new result }
 {
     let next = refusal_line(out, 0, 30, 0);
     size_sentence(out, next, 0, 0, size, 64)

@@ -2,7 +2,7 @@
 ghost use Rattle.std.specs.Prelude.{◌≡◌, ◌&&◌, ◌+◌, ◌-◌, ◌≤◌, length, drop};
 ghost use Rattle.listing.specs.Listing.{indent};
 ghost use Rattle.diagnosis.specs.Pages.{names as Pages·names};
-ghost use Rattle.diagnosis.specs.Mistakes.{or_else, word_size, rowBy, kindNamed, block_row, endRow, tableRow};
+ghost use Rattle.diagnosis.specs.Mistakes.{or_else, word_size, row_by, kind_named, block_row, end_row, table_row};
 ghost use Rattle.diagnosis.specs.Mistakes.{odd as Mistakes·odd};
 ghost use Rattle.diagnosis.specs.Mistakes.{last_of};
 ghost use Rattle.diagnosis.specs.Mistakes.{marked as Mistakes·marked};
@@ -112,7 +112,7 @@ fn fits(names: &[u8], exact: bool, w: &[u8], k: usize) -> bool
 // The first kind that fits, 0 where none does.
 pub fn kind_named(names: &[u8], exact: bool, w: &[u8]) -> usize
     requires { names.now ≡ Pages·names }
-    ensures { (result ≡ kindNamed exact w.now) × (result ≤ 36) }
+    ensures { (result ≡ kind_named exact w.now) × (result ≤ 36) }
 {
     let mut k = 1;
     while k < 37 {
@@ -126,7 +126,7 @@ pub fn kind_named(names: &[u8], exact: bool, w: &[u8]) -> usize
 
 // The row of a line that spells no word.
 pub fn row_by(first: bool, fed: bool, l: &[u8], exact: usize, near: usize) -> usize
-    ensures { result ≡ rowBy first fed l.now exact near }
+    ensures { result ≡ row_by first fed l.now exact near }
 {
     let n = l.len();
     let last = last_of(l);
@@ -151,7 +151,7 @@ fn block_row(words: &[u32], p: usize) -> usize
 
 // The row of a word after the last block.
 fn end_row(words: &[u32], p: usize) -> usize
-    ensures { result ≡ endRow words.now p }
+    ensures { result ≡ end_row words.now p }
 {
     or_else(kind_of(word_at(words, p)) == 2, 54, 63)
 }
@@ -159,7 +159,7 @@ fn end_row(words: &[u32], p: usize) -> usize
 // The row of a number of a table; `line` is that of the term that wants a part.
 pub fn table_row(words: &[u32], p: usize, number: u32, line: usize) -> usize
     requires { line ≡ (owner words.now p).line }
-    ensures { result ≡ tableRow words.now p number }
+    ensures { result ≡ table_row words.now p number }
 {
     let kind = kind_of(word_at(words, p)) as usize;
     let term = or_else(line == 0, 59, 60);

@@ -1,11 +1,11 @@
 // The sentences, with their holes filled. `names` are those of crate::pages.
 ghost use Rattle.std.specs.Prelude.{◌≡◌, [], ◌+◌, ◌*◌, ◌≤◌, length, get_or};
 ghost use Rattle.text.specs.Writing.{Wrote};
-ghost use Rattle.lines.specs.Lines.{bareLine};
+ghost use Rattle.lines.specs.Lines.{bare_line};
 ghost use Rattle.diagnosis.specs.Pages.{names as Pages·names};
 ghost use Rattle.diagnosis.specs.Shown.{each};
 ghost use Rattle.diagnosis.specs.Terms.{owner};
-ghost use Rattle.diagnosis.specs.Sentences.{hole, sentence, sizeValues, ownerKind, phraseLine, twinLine, tableValues, lineSentence, tableSentence};
+ghost use Rattle.diagnosis.specs.Sentences.{hole, sentence, size_values, owner_kind, phrase_line, twin_line, table_values, line_sentence, table_sentence};
 
 use crate::mistakes::{kind_named, leading, less, row_by, table_row, word_end};
 use crate::pages::{NAMES, SENTENCES};
@@ -25,7 +25,7 @@ fn value_at(values: &[usize], i: usize) -> usize
 // A line of the names.
 fn put_name(out: &mut [u8], at: usize, names: &[u8], k: usize) -> usize
     requires { (names.now ≡ Pages·names) × (at + 64 ≤ length out.old) }
-    ensures wrote { Wrote out.old at (bareLine k Pages·names) out.new result }
+    ensures wrote { Wrote out.old at (bare_line k Pages·names) out.new result }
     ensures upper_bound { result ≤ at + 64 }
 {
     let start = line_start(names, k);
@@ -98,7 +98,7 @@ pub fn size_sentence(
     row: usize,
 ) -> usize
     requires { at + 20000 ≤ length out.old }
-    ensures wrote { Wrote out.old at (sentence (sizeValues spaces right size) [] row) out.new result }
+    ensures wrote { Wrote out.old at (sentence (size_values spaces right size) [] row) out.new result }
     ensures upper_bound { result ≤ at + 20000 }
 {
     let values = [0, 0, 0, 0, 0, 0, 0, 0, spaces, right, size, 0, 0, 0, 0];
@@ -108,7 +108,7 @@ pub fn size_sentence(
 // Of a line that spells no word.
 pub fn line_sentence(out: &mut [u8], at: usize, first: bool, fed: bool, l: &[u8]) -> usize
     requires { at + 20000 ≤ length out.old }
-    ensures wrote { Wrote out.old at (lineSentence first fed l.now) out.new result }
+    ensures wrote { Wrote out.old at (line_sentence first fed l.now) out.new result }
     ensures upper_bound { result ≤ at + 20000 }
 {
     let names = NAMES;
@@ -125,7 +125,7 @@ pub fn line_sentence(out: &mut [u8], at: usize, first: bool, fed: bool, l: &[u8]
 // The kind of the term that wants a part; its line is lent.
 fn owner_kind(words: &[u32], p: usize, line: usize) -> usize
     requires { line ≡ (owner words.now p).line }
-    ensures { (result ≡ ownerKind words.now p) × (result ≤ 255) }
+    ensures { (result ≡ owner_kind words.now p) × (result ≤ 255) }
 {
     kind_of(word_at(words, less(line, 1))) as usize
 }
@@ -133,7 +133,7 @@ fn owner_kind(words: &[u32], p: usize, line: usize) -> usize
 // The line of the first handler with the name and the permissions at p - 1 and p.
 fn twin_line(words: &[u32], p: usize) -> usize
     requires { length words.now ≤ 65536 }
-    ensures { result ≡ twinLine words.now p }
+    ensures { result ≡ twin_line words.now p }
 {
     let name = argument_of(word_at(words, less(p, 1)));
     let perms = argument_of(word_at(words, p));
@@ -144,7 +144,7 @@ fn twin_line(words: &[u32], p: usize) -> usize
 fn table_values(words: &[u32], p: usize, line: usize, part: usize) -> [usize; 15]
     requires words_len_bound { (length words.now ≤ 65536) × (p ≤ 65536) × (part ≤ 65536) }
     requires line_value { (line ≡ (owner words.now p).line) × (part ≡ (owner words.now p).part) }
-    ensures { result ≡ tableValues words.now p }
+    ensures { result ≡ table_values words.now p }
 {
     let said = argument_of(word_at(words, 0)) as usize;
     let names = names_in(words) as usize;
@@ -163,7 +163,7 @@ fn table_values(words: &[u32], p: usize, line: usize, part: usize) -> [usize; 15
 // Of a table, by the number and the place of its refusal.
 pub fn table_sentence(out: &mut [u8], at: usize, words: &[u32], number: u32, p: usize) -> usize
     requires { (length words.now ≤ 65536) × (p ≤ 65536) × (at + 20000 ≤ length out.old) }
-    ensures wrote { Wrote out.old at (tableSentence words.now number p) out.new result }
+    ensures wrote { Wrote out.old at (table_sentence words.now number p) out.new result }
     ensures upper_bound { result ≤ at + 20000 }
 {
     let o = owner_of(words, p);

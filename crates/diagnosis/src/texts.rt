@@ -3,9 +3,9 @@ ghost use Rattle.std.specs.Prelude.{◌≡◌, ◌+◌, ◌≤◌, length, repli
 ghost use Rattle.text.specs.Writing.{Wrote};
 ghost use Rattle.listing.specs.Spelling.{space};
 ghost use Rattle.diagnosis.specs.Diagnosis.{numbered as Diagnosis·numbered};
-ghost use Rattle.diagnosis.specs.Diagnosis.{textLine, rightLine, spacesAt, spacesText, firstWords, lineWordAt};
-ghost use Rattle.diagnosis.specs.Diagnosis.{badLine, movedLine, lineText, refusedText};
-ghost use Rattle.diagnosis.specs.Sentences.{tableSentence};
+ghost use Rattle.diagnosis.specs.Diagnosis.{text_line, right_line, spaces_at, spaces_text, first_words, line_word_at};
+ghost use Rattle.diagnosis.specs.Diagnosis.{bad_line, moved_line, line_text, refused_text};
+ghost use Rattle.diagnosis.specs.Sentences.{table_sentence};
 
 use crate::mistakes::{leading, less};
 use crate::sentences::{line_sentence, size_sentence, table_sentence};
@@ -31,7 +31,7 @@ fn numbered(out: &mut [u8], at: usize, k: usize, l: &[u8]) -> usize
 // Line k of a text, where it has one.
 fn text_line(out: &mut [u8], at: usize, k: usize, text: &[u8]) -> usize
     requires { (k ≤ 65536) × (at + 600 ≤ length out.old) }
-    ensures wrote { Wrote out.old at (textLine k text.now) out.new result }
+    ensures wrote { Wrote out.old at (text_line k text.now) out.new result }
     ensures upper_bound { result ≤ at + 600 }
 {
     let start = line_start(text, k);
@@ -58,7 +58,7 @@ fn put_spaces(out: &mut [u8], at: usize, count: usize) -> usize
 // Line k with so many leading spaces.
 fn right_line(out: &mut [u8], at: usize, spaces: usize, k: usize, l: &[u8]) -> usize
     requires { (k ≤ 65536) × (spaces ≤ 2200) × (at + 3000 ≤ length out.old) }
-    ensures wrote { Wrote out.old at (rightLine spaces k l.now) out.new result }
+    ensures wrote { Wrote out.old at (right_line spaces k l.now) out.new result }
     ensures upper_bound { result ≤ at + 3000 }
 {
     let from = leading(l);
@@ -72,7 +72,7 @@ fn right_line(out: &mut [u8], at: usize, spaces: usize, k: usize, l: &[u8]) -> u
 // The leading spaces that the word at k has to have.
 fn spaces_at(words: &[u32], k: usize) -> usize
     requires { k ≤ 1024 }
-    ensures { (result ≡ spacesAt words.now k) × (result ≤ 2200) }
+    ensures { (result ≡ spaces_at words.now k) × (result ≤ 2200) }
 {
     if kind_of(word_at(words, k)) < 16 {
         return 0;
@@ -82,7 +82,7 @@ fn spaces_at(words: &[u32], k: usize) -> usize
 
 fn spaces_text(out: &mut [u8], at: usize, spaces: usize, k: usize, l: &[u8]) -> usize
     requires { (k ≤ 65536) × (spaces ≤ 2200) × (at + 23000 ≤ length out.old) }
-    ensures wrote { Wrote out.old at (spacesText spaces k l.now) out.new result }
+    ensures wrote { Wrote out.old at (spaces_text spaces k l.now) out.new result }
     ensures upper_bound { result ≤ at + 23000 }
 {
     let next = right_line(out, at, spaces, k, l);
@@ -92,7 +92,7 @@ fn spaces_text(out: &mut [u8], at: usize, spaces: usize, k: usize, l: &[u8]) -> 
 // The leading spaces of line k, by the words of the text.
 fn right_spaces(text: &[u8], k: usize) -> usize
     requires { k ≤ 1024 }
-    ensures { (result ≡ spacesAt (firstWords text.now) k) × (result ≤ 2200) }
+    ensures { (result ≡ spaces_at (first_words text.now) k) × (result ≤ 2200) }
 {
     let mut words = [0u32; 1025];
     let n = line_words(text, &mut words);
@@ -102,7 +102,7 @@ fn right_spaces(text: &[u8], k: usize) -> usize
 // Of line k, which spells no word: whether it has its line feed is told from the text.
 fn bad_line(out: &mut [u8], at: usize, k: usize, text: &[u8]) -> usize
     requires { at + 20000 ≤ length out.old }
-    ensures wrote { Wrote out.old at (badLine k text.now) out.new result }
+    ensures wrote { Wrote out.old at (bad_line k text.now) out.new result }
     ensures upper_bound { result ≤ at + 20000 }
 {
     let start = line_start(text, k);
@@ -113,7 +113,7 @@ fn bad_line(out: &mut [u8], at: usize, k: usize, text: &[u8]) -> usize
 // Of line k, which has other leading spaces than it has to have.
 fn moved_line(out: &mut [u8], at: usize, k: usize, text: &[u8]) -> usize
     requires { at + 23000 ≤ length out.old }
-    ensures wrote { Wrote out.old at (movedLine k text.now) out.new result }
+    ensures wrote { Wrote out.old at (moved_line k text.now) out.new result }
     ensures upper_bound { result ≤ at + 23000 }
 {
     if 1024 < k {
@@ -127,7 +127,7 @@ fn moved_line(out: &mut [u8], at: usize, k: usize, text: &[u8]) -> usize
 
 // The word that line k spells.
 fn word_of(text: &[u8], k: usize) -> u32
-    ensures { result ≡ lineWordAt k text.now }
+    ensures { result ≡ line_word_at k text.now }
 {
     let start = line_start(text, k);
     let end = line_end(text, start);
@@ -137,7 +137,7 @@ fn word_of(text: &[u8], k: usize) -> u32
 // Of line k, which is refused as a line.
 fn line_text(out: &mut [u8], at: usize, k: usize, text: &[u8]) -> usize
     requires { at + 23000 ≤ length out.old }
-    ensures wrote { Wrote out.old at (lineText k text.now) out.new result }
+    ensures wrote { Wrote out.old at (line_text k text.now) out.new result }
     ensures upper_bound { result ≤ at + 23000 }
 {
     if word_of(text, k) == 0 {
@@ -149,7 +149,7 @@ fn line_text(out: &mut [u8], at: usize, k: usize, text: &[u8]) -> usize
 // By the words of the text, a table's number.
 fn table_text(out: &mut [u8], at: usize, number: u32, p: usize, text: &[u8]) -> usize
     requires { (p ≤ 65536) × (at + 20000 ≤ length out.old) }
-    ensures wrote { Wrote out.old at (tableSentence (firstWords text.now) number p) out.new result }
+    ensures wrote { Wrote out.old at (table_sentence (first_words text.now) number p) out.new result }
     ensures upper_bound { result ≤ at + 20000 }
 {
     let mut words = [0u32; 1025];
@@ -160,7 +160,7 @@ fn table_text(out: &mut [u8], at: usize, number: u32, p: usize, text: &[u8]) -> 
 // Of a refused text, below the line of its refusal.
 pub fn refused_text(out: &mut [u8], at: usize, number: u32, place: usize, text: &[u8]) -> usize
     requires { (place ≤ 65536) × (at + 24000 ≤ length out.old) }
-    ensures { Wrote out.old at (refusedText number place text.now) out.new result }
+    ensures { Wrote out.old at (refused_text number place text.now) out.new result }
 {
     if number == 40 {
         let next = text_line(out, at, less(place, 1), text);

@@ -4,7 +4,7 @@ use Prim.Native.Char.{code}
 use Prim.Native.String.{String, [] as ε, ◌∷◌ as ◌◂◌}
 use mathlib.Core.Path.{◌≡◌, refl}
 use mathlib.Core.List.{List, [], ◌∷◌}
-use Rattle.fingerprint.specs.Fnv.{step, hashFrom, fnv1a}
+use Rattle.fingerprint.specs.Fnv.{step, hash_from, fnv1a}
 
 -- the bytes of a text that is ASCII
 abbrev bytes : String → List ℕ
@@ -18,5 +18,5 @@ published :
     × (fnv1a (bytes "c") ≡ 0xe60c2c52)
     × (fnv1a (bytes "foobar") ≡ 0xbf9cf968)
     × (fnv1a (bytes "chongo was here!\n") ≡ 0xd49930d5)
-unfolding step hashFrom fnv1a
+unfolding step hash_from fnv1a
 published = (refl, refl, refl, refl, refl, refl)

@@ -14,9 +14,9 @@ unfoldable pub step : (hash byte : ℕ) → ℕ
 step hash byte = bit_xor hash byte * prime % 2 ^ 32
 
 -- the bytes in order, from a hash on
-unfoldable pub hashFrom : ℕ → List ℕ → ℕ
-hashFrom hash [] = hash
-hashFrom hash (byte ∷ bytes) = hashFrom (step hash byte) bytes
+unfoldable pub hash_from : ℕ → List ℕ → ℕ
+hash_from hash [] = hash
+hash_from hash (byte ∷ bytes) = hash_from (step hash byte) bytes
 
 unfoldable pub fnv1a : List ℕ → ℕ
-fnv1a bytes = hashFrom basis bytes
+fnv1a bytes = hash_from basis bytes

@@ -11,18 +11,18 @@ use Rattle.delivery.specs.Delivery.{delivered}
 use Rattle.table.specs.declared.Item.{Item}
 use Rattle.table.specs.Words.{kind, argument}
 use Rattle.table.specs.Scan.{names_at, Task, name, accepted, reading}
-use Rattle.table.specs.Item.{handlerAt}
-use Rattle.table.specs.Code.{Code, block, code, taskAt, NodeLinked}
+use Rattle.table.specs.Item.{handler_at}
+use Rattle.table.specs.Code.{Code, block, code, task_at, NodeLinked}
 use Rattle.table.proofs.Items.{item-block}
 use Rattle.table.proofs.Faults.{Stands}
 use Rattle.table.proofs.Stack.{reach}
 use Rattle.table.proofs.Parts.{place-stands}
 use Rattle.table.proofs.Blocks.{listed-block}
 use Rattle.table.proofs.Linked.{linked as code-linked}
-use Rattle.table.proofs.Nodes.{itemNode, nodeAt, node-item}
+use Rattle.table.proofs.Nodes.{item_node, node_at, node-item}
 use Rattle.calculus.specs.Elements.{made}
 use Rattle.calculus.specs.Constraint.{P, L, put, sub, ◌and◌}
-use Rattle.calculus.specs.Rules.{name_of, deliveryTo, permissions, pass}
+use Rattle.calculus.specs.Rules.{name_of, delivery_to, permissions, pass}
 use Rattle.calculus.specs.Layout.{owner, span, WellFormed}
 use Rattle.calculus.specs.Estimate.{fire}
 use Rattle.calculus.proofs.Masks.{T_false}
@@ -31,11 +31,11 @@ use Rattle.calculus.proofs.Firing.{fire-well}
 use Rattle.calculus.proofs.Folds.{fire-only-not, fire-present, fire-absent}
 use Rattle.rows.specs.declared.layout.Layout.{Layout}
 use Rattle.clauses.specs.declared.Effect.{Effect}
-use Rattle.rows.specs.Numbered.{row_at, sortAt}
+use Rattle.rows.specs.Numbered.{row_at, sort_at}
 use Rattle.clauses.specs.Asks.{at_block, blocks}
 use Rattle.clauses.proofs.Asked.{admitted-listed}
 use Rattle.rows.proofs.Numbered.{row-C, row-B}
-use Rattle.queries.specs.Starts.{startsAt}
+use Rattle.queries.specs.Starts.{starts_at}
 use Rattle.queries.proofs.Given.{linked-code}
 use Rattle.queries.proofs.Home.{sender, sender-home, sender-inside}
 use Rattle.queries.proofs.Sends.{answer-so, named-so, named-not}
@@ -51,7 +51,7 @@ unfolding owner span
 live-well c b h old new w e = subst (WellFormed c) (sym e) (fire-well c (put (L b) 0) (is-allowed c (L b) 0 h (lit< tt)) old w)
 
 -- a block has its kind
-pub block-kind : (ws : List ℕ) (r : reading ws ≡ accepted) (b : ℕ) → b < length ws → taskAt ws b ≡ name → kind (get_or ws b 0) ≡ 2
+pub block-kind : (ws : List ℕ) (r : reading ws ≡ accepted) (b : ℕ) → b < length ws → task_at ws b ≡ name → kind (get_or ws b 0) ≡ 2
 block-kind ws r b i t = (subst (λ (u : Task). Stands (names_at ws) (reach ws r b i).keys (get_or ws b 0) u) t (place-stands ws r b i)).0
 
 -- and what has another is not started
@@ -71,10 +71,10 @@ module _ {ws masks : List ℕ} {l : Layout} {e : Effect} {own : Sender} (s : Sen
 
   module _ (b : ℕ) (n : kind (get_or ws b 0) ≡ 2) where
     node-is : c.node b ≡ block (argument (get_or ws b 0)) (argument (get_or ws (b + 1) 0)) (argument (get_or ws (b + 2) 0))
-    unfolding itemNode handlerAt
+    unfolding item_node handler_at
     node-is =
         let y = s.ready in
-        node-item ws y.readable y.slice y.room b ∙ ap (λ (k : Item). nodeAt ws y.readable y.slice y.room k b) (item-block ws b n)
+        node-item ws y.readable y.slice y.room b ∙ ap (λ (k : Item). node_at ws y.readable y.slice y.room k b) (item-block ws b n)
 
     pub block_inside : b < c.size
     unfolding code
@@ -92,24 +92,24 @@ module _ {ws masks : List ℕ} {l : Layout} {e : Effect} {own : Sender} (s : Sen
 
     module _ (est : List ℕ) where
       -- the send starts it, by the permissions of its own block
-      started-by : (t : Bool) → startsAt c ws est e.x e.z own.perms.bits b ≡ t → startsAt c ws est e.x e.z (permissions c e.x) b ≡ t
+      started-by : (t : Bool) → starts_at c ws est e.x e.z own.perms.bits b ≡ t → starts_at c ws est e.x e.z (permissions c e.x) b ≡ t
       started-by t u =
-          subst (λ (x : ℕ). startsAt c ws est e.x e.z x b ≡ t) (sender s.ready e.x s.sending.term s.sending.there _ s.sender) u
+          subst (λ (x : ℕ). starts_at c ws est e.x e.z x b ≡ t) (sender s.ready e.x s.sending.term s.sending.there _ s.sender) u
 
       -- what is delivered to it, by the numbers of the rows
-      pub block-started : startsAt c ws est e.x e.z own.perms.bits b ≡ true
-          → fire c ((put (L b) 0 and pass c (row_at (2 * e.y)) (sortAt 3 c) (row_at (2 * b + 1)) and sub (P b) (P e.x)) and put (row_at (2 * b)) (32 * l.lead + own.home)) est
+      pub block-started : starts_at c ws est e.x e.z own.perms.bits b ≡ true
+          → fire c ((put (L b) 0 and pass c (row_at (2 * e.y)) (sort_at 3 c) (row_at (2 * b + 1)) and sub (P b) (P e.x)) and put (row_at (2 * b)) (32 * l.lead + own.home)) est
           ≡ fire c (at_block c e.x e.y e.z b) est
-      unfolding sortAt
+      unfolding sort_at
       block-started u =
           let v = started-by true u in
           let h : 32 * l.lead + own.home ≡ made c (c.home e.x) = omega (arith, s.ready.laid.lead, sender-home s.ready e.x s.sending.term s.sending.there _ s.block) in
           rw (row-C e.y, row-B b, row-C b, h) (sym (fire-present c _ _ _ _ est (answer-so ws est e.x e.z _ b node-is v) (named-so ws est e.x e.z _ b node-is v)))
 
-      pub block-absent : startsAt c ws est e.x e.z own.perms.bits b ≡ false → fire c (at_block c e.x e.y e.z b) est ≡ est
-      block-absent u = go (delivered (deliveryTo (name_of (c.node b)) e.z (permissions c e.x) (c.node b))) refl
+      pub block-absent : starts_at c ws est e.x e.z own.perms.bits b ≡ false → fire c (at_block c e.x e.y e.z b) est ≡ est
+      block-absent u = go (delivered (delivery_to (name_of (c.node b)) e.z (permissions c e.x) (c.node b))) refl
         where
-          go : (t : Bool) → delivered (deliveryTo (name_of (c.node b)) e.z (permissions c e.x) (c.node b)) ≡ t → fire c (at_block c e.x e.y e.z b) est ≡ est
+          go : (t : Bool) → delivered (delivery_to (name_of (c.node b)) e.z (permissions c e.x) (c.node b)) ≡ t → fire c (at_block c e.x e.y e.z b) est ≡ est
           go true g = fire-absent c _ _ _ _ est (named-not ws est e.x e.z _ b node-is (started-by false u) g)
           go false g = fire-only-not c _ _ est g
 

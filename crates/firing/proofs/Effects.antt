@@ -4,7 +4,7 @@ use mathlib.Core.Path.{◌≡◌, refl, ◌∙◌}
 use mathlib.Core.Bool.{Bool, true, false, ◌&&◌}
 use mathlib.Core.List.{List}
 use Rattle.table.specs.Code.{Code}
-use Rattle.calculus.specs.Elements.{isString}
+use Rattle.calculus.specs.Elements.{is_string}
 use Rattle.calculus.specs.Constraint.{C, Rule, each, every}
 use Rattle.calculus.specs.Layout.{sets}
 use Rattle.calculus.specs.Estimate.{fire, found}
@@ -14,8 +14,8 @@ use Rattle.clauses.specs.declared.Test.{Test}
 use Rattle.clauses.specs.declared.Test.TheVariants as tests
 use Rattle.clauses.specs.declared.Effect.{Effect}
 use Rattle.clauses.specs.declared.Clause.{Clause}
-use Rattle.rows.specs.Numbered.{sortAt}
-use Rattle.clauses.specs.Asks.{under, atThing, at_block, things, blocks, effect, asks}
+use Rattle.rows.specs.Numbered.{sort_at}
+use Rattle.clauses.specs.Asks.{under, at_thing, at_block, things, blocks, effect, asks}
 use Rattle.queries.specs.Passes.{passes}
 use Rattle.firing.specs.Fired.{Fired, FiredFor}
 
@@ -23,12 +23,12 @@ use Rattle.firing.specs.Fired.{Fired, FiredFor}
 
 module _ (c : Code) (e : Effect) where
   pub all-things : (f : ℕ) (est : List ℕ) → f ≡ 0
-      → fire c (every c.size (atThing c e.what e.x e.y e.z)) est ≡ fire c (things c e.what e.x e.y e.z f) est
+      → fire c (every c.size (at_thing c e.what e.x e.y e.z)) est ≡ fire c (things c e.what e.x e.y e.z f) est
   unfolding things
   all-things f est z = rw z
 
   pub one-thing : (f : ℕ) (est : List ℕ) → (f ≡ 0 → ⊥)
-      → fire c (atThing c e.what e.x e.y e.z f) est ≡ fire c (things c e.what e.x e.y e.z f) est
+      → fire c (at_thing c e.what e.x e.y e.z f) est ≡ fire c (things c e.what e.x e.y e.z f) est
   unfolding things
   one-thing zero est n = absurd (n refl)
   one-thing (suc f) est n = refl
@@ -65,8 +65,8 @@ under-fired c est d a v k tests.Free = refl
 under-fired c est d a v k tests.Has = refl
 under-fired c est d a v k tests.Some = refl
 under-fired c est d a v k tests.Text = refl
-under-fired c est d a v k tests.TextHas = both-tests (found c est (C d) isString) (sets c est (C a) v) (fire c k est) est
-under-fired c est d a v k tests.TextSome = both-tests (found c est (C d) isString) (found c est (C a) (sortAt v c)) (fire c k est) est
+under-fired c est d a v k tests.TextHas = both-tests (found c est (C d) is_string) (sets c est (C a) v) (fire c k est) est
+under-fired c est d a v k tests.TextSome = both-tests (found c est (C d) is_string) (found c est (C a) (sort_at v c)) (fire c k est) est
 
 -- what a clause does, by its guard
 pub clause-fired : (c : Code) (est : List ℕ) (x : Clause) (f : ℕ) (t : Bool) → passes c est x.guard.test x.guard.d x.guard.a x.guard.v ≡ t

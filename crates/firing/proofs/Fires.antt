@@ -12,11 +12,11 @@ use Rattle.permset.specs.Sets.{width, member}
 use Rattle.table.specs.declared.Operation.{Operation}
 use Rattle.table.specs.Code.{Code, operation}
 use Rattle.calculus.specs.Constraint.{Row, P, L, Rule, put, sub, only, every, ◌and◌}
-use Rattle.calculus.specs.Rules.{fill, pass, twoRule}
+use Rattle.calculus.specs.Rules.{fill, pass, two_rule}
 use Rattle.calculus.specs.Layout.{pour, masked, base, content, WellFormed}
 use Rattle.calculus.specs.Estimate.{fire, facts}
 use Rattle.calculus.proofs.Folds.{fire-and, fire-only, fire-only-not}
-use Rattle.calculus.proofs.OperationResults.{operationMask, fire-operation-mask}
+use Rattle.calculus.proofs.OperationResults.{operation_mask, fire-operation-mask}
 use Rattle.calculus.proofs.RowOperations.{fire-put-C, fire-put-B, fire-live, fire-sub, fire-sub-P}
 use Rattle.calculus.proofs.RowRules.{fire-pass, fire-fill, fire-members}
 use Rattle.rows.specs.declared.layout.Layout.{Layout}
@@ -82,9 +82,9 @@ module _ {l : Layout} {old new : List ℕ} {added : ℕ} where
 
   -- the results of an operation in the first word of a row
   pub operated : (p d : ℕ) (o : Operation) {x : ℕ} → p + 1 < l.size → d < l.size → (d ≡ p → ⊥)
-      → x ≡ operationMask o (take l.lead (drop (2 * (p + 1) * l.row) old)) (take l.lead (drop (2 * d * l.row) old))
+      → x ≡ operation_mask o (take l.lead (drop (2 * (p + 1) * l.row) old)) (take l.lead (drop (2 * d * l.row) old))
       → Poured old new (2 * p * l.row + 0) (x ∷ []) added
-      → FiredFor l (λ c. WellFormed c old) (λ c. twoRule c p (operation o) (p + 1) d) old new added
+      → FiredFor l (λ c. WellFormed c old) (λ c. two_rule c p (operation o) (p + 1) d) old new added
   unfolding base
   operated p d t h k n e q =
       poured q

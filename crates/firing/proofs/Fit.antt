@@ -6,7 +6,7 @@ use mathlib.Core.List.{List, Memᴰ}
 use native.Mathlib.Decide.{dec_lt}
 use native.Mathlib.Omega.{arith}
 use lib.Dec.{T}
-use Rattle.table.specs.Words.{operationOf}
+use Rattle.table.specs.Words.{operation_of}
 use Rattle.table.specs.Code.{Code, code, Linked}
 use Rattle.table.proofs.Nodes.{home-block}
 use Rattle.calculus.specs.Elements.{plain, makes}
@@ -26,8 +26,8 @@ use Rattle.clauses.specs.declared.Test.TheVariants as tests
 use Rattle.clauses.specs.declared.What.{What}
 use Rattle.clauses.specs.declared.What.TheVariants as whats
 use Rattle.clauses.specs.declared.Clause.{Clause}
-use Rattle.rows.specs.Numbered.{row_at, thingAt}
-use Rattle.clauses.specs.Asks.{under, forThing, at_block, things, blocks, effect, asks}
+use Rattle.rows.specs.Numbered.{row_at, thing_at}
+use Rattle.clauses.specs.Asks.{under, for_thing, at_block, things, blocks, effect, asks}
 use Rattle.clauses.specs.Clauses.{of}
 use Rattle.rows.proofs.Numbered.{row-C, row-B, Numbered, in-C, in-B, numbered, value_row}
 use Rattle.clauses.proofs.Asked.{gap-thing, admitted-listed}
@@ -68,24 +68,24 @@ module _ {ws links masks : List ℕ} {l : Layout} (y : Ready ws links masks l) w
 
   -- ---- things
 
-  thing-inside : (z f : ℕ) → T (thingAt z (makes (c.node f))) → f < l.size
+  thing-inside : (z f : ℕ) → T (thing_at z (makes (c.node f))) → f < l.size
   thing-inside z f t = go (dec_lt f l.size)
     where
       go : Dec (f < l.size) → f < l.size
       go (yes h) = h
       go (no h) = absurd (gap-thing c k (λ r v. true) z f (omega (arith, y.laid.size)) t)
 
-  things-fit : (w : What) (x r z f : ℕ) → ((g : ℕ) → g < l.size → T (thingAt z (makes (c.node g))) → Fits c (forThing w x r g))
+  things-fit : (w : What) (x r z f : ℕ) → ((g : ℕ) → g < l.size → T (thing_at z (makes (c.node g))) → Fits c (for_thing w x r g))
       → Fits c (things c w x r z f)
   unfolding things
   things-fit w x r z zero p = λ g m t. p g (thing-inside z g t) t
   things-fit w x r z (suc f) p = λ t. p (suc f) (thing-inside z (suc f) t) t
 
   -- a thing that has a body
-  body : {w : What} {x r z : ℕ} → Each l masks (of w x r z) → entering w ≡ true → (f : ℕ) → f < l.size → T (thingAt z (makes (c.node f)))
+  body : {w : What} {x r z : ℕ} → Each l masks (of w x r z) → entering w ≡ true → (f : ℕ) → f < l.size → T (thing_at z (makes (c.node f)))
       → suc f < c.size
   body {z = z} e q f h t =
-      let b : f + 1 < l.size = e.bodies q f h (sym (in-mask z e.mask y.laid y.masked f (inside h)) ∙ T_true (thingAt z (makes (c.node f))) t) in
+      let b : f + 1 < l.size = e.bodies q f h (sym (in-mask z e.mask y.laid y.masked f (inside h)) ∙ T_true (thing_at z (makes (c.node f))) t) in
       omega (arith, y.laid.size)
 
   -- ---- blocks
@@ -109,7 +109,7 @@ module _ {ws links masks : List ℕ} {l : Layout} (y : Ready ws links masks l) w
   part-fits h g = (may-L c k (inside g), PP c k (inside g) (inside h))
 
   effect-fits : (w : What) (x r z f : ℕ) → Fitting l masks ws w x r z → Fits c (effect c w x r z f)
-  unfolding effect forThing entering
+  unfolding effect for_thing entering
   effect-fits whats.Live x r z f p = may-L c k (inside p)
   effect-fits whats.Put x r z f p = may-row x r p.0 (omega (arith, p.1, y.laid.size, y.laid.lead))
   effect-fits whats.Fill x r z f p = λ v m. may-row x v p (omega (arith, range-bound _ _ v m))
@@ -117,7 +117,7 @@ module _ {ws links masks : List ℕ} {l : Layout} (y : Ready ws links masks l) w
   effect-fits whats.Pass x r z f p = λ v m t. may-row r v p.1 (in-below m)
   effect-fits whats.Permit x r z f p = λ i m t. may-P c k (inside p.0) (in-below m)
   effect-fits whats.Operate x r z f p =
-      λ u mu v mv n mn. let b : n < 7 = results-lt c (operationOf z) u v n mn in may-C c k (inside (omega (arith, p.0))) (omega arith)
+      λ u mu v mv n mn. let b : n < 7 = results-lt c (operation_of z) u v n mn in may-C c k (inside (omega (arith, p.0))) (omega arith)
   effect-fits whats.Part x r z f p = part-fits p.0 p.1
   effect-fits whats.Parts x r z f p =
       let h : x < l.size = omega (arith, p.0) in (part-fits h p.0, ((λ t. part-fits h p.1), λ t. part-fits h p.2))

@@ -3,8 +3,8 @@ use Rattle.std.specs.Prelude.{ℕ, ◌+◌, ◌^◌, ◌<◌, ◌≡◌, List}
 use Rattle.permset.specs.Sets.{width}
 use Rattle.table.specs.declared.Item.TheVariants as items
 use Rattle.table.specs.declared.Term.{Term}
-use Rattle.table.specs.Item.{item_at, itemPerms}
-use Rattle.table.specs.Links.{linkAt}
+use Rattle.table.specs.Item.{item_at, item_perms}
+use Rattle.table.specs.Links.{link_at}
 use Rattle.rows.specs.declared.layout.Layout.{Layout}
 use Rattle.clauses.specs.declared.Effect.{Effect}
 use Rattle.queries.specs.Ready.{Ready}
@@ -21,5 +21,5 @@ pub record Sends (ws masks : List ℕ) (l : Layout) (e : Effect) (own : Sender) 
   pub links : List ℕ
   pub ready : Ready ws links masks l
   pub sending : Sending ws l e.x e.y e.z
-  pub sender : own.perms.bits ≡ itemPerms (item_at ws (linkAt links e.x).home)
-  pub block : own.home ≡ (linkAt links e.x).home
+  pub sender : own.perms.bits ≡ item_perms (item_at ws (link_at links e.x).home)
+  pub block : own.home ≡ (link_at links e.x).home

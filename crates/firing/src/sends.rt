@@ -6,7 +6,7 @@ ghost use Rattle.calculus.specs.Constraint.{P, L, put as Put, sub, each, ◌and�
 ghost use Rattle.calculus.specs.Rules.{pass as Pass};
 ghost use Rattle.calculus.specs.Layout.{WellFormed};
 ghost use Rattle.rows.specs.Laid.{Sized};
-ghost use Rattle.rows.specs.Numbered.{row_at, sortAt};
+ghost use Rattle.rows.specs.Numbered.{row_at, sort_at};
 ghost use Rattle.clauses.specs.Asks.{at_block, blocks};
 ghost use Rattle.queries.specs.Passes.{Masked};
 ghost use Rattle.queries.specs.Ready.{Ready};
@@ -42,7 +42,7 @@ fn deliver(
 ) -> usize
     requires { Sized l est.old × (p < l.size) × (d < l.size) × (b < l.size) × (4 * l.row ≤ length masks.now) × (home < l.size) }
     ensures { FiredFor l (λ c. WellFormed c est.old × Masked c l masks.now)
-        (λ c. (Put (L b) 0 and Pass c (row_at (2 * d)) (sortAt 3 c) (row_at (2 * b + 1)) and sub (P b) (P p)) and Put (row_at (2 * b))
+        (λ c. (Put (L b) 0 and Pass c (row_at (2 * d)) (sort_at 3 c) (row_at (2 * b + 1)) and sub (P b) (P p)) and Put (row_at (2 * b))
         (32 * l.lead + home)) est.old est.new result }
 {
     let started = wake(est, memory, l, b);

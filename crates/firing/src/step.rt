@@ -5,7 +5,7 @@ ghost use Rattle.calculus.specs.Layout.{WellFormed};
 ghost use Rattle.queries.specs.Ready.{Ready};
 ghost use Rattle.worklist.specs.Memory.{Kept};
 ghost use Rattle.firing.specs.Fired.{Fired};
-ghost use Rattle.firing.specs.Step.{stepAt};
+ghost use Rattle.firing.specs.Step.{step_at};
 
 use crate::fire::fire;
 use clauses::make::clause;
@@ -25,7 +25,7 @@ pub fn step(
     f: usize,
 ) -> usize
     requires { Ready words.now links.now masks.now l × WellFormed (code words.now) est.old × (p < l.size) }
-    ensures fired { Fired (code words.now) (stepAt words.now links.now p k f) est.old est.new result }
+    ensures fired { Fired (code words.now) (step_at words.now links.now p k f) est.old est.new result }
     ensures kept { Kept memory.old memory.new }
 {
     if !is_live(est, l, p) {

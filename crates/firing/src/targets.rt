@@ -7,7 +7,7 @@ ghost use Rattle.calculus.specs.Rules.{fill as Fill, pass as Pass, part as Part}
 ghost use Rattle.calculus.specs.Layout.{WellFormed};
 ghost use Rattle.rows.specs.Laid.{Sized};
 ghost use Rattle.rows.specs.Rows.{Poured};
-ghost use Rattle.rows.specs.Numbered.{row_at, sortAt};
+ghost use Rattle.rows.specs.Numbered.{row_at, sort_at};
 ghost use Rattle.queries.specs.Passes.{Masked};
 ghost use Rattle.worklist.specs.Memory.{Kept};
 ghost use Rattle.firing.specs.Fired.{FiredFor, FiredIn};
@@ -116,7 +116,7 @@ pub fn pass(
 ) -> usize
     requires { Sized l est.old × (a < 2 * l.size) × (b < 2 * l.size) × (m < 4) × (4 * l.row ≤ length masks.now) }
     ensures { FiredFor l (λ c. WellFormed c est.old
-        × Masked c l masks.now) (λ c. Pass c (row_at a) (sortAt m c) (row_at b)) est.old est.new result }
+        × Masked c l masks.now) (λ c. Pass c (row_at a) (sort_at m c) (row_at b)) est.old est.new result }
 {
     let row = l.row;
     let at = m * row;

@@ -1,9 +1,9 @@
 // The effects of one term: its parts, and the results of an operation.
 ghost use Rattle.std.specs.Prelude.{◌≡◌, not, ◌+◌, ◌<◌, eqb};
-ghost use Rattle.table.specs.Words.{operationOf};
+ghost use Rattle.table.specs.Words.{operation_of};
 ghost use Rattle.table.specs.Code.{operation};
 ghost use Rattle.calculus.specs.Constraint.{only, ◌and◌};
-ghost use Rattle.calculus.specs.Rules.{part as Part, waiting, twoRule};
+ghost use Rattle.calculus.specs.Rules.{part as Part, waiting, two_rule};
 ghost use Rattle.calculus.specs.Layout.{WellFormed};
 ghost use Rattle.rows.specs.Laid.{Sized};
 ghost use Rattle.firing.specs.Fired.{FiredFor, FiredIn};
@@ -50,7 +50,7 @@ pub fn operate_at(
     o: usize,
 ) -> usize
     requires { Sized l est.old × (p + 1 < l.size) × (d < l.size) × (d ≡ p → ⊥) × (o < 4294967296) }
-    ensures { FiredFor l (λ c. WellFormed c est.old) (λ c. twoRule c p (operation (operationOf o)) (p + 1) d) est.old
+    ensures { FiredFor l (λ c. WellFormed c est.old) (λ c. two_rule c p (operation (operation_of o)) (p + 1) d) est.old
         est.new result }
 {
     let row = l.row;

@@ -3,7 +3,7 @@ ghost use Rattle.std.specs.Prelude.{◌+◌, ◌*◌};
 ghost use Rattle.table.specs.Code.{Linked};
 ghost use Rattle.rows.specs.Laid.{Sized};
 ghost use Rattle.calculus.specs.Constraint.{every};
-ghost use Rattle.clauses.specs.Asks.{forThing, atThing, things};
+ghost use Rattle.clauses.specs.Asks.{for_thing, at_thing, things};
 ghost use Rattle.queries.specs.Passes.{Masked};
 ghost use Rattle.firing.specs.Fired.{FiredFor, FiredIn};
 ghost use Rattle.firing.specs.Placed.{Placed, Each};
@@ -24,7 +24,7 @@ fn for_thing(
     f: usize,
 ) -> usize
     requires { Sized l est.old × Placed l what x y f }
-    ensures { FiredIn l (forThing what x y f) est.old est.new result }
+    ensures { FiredIn l (for_thing what x y f) est.old est.new result }
 {
     match what {
         What::Enter => wake(est, memory, l, f + 1),
@@ -39,7 +39,7 @@ fn for_thing(
 // The effect for each thing of the mask z in C(x + 1).
 fn each_thing(est: &mut [u32], masks: &[u32], memory: &mut [u32], l: Layout, e: Effect) -> usize
     requires { Sized l est.old × Each l masks.now e }
-    ensures { FiredFor l (λ c. Masked c l masks.now) (λ c. every c.size (atThing c e.what e.x e.y e.z))
+    ensures { FiredFor l (λ c. Masked c l masks.now) (λ c. every c.size (at_thing c e.what e.x e.y e.z))
         est.old est.new result }
 {
     let what = e.what;

@@ -10,7 +10,7 @@ use borrow.Author.Tests.{not-true, not-false}
 use Rattle.table.specs.Code.{Code, code}
 use Rattle.table.proofs.Linked.{linked}
 use Rattle.calculus.specs.Constraint.{Sets, Rule, Obeys, B, C, put, ◌and◌}
-use Rattle.calculus.specs.Elements.{opponentRecord}
+use Rattle.calculus.specs.Elements.{opponent_record}
 use Rattle.calculus.specs.Rules.{live, fill, guarded, entry, rule, Estimate}
 use Rattle.calculus.specs.Layout.{sets, WellFormed, LiesIn}
 use Rattle.calculus.specs.Estimate.{fire, facts}
@@ -129,7 +129,7 @@ module _ {ws : List ℕ} {l : Layout} (k : Accepted ws l) (ρ p : ℕ) (h : p < 
     unfolding entry
     not_entered n =
         entered record {
-          words = sym (fire-only-not c (guarded (c.node p) ρ) (live p and fill c (B p) and put (C p) opponentRecord) old (sym q ∙ not-true _ n));
+          words = sym (fire-only-not c (guarded (c.node p) ρ) (live p and fill c (B p) and put (C p) opponent_record) old (sym q ∙ not-true _ n));
           count = omega arith;
         }
 
@@ -144,6 +144,6 @@ module _ {ws : List ℕ} {l : Layout} (k : Accepted ws l) (ρ p : ℕ) (h : p < 
         let b = rw row-B at (g.words c k.laid v) in
         let j = rw row-C at (i.words c k.laid tt) in
         entered record {
-          words = cc (fire-only c _ (live p and fill c (B p) and put (C p) opponentRecord) old z, fire-and c (live p) (fill c (B p) and put (C p) 7) old, fire-and c (fill c (B p)) (put (C p) 7) (fire c (live p) old));
+          words = cc (fire-only c _ (live p and fill c (B p) and put (C p) opponent_record) old z, fire-and c (live p) (fill c (B p) and put (C p) 7) old, fire-and c (fill c (B p)) (put (C p) 7) (fire c (live p) old));
           count = omega (arith, f.count, g.count, i.count);
         }

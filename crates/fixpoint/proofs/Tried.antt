@@ -20,9 +20,9 @@ use Rattle.rows.specs.declared.layout.Layout.{Layout}
 use Rattle.queries.specs.Ready.{Ready}
 use Rattle.queries.proofs.Given.{size_is, sized}
 use Rattle.checker.specs.Words.{Accepted}
-use Rattle.choices.specs.Choices.{choice_of, place_of, clauseOf, target_of}
+use Rattle.choices.specs.Choices.{choice_of, place_of, clause_of, target_of}
 use Rattle.firing.specs.Fired.{Fired}
-use Rattle.firing.specs.Step.{stepAt}
+use Rattle.firing.specs.Step.{step_at}
 use Rattle.firing.proofs.Steps.{step-well, step-inside, steps-rules}
 use Rattle.fixpoint.specs.Grown.{Grown, Tried, Entered, Idle, Spent, AllSpent}
 use Rattle.fixpoint.proofs.Grows.{few, fired, entry-obeyed}
@@ -62,13 +62,13 @@ module _ {ws links masks : List ℕ} {l : Layout} (y : Ready ws links masks l) w
       let i : get_or (set (set out 0 1) 1 w) 0 0 ≡ 1 = get_or-set_other (set out 0 1) 1 0 w 0 (λ z. omega arith) ∙ get_or-set_same out 0 1 0 (omega arith) in
       let y : Spent ws links l.size w est = rw (get_or-set_same (set out 0 1) 1 w 0 j) at (x 0 (omega arith)) in
       let a : place_of w ≡ p = omega arith in
-      let b : clauseOf w ≡ k = omega arith in
+      let b : clause_of w ≡ k = omega arith in
       let d : target_of w ≡ 0 = omega arith in
       rw (a, b, d) at (y (omega arith))
 
-  pub stepped : (p k f : ℕ) → p < l.size → {old new : List ℕ} {n : ℕ} → Fired (code ws) (stepAt ws links p k f) old new n → (ρ : ℕ)
+  pub stepped : (p k f : ℕ) → p < l.size → {old new : List ℕ} {n : ℕ} → Fired (code ws) (step_at ws links p k f) old new n → (ρ : ℕ)
       → Tried (code ws) ρ (Idle ws links p k f) old new n
-  stepped p k f h g ρ = fired (stepAt ws links p k f) (step-well y p h k f) (λ w. step-inside y p h k f w ρ) g
+  stepped p k f h g ρ = fired (step_at ws links p k f) (step-well y p h k f) (λ w. step-inside y p h k f w ρ) g
 
   -- where all words are quiet, every rule is obeyed
   pub quiet-obeyed : (ρ i : ℕ) {est : List ℕ} → WellFormed (code ws) est → 5 * l.size ≤ i → ((j : ℕ) → j < i → Quiet ws links ρ j est)

@@ -5,8 +5,8 @@ use Rattle.calculus.specs.Constraint.{Sets}
 use Rattle.calculus.specs.Rules.{entry, Estimate}
 use Rattle.calculus.specs.Layout.{WellFormed, LiesIn, sets}
 use Rattle.calculus.specs.Estimate.{fire, facts}
-use Rattle.choices.specs.Choices.{place_of, clauseOf, target_of}
-use Rattle.firing.specs.Step.{stepAt}
+use Rattle.choices.specs.Choices.{place_of, clause_of, target_of}
+use Rattle.firing.specs.Step.{step_at}
 
 -- what any step of any solver keeps: the layout of the estimate, its elements, and that it lies inside every estimate that obeys the rules
 pub record Sound (c : Code) (ρ : ℕ) (old new : List ℕ) : Type 0 where
@@ -30,11 +30,11 @@ Entered ws ρ p est = fire (code ws) (entry (code ws) ρ p) est ≡ est
 
 -- clause k of the word p has nothing to add, for all its targets or (f not 0) for the target f
 abbrev pub Idle : (ws links : List ℕ) → (p k f : ℕ) → List ℕ → Type 0
-Idle ws links p k f est = fire (code ws) (stepAt ws links p k f) est ≡ est
+Idle ws links p k f est = fire (code ws) (step_at ws links p k f) est ≡ est
 
 -- the choice w has nothing to add, if it is of a word of the table
 abbrev pub Spent : (ws links : List ℕ) → (size w : ℕ) → List ℕ → Type 0
-Spent ws links size w est = place_of w < size → Idle ws links (place_of w) (clauseOf w) (target_of w) est
+Spent ws links size w est = place_of w < size → Idle ws links (place_of w) (clause_of w) (target_of w) est
 
 -- all choices of a list have nothing to add
 abbrev pub AllSpent : (ws links : List ℕ) → ℕ → List ℕ → List ℕ → Type 0

@@ -16,7 +16,7 @@ use Rattle.graph.specs.declared.Arrangement.TheVariants.{Ordered, Looped}
 use Rattle.graph.specs.Relation.{Live, Sends}
 use Rattle.graph.specs.Order.{Order}
 use Rattle.graph.specs.Loop.{Distinct, Walk, Loop}
-use Rattle.graph.specs.Search.{orderFrom, loopLength, loopStart, loop_of}
+use Rattle.graph.specs.Search.{order_from, loop_length, loop_start, loop_of}
 use Rattle.graph.specs.Answer.{places, alive, answer}
 use Rattle.graph.proofs.Lists.{cut_at, distinct-within}
 use Rattle.graph.proofs.Walks.{follow-length}
@@ -56,10 +56,10 @@ module _ (rows : List ℕ) (live : ℕ) (order : List ℕ) (o : Order rows live 
 
 -- the positions of its shortest loop, and its order
 abbrev fewest : List ℕ → ℕ → ℕ
-fewest rows live = loopLength rows (alive rows live) (places rows)
+fewest rows live = loop_length rows (alive rows live) (places rows)
 
 abbrev ordered : List ℕ → ℕ → List ℕ
-ordered rows live = orderFrom rows (places rows) (places rows) (alive rows live)
+ordered rows live = order_from rows (places rows) (places rows) (alive rows live)
 
 module _ (rows : List ℕ) (live : ℕ) (few : length rows ≤ 64) where
   below : alive rows live < 2 ^ places rows
@@ -79,7 +79,7 @@ module _ (rows : List ℕ) (live : ℕ) (few : length rows ≤ 64) where
   unfolding loop_of
   a-loop h =
       let m = fewest rows live in
-      let start = loopStart rows (alive rows live) (places rows) m in (
+      let start = loop_start rows (alive rows live) (places rows) m in (
         loop_of rows (alive rows live) (places rows) m,
         (found-shortest rows live (alive rows live) (places rows) below same h).is_loop,
         follow-length rows (alive rows live) (places rows) start m start,

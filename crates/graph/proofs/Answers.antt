@@ -18,8 +18,8 @@ use Rattle.graph.specs.declared.Arrangement.TheVariants.{Short, Ordered, Looped}
 use Rattle.graph.specs.Relation.{Live}
 use Rattle.graph.specs.Order.{Order}
 use Rattle.graph.specs.Loop.{Shortest}
-use Rattle.graph.specs.Search.{orderFrom, loopStart, loopLength, follow, loop_of}
-use Rattle.graph.specs.Answer.{places, alive, answer, written, startingWith, Means}
+use Rattle.graph.specs.Search.{order_from, loop_start, loop_length, follow, loop_of}
+use Rattle.graph.specs.Answer.{places, alive, answer, written, starting_with, Means}
 use Rattle.graph.proofs.Shortest.{found-start, found-shortest}
 use Rattle.graph.proofs.Orders.{found-order}
 use Rattle.graph.proofs.Theorem.{low-live}
@@ -33,10 +33,10 @@ module _ (rows : List ℕ) (live : ℕ) where
   a = alive rows live
 
   abbrev order : List ℕ
-  order = orderFrom rows n n a
+  order = order_from rows n n a
 
   abbrev m : ℕ
-  m = loopLength rows a n
+  m = loop_length rows a n
 
   -- the answer by its tests
   abbrev pick : Bool → Bool → Arrangement
@@ -71,18 +71,18 @@ module _ (rows : List ℕ) (live : ℕ) where
 -- what the contract says
 abbrev pub Answered : (rows : List ℕ) (live : ℕ) (old new : List ℕ) → Arrangement → Type 0
 Answered rows live old new r =
-    (r ≡ answer rows live (length old)) × ((new ≡ startingWith (written rows live r) old) × Means rows live r new)
+    (r ≡ answer rows live (length old)) × ((new ≡ starting_with (written rows live r) old) × Means rows live r new)
 
 -- a list that starts with another
-starts_with : (new all old : List ℕ) (count : ℕ) → length all ≡ count → new ≡ startingWith all old → take count new ≡ all
+starts_with : (new all old : List ℕ) (count : ℕ) → length all ≡ count → new ≡ starting_with all old → take count new ≡ all
 starts_with new all old count e w = ap (take count) w ∙ take_at all (drop (length all) old) count e
 
-module _ (rows : List ℕ) (live n a m : ℕ) (old : List ℕ) (e-n : n ≡ places rows) (e-a : a ≡ live % 2 ^ n) (e-m : m ≡ loopLength rows a n) where
+module _ (rows : List ℕ) (live n a m : ℕ) (old : List ℕ) (e-n : n ≡ places rows) (e-a : a ≡ live % 2 ^ n) (e-m : m ≡ loop_length rows a n) where
   a-is : a ≡ alive rows live
   a-is = e-a ∙ ap (λ (k : ℕ). live % 2 ^ k) e-n
 
-  m-is : m ≡ loopLength rows (alive rows live) (places rows)
-  m-is = e-m ∙ ap₂ (loopLength rows) a-is e-n
+  m-is : m ≡ loop_length rows (alive rows live) (places rows)
+  m-is = e-m ∙ ap₂ (loop_length rows) a-is e-n
 
   pub short : length old < n → Answered rows live old old Short
   unfolding written
@@ -92,13 +92,13 @@ module _ (rows : List ℕ) (live n a m : ℕ) (old : List ℕ) (e-n : n ≡ plac
   a-below = subst (λ (s : ℕ). s < 2 ^ length rows) (sym a-is) (alive-below rows live)
 
   module _ (fits : live < 2 ^ 64) (room : n ≤ length old) where
-    pub ordered : (count : ℕ) (new : List ℕ) → n < m → count ≡ length (orderFrom rows n n a) → new ≡ startingWith (orderFrom rows n n a) old
+    pub ordered : (count : ℕ) (new : List ℕ) → n < m → count ≡ length (order_from rows n n a) → new ≡ starting_with (order_from rows n n a) old
         → Answered rows live old new (Ordered count)
     unfolding written
     ordered count new l e w =
-        let none : places rows < loopLength rows (alive rows live) (places rows) = omega (arith, e-n, m-is) in
-        let size = e ∙ ap₂ (λ (k s : ℕ). length (orderFrom rows k k s)) e-n a-is in
-        let content = w ∙ ap₂ (λ (k s : ℕ). startingWith (orderFrom rows k k s) old) e-n a-is in (
+        let none : places rows < loop_length rows (alive rows live) (places rows) = omega (arith, e-n, m-is) in
+        let size = e ∙ ap₂ (λ (k s : ℕ). length (order_from rows k k s)) e-n a-is in
+        let content = w ∙ ap₂ (λ (k s : ℕ). starting_with (order_from rows k k s) old) e-n a-is in (
           ap Ordered size ∙ sym (answer-order rows live (length old) (omega (arith, e-n)) none),
           (
             content,
@@ -108,25 +108,25 @@ module _ (rows : List ℕ) (live n a m : ℕ) (old : List ℕ) (e-n : n ≡ plac
         )
 
     module _ (l : m ≤ n) where
-      some : loopLength rows (alive rows live) (places rows) ≤ places rows
+      some : loop_length rows (alive rows live) (places rows) ≤ places rows
       some = omega (arith, e-n, m-is)
 
-      pub start-inside : loopStart rows a n m < n
+      pub start-inside : loop_start rows a n m < n
       start-inside =
           let e =
-          ap (loopStart rows a n) m-is ∙ ap₂ (λ (s k : ℕ). loopStart rows s k (loopLength rows (alive rows live) (places rows))) a-is e-n in
+          ap (loop_start rows a n) m-is ∙ ap₂ (λ (s k : ℕ). loop_start rows s k (loop_length rows (alive rows live) (places rows))) a-is e-n in
           omega (arith, e, e-n, found-start rows live (alive rows live) (places rows) (below rows live) (same rows live fits) some)
 
-      pub looped : (t : ℕ) (new : List ℕ) → t ≡ loopStart rows a n m → new ≡ startingWith (follow rows a n t m t) old
+      pub looped : (t : ℕ) (new : List ℕ) → t ≡ loop_start rows a n m → new ≡ starting_with (follow rows a n t m t) old
           → Answered rows live old new (Looped m)
       unfolding written loop_of
       looped t new e w =
           let content =
-          w ∙ ap (λ (x : ℕ). startingWith (follow rows a n x m x) old) e ∙ ap₂ (λ (s k : ℕ). startingWith (loop_of rows s k m) old) a-is e-n in
+          w ∙ ap (λ (x : ℕ). starting_with (follow rows a n x m x) old) e ∙ ap₂ (λ (s k : ℕ). starting_with (loop_of rows s k m) old) a-is e-n in
           let found =
           starts_with new (loop_of rows (alive rows live) (places rows) m) old m
-          (follow-length rows (alive rows live) (places rows) (loopStart rows (alive rows live) (places rows) m) m
-          (loopStart rows (alive rows live) (places rows) m)) content
+          (follow-length rows (alive rows live) (places rows) (loop_start rows (alive rows live) (places rows) m) m
+          (loop_start rows (alive rows live) (places rows) m)) content
           ∙ ap (loop_of rows (alive rows live) (places rows)) m-is in (
             ap Looped m-is ∙ sym (answer-loop rows live (length old) (omega (arith, e-n)) some),
             (

@@ -6,7 +6,7 @@ use mathlib.Core.List.{List}
 use native.Mathlib.Decide.{ℕ_discrete, dec_lt}
 use native.Mathlib.Omega.{arith}
 use lib.Dec.{T, ltb→lt, lt→ltb}
-use Rattle.graph.specs.Search.{lowestFrom, closes, loopStart, someCloses, loopLength}
+use Rattle.graph.specs.Search.{lowest_from, closes, loop_start, some_closes, loop_length}
 use Rattle.graph.proofs.Lowest.{lowest-least, lowest-most, lowest-passes, lowest-le, lowest-is, lowest-end}
 
 module _ (rows : List ℕ) (alive n : ℕ) where
@@ -32,7 +32,7 @@ module _ (rows : List ℕ) (alive n : ℕ) where
         one = λ h. absurd (omega arith);
       }
 
-  pub best-next : (t best : ℕ) → Best t best → Best (t + 1) (lowestFrom (best - 1) 1 (λ m. closes rows alive m t))
+  pub best-next : (t best : ℕ) → Best t best → Best (t + 1) (lowest_from (best - 1) 1 (λ m. closes rows alive m t))
   best-next t best b =
       record {
         positive = lowest-least reaches (best - 1) 1;
@@ -45,7 +45,7 @@ module _ (rows : List ℕ) (alive n : ℕ) where
       reaches m = closes rows alive m t
 
       next : ℕ
-      next = lowestFrom (best - 1) 1 reaches
+      next = lowest_from (best - 1) 1 reaches
 
       limit : next ≤ best
       limit = omega (arith, lowest-most reaches (best - 1) 1, b.positive)
@@ -67,26 +67,26 @@ module _ (rows : List ℕ) (alive n : ℕ) where
           let c = b.one (omega arith) in
           record { at = c.at; below = (let d = c.below in omega arith); closing = subst (λ (m : ℕ). T (closes rows alive m c.at)) e c.closing }
 
-  some-closer : (m : ℕ) → T (someCloses rows alive n m) → Closer n m
-  unfolding someCloses loopStart
+  some-closer : (m : ℕ) → T (some_closes rows alive n m) → Closer n m
+  unfolding some_closes loop_start
   some-closer m h =
-      let l = ltb→lt (loopStart rows alive n m) n h in
-      record { at = loopStart rows alive n m; below = l; closing = lowest-passes (closes rows alive m) n 0 (omega arith) }
+      let l = ltb→lt (loop_start rows alive n m) n h in
+      record { at = loop_start rows alive n m; below = l; closing = lowest-passes (closes rows alive m) n 0 (omega arith) }
 
-  closer-some : (m : ℕ) → Closer n m → T (someCloses rows alive n m)
-  unfolding someCloses loopStart
+  closer-some : (m : ℕ) → Closer n m → T (some_closes rows alive n m)
+  unfolding some_closes loop_start
   closer-some m c =
-      lt→ltb (loopStart rows alive n m) n
+      lt→ltb (loop_start rows alive n m) n
       (let b = c.below in let k = lowest-le (closes rows alive m) n 0 c.at (omega arith) c.closing (omega arith) in omega arith)
 
-  pub best-end : (best : ℕ) → Best n best → best ≡ loopLength rows alive n
-  unfolding loopLength
+  pub best-end : (best : ℕ) → Best n best → best ≡ loop_length rows alive n
+  unfolding loop_length
   best-end best b = sym (go (dec_lt n best))
     where
-      go : Dec (n < best) → loopLength rows alive n ≡ best
+      go : Dec (n < best) → loop_length rows alive n ≡ best
       go (yes l) =
-          let e = lowest-end (someCloses rows alive n) n 1 (λ z h k t. b.none z h (omega arith) (some-closer z t)) in
+          let e = lowest-end (some_closes rows alive n) n 1 (λ z h k t. b.none z h (omega arith) (some-closer z t)) in
           omega (arith, b.most)
       go (no l) =
-          lowest-is (someCloses rows alive n) n 1 best b.positive (omega arith) (closer-some best (b.one (omega arith)))
+          lowest-is (some_closes rows alive n) n 1 best b.positive (omega arith) (closer-some best (b.one (omega arith)))
           (λ z h k t. b.none z h k (some-closer z t))

@@ -56,25 +56,25 @@ distinct-within (x ∷ xs) pool d h =
     let f = length-append r.before r.after in
     omega arith
 
-downFrom : ℕ → List ℕ
-downFrom zero = []
-downFrom (suc n) = n ∷ downFrom n
+down_from : ℕ → List ℕ
+down_from zero = []
+down_from (suc n) = n ∷ down_from n
 
-length-downFrom : (n : ℕ) → length (downFrom n) ≡ n
-unfolding downFrom
-length-downFrom zero = refl
-length-downFrom (suc n) = ap suc (length-downFrom n)
+length-down_from : (n : ℕ) → length (down_from n) ≡ n
+unfolding down_from
+length-down_from zero = refl
+length-down_from (suc n) = ap suc (length-down_from n)
 
-in-downFrom : (n y : ℕ) → y < n → Memᴰ y (downFrom n)
-unfolding downFrom
-in-downFrom zero y l = absurd (omega arith)
-in-downFrom (suc n) y l = go (ℕ_discrete y n) (in-downFrom n y)
+in-down_from : (n y : ℕ) → y < n → Memᴰ y (down_from n)
+unfolding down_from
+in-down_from zero y l = absurd (omega arith)
+in-down_from (suc n) y l = go (ℕ_discrete y n) (in-down_from n y)
   where
-    go : Dec (y ≡ n) → (y < n → Memᴰ y (downFrom n)) → Memᴰ y (n ∷ downFrom n)
+    go : Dec (y ≡ n) → (y < n → Memᴰ y (down_from n)) → Memᴰ y (n ∷ down_from n)
     go (yes e) r = Memᴰ.head e
     go (no e) r = Memᴰ.tail (r (omega arith))
 
 -- there are at most n different numbers below n
 pub distinct-below : (n : ℕ) (xs : List ℕ) → Distinct xs → ((y : ℕ) → Memᴰ y xs → y < n) → length xs ≤ n
 distinct-below n xs d h =
-    subst (λ (k : ℕ). length xs ≤ k) (length-downFrom n) (distinct-within xs (downFrom n) d (λ y m. in-downFrom n y (h y m)))
+    subst (λ (k : ℕ). length xs ≤ k) (length-down_from n) (distinct-within xs (down_from n) d (λ y m. in-down_from n y (h y m)))

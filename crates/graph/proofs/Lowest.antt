@@ -1,4 +1,4 @@
--- Laws of `lowestFrom`: the first of some numbers that passes a test.
+-- Laws of `lowest_from`: the first of some numbers that passes a test.
 use Prim.Native.Nat.{ℕ, zero, suc, ◌+◌, ◌-◌, ◌≤◌, ◌<◌}
 use mathlib.Core.Path.{◌≡◌, refl, sym, ap, subst}
 use mathlib.Core.Bool.{Bool, true, false}
@@ -7,54 +7,54 @@ use native.Mathlib.Numerals.{add-one}
 use native.Mathlib.Nat.{le_antisymm}
 use native.Mathlib.Omega.{arith}
 use lib.Dec.{T}
-use Rattle.graph.specs.Search.{lowestFrom}
+use Rattle.graph.specs.Search.{lowest_from}
 
 sub-step : (n i : ℕ) → i < n → n - i ≡ suc (n - suc i)
 sub-step n i l = omega arith
 
 module _ (passes : ℕ → Bool) where
-  pub lowest-here : (count i : ℕ) → passes i ≡ true → lowestFrom (suc count) i passes ≡ i
-  unfolding lowestFrom
-  lowest-here count i e = ap (λ (b : Bool). elim b [ true ↦ i | false ↦ lowestFrom count (suc i) passes ]) e
+  pub lowest-here : (count i : ℕ) → passes i ≡ true → lowest_from (suc count) i passes ≡ i
+  unfolding lowest_from
+  lowest-here count i e = ap (λ (b : Bool). elim b [ true ↦ i | false ↦ lowest_from count (suc i) passes ]) e
 
-  pub lowest-on : (count i : ℕ) → passes i ≡ false → lowestFrom (suc count) i passes ≡ lowestFrom count (suc i) passes
-  unfolding lowestFrom
-  lowest-on count i e = ap (λ (b : Bool). elim b [ true ↦ i | false ↦ lowestFrom count (suc i) passes ]) e
+  pub lowest-on : (count i : ℕ) → passes i ≡ false → lowest_from (suc count) i passes ≡ lowest_from count (suc i) passes
+  unfolding lowest_from
+  lowest-on count i e = ap (λ (b : Bool). elim b [ true ↦ i | false ↦ lowest_from count (suc i) passes ]) e
 
   -- it is one of the numbers or the end
-  pub lowest-least : (count i : ℕ) → i ≤ lowestFrom count i passes
-  unfolding lowestFrom
+  pub lowest-least : (count i : ℕ) → i ≤ lowest_from count i passes
+  unfolding lowest_from
   lowest-least zero i = omega arith
   lowest-least (suc count) i = go (passes i) (lowest-least count (suc i))
     where
-      go : (b : Bool) → suc i ≤ lowestFrom count (suc i) passes → i ≤ elim b [ true ↦ i | false ↦ lowestFrom count (suc i) passes ]
+      go : (b : Bool) → suc i ≤ lowest_from count (suc i) passes → i ≤ elim b [ true ↦ i | false ↦ lowest_from count (suc i) passes ]
       go true h = omega arith
       go false h = omega arith
 
-  pub lowest-most : (count i : ℕ) → lowestFrom count i passes ≤ i + count
-  unfolding lowestFrom
+  pub lowest-most : (count i : ℕ) → lowest_from count i passes ≤ i + count
+  unfolding lowest_from
   lowest-most zero i = omega arith
   lowest-most (suc count) i = go (passes i) (lowest-most count (suc i))
     where
-      go : (b : Bool) → lowestFrom count (suc i) passes ≤ suc i + count → elim b [ true ↦ i | false ↦ lowestFrom count (suc i) passes ] ≤ i + suc count
+      go : (b : Bool) → lowest_from count (suc i) passes ≤ suc i + count → elim b [ true ↦ i | false ↦ lowest_from count (suc i) passes ] ≤ i + suc count
       go true h = omega arith
       go false h = omega arith
 
   -- if it is no end it passes
-  pub lowest-passes : (count i : ℕ) → lowestFrom count i passes < i + count → T (passes (lowestFrom count i passes))
-  unfolding lowestFrom
+  pub lowest-passes : (count i : ℕ) → lowest_from count i passes < i + count → T (passes (lowest_from count i passes))
+  unfolding lowest_from
   lowest-passes zero i h = absurd (omega arith)
   lowest-passes (suc count) i h = go (passes i) refl (lowest-passes count (suc i)) h
     where
-      go : (b : Bool) → passes i ≡ b → (lowestFrom count (suc i) passes < suc i + count → T (passes (lowestFrom count (suc i) passes)))
-          → elim b [ true ↦ i | false ↦ lowestFrom count (suc i) passes ] < i + suc count
-          → T (passes (elim b [ true ↦ i | false ↦ lowestFrom count (suc i) passes ]))
+      go : (b : Bool) → passes i ≡ b → (lowest_from count (suc i) passes < suc i + count → T (passes (lowest_from count (suc i) passes)))
+          → elim b [ true ↦ i | false ↦ lowest_from count (suc i) passes ] < i + suc count
+          → T (passes (elim b [ true ↦ i | false ↦ lowest_from count (suc i) passes ]))
       go true e r l = subst T (sym e) tt
       go false e r l = r (omega arith)
 
   -- and none before it passes
-  pub lowest-le : (count i z : ℕ) → i ≤ z → T (passes z) → z < i + count → lowestFrom count i passes ≤ z
-  unfolding lowestFrom
+  pub lowest-le : (count i z : ℕ) → i ≤ z → T (passes z) → z < i + count → lowest_from count i passes ≤ z
+  unfolding lowest_from
   lowest-le zero i z h t l = omega arith
   lowest-le (suc count) i z h t l = go (passes i) refl (λ m. lowest-le count (suc i) z m t (omega arith))
     where
@@ -62,38 +62,38 @@ module _ (passes : ℕ → Bool) where
       next e (yes d) = absurd (subst T e (subst (λ (k : ℕ). T (passes k)) (sym d) t))
       next e (no d) = omega arith
 
-      go : (b : Bool) → passes i ≡ b → (suc i ≤ z → lowestFrom count (suc i) passes ≤ z)
-          → elim b [ true ↦ i | false ↦ lowestFrom count (suc i) passes ] ≤ z
+      go : (b : Bool) → passes i ≡ b → (suc i ≤ z → lowest_from count (suc i) passes ≤ z)
+          → elim b [ true ↦ i | false ↦ lowest_from count (suc i) passes ] ≤ z
       go true e r = h
       go false e r = r (next e (ℕ_discrete i z))
 
   -- what passes, and none before it does, is the first
-  pub lowest-is : (count i j : ℕ) → i ≤ j → j < i + count → T (passes j) → ((z : ℕ) → i ≤ z → z < j → T (passes z) → ⊥) → lowestFrom count i passes ≡ j
-  lowest-is count i j h l t f = le_antisymm (lowest-le count i j h t l) (go (dec_lt (lowestFrom count i passes) j))
+  pub lowest-is : (count i j : ℕ) → i ≤ j → j < i + count → T (passes j) → ((z : ℕ) → i ≤ z → z < j → T (passes z) → ⊥) → lowest_from count i passes ≡ j
+  lowest-is count i j h l t f = le_antisymm (lowest-le count i j h t l) (go (dec_lt (lowest_from count i passes) j))
     where
-      go : Dec (lowestFrom count i passes < j) → j ≤ lowestFrom count i passes
-      go (yes s) = absurd (f (lowestFrom count i passes) (lowest-least count i) s (lowest-passes count i (omega arith)))
+      go : Dec (lowest_from count i passes < j) → j ≤ lowest_from count i passes
+      go (yes s) = absurd (f (lowest_from count i passes) (lowest-least count i) s (lowest-passes count i (omega arith)))
       go (no s) = omega arith
 
   -- where none passes it is the end
-  pub lowest-end : (count i : ℕ) → ((z : ℕ) → i ≤ z → z < i + count → T (passes z) → ⊥) → lowestFrom count i passes ≡ i + count
-  lowest-end count i f = le_antisymm (lowest-most count i) (go (dec_lt (lowestFrom count i passes) (i + count)))
+  pub lowest-end : (count i : ℕ) → ((z : ℕ) → i ≤ z → z < i + count → T (passes z) → ⊥) → lowest_from count i passes ≡ i + count
+  lowest-end count i f = le_antisymm (lowest-most count i) (go (dec_lt (lowest_from count i passes) (i + count)))
     where
-      go : Dec (lowestFrom count i passes < i + count) → i + count ≤ lowestFrom count i passes
-      go (yes s) = absurd (f (lowestFrom count i passes) (lowest-least count i) s (lowest-passes count i s))
+      go : Dec (lowest_from count i passes < i + count) → i + count ≤ lowest_from count i passes
+      go (yes s) = absurd (f (lowest_from count i passes) (lowest-least count i) s (lowest-passes count i s))
       go (no s) = omega arith
 
   -- ---- as a loop goes, from i up to n
 
-  pub scan-start : (n : ℕ) → lowestFrom (n - 0) 0 passes ≡ lowestFrom n 0 passes
+  pub scan-start : (n : ℕ) → lowest_from (n - 0) 0 passes ≡ lowest_from n 0 passes
   scan-start n = let e : n - 0 ≡ n = omega arith in rw e refl
 
-  pub scan-here : (n i : ℕ) → i < n → passes i ≡ true → lowestFrom (n - i) i passes ≡ i
+  pub scan-here : (n i : ℕ) → i < n → passes i ≡ true → lowest_from (n - i) i passes ≡ i
   scan-here n i l e = rw (sub-step n i l) (lowest-here (n - suc i) i e)
 
-  pub scan-on : (n i : ℕ) → i < n → passes i ≡ false → lowestFrom (n - i) i passes ≡ lowestFrom (n - (i + 1)) (i + 1) passes
+  pub scan-on : (n i : ℕ) → i < n → passes i ≡ false → lowest_from (n - i) i passes ≡ lowest_from (n - (i + 1)) (i + 1) passes
   scan-on n i l e = rw (sub-step n i l, add-one i) (lowest-on (n - suc i) i e)
 
-  pub scan-end : (n i : ℕ) → n ≤ i → lowestFrom (n - i) i passes ≡ i
-  unfolding lowestFrom
+  pub scan-end : (n i : ℕ) → n ≤ i → lowest_from (n - i) i passes ≡ i
+  unfolding lowest_from
   scan-end n i l = let e : n - i ≡ 0 = omega arith in rw e refl

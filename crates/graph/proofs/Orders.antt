@@ -17,7 +17,7 @@ use Rattle.permset.proofs.Laws.{member-empty, difference-first, difference-secon
 use Rattle.graph.specs.Relation.{Live, Sends}
 use Rattle.graph.specs.Order.{Free, Order}
 use Rattle.graph.specs.Loop.{Walk, Distinct}
-use Rattle.graph.specs.Search.{lowestFrom, isFree, lowestFree, orderFrom, loopLength}
+use Rattle.graph.specs.Search.{lowest_from, is_free, lowest_free, order_from, loop_length}
 use Rattle.graph.proofs.Digits.{in_both, both_left, both_right, no_member}
 use Rattle.graph.proofs.Lists.{distinct_snoc, distinct-below}
 use Rattle.graph.proofs.Lowest.{lowest-passes, lowest-le}
@@ -61,8 +61,8 @@ module _ (rows : List ℕ) (live : ℕ) where
     pub apart : (p : ℕ) → T (member left p) → Memᴰ p before → ⊥
 
   module _ (before : List ℕ) (left : ℕ) (those : Left before left) where
-    free-passes : (p : ℕ) → Free rows live before p → T (isFree rows left p)
-    unfolding isFree
+    free-passes : (p : ℕ) → Free rows live before p → T (is_free rows left p)
+    unfolding is_free
     free-passes p f =
         T_and (member left p) (eqb (bit_and (get_or rows p 0) left) 0)
         (⊎_elim (λ m. m) (λ m. absurd (f.unplaced m)) (those.covers p f.lives))
@@ -74,8 +74,8 @@ module _ (rows : List ℕ) (live : ℕ) where
             those.apart s l
             (f.follows s (record { sender = those.lives s l; receiver = f.lives; bit = both_left (get_or rows p 0) left s m }))
 
-    passes-free : (p : ℕ) → T (isFree rows left p) → Free rows live before p
-    unfolding isFree
+    passes-free : (p : ℕ) → T (is_free rows left p) → Free rows live before p
+    unfolding is_free
     passes-free p h =
         record {
           lives = those.lives p here;
@@ -116,9 +116,9 @@ module _ (rows : List ℕ) (live : ℕ) where
 
 -- ---- the search
 
-module _ (rows : List ℕ) (live alive n : ℕ) (below : alive < 2 ^ n) (same : (p : ℕ) → T (member alive p) ↔ Live rows live p) (none : n < loopLength rows alive n) where
+module _ (rows : List ℕ) (live alive n : ℕ) (below : alive < 2 ^ n) (same : (p : ℕ) → T (member alive p) ↔ Live rows live p) (none : n < loop_length rows alive n) where
   -- where none is free, each that is left has a sender that is left too
-  module _ (before : List ℕ) (left : ℕ) (those : Left rows live before left) (stuck : n ≤ lowestFree rows n left) where
+  module _ (before : List ℕ) (left : ℕ) (those : Left rows live before left) (stuck : n ≤ lowest_free rows n left) where
     pub record Sender (p : ℕ) : Type 0 where
       pub from : ℕ
       pub left-too : T (member left from)
@@ -128,14 +128,14 @@ module _ (rows : List ℕ) (live alive n : ℕ) (below : alive < 2 ^ n) (same : 
     left_below p m = live_below rows live alive n below same p (those.lives p m)
 
     sender : (p : ℕ) → T (member left p) → Sender p
-    unfolding lowestFree isFree
+    unfolding lowest_free is_free
     sender p m = go (dec_lt first n)
       where
         both : ℕ
         both = bit_and (get_or rows p 0) left
 
         first : ℕ
-        first = lowestFrom n 0 (member both)
+        first = lowest_from n 0 (member both)
 
         go : Dec (first < n) → Sender p
         go (yes l) =
@@ -154,7 +154,7 @@ module _ (rows : List ℕ) (live alive n : ℕ) (below : alive < 2 ^ n) (same : 
             let k = lowest-le (member both) n 0 i (omega arith) b (omega arith) in omega (arith, l)) in
             let f = T_and (member left p) (eqb both 0) m (subst (λ (s : ℕ). T (eqb s 0)) (sym e) tt) in
             let h = left_below p m in
-            let k = lowest-le (isFree rows left) n 0 p (omega arith) f (omega arith) in
+            let k = lowest-le (is_free rows left) n 0 p (omega arith) f (omega arith) in
             omega (arith, stuck))
 
     -- so a walk of any length leads to it
@@ -178,7 +178,7 @@ module _ (rows : List ℕ) (live alive n : ℕ) (below : alive < 2 ^ n) (same : 
         let c = chain n p m in
         let e = c.size in
         let d =
-        walk-distinct rows live (loopLength rows alive n) (length-least rows live alive n below same) c.start c.others p
+        walk-distinct rows live (loop_length rows alive n) (length-least rows live alive n below same) c.start c.others p
         (omega (arith, none)) c.walk in
         let h =
         distinct-below n (c.start ∷ c.others) d
@@ -186,8 +186,8 @@ module _ (rows : List ℕ) (live alive n : ℕ) (below : alive < 2 ^ n) (same : 
         omega arith
 
   order-rest : (count : ℕ) (before : List ℕ) (left : ℕ) → Left rows live before left → Distinct before
-      → ((y : ℕ) → Memᴰ y before → y < n) → length before + count ≡ n → Rest rows live before (orderFrom rows n count left)
-  unfolding orderFrom lowestFree
+      → ((y : ℕ) → Memᴰ y before → y < n) → length before + count ≡ n → Rest rows live before (order_from rows n count left)
+  unfolding order_from lowest_free
   order-rest zero before left those d b e = λ p l. ⊎_elim (λ m. absurd (full p m l)) (λ m. m) (those.covers p l)
     where
       full : (p : ℕ) → T (member left p) → Live rows live p → ⊥
@@ -204,30 +204,30 @@ module _ (rows : List ℕ) (live alive n : ℕ) (below : alive < 2 ^ n) (same : 
       (let k = length-append before (p ∷ []) in omega arith))
     where
       p : ℕ
-      p = lowestFree rows n left
+      p = lowest_free rows n left
 
       free : p < n → Free rows live before p
-      free l = passes-free rows live before left those p (lowest-passes (isFree rows left) n 0 (omega arith))
+      free l = passes-free rows live before left those p (lowest-passes (is_free rows left) n 0 (omega arith))
 
       least : (q : ℕ) → Free rows live before q → p ≤ q
       least q f =
-          lowest-le (isFree rows left) n 0 q (omega arith) (free-passes rows live before left those q f)
+          lowest-le (is_free rows left) n 0 q (omega arith) (free-passes rows live before left those q f)
           (let h = live_below rows live alive n below same q f.lives in omega arith)
 
       here : (f : Free rows live before p) → T (member left p)
       here f = ⊎_elim (λ m. m) (λ m. absurd (f.unplaced m)) (those.covers p f.lives)
 
-      go : (t : Bool) → ltb p n ≡ t → (p < n → T (member left p) → Rest rows live (before ++ p ∷ []) (orderFrom rows n count (difference left (2 ^ p))))
-          → Rest rows live before (elim t [ true ↦ p ∷ orderFrom rows n count (difference left (2 ^ p)) | false ↦ [] ])
+      go : (t : Bool) → ltb p n ≡ t → (p < n → T (member left p) → Rest rows live (before ++ p ∷ []) (order_from rows n count (difference left (2 ^ p))))
+          → Rest rows live before (elim t [ true ↦ p ∷ order_from rows n count (difference left (2 ^ p)) | false ↦ [] ])
       go true q r = let l = ltb→lt p n (subst T (sym q) tt) in let f = free l in (f, least, r l (here f))
       go false q r =
           λ x l. ⊎_elim
           (λ m. absurd (none_left before left those (nltb→le p n (subst (λ (t : Bool). T (not t)) (sym q) tt)) x m)) (λ m. m) (those.covers x l)
 
   -- the whole order
-  pub found-order : Order rows live (orderFrom rows n n alive)
+  pub found-order : Order rows live (order_from rows n n alive)
   found-order =
-      rest-order rows live (orderFrom rows n n alive)
+      rest-order rows live (order_from rows n n alive)
       (order-rest n [] alive
       (record { covers = λ p l. inl ((same p).1 l); lives = λ p m. (same p).0 m; apart = λ p m k. Memᴰ.not-nil k })
       tt (λ y k. absurd (Memᴰ.not-nil k)) (omega arith))

@@ -12,7 +12,7 @@ use Rattle.permset.specs.Sets.{member}
 use Rattle.permset.proofs.Digits.{member-lt}
 use Rattle.graph.specs.Relation.{Live}
 use Rattle.graph.specs.Loop.{Walk, Distinct, Loop, NotAfter, Shortest}
-use Rattle.graph.specs.Search.{lowestFrom, closes, loopStart, someCloses, loopLength, follow, loop_of}
+use Rattle.graph.specs.Search.{lowest_from, closes, loop_start, some_closes, loop_length, follow, loop_of}
 use Rattle.graph.proofs.Lists.{cut_at, length_cut, distinct-below}
 use Rattle.graph.proofs.Lowest.{lowest-least, lowest-most, lowest-passes, lowest-le}
 use Rattle.graph.proofs.Walks.{walk-cut, walk-join, walk-live, walk-reaches, onward, follow-walk, follow-length, follow-first}
@@ -40,27 +40,27 @@ module _ (rows : List ℕ) (live alive n : ℕ) (below : alive < 2 ^ n) (same : 
   unfolding closes
   walk-closes x xs w = walk-reaches rows live alive n below same x x xs w
 
-  start-le : (x : ℕ) (xs : List ℕ) → Walk rows live x xs x → loopStart rows alive n (suc (length xs)) ≤ x
-  unfolding loopStart
+  start-le : (x : ℕ) (xs : List ℕ) → Walk rows live x xs x → loop_start rows alive n (suc (length xs)) ≤ x
+  unfolding loop_start
   start-le x xs w =
       lowest-le (closes rows alive (suc (length xs))) n 0 x (omega arith) (walk-closes x xs w)
       (let h = live_below x (walk-live rows live x xs x w x (Memᴰ.head refl)) in omega arith)
 
   -- no closed walk is shorter than the search says
-  pub length-least : (x : ℕ) (xs : List ℕ) → Walk rows live x xs x → loopLength rows alive n ≤ suc (length xs)
-  unfolding loopLength someCloses
+  pub length-least : (x : ℕ) (xs : List ℕ) → Walk rows live x xs x → loop_length rows alive n ≤ suc (length xs)
+  unfolding loop_length some_closes
   length-least x xs w = go (dec_le (suc (length xs)) n)
     where
-      go : Dec (suc (length xs) ≤ n) → loopLength rows alive n ≤ suc (length xs)
+      go : Dec (suc (length xs) ≤ n) → loop_length rows alive n ≤ suc (length xs)
       go (yes l) =
           let h = start-le x xs w in
           let k = live_below x (walk-live rows live x xs x w x (Memᴰ.head refl)) in
-          lowest-le (someCloses rows alive n) n 1 (suc (length xs)) (omega arith)
-          (lt→ltb (loopStart rows alive n (suc (length xs))) n (omega arith)) (omega arith)
-      go (no l) = omega (arith, lowest-most (someCloses rows alive n) n 1)
+          lowest-le (some_closes rows alive n) n 1 (suc (length xs)) (omega arith)
+          (lt→ltb (loop_start rows alive n (suc (length xs))) n (omega arith)) (omega arith)
+      go (no l) = omega (arith, lowest-most (some_closes rows alive n) n 1)
 
   -- so where it finds nothing there is no loop
-  pub no_loop : n < loopLength rows alive n → (xs : List ℕ) → Loop rows live xs → ⊥
+  pub no_loop : n < loop_length rows alive n → (xs : List ℕ) → Loop rows live xs → ⊥
   no_loop l [] c = c
   no_loop l (x ∷ xs) c =
       let h = length-least x xs c.0 in
@@ -69,22 +69,22 @@ module _ (rows : List ℕ) (live alive n : ℕ) (below : alive < 2 ^ n) (same : 
 
   -- ---- what it finds
 
-  pub found-start : loopLength rows alive n ≤ n → loopStart rows alive n (loopLength rows alive n) < n
-  unfolding loopLength someCloses
-  found-start l = ltb→lt (loopStart rows alive n (loopLength rows alive n)) n (lowest-passes (someCloses rows alive n) n 1 (omega arith))
+  pub found-start : loop_length rows alive n ≤ n → loop_start rows alive n (loop_length rows alive n) < n
+  unfolding loop_length some_closes
+  found-start l = ltb→lt (loop_start rows alive n (loop_length rows alive n)) n (lowest-passes (some_closes rows alive n) n 1 (omega arith))
 
-  module _ (k : ℕ) (found : loopLength rows alive n ≡ suc k) (inside : suc k ≤ n) where
+  module _ (k : ℕ) (found : loop_length rows alive n ≡ suc k) (inside : suc k ≤ n) where
     abbrev start : ℕ
-    start = loopStart rows alive n (suc k)
+    start = loop_start rows alive n (suc k)
 
     abbrev rest : List ℕ
     rest = follow rows alive n start k (onward rows live alive n below same start k start)
 
     start-below : start < n
-    start-below = subst (λ (m : ℕ). loopStart rows alive n m < n) found (found-start (omega (arith, found)))
+    start-below = subst (λ (m : ℕ). loop_start rows alive n m < n) found (found-start (omega (arith, found)))
 
     start-walk : Walk rows live start rest start
-    unfolding loopStart closes
+    unfolding loop_start closes
     start-walk =
         follow-walk rows live alive n below same start k start
         (lowest-passes (closes rows alive (suc k)) n 0 (omega (arith, start-below)))
@@ -100,7 +100,7 @@ module _ (rows : List ℕ) (live alive n : ℕ) (below : alive < 2 ^ n) (same : 
         let v = walk-join rows live y r.after start r.before y w.1 w.0 in
         let e : length (r.after ++ start ∷ r.before) ≡ k =
         length_cut r.after start r.before ∙ (let f = sym (ap length r.cut ∙ length_cut r.before y r.after) ∙ rest-length in omega arith) in
-        subst (λ (j : ℕ). loopStart rows alive n (suc j) ≤ y) e (start-le y (r.after ++ start ∷ r.before) v)
+        subst (λ (j : ℕ). loop_start rows alive n (suc j) ≤ y) e (start-le y (r.after ++ start ∷ r.before) v)
 
     start-distinct : Distinct (start ∷ rest)
     start-distinct =
@@ -115,7 +115,7 @@ module _ (rows : List ℕ) (live alive n : ℕ) (below : alive < 2 ^ n) (same : 
         size = omega (arith, e)
 
         le : start ≤ y
-        le = subst (λ (j : ℕ). loopStart rows alive n (suc j) ≤ y) size (start-le y ys c.0)
+        le = subst (λ (j : ℕ). loop_start rows alive n (suc j) ≤ y) size (start-le y ys c.0)
 
         after : start ≡ y → NotAfter rest ys
         after d =
@@ -139,10 +139,10 @@ module _ (rows : List ℕ) (live alive n : ℕ) (below : alive < 2 ^ n) (same : 
         fewer [] c = absurd c
         fewer (y ∷ ys) c = omega (arith, rest-length, found, length-least y ys c.0)
 
-  pub found-shortest : loopLength rows alive n ≤ n → Shortest rows live (loop_of rows alive n (loopLength rows alive n))
-  unfolding loop_of follow loopLength
-  found-shortest l = go (loopLength rows alive n) refl l (lowest-least (someCloses rows alive n) n 1)
+  pub found-shortest : loop_length rows alive n ≤ n → Shortest rows live (loop_of rows alive n (loop_length rows alive n))
+  unfolding loop_of follow loop_length
+  found-shortest l = go (loop_length rows alive n) refl l (lowest-least (some_closes rows alive n) n 1)
     where
-      go : (m : ℕ) → loopLength rows alive n ≡ m → m ≤ n → 1 ≤ lowestFrom n 1 (someCloses rows alive n) → Shortest rows live (loop_of rows alive n m)
+      go : (m : ℕ) → loop_length rows alive n ≡ m → m ≤ n → 1 ≤ lowest_from n 1 (some_closes rows alive n) → Shortest rows live (loop_of rows alive n m)
       go zero e h g = absurd (omega (arith, e))
       go (suc k) e h g = loop-shortest k e h

@@ -16,7 +16,7 @@ use Rattle.permset.proofs.Digits.{member-low, member-lt}
 use Rattle.graph.specs.Relation.{Live, Sends}
 use Rattle.graph.specs.Order.{Free, Order}
 use Rattle.graph.specs.Loop.{Walk, Loop, NotAfter, Shortest}
-use Rattle.graph.specs.Search.{loopLength, loop_of, orderFrom}
+use Rattle.graph.specs.Search.{loop_length, loop_of, order_from}
 use Rattle.graph.proofs.Walks.{walk-live}
 use Rattle.graph.proofs.Shortest.{found-shortest}
 use Rattle.graph.proofs.Orders.{found-order}
@@ -70,7 +70,7 @@ module _ (rows : List ℕ) (live : ℕ) where
         (ordered.whole x (walk-live rows live x xs x c.0 x (Memᴰ.head refl))))
 
   pub no-loop-order : ((xs : List ℕ) → Loop rows live xs → ⊥) → (order : List ℕ) × Order rows live order
-  no-loop-order none = go (dec_le (loopLength rows alive n) n)
+  no-loop-order none = go (dec_le (loop_length rows alive n) n)
     where
       n : ℕ
       n = length rows
@@ -84,10 +84,10 @@ module _ (rows : List ℕ) (live : ℕ) where
       same : (p : ℕ) → T (member alive p) ↔ Live rows live p
       same = low-live rows live n (omega arith) (λ p l. l.0)
 
-      go : Dec (loopLength rows alive n ≤ n) → (order : List ℕ) × Order rows live order
+      go : Dec (loop_length rows alive n ≤ n) → (order : List ℕ) × Order rows live order
       go (yes l) =
-          absurd (none (loop_of rows alive n (loopLength rows alive n)) (found-shortest rows live alive n below same l).is_loop)
-      go (no l) = (orderFrom rows n n alive, found-order rows live alive n below same (omega (arith, l)))
+          absurd (none (loop_of rows alive n (loop_length rows alive n)) (found-shortest rows live alive n below same l).is_loop)
+      go (no l) = (order_from rows n n alive, found-order rows live alive n below same (omega (arith, l)))
 
 -- there is an order exactly if there is no loop
 pub order-or-loop : (rows : List ℕ) (live : ℕ) → ((order : List ℕ) × Order rows live order) ↔ ((xs : List ℕ) → Loop rows live xs → ⊥)

@@ -17,7 +17,7 @@ use Rattle.permset.proofs.Digits.{T_and, T-fst, T-snd, member-single, member-sin
 use Rattle.permset.proofs.Laws.{member-suc, member-empty, union-cases, in-union-left, in-union-right, member-within, within-antisym, union-within, difference-first, in-difference}
 use Rattle.graph.specs.Relation.{Live, Sends}
 use Rattle.graph.specs.Loop.{Walk, NotAfter}
-use Rattle.graph.specs.Search.{senders, reaching, isNext, lowestNext, follow}
+use Rattle.graph.specs.Search.{senders, reaching, is_next, lowest_next, follow}
 use Rattle.graph.proofs.Digits.{in_both, both_left, both_right, no_member}
 use Rattle.graph.proofs.Lowest.{lowest-passes, lowest-le}
 
@@ -137,7 +137,7 @@ module _ (rows : List ℕ) (live : ℕ) where
 pub follow-length : (rows : List ℕ) (alive n t m x : ℕ) → length (follow rows alive n t m x) ≡ m
 unfolding follow
 follow-length rows alive n t zero x = refl
-follow-length rows alive n t (suc m) x = ap suc (follow-length rows alive n t m (lowestNext rows n (reaching rows alive t m) x))
+follow-length rows alive n t (suc m) x = ap suc (follow-length rows alive n t m (lowest_next rows n (reaching rows alive t m) x))
 
 -- ---- reaching t
 
@@ -161,20 +161,20 @@ module _ (rows : List ℕ) (live alive n : ℕ) (below : alive < 2 ^ n) (same : 
 
   -- the one that is lowest
   abbrev pub onward : ℕ → ℕ → ℕ
-  onward m x = lowestNext rows n (reaching rows alive t m) x
+  onward m x = lowest_next rows n (reaching rows alive t m) x
 
   abbrev leads : ℕ → ℕ → ℕ → Bool
-  leads m x = isNext rows (reaching rows alive t m) x
+  leads m x = is_next rows (reaching rows alive t m) x
 
   onward-le : (m x z : ℕ) → Onward m x z → onward m x ≤ z
-  unfolding lowestNext isNext
+  unfolding lowest_next is_next
   onward-le m x z o =
       lowest-le (leads m x) n 0 z (omega arith)
       (T_and (member (reaching rows alive t m) z) (member (get_or rows z 0) x) o.reaches o.sends.bit)
       (let h = member-lt n alive z below ((same z).1 o.sends.receiver) in omega arith)
 
   pub onward-on : (m x : ℕ) → T (member (reaching rows alive t (suc m)) x) → Onward m x (onward m x)
-  unfolding reaching lowestNext isNext
+  unfolding reaching lowest_next is_next
   onward-on m x h =
       let r = senders-only rows (reaching rows alive t m) x (both_left (senders rows (reaching rows alive t m)) alive x h) in
       let lives = reaching-alive m r.to r.there in

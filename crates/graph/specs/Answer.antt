@@ -4,7 +4,7 @@ use Rattle.graph.specs.declared.Arrangement.{Arrangement}
 use Rattle.graph.specs.declared.Arrangement.TheVariants.{Short, Ordered, Looped}
 use Rattle.graph.specs.Order.{Order}
 use Rattle.graph.specs.Loop.{Shortest}
-use Rattle.graph.specs.Search.{orderFrom, loopLength, loop_of}
+use Rattle.graph.specs.Search.{order_from, loop_length, loop_of}
 
 -- the positions of the relation are those below
 abbrev pub places : List ℕ → ℕ
@@ -16,27 +16,27 @@ alive rows live = live % 2 ^ places rows
 
 -- an order of all, or else a shortest loop
 unfoldable pub answer : List ℕ → (live room : ℕ) → Arrangement
-unfolding loopLength orderFrom
+unfolding loop_length order_from
 answer rows live room =
     elim (ltb room (places rows)) [
       | true ↦ Short
       | false ↦
-          elim (leb (loopLength rows (alive rows live) (places rows)) (places rows)) [
-            | true ↦ Looped (loopLength rows (alive rows live) (places rows))
-            | false ↦ Ordered (length (orderFrom rows (places rows) (places rows) (alive rows live)))
+          elim (leb (loop_length rows (alive rows live) (places rows)) (places rows)) [
+            | true ↦ Looped (loop_length rows (alive rows live) (places rows))
+            | false ↦ Ordered (length (order_from rows (places rows) (places rows) (alive rows live)))
           ]
     ]
 
 -- the positions that are written
 unfoldable pub written : List ℕ → ℕ → Arrangement → List ℕ
-unfolding loop_of orderFrom
+unfolding loop_of order_from
 written rows live Short = []
-written rows live (Ordered count) = orderFrom rows (places rows) (places rows) (alive rows live)
+written rows live (Ordered count) = order_from rows (places rows) (places rows) (alive rows live)
 written rows live (Looped count) = loop_of rows (alive rows live) (places rows) count
 
 -- a list with another in place of its start
-abbrev pub startingWith : List ℕ → List ℕ → List ℕ
-startingWith new old = new ++ drop (length new) old
+abbrev pub starting_with : List ℕ → List ℕ → List ℕ
+starting_with new old = new ++ drop (length new) old
 
 -- what an answer says of the positions that it counts
 abbrev pub Means : (rows : List ℕ) (live : ℕ) → Arrangement → List ℕ → Type 0

@@ -4,33 +4,33 @@ use Rattle.std.specs.Int.Bits.{bit_and}
 use Rattle.permset.specs.Sets.{member, union, difference}
 
 -- the first of the `count` numbers from i on that passes; i + count where none does
-unfoldable pub lowestFrom : (count i : ℕ) → (ℕ → Bool) → ℕ
-lowestFrom zero i passes = i
-lowestFrom (suc count) i passes = elim (passes i) [ true ↦ i | false ↦ lowestFrom count (suc i) passes ]
+unfoldable pub lowest_from : (count i : ℕ) → (ℕ → Bool) → ℕ
+lowest_from zero i passes = i
+lowest_from (suc count) i passes = elim (passes i) [ true ↦ i | false ↦ lowest_from count (suc i) passes ]
 
 -- ---- the order
 
 -- a position of the set to which none of the set may send
-unfoldable pub isFree : List ℕ → ℕ → ℕ → Bool
+unfoldable pub is_free : List ℕ → ℕ → ℕ → Bool
 unfolding member
-isFree rows left p = member left p && eqb (bit_and (get_or rows p 0) left) 0
+is_free rows left p = member left p && eqb (bit_and (get_or rows p 0) left) 0
 
 -- the lowest of them; n where there is none
-unfoldable pub lowestFree : List ℕ → ℕ → ℕ → ℕ
-unfolding lowestFrom isFree
-lowestFree rows n left = lowestFrom n 0 (isFree rows left)
+unfoldable pub lowest_free : List ℕ → ℕ → ℕ → ℕ
+unfolding lowest_from is_free
+lowest_free rows n left = lowest_from n 0 (is_free rows left)
 
 -- p, and what is then done with p
 abbrev placed : ℕ → (ℕ → List ℕ) → List ℕ
 placed p rest = p ∷ rest p
 
 -- at most `count` positions of those that are left, the lowest free one each time, until none is free
-unfoldable pub orderFrom : List ℕ → (n count left : ℕ) → List ℕ
-unfolding lowestFree difference
-orderFrom rows n zero left = []
-orderFrom rows n (suc count) left =
-    elim (ltb (lowestFree rows n left) n) [
-      | true ↦ placed (lowestFree rows n left) (λ p. orderFrom rows n count (difference left (2 ^ p)))
+unfoldable pub order_from : List ℕ → (n count left : ℕ) → List ℕ
+unfolding lowest_free difference
+order_from rows n zero left = []
+order_from rows n (suc count) left =
+    elim (ltb (lowest_free rows n left) n) [
+      | true ↦ placed (lowest_free rows n left) (λ p. order_from rows n count (difference left (2 ^ p)))
       | false ↦ []
     ]
 
@@ -54,37 +54,37 @@ unfolding reaching member
 closes rows alive m t = member (reaching rows alive t m) t
 
 -- the lowest position that reaches itself in m messages; n where none does
-unfoldable pub loopStart : List ℕ → (alive n m : ℕ) → ℕ
-unfolding lowestFrom closes
-loopStart rows alive n m = lowestFrom n 0 (closes rows alive m)
+unfoldable pub loop_start : List ℕ → (alive n m : ℕ) → ℕ
+unfolding lowest_from closes
+loop_start rows alive n m = lowest_from n 0 (closes rows alive m)
 
 -- some position does
-unfoldable pub someCloses : List ℕ → (alive n m : ℕ) → Bool
-unfolding loopStart
-someCloses rows alive n m = ltb (loopStart rows alive n m) n
+unfoldable pub some_closes : List ℕ → (alive n m : ℕ) → Bool
+unfolding loop_start
+some_closes rows alive n m = ltb (loop_start rows alive n m) n
 
 -- the fewest messages in which one does; n + 1 where none does in n or fewer
-unfoldable pub loopLength : List ℕ → (alive n : ℕ) → ℕ
-unfolding lowestFrom someCloses
-loopLength rows alive n = lowestFrom n 1 (someCloses rows alive n)
+unfoldable pub loop_length : List ℕ → (alive n : ℕ) → ℕ
+unfolding lowest_from some_closes
+loop_length rows alive n = lowest_from n 1 (some_closes rows alive n)
 
 -- a member of the set that x may send to
-unfoldable pub isNext : List ℕ → (set x z : ℕ) → Bool
+unfoldable pub is_next : List ℕ → (set x z : ℕ) → Bool
 unfolding member
-isNext rows set x z = member set z && member (get_or rows z 0) x
+is_next rows set x z = member set z && member (get_or rows z 0) x
 
 -- the lowest of them; n where there is none
-unfoldable pub lowestNext : List ℕ → (n set x : ℕ) → ℕ
-unfolding lowestFrom isNext
-lowestNext rows n set x = lowestFrom n 0 (isNext rows set x)
+unfoldable pub lowest_next : List ℕ → (n set x : ℕ) → ℕ
+unfolding lowest_from is_next
+lowest_next rows n set x = lowest_from n 0 (is_next rows set x)
 
 -- m messages from x to t, to the lowest next position each time
 unfoldable pub follow : List ℕ → (alive n t m x : ℕ) → List ℕ
-unfolding reaching lowestNext
+unfolding reaching lowest_next
 follow rows alive n t zero x = []
-follow rows alive n t (suc m) x = x ∷ follow rows alive n t m (lowestNext rows n (reaching rows alive t m) x)
+follow rows alive n t (suc m) x = x ∷ follow rows alive n t m (lowest_next rows n (reaching rows alive t m) x)
 
 -- the first loop of m messages
 unfoldable pub loop_of : List ℕ → (alive n m : ℕ) → List ℕ
-unfolding loopStart follow
-loop_of rows alive n m = follow rows alive n (loopStart rows alive n m) m (loopStart rows alive n m)
+unfolding loop_start follow
+loop_of rows alive n m = follow rows alive n (loop_start rows alive n m) m (loop_start rows alive n m)

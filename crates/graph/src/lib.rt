@@ -4,7 +4,7 @@ mod order;
 mod set;
 
 ghost use Rattle.std.specs.Prelude.{◌≡◌, length};
-ghost use Rattle.graph.specs.Answer.{answer, written, startingWith, Means};
+ghost use Rattle.graph.specs.Answer.{answer, written, starting_with, Means};
 
 #[derive(Drop)]
 pub enum Arrangement {
@@ -19,7 +19,7 @@ pub enum Arrangement {
 // Writes an order of the live positions, or else the first of their shortest loops, from the start of `positions`.
 pub fn arrange(rows: &[u64], live: u64, positions: &mut [u32]) -> Arrangement
     ensures value { result ≡ answer rows.now live (length positions.old) }
-    ensures positions_after { positions.new ≡ startingWith (written rows.now live result) positions.old }
+    ensures positions_after { positions.new ≡ starting_with (written rows.now live result) positions.old }
     ensures means { Means rows.now live result positions.new }
 {
     let n = set::places(rows);

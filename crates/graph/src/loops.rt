@@ -1,9 +1,9 @@
 // The first of the shortest loops.
 ghost use Rattle.std.specs.Prelude.{◌≡◌, ◌-◌, ◌^◌, ◌≤◌, ◌<◌, length};
-ghost use Rattle.graph.specs.Search.{lowestFrom, closes, loopLength, loopStart, isNext, lowestNext, follow};
+ghost use Rattle.graph.specs.Search.{lowest_from, closes, loop_length, loop_start, is_next, lowest_next, follow};
 ghost use Rattle.graph.specs.Search.{senders as Search·senders};
 ghost use Rattle.graph.specs.Search.{reaching as Search·reaching};
-ghost use Rattle.graph.specs.Answer.{startingWith};
+ghost use Rattle.graph.specs.Answer.{starting_with};
 
 use crate::set;
 
@@ -39,7 +39,7 @@ fn reaching(rows: &[u64], alive: u64, t: usize, m: usize) -> u64
 // In how many messages, from 1 and below the limit, t first reaches itself; the limit where it does not.
 fn closing(rows: &[u64], alive: u64, t: usize, limit: usize) -> usize
     requires { (t < 64) × (1 ≤ limit) × (alive < 2 ^ length rows.now) }
-    ensures { result ≡ lowestFrom (limit - 1) 1 (λ m. closes rows.now alive m t) }
+    ensures { result ≡ lowest_from (limit - 1) 1 (λ m. closes rows.now alive m t) }
 {
     let mut set = set::only(alive, t);
     let mut m = 1;
@@ -55,7 +55,7 @@ fn closing(rows: &[u64], alive: u64, t: usize, limit: usize) -> usize
 
 pub fn loop_length(rows: &[u64], n: usize, alive: u64) -> usize
     requires { (n ≤ 64) × (n ≤ length rows.now) × (alive < 2 ^ length rows.now) }
-    ensures { result ≡ loopLength rows.now alive n }
+    ensures { result ≡ loop_length rows.now alive n }
 {
     let mut shortest = n + 1;
     let mut t = 0;
@@ -75,7 +75,7 @@ fn is_closing(rows: &[u64], alive: u64, m: usize, t: usize) -> bool
 
 pub fn loop_start(rows: &[u64], n: usize, alive: u64, m: usize) -> usize
     requires { (n ≤ 64) × (n ≤ length rows.now) × (alive < 2 ^ length rows.now) }
-    ensures { result ≡ loopStart rows.now alive n m }
+    ensures { result ≡ loop_start rows.now alive n m }
 {
     let mut t = 0;
     while t < n {
@@ -89,14 +89,14 @@ pub fn loop_start(rows: &[u64], n: usize, alive: u64, m: usize) -> usize
 
 fn is_next(rows: &[u64], set: u64, x: usize, z: usize) -> bool
     requires { z < length rows.now }
-    ensures { result ≡ isNext rows.now set x z }
+    ensures { result ≡ is_next rows.now set x z }
 {
     set::has(set, z) && set::has(rows[z], x)
 }
 
 fn lowest_next(rows: &[u64], n: usize, set: u64, x: usize) -> usize
     requires { n ≤ length rows.now }
-    ensures { result ≡ lowestNext rows.now n set x }
+    ensures { result ≡ lowest_next rows.now n set x }
 {
     let mut z = 0;
     while z < n {
@@ -110,7 +110,7 @@ fn lowest_next(rows: &[u64], n: usize, set: u64, x: usize) -> usize
 
 pub fn write_loop(rows: &[u64], n: usize, alive: u64, t: usize, m: usize, positions: &mut [u32])
     requires { (n ≤ 64) × (t < n) × (n ≤ length rows.now) × (alive < 2 ^ length rows.now) × (m ≤ length positions.old) }
-    ensures { positions.new ≡ startingWith (follow rows.now alive n t m t) positions.old }
+    ensures { positions.new ≡ starting_with (follow rows.now alive n t m t) positions.old }
 {
     let mut x = t;
     let mut i = 0;

@@ -1,20 +1,20 @@
 // The order: the lowest free position each time.
 ghost use Rattle.std.specs.Prelude.{◌≡◌, ◌≤◌, ◌<◌, length};
-ghost use Rattle.graph.specs.Search.{isFree, lowestFree, orderFrom};
-ghost use Rattle.graph.specs.Answer.{startingWith};
+ghost use Rattle.graph.specs.Search.{is_free, lowest_free, order_from};
+ghost use Rattle.graph.specs.Answer.{starting_with};
 
 use crate::set;
 
 fn is_free(rows: &[u64], left: u64, p: usize) -> bool
     requires { p < length rows.now }
-    ensures { result ≡ isFree rows.now left p }
+    ensures { result ≡ is_free rows.now left p }
 {
     set::has(left, p) && rows[p] & left == 0
 }
 
 fn lowest_free(rows: &[u64], n: usize, left: u64) -> usize
     requires { n ≤ length rows.now }
-    ensures { result ≡ lowestFree rows.now n left }
+    ensures { result ≡ lowest_free rows.now n left }
 {
     let mut p = 0;
     while p < n {
@@ -28,8 +28,8 @@ fn lowest_free(rows: &[u64], n: usize, left: u64) -> usize
 
 pub fn write_order(rows: &[u64], n: usize, alive: u64, positions: &mut [u32]) -> usize
     requires { (n ≤ 64) × (n ≤ length rows.now) × (n ≤ length positions.old) }
-    ensures value { result ≡ length (orderFrom rows.now n n alive) }
-    ensures positions_after { positions.new ≡ startingWith (orderFrom rows.now n n alive) positions.old }
+    ensures value { result ≡ length (order_from rows.now n n alive) }
+    ensures positions_after { positions.new ≡ starting_with (order_from rows.now n n alive) positions.old }
 {
     let mut left = alive;
     let mut count = 0;

@@ -16,17 +16,17 @@ use Rattle.table.proofs.Stack.{Terms, none, also, terms-next, scan_step, scan-mi
 use Rattle.table.proofs.Widths.{names-most}
 
 -- the words of kind 2
-unfoldable pub blocksIn : List ℕ → ℕ
-blocksIn [] = 0
-blocksIn (w ∷ ws) = elim (eqb (kind w) 2) [ true ↦ suc (blocksIn ws) | false ↦ blocksIn ws ]
+unfoldable pub blocks_in : List ℕ → ℕ
+blocks_in [] = 0
+blocks_in (w ∷ ws) = elim (eqb (kind w) 2) [ true ↦ suc (blocks_in ws) | false ↦ blocks_in ws ]
 
-pub block-counts : (w : ℕ) (ws : List ℕ) → kind w ≡ 2 → blocksIn (w ∷ ws) ≡ suc (blocksIn ws)
-unfolding blocksIn
-block-counts w ws k = rw (eq-eqb (kind w) 2 k, blocksIn)
+pub block-counts : (w : ℕ) (ws : List ℕ) → kind w ≡ 2 → blocks_in (w ∷ ws) ≡ suc (blocks_in ws)
+unfolding blocks_in
+block-counts w ws k = rw (eq-eqb (kind w) 2 k, blocks_in)
 
-pub other-counts : (w : ℕ) (ws : List ℕ) → (kind w ≡ 2 → ⊥) → blocksIn (w ∷ ws) ≡ blocksIn ws
-unfolding blocksIn
-other-counts w ws k = rw (ne_eqb (kind w) 2 k, blocksIn)
+pub other-counts : (w : ℕ) (ws : List ℕ) → (kind w ≡ 2 → ⊥) → blocks_in (w ∷ ws) ≡ blocks_in ws
+unfolding blocks_in
+other-counts w ws k = rw (ne_eqb (kind w) 2 k, blocks_in)
 
 -- the names that wait
 abbrev waiting : List Task → ℕ
@@ -45,8 +45,8 @@ waiting-names : (n : ℕ) → waiting (replicate n name ++ []) ≡ n
 waiting-names zero = refl
 waiting-names (suc n) = ap suc (waiting-names n)
 
-scan-blocks : (names : ℕ) (ws keys : List ℕ) (at : ℕ) (ts : List Task) → scan names ws keys at ts ≡ accepted → Headless ts → blocksIn ws ≡ waiting ts
-unfolding blocksIn next
+scan-blocks : (names : ℕ) (ws keys : List ℕ) (at : ℕ) (ts : List Task) → scan names ws keys at ts ≡ accepted → Headless ts → blocks_in ws ≡ waiting ts
+unfolding blocks_in next
 scan-blocks names [] keys at [] e h = refl
 scan-blocks names [] keys at (t ∷ ts) e h = absurd (refused-not-accepted (sym (scan-missing names keys at t ts) ∙ e))
 scan-blocks names (w ∷ ws) keys at [] e h = absurd (refused-not-accepted (sym (scan-more names w ws keys at) ∙ e))
@@ -71,7 +71,7 @@ scan-blocks names (w ∷ ws) keys at (term d k s ∷ ts) e h =
     ∙ waiting-terms (next at w t) ts (terms-next at w d k s)
 
 -- at most 64
-pub blocks-few : (ws : List ℕ) → reading ws ≡ accepted → blocksIn ws ≤ 64
+pub blocks-few : (ws : List ℕ) → reading ws ≡ accepted → blocks_in ws ≤ 64
 unfolding reading next
 blocks-few [] e = absurd (refused-not-accepted (sym (scan-missing (names_at []) [] 0 (head 0) []) ∙ e))
 blocks-few (w ∷ ws) e =
@@ -79,8 +79,8 @@ blocks-few (w ∷ ws) e =
     let s = scan_step m ws [] w 0 (head (length (w ∷ ws))) [] e in
     let f = stands m [] w (head (length (w ∷ ws))) s.0 in
     let n = argument w in
-    let other : blocksIn (w ∷ ws) ≡ blocksIn ws = other-counts w ws (λ z. ⊎_elim (λ a. omega arith) (λ a. omega arith) f.0) in
-    let all : blocksIn ws ≡ n = scan-blocks m ws _ 1 (replicate n name ++ []) s.1 (headless-names n [] tt) ∙ waiting-names n in
+    let other : blocks_in (w ∷ ws) ≡ blocks_in ws = other-counts w ws (λ z. ⊎_elim (λ a. omega arith) (λ a. omega arith) f.0) in
+    let all : blocks_in ws ≡ n = scan-blocks m ws _ 1 (replicate n name ++ []) s.1 (headless-names n [] tt) ∙ waiting-names n in
     let most : n ≤ m = f.2 in
     let wide : m ≤ 64 = names-most w in
     omega arith

@@ -17,8 +17,8 @@ tail line permissions = (bytes "  line " ++ decimal line) ++ (bytes " permission
 
 -- of the block that starts at b
 module _ (ws : List ℕ) where
-  abbrev pub headAt : (b position : ℕ) → List ℕ
-  headAt b position = head position (argument (get_or ws b 0))
+  abbrev pub head_at : (b position : ℕ) → List ℕ
+  head_at b position = head position (argument (get_or ws b 0))
 
   abbrev pub tail_at : (b : ℕ) → List ℕ
   tail_at b = tail (line_of b) (argument (get_or ws (b + 1) 0))

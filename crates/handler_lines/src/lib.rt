@@ -3,7 +3,7 @@ ghost use Rattle.std.specs.Prelude.{◌≡◌, ◌++◌, ◌+◌, ◌≤◌, ◌
 ghost use Rattle.text.specs.Text.{decimal, set};
 ghost use Rattle.text.specs.Writing.{Line};
 ghost use Rattle.text.specs.Added.{Added};
-ghost use Rattle.handler_lines.specs.Parts.{headAt, tail_at};
+ghost use Rattle.handler_lines.specs.Parts.{head_at, tail_at};
 
 use table::argument_of;
 use text::room::put_room;
@@ -59,7 +59,7 @@ fn word_at(words: &[u32], p: usize) -> u32
 // Which handler it is that starts at b.
 pub fn put_head(words: &[u32], b: usize, position: usize, out: &mut [u8], at: usize) -> usize
     requires { at ≤ 900000000 }
-    ensures added { Added out.old at (headAt words.now b position) out.new result }
+    ensures added { Added out.old at (head_at words.now b position) out.new result }
     ensures upper_bound { result ≤ at + 128 }
 {
     let name = argument_of(word_at(words, b));

@@ -1,9 +1,9 @@
 // A listing with any leading spaces in, the same with the right ones out.
 ghost use Rattle.std.specs.Prelude.{◌≡◌, ◌≤◌, length};
-ghost use Rattle.listing.specs.Listing.{wordsOf};
+ghost use Rattle.listing.specs.Listing.{words_of};
 ghost use Rattle.listing.specs.Listing.{misspelled as Listing·misspelled};
 ghost use Rattle.listing.specs.Answer.{answered};
-ghost use Rattle.indentation.specs.Indentation.{indented, indentedAfter};
+ghost use Rattle.indentation.specs.Indentation.{indented, indented_after};
 
 use lines::line_words;
 use listing::read::{line_end, word_of_line};
@@ -13,7 +13,7 @@ use listing::{Answer, Refusal};
 // The number of the first line that spells no word, 0 where there is none.
 fn misspelled(text: &[u8]) -> usize
     requires { length text.now ≤ 65536 }
-    ensures { result ≡ Listing·misspelled 1 (wordsOf text.now) }
+    ensures { result ≡ Listing·misspelled 1 (words_of text.now) }
 {
     let mut n = 0;
     let mut at = 0;
@@ -31,7 +31,7 @@ fn misspelled(text: &[u8]) -> usize
 // The listing with the words of the text's lines, at the start of out, and its length.
 pub fn indent(text: &[u8], out: &mut [u8]) -> Answer
     ensures answer { answered result ≡ indented text.now (length out.old) }
-    ensures text { out.new ≡ indentedAfter text.now out.old }
+    ensures text { out.new ≡ indented_after text.now out.old }
 {
     if 65536 < text.len() {
         return Answer::Refused(Refusal::TooLong);

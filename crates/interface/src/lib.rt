@@ -1,9 +1,9 @@
 // What the C interface makes of numbers: an answer as one number, and what is wrong with the bytes of a system before they are read.
 ghost use Rattle.std.specs.Prelude.{◌≡◌, ◌+◌, ◌*◌, ◌^◌, ◌<◌};
-ghost use Rattle.calls.specs.Faults.{faultNumber, faultPlace};
+ghost use Rattle.calls.specs.Faults.{fault_number, fault_place};
 ghost use Rattle.comparison.specs.Values.{answer_of};
 ghost use Rattle.table.specs.Scan.{first_of};
-ghost use Rattle.interface.specs.Numbers.{answerNumber, systemTests};
+ghost use Rattle.interface.specs.Numbers.{answer_number, system_tests};
 ghost use Rattle.interface.specs.Places.{PlaceFits};
 
 use calls::Fault;
@@ -13,7 +13,7 @@ use fields::refusal;
 
 // The number that refuses a system of this many bytes before it is read, and 0 where none does.
 pub fn system_fault(size: usize) -> u32
-    ensures { result ≡ first_of (systemTests size) }
+    ensures { result ≡ first_of (system_tests size) }
 {
     if 1024 < size {
         return 31;
@@ -22,8 +22,8 @@ pub fn system_fault(size: usize) -> u32
 }
 
 fn fault_answer(f: Fault) -> u64
-    requires { faultPlace f < 65536 }
-    ensures { result ≡ 2 ^ 32 + faultNumber f * 65536 + faultPlace f }
+    requires { fault_place f < 65536 }
+    ensures { result ≡ 2 ^ 32 + fault_number f * 65536 + fault_place f }
 {
     refusal(fault_number(f), fault_place(f))
 }
@@ -31,7 +31,7 @@ fn fault_answer(f: Fault) -> u64
 // An answer as one number.
 pub fn answer_number(v: Verdict) -> u64
     requires { PlaceFits v }
-    ensures { result ≡ answerNumber (answer_of v) }
+    ensures { result ≡ answer_number (answer_of v) }
 {
     match v {
         Verdict::Refused(f) => fault_answer(f),

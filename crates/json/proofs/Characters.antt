@@ -12,28 +12,28 @@ use borrow.Author.Tests.{lt-ltb, le-ltb, lt-leb, ne_eqb}
 use Rattle.json.specs.declared.strings.Scalar.{Scalar}
 use Rattle.json.specs.declared.strings.Scalar.TheVariants.{Bad, Code}
 use Rattle.json.specs.Bytes.{head, tail, within, fails, goes, ends}
-use Rattle.json.specs.Strings.{hexOf, bad, point, hexed, unitsOf, pointed, hexUnit, escapeOf, escaped, continued, low, high, second, point_of, character}
+use Rattle.json.specs.Strings.{hex_of, bad, point, hexed, units_of, pointed, hex_unit, escape_of, escaped, continued, low, high, second, point_of, character}
 use Rattle.json.specs.Answers.{placed}
 use Rattle.json.proofs.Places.{tail-drop}
 
 -- ---- hexadecimal digits
 
 module _ (b : ℕ) where
-  pub hex-decimal : within 0x30 0x39 b ≡ true → hexOf b ≡ b - 0x30
-  unfolding hexOf
-  hex-decimal e = rw (e, hexOf)
+  pub hex-decimal : within 0x30 0x39 b ≡ true → hex_of b ≡ b - 0x30
+  unfolding hex_of
+  hex-decimal e = rw (e, hex_of)
 
-  pub hex-upper : within 0x30 0x39 b ≡ false → within 0x41 0x46 b ≡ true → hexOf b ≡ b - 0x37
-  unfolding hexOf
-  hex-upper d e = rw (d, e, hexOf)
+  pub hex-upper : within 0x30 0x39 b ≡ false → within 0x41 0x46 b ≡ true → hex_of b ≡ b - 0x37
+  unfolding hex_of
+  hex-upper d e = rw (d, e, hex_of)
 
-  pub hex-lower : within 0x30 0x39 b ≡ false → within 0x41 0x46 b ≡ false → within 0x61 0x66 b ≡ true → hexOf b ≡ b - 0x57
-  unfolding hexOf
-  hex-lower d u e = rw (d, u, e, hexOf)
+  pub hex-lower : within 0x30 0x39 b ≡ false → within 0x41 0x46 b ≡ false → within 0x61 0x66 b ≡ true → hex_of b ≡ b - 0x57
+  unfolding hex_of
+  hex-lower d u e = rw (d, u, e, hex_of)
 
-  pub hex-none : within 0x30 0x39 b ≡ false → within 0x41 0x46 b ≡ false → within 0x61 0x66 b ≡ false → hexOf b ≡ 16
-  unfolding hexOf
-  hex-none d u e = rw (d, u, e, hexOf)
+  pub hex-none : within 0x30 0x39 b ≡ false → within 0x41 0x46 b ≡ false → within 0x61 0x66 b ≡ false → hex_of b ≡ 16
+  unfolding hex_of
+  hex-none d u e = rw (d, u, e, hex_of)
 
 within-over : (a e b : ℕ) → e < b → within a e b ≡ false
 within-over a e b h = and_no (leb a b) (lt-leb b e h)
@@ -43,23 +43,23 @@ within-over a e b h = and_no (leb a b) (lt-leb b e h)
     and_no false q = refl
 
 -- only a byte is a digit, or an escape
-pub hex-small : (b : ℕ) → hexOf b < 16 → b < 256
+pub hex-small : (b : ℕ) → hex_of b < 16 → b < 256
 hex-small b h = by (dec_lt b 256)
   where
     by : Dec (b < 256) → b < 256
     by (yes l) = l
     by (no n) =
-        let e : hexOf b ≡ 16 =
+        let e : hex_of b ≡ 16 =
         hex-none b (within-over 0x30 0x39 b (omega arith)) (within-over 0x41 0x46 b (omega arith)) (within-over 0x61 0x66 b (omega arith)) in
         omega arith
 
 pub escape-none : (b : ℕ) → (b ≡ 0x22 → ⊥) → (b ≡ 0x5c → ⊥) → (b ≡ 0x2f → ⊥) → (b ≡ 0x62 → ⊥) → (b ≡ 0x66 → ⊥) → (b ≡ 0x6e → ⊥) → (b ≡ 0x72 → ⊥) → (b ≡ 0x74 → ⊥)
-    → escapeOf b ≡ 0
-unfolding escapeOf
+    → escape_of b ≡ 0
+unfolding escape_of
 escape-none b q w e r t y u i =
-    rw (ne_eqb b 0x22 q, ne_eqb b 0x5c w, ne_eqb b 0x2f e, ne_eqb b 0x62 r, ne_eqb b 0x66 t, ne_eqb b 0x6e y, ne_eqb b 0x72 u, ne_eqb b 0x74 i, escapeOf)
+    rw (ne_eqb b 0x22 q, ne_eqb b 0x5c w, ne_eqb b 0x2f e, ne_eqb b 0x62 r, ne_eqb b 0x66 t, ne_eqb b 0x6e y, ne_eqb b 0x72 u, ne_eqb b 0x74 i, escape_of)
 
-pub escape-small : (b : ℕ) → (escapeOf b ≡ 0 → ⊥) → b < 256
+pub escape-small : (b : ℕ) → (escape_of b ≡ 0 → ⊥) → b < 256
 escape-small b h = by (dec_lt b 256)
   where
     by : Dec (b < 256) → b < 256
@@ -80,11 +80,11 @@ high-other a p q = rw (ne_eqb a 0xed p, ne_eqb a 0xf4 q, high)
 -- ---- one more byte
 
 module _ (c : ℕ) (bs : List ℕ) where
-  hexed-digit : ltb (hexOf (head bs)) 16 ≡ true → hexed (point c bs) ≡ point (c * 16 + hexOf (head bs)) (tail bs)
+  hexed-digit : ltb (hex_of (head bs)) 16 ≡ true → hexed (point c bs) ≡ point (c * 16 + hex_of (head bs)) (tail bs)
   unfolding hexed
   hexed-digit e = rw (e, hexed)
 
-  hexed-none : ltb (hexOf (head bs)) 16 ≡ false → hexed (point c bs) ≡ bad
+  hexed-none : ltb (hex_of (head bs)) 16 ≡ false → hexed (point c bs) ≡ bad
   unfolding hexed
   hexed-none e = rw (e, hexed)
 
@@ -96,13 +96,13 @@ module _ (c : ℕ) (bs : List ℕ) where
   unfolding continued
   continued-none a e q = rw (q, continued)
 
-one : (c : ℕ) → c < 0x10000 → unitsOf c ≡ c ∷ []
-unfolding unitsOf
-one c h = rw (lt-ltb c 0x10000 h, unitsOf)
+one : (c : ℕ) → c < 0x10000 → units_of c ≡ c ∷ []
+unfolding units_of
+one c h = rw (lt-ltb c 0x10000 h, units_of)
 
-two : (c : ℕ) → 0x10000 ≤ c → unitsOf c ≡ (0xd800 + (c - 0x10000) / 0x400) ∷ (0xdc00 + (c - 0x10000) % 0x400) ∷ []
-unfolding unitsOf
-two c h = rw (le-ltb c 0x10000 h, unitsOf)
+two : (c : ℕ) → 0x10000 ≤ c → units_of c ≡ (0xd800 + (c - 0x10000) / 0x400) ∷ (0xdc00 + (c - 0x10000) % 0x400) ∷ []
+unfolding units_of
+two c h = rw (le-ltb c 0x10000 h, units_of)
 
 -- ---- numbers that are read byte by byte, from a place of a text
 
@@ -120,15 +120,15 @@ module _ (text : List ℕ) where
   continued-bad a e s q = sym (ap (λ (x : Scalar). continued a e (placed text x)) q)
 
   module _ (s : Scalar) (c at : ℕ) (known : s ≡ Code c at) where
-    pub hexed-yes : (d : ℕ) → d ≡ hexOf (head (drop at text)) → d < 16 → point (c * 16 + d) (drop (at + 1) text) ≡ hexed (placed text s)
+    pub hexed-yes : (d : ℕ) → d ≡ hex_of (head (drop at text)) → d < 16 → point (c * 16 + d) (drop (at + 1) text) ≡ hexed (placed text s)
     hexed-yes d e h =
         ap₂ (λ (x : ℕ) (bs : List ℕ). point (c * 16 + x) bs) e (sym (tail-drop text at))
-        ∙ sym (hexed-digit c (drop at text) (lt-ltb (hexOf (head (drop at text))) 16 (rw e at h)))
+        ∙ sym (hexed-digit c (drop at text) (lt-ltb (hex_of (head (drop at text))) 16 (rw e at h)))
         ∙ ap (λ (x : Scalar). hexed (placed text x)) (sym known)
 
-    pub hexed-no : (d : ℕ) → d ≡ hexOf (head (drop at text)) → 16 ≤ d → bad ≡ hexed (placed text s)
+    pub hexed-no : (d : ℕ) → d ≡ hex_of (head (drop at text)) → 16 ≤ d → bad ≡ hexed (placed text s)
     hexed-no d e h =
-        sym (hexed-none c (drop at text) (le-ltb (hexOf (head (drop at text))) 16 (rw e at h)))
+        sym (hexed-none c (drop at text) (le-ltb (hex_of (head (drop at text))) 16 (rw e at h)))
         ∙ ap (λ (x : Scalar). hexed (placed text x)) (sym known)
 
     pub continued-yes : (a e b : ℕ) → b ≡ head (drop at text) → within a e b ≡ true
@@ -144,29 +144,29 @@ module _ (text : List ℕ) where
         ∙ ap (λ (x : Scalar). continued a e (placed text x)) (sym known)
 
     pub units-one : c < 0x10000 → goes (c ∷ []) (drop at text) ≡ pointed (placed text s)
-    unfolding pointed unitsOf
+    unfolding pointed units_of
     units-one h = ap (λ (us : List ℕ). goes us (drop at text)) (sym (one c h)) ∙ ap (λ (x : Scalar). pointed (placed text x)) (sym known)
 
     pub units-two : 0x10000 ≤ c → goes ((0xd800 + (c - 0x10000) / 0x400) ∷ (0xdc00 + (c - 0x10000) % 0x400) ∷ []) (drop at text) ≡ pointed (placed text s)
-    unfolding pointed unitsOf
+    unfolding pointed units_of
     units-two h = ap (λ (us : List ℕ). goes us (drop at text)) (sym (two c h)) ∙ ap (λ (x : Scalar). pointed (placed text x)) (sym known)
 
 -- ---- escapes, code points and characters
 
-pub hex-unit : (bs : List ℕ) → hexUnit bs ≡ pointed (hexed (hexed (hexed (hexed (point 0 bs)))))
-unfolding hexUnit
+pub hex-unit : (bs : List ℕ) → hex_unit bs ≡ pointed (hexed (hexed (hexed (hexed (point 0 bs)))))
+unfolding hex_unit
 hex-unit bs = refl
 
 module _ (bs : List ℕ) where
-  pub escaped-hex : eqb (head bs) 0x75 ≡ true → escaped bs ≡ hexUnit (tail bs)
+  pub escaped-hex : eqb (head bs) 0x75 ≡ true → escaped bs ≡ hex_unit (tail bs)
   unfolding escaped
   escaped-hex e = rw (e, escaped)
 
-  pub escaped-none : eqb (head bs) 0x75 ≡ false → eqb (escapeOf (head bs)) 0 ≡ true → escaped bs ≡ fails
+  pub escaped-none : eqb (head bs) 0x75 ≡ false → eqb (escape_of (head bs)) 0 ≡ true → escaped bs ≡ fails
   unfolding escaped
   escaped-none e q = rw (e, q, escaped)
 
-  pub escaped-byte : eqb (head bs) 0x75 ≡ false → eqb (escapeOf (head bs)) 0 ≡ false → escaped bs ≡ goes (escapeOf (head bs) ∷ []) (tail bs)
+  pub escaped-byte : eqb (head bs) 0x75 ≡ false → eqb (escape_of (head bs)) 0 ≡ false → escaped bs ≡ goes (escape_of (head bs) ∷ []) (tail bs)
   unfolding escaped
   escaped-byte e q = rw (e, q, escaped)
 

@@ -6,16 +6,16 @@ use mathlib.Core.Bool.{true, false, ◌||◌}
 use mathlib.Core.List.{List}
 use lib.Dec.{eqb}
 use Rattle.json.specs.Bytes.{head, tail, nothing, rest, then}
-use Rattle.json.specs.Numbers.{isDigit, digits, someDigits, minus, int, frac, sign, exp, number}
+use Rattle.json.specs.Numbers.{is_digit, digits, some_digits, minus, int, frac, sign, exp, number}
 
 module _ (bs : List ℕ) where
-  pub digits-yes : isDigit (head bs) ≡ true → someDigits bs ≡ rest (digits (tail bs))
-  unfolding someDigits
-  digits-yes e = rw (e, someDigits)
+  pub digits-yes : is_digit (head bs) ≡ true → some_digits bs ≡ rest (digits (tail bs))
+  unfolding some_digits
+  digits-yes e = rw (e, some_digits)
 
-  pub digits-no : isDigit (head bs) ≡ false → someDigits bs ≡ nothing
-  unfolding someDigits
-  digits-no e = rw (e, someDigits)
+  pub digits-no : is_digit (head bs) ≡ false → some_digits bs ≡ nothing
+  unfolding some_digits
+  digits-no e = rw (e, some_digits)
 
   pub minus-yes : eqb (head bs) 45 ≡ true → minus bs ≡ tail bs
   unfolding minus
@@ -29,11 +29,11 @@ module _ (bs : List ℕ) where
   unfolding int
   int-zero e = rw (e, int)
 
-  pub int-more : eqb (head bs) 48 ≡ false → int bs ≡ someDigits bs
+  pub int-more : eqb (head bs) 48 ≡ false → int bs ≡ some_digits bs
   unfolding int
   int-more e = rw (e, int)
 
-  pub frac-yes : eqb (head bs) 46 ≡ true → frac bs ≡ someDigits (tail bs)
+  pub frac-yes : eqb (head bs) 46 ≡ true → frac bs ≡ some_digits (tail bs)
   unfolding frac
   frac-yes e = rw (e, frac)
 
@@ -49,7 +49,7 @@ module _ (bs : List ℕ) where
   unfolding sign
   sign-no e = rw (e, sign)
 
-  pub exp-yes : (eqb (head bs) 101 || eqb (head bs) 69) ≡ true → exp bs ≡ someDigits (sign (tail bs))
+  pub exp-yes : (eqb (head bs) 101 || eqb (head bs) 69) ≡ true → exp bs ≡ some_digits (sign (tail bs))
   unfolding exp
   exp-yes e = rw (e, exp)
 

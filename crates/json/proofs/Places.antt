@@ -11,8 +11,8 @@ use lib.Dec.{eqb, leb}
 use lib.ListN.{length, get_or, drop, drop_of_length-le}
 use lib.Seq.{drop-cons}
 use borrow.Author.Tests.{ne_eqb, leb-true}
-use Rattle.json.specs.Bytes.{head, tail, within, isSpace, space}
-use Rattle.json.specs.Numbers.{isDigit, digits}
+use Rattle.json.specs.Bytes.{head, tail, within, is_space, space}
+use Rattle.json.specs.Numbers.{is_digit, digits}
 
 pub head_in : (t : List ℕ) (at : ℕ) → at < length t → head (drop at t) ≡ get_or t at 0
 unfolding head
@@ -61,33 +61,33 @@ either-small x y b hx hy e = by (dec_lt b 256)
         let o : ◌≡◌ {A = ℕ} 0 1 = cc in
         omega arith
 
-pub space-small : (b : ℕ) → isSpace b ≡ true → b < 256
+pub space-small : (b : ℕ) → is_space b ≡ true → b < 256
 space-small b e = by (eqb b 0x20 || eqb b 0x09) refl
   where
     by : (t : Bool) → (eqb b 0x20 || eqb b 0x09) ≡ t → b < 256
     by true q = either-small 0x20 0x09 b (omega arith) (omega arith) q
     by false q = either-small 0x0a 0x0d b (omega arith) (omega arith) (sym (ap (λ (x : Bool). x || (eqb b 0x0a || eqb b 0x0d)) q) ∙ e)
 
-pub digit-small : (b : ℕ) → isDigit b ≡ true → b < 256
+pub digit-small : (b : ℕ) → is_digit b ≡ true → b < 256
 digit-small b e = let h = within-true 0x30 0x39 b e in omega arith
 
 -- white space goes on behind a byte of it, and ends before any other
-pub space-more : (bs : List ℕ) → isSpace (head bs) ≡ true → space bs ≡ space (tail bs)
+pub space-more : (bs : List ℕ) → is_space (head bs) ≡ true → space bs ≡ space (tail bs)
 unfolding head tail space
 space-more [] e = refl
 space-more (b ∷ bs) e = rw (e, space)
 
-pub space-end : (bs : List ℕ) → isSpace (head bs) ≡ false → space bs ≡ bs
+pub space-end : (bs : List ℕ) → is_space (head bs) ≡ false → space bs ≡ bs
 unfolding head space
 space-end [] e = refl
 space-end (b ∷ bs) e = rw (e, space)
 
-pub digits_more : (bs : List ℕ) → isDigit (head bs) ≡ true → digits bs ≡ digits (tail bs)
+pub digits_more : (bs : List ℕ) → is_digit (head bs) ≡ true → digits bs ≡ digits (tail bs)
 unfolding head tail digits
 digits_more [] e = refl
 digits_more (b ∷ bs) e = rw (e, digits)
 
-pub digits-end : (bs : List ℕ) → isDigit (head bs) ≡ false → digits bs ≡ bs
+pub digits-end : (bs : List ℕ) → is_digit (head bs) ≡ false → digits bs ≡ bs
 unfolding head digits
 digits-end [] e = refl
 digits-end (b ∷ bs) e = rw (e, digits)

@@ -5,7 +5,7 @@ use native.Mathlib.Omega.{arith}
 use mathlib.Core.Path.{◌≡◌, refl, ap}
 use mathlib.Core.List.{List, [], ◌∷◌, ◌++◌}
 use lib.ListN.{length}
-use Rattle.json.specs.Bytes.{nothing, rest, Step, fails, goes, ends, afterBy, startsBy, unitsBy, after, starts}
+use Rattle.json.specs.Bytes.{nothing, rest, Step, fails, goes, ends, after_by, starts_by, units_by, after, starts}
 
 abbrev pub Narrow : (List ℕ → Step) → Type 0
 Narrow f = (bs us cs : List ℕ) → f bs ≡ goes us cs → length cs < length bs
@@ -20,77 +20,77 @@ enough F local (suc n) zero bs h k = absurd (omega arith)
 enough F local (suc n) (suc m) bs h k = local n m bs (λ cs l. enough F local n m cs (omega arith) (omega arith))
 
 module _ (f : List ℕ → Step) (narrow : Narrow f) where
-  after-local : Local (afterBy f)
-  unfolding afterBy
+  after-local : Local (after_by f)
+  unfolding after_by
   after-local n m bs same = by (f bs) refl
     where
-      by : (s : Step) → f bs ≡ s → afterBy f (suc n) bs ≡ afterBy f (suc m) bs
-      by fails e = rw (e, afterBy)
-      by (goes us cs) e = rw (e, afterBy) (same cs (narrow bs us cs e))
-      by (ends cs) e = rw (e, afterBy)
+      by : (s : Step) → f bs ≡ s → after_by f (suc n) bs ≡ after_by f (suc m) bs
+      by fails e = rw (e, after_by)
+      by (goes us cs) e = rw (e, after_by) (same cs (narrow bs us cs e))
+      by (ends cs) e = rw (e, after_by)
 
-  starts-local : Local (startsBy f)
-  unfolding startsBy
+  starts-local : Local (starts_by f)
+  unfolding starts_by
   starts-local n m bs same = by (f bs) refl
     where
-      by : (s : Step) → f bs ≡ s → startsBy f (suc n) bs ≡ startsBy f (suc m) bs
-      by fails e = rw (e, startsBy)
-      by (goes us cs) e = rw (e, startsBy) (ap (λ (l : List (List ℕ)). bs ∷ l) (same cs (narrow bs us cs e)))
-      by (ends cs) e = rw (e, startsBy)
+      by : (s : Step) → f bs ≡ s → starts_by f (suc n) bs ≡ starts_by f (suc m) bs
+      by fails e = rw (e, starts_by)
+      by (goes us cs) e = rw (e, starts_by) (ap (λ (l : List (List ℕ)). bs ∷ l) (same cs (narrow bs us cs e)))
+      by (ends cs) e = rw (e, starts_by)
 
-  units-local : Local (unitsBy f)
-  unfolding unitsBy
+  units-local : Local (units_by f)
+  unfolding units_by
   units-local n m bs same = by (f bs) refl
     where
-      by : (s : Step) → f bs ≡ s → unitsBy f (suc n) bs ≡ unitsBy f (suc m) bs
-      by fails e = rw (e, unitsBy)
-      by (goes us cs) e = rw (e, unitsBy) (ap (λ (l : List ℕ). us ++ l) (same cs (narrow bs us cs e)))
-      by (ends cs) e = rw (e, unitsBy)
+      by : (s : Step) → f bs ≡ s → units_by f (suc n) bs ≡ units_by f (suc m) bs
+      by fails e = rw (e, units_by)
+      by (goes us cs) e = rw (e, units_by) (ap (λ (l : List ℕ). us ++ l) (same cs (narrow bs us cs e)))
+      by (ends cs) e = rw (e, units_by)
 
   -- more steps than bytes change nothing
-  pub after-enough : (n : ℕ) (bs : List ℕ) → length bs < n → afterBy f n bs ≡ after f bs
-  after-enough n bs h = enough (afterBy f) after-local n (suc (length bs)) bs h (omega arith)
+  pub after-enough : (n : ℕ) (bs : List ℕ) → length bs < n → after_by f n bs ≡ after f bs
+  after-enough n bs h = enough (after_by f) after-local n (suc (length bs)) bs h (omega arith)
 
-  pub starts-enough : (n : ℕ) (bs : List ℕ) → length bs < n → startsBy f n bs ≡ starts f bs
-  starts-enough n bs h = enough (startsBy f) starts-local n (suc (length bs)) bs h (omega arith)
+  pub starts-enough : (n : ℕ) (bs : List ℕ) → length bs < n → starts_by f n bs ≡ starts f bs
+  starts-enough n bs h = enough (starts_by f) starts-local n (suc (length bs)) bs h (omega arith)
 
-  pub units-enough : (n : ℕ) (bs : List ℕ) → length bs < n → unitsBy f n bs ≡ unitsBy f (suc (length bs)) bs
-  units-enough n bs h = enough (unitsBy f) units-local n (suc (length bs)) bs h (omega arith)
+  pub units-enough : (n : ℕ) (bs : List ℕ) → length bs < n → units_by f n bs ≡ units_by f (suc (length bs)) bs
+  units-enough n bs h = enough (units_by f) units-local n (suc (length bs)) bs h (omega arith)
 
   module _ (bs : List ℕ) where
     -- the first step
     pub after-fails : f bs ≡ fails → after f bs ≡ nothing
-    unfolding afterBy
-    after-fails e = rw (e, afterBy)
+    unfolding after_by
+    after-fails e = rw (e, after_by)
 
     pub after-goes : (us cs : List ℕ) → f bs ≡ goes us cs → after f bs ≡ after f cs
-    unfolding afterBy
-    after-goes us cs e = rw (e, afterBy) (after-enough (length bs) cs (narrow bs us cs e))
+    unfolding after_by
+    after-goes us cs e = rw (e, after_by) (after-enough (length bs) cs (narrow bs us cs e))
 
     pub after-ends : (cs : List ℕ) → f bs ≡ ends cs → after f bs ≡ rest cs
-    unfolding afterBy
-    after-ends cs e = rw (e, afterBy)
+    unfolding after_by
+    after-ends cs e = rw (e, after_by)
 
     pub starts-goes : (us cs : List ℕ) → f bs ≡ goes us cs → starts f bs ≡ bs ∷ starts f cs
-    unfolding startsBy
-    starts-goes us cs e = rw (e, startsBy) (ap (λ (l : List (List ℕ)). bs ∷ l) (starts-enough (length bs) cs (narrow bs us cs e)))
+    unfolding starts_by
+    starts-goes us cs e = rw (e, starts_by) (ap (λ (l : List (List ℕ)). bs ∷ l) (starts-enough (length bs) cs (narrow bs us cs e)))
 
     pub starts-fails : f bs ≡ fails → starts f bs ≡ bs ∷ []
-    unfolding startsBy
-    starts-fails e = rw (e, startsBy)
+    unfolding starts_by
+    starts-fails e = rw (e, starts_by)
 
     pub starts-ends : (cs : List ℕ) → f bs ≡ ends cs → starts f bs ≡ bs ∷ []
-    unfolding startsBy
-    starts-ends cs e = rw (e, startsBy)
+    unfolding starts_by
+    starts-ends cs e = rw (e, starts_by)
 
-    pub units-goes : (us cs : List ℕ) → f bs ≡ goes us cs → unitsBy f (suc (length bs)) bs ≡ us ++ unitsBy f (suc (length cs)) cs
-    unfolding unitsBy
-    units-goes us cs e = rw (e, unitsBy) (ap (λ (l : List ℕ). us ++ l) (units-enough (length bs) cs (narrow bs us cs e)))
+    pub units-goes : (us cs : List ℕ) → f bs ≡ goes us cs → units_by f (suc (length bs)) bs ≡ us ++ units_by f (suc (length cs)) cs
+    unfolding units_by
+    units-goes us cs e = rw (e, units_by) (ap (λ (l : List ℕ). us ++ l) (units-enough (length bs) cs (narrow bs us cs e)))
 
-    pub units-fails : f bs ≡ fails → unitsBy f (suc (length bs)) bs ≡ []
-    unfolding unitsBy
-    units-fails e = rw (e, unitsBy)
+    pub units-fails : f bs ≡ fails → units_by f (suc (length bs)) bs ≡ []
+    unfolding units_by
+    units-fails e = rw (e, units_by)
 
-    pub units-ends : (cs : List ℕ) → f bs ≡ ends cs → unitsBy f (suc (length bs)) bs ≡ []
-    unfolding unitsBy
-    units-ends cs e = rw (e, unitsBy)
+    pub units-ends : (cs : List ℕ) → f bs ≡ ends cs → units_by f (suc (length bs)) bs ≡ []
+    unfolding units_by
+    units-ends cs e = rw (e, units_by)

@@ -6,10 +6,10 @@ use Prim.Native.String.{String, [] as ε, ◌∷◌ as ◌◂◌}
 use mathlib.Core.Path.{◌≡◌, refl}
 use mathlib.Core.Bool.{Bool, true, false, not, ◌&&◌}
 use mathlib.Core.List.{List, [], ◌∷◌, ◌++◌}
-use Rattle.json.specs.Bytes.{head, tail, then, afterBy, unitsBy, space}
-use Rattle.json.specs.Numbers.{digits, someDigits, minus, int, frac, sign, exp, number}
-use Rattle.json.specs.Strings.{hexOf, hexed, hexUnit, escapeOf, escaped, continued, low, high, second, point_of, unitsOf, pointed, character, units}
-use Rattle.json.specs.Values.{literal, start, closing, mark, name, separated, item, items, value, isText}
+use Rattle.json.specs.Bytes.{head, tail, then, after_by, units_by, space}
+use Rattle.json.specs.Numbers.{digits, some_digits, minus, int, frac, sign, exp, number}
+use Rattle.json.specs.Strings.{hex_of, hexed, hex_unit, escape_of, escaped, continued, low, high, second, point_of, units_of, pointed, character, units}
+use Rattle.json.specs.Values.{literal, start, closing, mark, name, separated, item, items, value, is_text}
 
 abbrev pub ascii : String → List ℕ
 ascii ε = []
@@ -68,19 +68,19 @@ refused =
     ∷ []
 
 -- nested three deep at most
-pub judged : every (isText 3) accepted && every (λ t. not (isText 3 t)) refused ≡ true
-unfolding head tail then afterBy space digits someDigits minus int frac sign exp number hexOf hexed hexUnit escapeOf escaped continued low high second point_of unitsOf pointed character literal start closing mark name separated item items value isText
+pub judged : every (is_text 3) accepted && every (λ t. not (is_text 3 t)) refused ≡ true
+unfolding head tail then after_by space digits some_digits minus int frac sign exp number hex_of hexed hex_unit escape_of escaped continued low high second point_of units_of pointed character literal start closing mark name separated item items value is_text
 judged = refl
 
 -- U+1F600 as an escaped pair and as four bytes; a surrogate that stands alone
 pub pair : units (ascii "\\ud83d\\uDE00\"") ≡ 0xd83d ∷ 0xde00 ∷ []
-unfolding head tail unitsBy hexOf hexed hexUnit escapeOf escaped continued low high second point_of unitsOf pointed character
+unfolding head tail units_by hex_of hexed hex_unit escape_of escaped continued low high second point_of units_of pointed character
 pair = refl
 
 pub raw : units (0xf0 ∷ 0x9f ∷ 0x98 ∷ 0x80 ∷ 0x22 ∷ []) ≡ 0xd83d ∷ 0xde00 ∷ []
-unfolding head tail unitsBy hexOf hexed hexUnit escapeOf escaped continued low high second point_of unitsOf pointed character
+unfolding head tail units_by hex_of hexed hex_unit escape_of escaped continued low high second point_of units_of pointed character
 raw = refl
 
 pub alone : units (ascii "\\ud83d\\n\"") ≡ 0xd83d ∷ 10 ∷ []
-unfolding head tail unitsBy hexOf hexed hexUnit escapeOf escaped continued low high second point_of unitsOf pointed character
+unfolding head tail units_by hex_of hexed hex_unit escape_of escaped continued low high second point_of units_of pointed character
 alone = refl

@@ -9,10 +9,10 @@ use mathlib.Core.List.{List, [], ◌∷◌}
 use lib.Dec.{eqb, ltb}
 use lib.ListN.{length}
 use borrow.Author.Rules.{zero≤}
-use Rattle.json.specs.Bytes.{head, tail, within, Rest, nothing, rest, then, Step, fails, goes, ends, afterBy, after, isSpace, space}
-use Rattle.json.specs.Numbers.{isDigit, digits, someDigits, minus, int, frac, sign, exp, number}
-use Rattle.json.specs.Strings.{Point, bad, point, hexOf, hexed, hexUnit, pointed, escapeOf, escaped, continued, low, high, second, point_of, character, string}
-use Rattle.json.specs.Values.{literal, Start, plain, opens, start, closing, mark, name, separated, separatedAfter, item, items, value}
+use Rattle.json.specs.Bytes.{head, tail, within, Rest, nothing, rest, then, Step, fails, goes, ends, after_by, after, is_space, space}
+use Rattle.json.specs.Numbers.{is_digit, digits, some_digits, minus, int, frac, sign, exp, number}
+use Rattle.json.specs.Strings.{Point, bad, point, hex_of, hexed, hex_unit, pointed, escape_of, escaped, continued, low, high, second, point_of, character, string}
+use Rattle.json.specs.Values.{literal, Start, plain, opens, start, closing, mark, name, separated, separated_after, item, items, value}
 use Rattle.json.proofs.Repetition.{Narrow}
 
 abbrev pub RestIn : ℕ → Rest → Type 0
@@ -41,14 +41,14 @@ tail-in (b ∷ bs) = omega arith
 space-in : (bs : List ℕ) → length (space bs) ≤ length bs
 unfolding space
 space-in [] = zero≤
-space-in (b ∷ bs) = pick (λ (cs : List ℕ). length cs ≤ suc (length bs)) (isSpace b) (space bs) (b ∷ bs) (let h = space-in bs in omega arith) (le_refl _)
+space-in (b ∷ bs) = pick (λ (cs : List ℕ). length cs ≤ suc (length bs)) (is_space b) (space bs) (b ∷ bs) (let h = space-in bs in omega arith) (le_refl _)
 
 -- ---- numbers
 
 digits_in : (bs : List ℕ) → length (digits bs) ≤ length bs
 unfolding digits
 digits_in [] = zero≤
-digits_in (b ∷ bs) = pick (λ (cs : List ℕ). length cs ≤ suc (length bs)) (isDigit b) (digits bs) (b ∷ bs) (let h = digits_in bs in omega arith) (le_refl _)
+digits_in (b ∷ bs) = pick (λ (cs : List ℕ). length cs ≤ suc (length bs)) (is_digit b) (digits bs) (b ∷ bs) (let h = digits_in bs in omega arith) (le_refl _)
 
 weaker : {m n : ℕ} (r : Rest) → m ≤ n → RestIn m r → RestIn n r
 weaker nothing l h = tt
@@ -64,9 +64,9 @@ unfolding then
 then-in n nothing k h g = tt
 then-in n (rest cs) k h g = weaker (k cs) h (g cs)
 
-some-digits-in : (bs : List ℕ) → RestIn (length bs) (someDigits bs)
-unfolding someDigits
-some-digits-in bs = pick (RestIn (length bs)) (isDigit (head bs)) (rest (digits (tail bs))) nothing (le_trans (digits_in (tail bs)) (tail-in bs)) tt
+some-digits-in : (bs : List ℕ) → RestIn (length bs) (some_digits bs)
+unfolding some_digits
+some-digits-in bs = pick (RestIn (length bs)) (is_digit (head bs)) (rest (digits (tail bs))) nothing (le_trans (digits_in (tail bs)) (tail-in bs)) tt
 
 optional-in : (t : Bool) (bs : List ℕ) → length {A = ℕ} (elim t [ true ↦ tail bs | false ↦ bs ]) ≤ length bs
 optional-in t bs = pick (λ (cs : List ℕ). length cs ≤ length bs) t (tail bs) bs (tail-in bs) (le_refl _)
@@ -81,19 +81,19 @@ sign-in bs = optional-in (eqb (head bs) 0x2d || eqb (head bs) 0x2b) bs
 
 int-in : (bs : List ℕ) → RestIn (length bs) (int bs)
 unfolding int
-int-in bs = pick (RestIn (length bs)) (eqb (head bs) 0x30) (rest (tail bs)) (someDigits bs) (tail-in bs) (some-digits-in bs)
+int-in bs = pick (RestIn (length bs)) (eqb (head bs) 0x30) (rest (tail bs)) (some_digits bs) (tail-in bs) (some-digits-in bs)
 
 frac-in : (bs : List ℕ) → RestIn (length bs) (frac bs)
 unfolding frac
 frac-in bs =
-    pick (RestIn (length bs)) (eqb (head bs) 0x2e) (someDigits (tail bs)) (rest bs)
-    (weaker (someDigits (tail bs)) (tail-in bs) (some-digits-in (tail bs))) (le_refl _)
+    pick (RestIn (length bs)) (eqb (head bs) 0x2e) (some_digits (tail bs)) (rest bs)
+    (weaker (some_digits (tail bs)) (tail-in bs) (some-digits-in (tail bs))) (le_refl _)
 
 exp_in : (bs : List ℕ) → RestIn (length bs) (exp bs)
 unfolding exp
 exp_in bs =
-    pick (RestIn (length bs)) (eqb (head bs) 0x65 || eqb (head bs) 0x45) (someDigits (sign (tail bs))) (rest bs)
-    (weaker (someDigits (sign (tail bs))) (le_trans (sign-in (tail bs)) (tail-in bs)) (some-digits-in (sign (tail bs)))) (le_refl _)
+    pick (RestIn (length bs)) (eqb (head bs) 0x65 || eqb (head bs) 0x45) (some_digits (sign (tail bs))) (rest bs)
+    (weaker (some_digits (sign (tail bs))) (le_trans (sign-in (tail bs)) (tail-in bs)) (some-digits-in (sign (tail bs)))) (le_refl _)
 
 number_in : (bs : List ℕ) → RestIn (length bs) (number bs)
 unfolding number
@@ -107,7 +107,7 @@ module _ (n : ℕ) where
   unfolding hexed
   hexed-in bad h = tt
   hexed-in (point c bs) h =
-      pick (PointIn n) (ltb (hexOf (head bs)) 16) (point _ (tail bs)) bad (le_trans (tail-in bs) h) tt
+      pick (PointIn n) (ltb (hex_of (head bs)) 16) (point _ (tail bs)) bad (le_trans (tail-in bs) h) tt
 
   continued-in : (a e : ℕ) (p : Point) → PointIn n p → PointIn n (continued a e p)
   unfolding continued
@@ -134,8 +134,8 @@ unfolding pointed
 pointed-in bad h l = tt
 pointed-in (point c bs) h l = omega arith
 
-hex-unit-in : {m : ℕ} (bs : List ℕ) → length bs < m → StepIn m (hexUnit bs)
-unfolding hexUnit
+hex-unit-in : {m : ℕ} (bs : List ℕ) → length bs < m → StepIn m (hex_unit bs)
+unfolding hex_unit
 hex-unit-in bs l =
     pointed-in (hexed (hexed (hexed (hexed (point 0 bs))))) (digit (hexed (hexed (hexed (point 0 bs)))) (digit (hexed (hexed (point 0 bs))) (digit (hexed (point 0 bs)) (digit (point 0 bs) (le_refl _))))) l
   where
@@ -146,8 +146,8 @@ escaped-in : {m : ℕ} (bs : List ℕ) → length bs < m → StepIn m (escaped b
 unfolding escaped
 escaped-in {m} bs l =
     let t = tail-in bs in
-    pick (StepIn m) (eqb (head bs) 0x75) (hexUnit (tail bs)) _ (hex-unit-in (tail bs) (omega arith))
-    (pick (StepIn m) (eqb (escapeOf (head bs)) 0) fails (goes _ (tail bs)) tt (omega arith))
+    pick (StepIn m) (eqb (head bs) 0x75) (hex_unit (tail bs)) _ (hex-unit-in (tail bs) (omega arith))
+    (pick (StepIn m) (eqb (escape_of (head bs)) 0) fails (goes _ (tail bs)) tt (omega arith))
 
 pub character-in : (bs : List ℕ) → StepIn (length bs) (character bs)
 unfolding head tail character point_of pointed
@@ -169,14 +169,14 @@ pub character-narrow : Narrow character
 character-narrow = narrow-of character character-in
 
 module _ (f : List ℕ → Step) (f-in : (bs : List ℕ) → StepIn (length bs) (f bs)) where
-  step_in : (n m : ℕ) → ((cs : List ℕ) → RestIn (length cs) (afterBy f n cs)) → (s : Step) → StepIn m s
-      → RestIn m (elim s [ fails ↦ nothing | goes us cs ↦ afterBy f n cs | ends cs ↦ rest cs ])
+  step_in : (n m : ℕ) → ((cs : List ℕ) → RestIn (length cs) (after_by f n cs)) → (s : Step) → StepIn m s
+      → RestIn m (elim s [ fails ↦ nothing | goes us cs ↦ after_by f n cs | ends cs ↦ rest cs ])
   step_in n m h fails l = tt
-  step_in n m h (goes us cs) l = weaker (afterBy f n cs) (omega arith) (h cs)
+  step_in n m h (goes us cs) l = weaker (after_by f n cs) (omega arith) (h cs)
   step_in n m h (ends cs) l = l
 
-  after-in : (n : ℕ) (bs : List ℕ) → RestIn (length bs) (afterBy f n bs)
-  unfolding afterBy
+  after-in : (n : ℕ) (bs : List ℕ) → RestIn (length bs) (after_by f n bs)
+  unfolding after_by
   after-in zero bs = tt
   after-in (suc n) bs = step_in n (length bs) (after-in n) (f bs) (f-in bs)
 
@@ -241,7 +241,7 @@ module _ (f : List ℕ → Rest) (f-in : (bs : List ℕ) → RestIn (length bs) 
   unfolding item
   item_in bs = by (then (name k bs) f) (then-in (length bs) (name k bs) f (name_in k bs) f-in)
     where
-      by : (r : Rest) → RestIn (length bs) r → StepIn (length bs) (separatedAfter k r)
+      by : (r : Rest) → RestIn (length bs) r → StepIn (length bs) (separated_after k r)
       by nothing h = tt
       by (rest cs) h = stronger (separated k (space cs)) (le_trans (space-in cs) h) (separated-in k (space cs))
 

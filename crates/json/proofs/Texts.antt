@@ -14,7 +14,7 @@ use borrow.Author.Tests.{eq-eqb, ne_eqb, le-leb, lt-leb}
 use Rattle.json.specs.Bytes.{head, tail, Rest, nothing, rest, then, fails, goes, ends, after, space}
 use Rattle.json.specs.Numbers.{number}
 use Rattle.json.specs.Strings.{string}
-use Rattle.json.specs.Values.{literal, plain, opens, start, closing, mark, name, separated, item, items, first, value, over, isText}
+use Rattle.json.specs.Values.{literal, plain, opens, start, closing, mark, name, separated, item, items, first, value, over, is_text}
 use Rattle.json.proofs.Places.{tail-drop}
 
 -- ---- a word, byte by byte
@@ -174,13 +174,13 @@ module _ (bs : List ℕ) where
     pub value-opens : (nest m : ℕ) → nest ≡ suc m → value nest bs ≡ items (value m) k cs
     value-opens nest m z = ap (λ (n : ℕ). value n bs) z ∙ value-suc bs k cs e m
 
-  pub text-none : (nest : ℕ) → value nest (space bs) ≡ nothing → isText nest bs ≡ false
-  unfolding isText
-  text-none nest e = rw (e, isText)
+  pub text-none : (nest : ℕ) → value nest (space bs) ≡ nothing → is_text nest bs ≡ false
+  unfolding is_text
+  text-none nest e = rw (e, is_text)
 
-  pub text-ends : (nest : ℕ) (cs : List ℕ) → value nest (space bs) ≡ rest cs → isText nest bs ≡ over (space cs)
-  unfolding isText
-  text-ends nest cs e = rw (e, isText)
+  pub text-ends : (nest : ℕ) (cs : List ℕ) → value nest (space bs) ≡ rest cs → is_text nest bs ≡ over (space cs)
+  unfolding is_text
+  text-ends nest cs e = rw (e, is_text)
 
 pub over-at : (text : List ℕ) (at : ℕ) → over (drop at text) ≡ leb (length text) at
 over-at text at = by (dec_lt at (length text))

@@ -30,32 +30,32 @@ pub data Step : Type 0 where
   ends : (rest : List ℕ) → Step
 
 -- the bytes behind the last of at most n steps
-unfoldable pub afterBy : (List ℕ → Step) → ℕ → List ℕ → Rest
-afterBy f zero bs = nothing
-afterBy f (suc n) bs = elim (f bs) [ fails ↦ nothing | goes us cs ↦ afterBy f n cs | ends cs ↦ rest cs ]
+unfoldable pub after_by : (List ℕ → Step) → ℕ → List ℕ → Rest
+after_by f zero bs = nothing
+after_by f (suc n) bs = elim (f bs) [ fails ↦ nothing | goes us cs ↦ after_by f n cs | ends cs ↦ rest cs ]
 
 -- where each of at most n steps starts
-unfoldable pub startsBy : (List ℕ → Step) → ℕ → List ℕ → List (List ℕ)
-startsBy f zero bs = []
-startsBy f (suc n) bs = bs ∷ elim (f bs) [ fails ↦ [] | goes us cs ↦ startsBy f n cs | ends cs ↦ [] ]
+unfoldable pub starts_by : (List ℕ → Step) → ℕ → List ℕ → List (List ℕ)
+starts_by f zero bs = []
+starts_by f (suc n) bs = bs ∷ elim (f bs) [ fails ↦ [] | goes us cs ↦ starts_by f n cs | ends cs ↦ [] ]
 
 -- the units of at most n steps
-unfoldable pub unitsBy : (List ℕ → Step) → ℕ → List ℕ → List ℕ
-unitsBy f zero bs = []
-unitsBy f (suc n) bs = elim (f bs) [ fails ↦ [] | goes us cs ↦ us ++ unitsBy f n cs | ends cs ↦ [] ]
+unfoldable pub units_by : (List ℕ → Step) → ℕ → List ℕ → List ℕ
+units_by f zero bs = []
+units_by f (suc n) bs = elim (f bs) [ fails ↦ [] | goes us cs ↦ us ++ units_by f n cs | ends cs ↦ [] ]
 
 -- A step that goes on takes a byte or more, so the number of bytes bounds the steps (proofs/Repetition.antt).
 abbrev pub after : (List ℕ → Step) → List ℕ → Rest
-after f bs = afterBy f (suc (length bs)) bs
+after f bs = after_by f (suc (length bs)) bs
 
 abbrev pub starts : (List ℕ → Step) → List ℕ → List (List ℕ)
-starts f bs = startsBy f (suc (length bs)) bs
+starts f bs = starts_by f (suc (length bs)) bs
 
 -- white space (section 2): space, tab, line feed, carriage return
-abbrev pub isSpace : ℕ → Bool
-isSpace b = (eqb b 0x20 || eqb b 0x09) || (eqb b 0x0a || eqb b 0x0d)
+abbrev pub is_space : ℕ → Bool
+is_space b = (eqb b 0x20 || eqb b 0x09) || (eqb b 0x0a || eqb b 0x0d)
 
 -- the bytes behind the white space at the start
 unfoldable pub space : List ℕ → List ℕ
 space [] = []
-space (b ∷ bs) = elim (isSpace b) [ true ↦ space bs | false ↦ b ∷ bs ]
+space (b ∷ bs) = elim (is_space b) [ true ↦ space bs | false ↦ b ∷ bs ]

@@ -1,11 +1,11 @@
 -- Strings (RFC 8259, sections 7 and 8) as UTF-16 code units: an escape `\u` is one unit, so a surrogate that stands alone is itself,
 -- and two that make a pair are the pair of the character that UTF-8 would have spelled.
 use Rattle.std.specs.Prelude.{ℕ, suc, ◌+◌, ◌-◌, ◌*◌, ◌/◌, ◌%◌, ◌^◌, true, false, List, [], ◌∷◌, eqb, ltb, length}
-use Rattle.json.specs.Bytes.{head, tail, within, Rest, Step, fails, goes, ends, after, unitsBy}
+use Rattle.json.specs.Bytes.{head, tail, within, Rest, Step, fails, goes, ends, after, units_by}
 
 -- the number of a hexadecimal digit; 16 for any other byte
-unfoldable pub hexOf : ℕ → ℕ
-hexOf b =
+unfoldable pub hex_of : ℕ → ℕ
+hex_of b =
     elim (within 0x30 0x39 b) [
       | true ↦ b - 0x30
       | false ↦
@@ -17,8 +17,8 @@ hexOf b =
     ]
 
 -- what the byte behind a backslash stands for: `"` `\` `/` b f n r t; 0 for any other
-unfoldable pub escapeOf : ℕ → ℕ
-escapeOf b =
+unfoldable pub escape_of : ℕ → ℕ
+escape_of b =
     elim (eqb b 0x22) [
       | true ↦ 0x22
       | false ↦
@@ -55,35 +55,35 @@ pub data Point : Type 0 where
   point : (code : ℕ) (rest : List ℕ) → Point
 
 -- the units of a code point: itself, or a pair of surrogates
-unfoldable pub unitsOf : ℕ → List ℕ
-unitsOf c =
+unfoldable pub units_of : ℕ → List ℕ
+units_of c =
     elim (ltb c (2 ^ 16)) [ true ↦ c ∷ [] | false ↦ (0xd800 + (c - 2 ^ 16) / 2 ^ 10) ∷ (0xdc00 + (c - 2 ^ 16) % 2 ^ 10) ∷ [] ]
 
 unfoldable pub pointed : Point → Step
-unfolding unitsOf
+unfolding units_of
 pointed bad = fails
-pointed (point c bs) = goes (unitsOf c) bs
+pointed (point c bs) = goes (units_of c) bs
 
 -- one more hexadecimal digit
 unfoldable pub hexed : Point → Point
-unfolding head tail hexOf
+unfolding head tail hex_of
 hexed bad = bad
 hexed (point c bs) =
-    elim (ltb (hexOf (head bs)) 16) [ true ↦ point (c * 16 + hexOf (head bs)) (tail bs) | false ↦ bad ]
+    elim (ltb (hex_of (head bs)) 16) [ true ↦ point (c * 16 + hex_of (head bs)) (tail bs) | false ↦ bad ]
 
 -- behind `\u`: 4HEXDIG
-unfoldable pub hexUnit : List ℕ → Step
+unfoldable pub hex_unit : List ℕ → Step
 unfolding hexed pointed
-hexUnit bs = pointed (hexed (hexed (hexed (hexed (point 0 bs)))))
+hex_unit bs = pointed (hexed (hexed (hexed (hexed (point 0 bs)))))
 
 -- behind a backslash
 unfoldable pub escaped : List ℕ → Step
-unfolding head tail hexUnit escapeOf
+unfolding head tail hex_unit escape_of
 escaped bs =
     elim (eqb (head bs) 0x75) [
-      | true ↦ hexUnit (tail bs)
+      | true ↦ hex_unit (tail bs)
       | false ↦
-          elim (eqb (escapeOf (head bs)) 0) [ true ↦ fails | false ↦ goes (escapeOf (head bs) ∷ []) (tail bs) ]
+          elim (eqb (escape_of (head bs)) 0) [ true ↦ fails | false ↦ goes (escape_of (head bs) ∷ []) (tail bs) ]
     ]
 
 -- one more byte of a character, between two bounds
@@ -147,4 +147,4 @@ string bs = after character bs
 
 -- its units
 abbrev pub units : List ℕ → List ℕ
-units bs = unitsBy character (suc (length bs)) bs
+units bs = units_by character (suc (length bs)) bs

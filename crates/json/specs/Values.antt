@@ -67,14 +67,14 @@ separated k bs =
           elim (eqb (head bs) (closing k)) [ true ↦ ends (tail bs) | false ↦ fails ]
     ]
 
-abbrev pub separatedAfter : Bool → Rest → Step
-separatedAfter k nothing = fails
-separatedAfter k (rest bs) = separated k (space bs)
+abbrev pub separated_after : Bool → Rest → Step
+separated_after k nothing = fails
+separated_after k (rest bs) = separated k (space bs)
 
 -- an item, whose value is read by f, with what separates it from the next
 unfoldable pub item : (List ℕ → Rest) → Bool → List ℕ → Step
 unfolding name separated space then
-item f k bs = separatedAfter k (then (name k bs) f)
+item f k bs = separated_after k (then (name k bs) f)
 
 -- behind an opening bracket: the one that closes, or items (sections 4 and 5)
 unfoldable pub items : (List ℕ → Rest) → Bool → List ℕ → Rest
@@ -94,20 +94,20 @@ unfolding head space closing
 first k bs = elim (eqb (head (space bs)) (closing k)) [ true ↦ nothing | false ↦ rest (space bs) ]
 
 -- where each item starts
-unfoldable pub startsFrom : (List ℕ → Rest) → Bool → Rest → List (List ℕ)
+unfoldable pub starts_from : (List ℕ → Rest) → Bool → Rest → List (List ℕ)
 unfolding item
-startsFrom f k nothing = []
-startsFrom f k (rest bs) = starts (item f k) bs
+starts_from f k nothing = []
+starts_from f k (rest bs) = starts (item f k) bs
 
 unfoldable pub parts : (List ℕ → Rest) → Bool → List ℕ → List (List ℕ)
-unfolding first startsFrom
-parts f k bs = startsFrom f k (first k bs)
+unfolding first starts_from
+parts f k bs = starts_from f k (first k bs)
 
 abbrev pub over : List ℕ → Bool
 over [] = true
 over (b ∷ bs) = false
 
 -- JSON-text = ws value ws
-unfoldable pub isText : (nest : ℕ) → List ℕ → Bool
+unfoldable pub is_text : (nest : ℕ) → List ℕ → Bool
 unfolding value space
-isText nest bs = elim (value nest (space bs)) [ nothing ↦ false | rest cs ↦ over (space cs) ]
+is_text nest bs = elim (value nest (space bs)) [ nothing ↦ false | rest cs ↦ over (space cs) ]

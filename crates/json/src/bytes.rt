@@ -1,6 +1,6 @@
 // A byte of a text, and white space.
 ghost use Rattle.std.specs.Prelude.{◌≡◌, ◌&&◌, ◌||◌, eqb, drop};
-ghost use Rattle.json.specs.Bytes.{head, within, isSpace, space};
+ghost use Rattle.json.specs.Bytes.{head, within, is_space, space};
 
 // The byte at a place, and 256 past the end.
 pub fn byte(text: &[u8], at: usize) -> u32
@@ -29,7 +29,7 @@ pub fn is_either(x: u32, y: u32, b: u32) -> bool
 }
 
 fn is_space(b: u32) -> bool
-    ensures { result ≡ isSpace b }
+    ensures { result ≡ is_space b }
 {
     if is_either(0x20, 0x09, b) {
         return true;

@@ -1,6 +1,6 @@
 // Numbers: number = [ minus ] int [ frac ] [ exp ].
 ghost use Rattle.std.specs.Prelude.{◌≡◌, drop};
-ghost use Rattle.json.specs.Numbers.{digits, someDigits, minus, int, frac, sign, exp, number};
+ghost use Rattle.json.specs.Numbers.{digits, some_digits, minus, int, frac, sign, exp, number};
 ghost use Rattle.json.specs.Answers.{ended};
 
 use crate::Ending;
@@ -18,7 +18,7 @@ fn digits(text: &[u8], at: usize) -> usize
 }
 
 fn some_digits(text: &[u8], at: usize) -> Ending
-    ensures { ended text.now result ≡ someDigits (drop at text.now) }
+    ensures { ended text.now result ≡ some_digits (drop at text.now) }
 {
     if is_within(48, 57, byte(text, at)) {
         Ending::At(digits(text, at + 1))

@@ -1,7 +1,7 @@
 // Strings: their characters as UTF-16 units, and where they end.
 ghost use Rattle.std.specs.Prelude.{◌≡◌, List, ℕ, ◌+◌, ◌*◌, ◌-◌, ◌<◌, ◌≤◌, drop};
 ghost use Rattle.json.specs.Bytes.{head};
-ghost use Rattle.json.specs.Strings.{hexOf, hexed, hexUnit, escapeOf, escaped, continued, low, high, second, point_of, pointed, character, string};
+ghost use Rattle.json.specs.Strings.{hex_of, hexed, hex_unit, escape_of, escaped, continued, low, high, second, point_of, pointed, character, string};
 ghost use Rattle.json.specs.Answers.{ended, placed, code_of, read};
 
 use crate::bytes::{byte, is_within};
@@ -16,7 +16,7 @@ enum Scalar {
 
 // The number of a hexadecimal digit, and 16 for any other byte.
 fn hex_of(b: u32) -> u32
-    ensures { result ≡ hexOf b }
+    ensures { result ≡ hex_of b }
 {
     if is_within(0x30, 0x39, b) {
         return b - 0x30;
@@ -66,7 +66,7 @@ fn units_of(s: Scalar) -> Character
 }
 
 fn hex_unit(text: &[u8], at: usize) -> Character
-    ensures { read text.now result ≡ hexUnit (drop at text.now) }
+    ensures { read text.now result ≡ hex_unit (drop at text.now) }
 {
     let a = hexed(text, Scalar::Code(0, at));
     let b = hexed(text, a);
@@ -76,7 +76,7 @@ fn hex_unit(text: &[u8], at: usize) -> Character
 
 // What the byte behind a backslash stands for, and 0 where it stands for nothing.
 fn escape_of(b: u32) -> u32
-    ensures { result ≡ escapeOf b }
+    ensures { result ≡ escape_of b }
 {
     match b {
         0x22 => 0x22,

@@ -1,6 +1,6 @@
 // Values: where a value ends that nests arrays and objects at most so deep, and where the items of one start.
 ghost use Rattle.std.specs.Prelude.{◌≡◌, ◌<◌, drop};
-ghost use Rattle.json.specs.Values.{literal, start, closing, mark, name, separated, item, items, first, value, isText};
+ghost use Rattle.json.specs.Values.{literal, start, closing, mark, name, separated, item, items, first, value, is_text};
 ghost use Rattle.json.specs.Answers.{ended, started, stepped};
 
 use crate::bytes::{byte, space};
@@ -166,7 +166,7 @@ fn value(text: &[u8], at: usize, nest: usize) -> Ending
 
 // Whether the whole is a JSON text that nests at most so deep.
 pub fn is_text(text: &[u8], nest: usize) -> bool
-    ensures { result ≡ isText nest text.now }
+    ensures { result ≡ is_text nest text.now }
 {
     match value(text, space(text, 0), nest) {
         Ending::Nowhere => false,

@@ -6,11 +6,11 @@ use Rattle.table.specs.Code.{code}
 use Rattle.calculus.specs.Constraint.{Sets}
 use Rattle.calculus.specs.Layout.{sets}
 use Rattle.calculus.specs.Estimate.{estimate, leak}
-use Rattle.calculus.specs.Answer.{verdict, standingBound, answer, estimateAfter, workAfter}
+use Rattle.calculus.specs.Answer.{verdict, standing_bound, answer, estimate_after, work_after}
 use Rattle.calculus.specs.Answer as answers
-use Rattle.calls.specs.Faults.{faultNumber, faultPlace}
-use Rattle.graph.specs.Answer.{startingWith}
-use Rattle.paths.specs.Search.{shortestPath, Answers}
+use Rattle.calls.specs.Faults.{fault_number, fault_place}
+use Rattle.graph.specs.Answer.{starting_with}
+use Rattle.paths.specs.Search.{shortest_path, Answers}
 use Rattle.leak_path.specs.declared.Path.{Path}
 use Rattle.leak_path.specs.declared.Path.TheVariants as paths
 
@@ -20,12 +20,12 @@ pub data Reply : Type 0 where
   found : (count : ℕ) → Reply
 
 -- the number and place of each refusal, and what the other says
-unfoldable pub replyOf : Path → Reply
-unfolding faultNumber faultPlace
-replyOf (paths.Refused f) = refused (faultNumber f) (faultPlace f)
-replyOf paths.Unknown = refused 20 0
-replyOf paths.Short = refused 51 0
-replyOf (paths.Found count) = found count
+unfoldable pub reply_of : Path → Reply
+unfolding fault_number fault_place
+reply_of (paths.Refused f) = refused (fault_number f) (fault_place f)
+reply_of paths.Unknown = refused 20 0
+reply_of paths.Short = refused 51 0
+reply_of (paths.Found count) = found count
 
 module _ (ws : List ℕ) (ρ x : ℕ) where
   -- the sets of the least estimate, and the path by them
@@ -33,7 +33,7 @@ module _ (ws : List ℕ) (ρ x : ℕ) where
   least = sets (code ws) (estimate (code ws) ρ)
 
   abbrev pub path : List ℕ
-  path = shortestPath (code ws) least ρ x
+  path = shortest_path (code ws) least ρ x
 
   -- what is wrong with a call beyond an analysis: 20 for what is no permission, then 51 for a slice with fewer words than the table; 0 for nothing
   unfoldable pub fault : (room : ℕ) → ℕ
@@ -43,26 +43,26 @@ module _ (ws : List ℕ) (ρ x : ℕ) where
   unfoldable pub reply : (est work room : ℕ) → Reply
   unfolding answer fault
   reply est work room =
-      elim (answer ws ρ standingBound est work) [
+      elim (answer ws ρ standing_bound est work) [
         | answers.refused number place ↦ refused number place
         | verdict v ↦ elim (fault room) [ zero ↦ found (length path) | suc n ↦ refused (suc n) 0 ]
       ]
 
   -- ---- the slices after the call, from those before it: a refusal leaves all; else they are as an analysis leaves them
 
-  unfoldable pub estimateAfterWhy : (est work out : List ℕ) → List ℕ
-  unfolding fault estimateAfter
-  estimateAfterWhy est work out = elim (fault (length out)) [ zero ↦ estimateAfter ws ρ standingBound est work | suc n ↦ est ]
+  unfoldable pub estimate_after_why : (est work out : List ℕ) → List ℕ
+  unfolding fault estimate_after
+  estimate_after_why est work out = elim (fault (length out)) [ zero ↦ estimate_after ws ρ standing_bound est work | suc n ↦ est ]
 
-  unfoldable pub workAfterWhy : (est work out : List ℕ) → List ℕ
-  unfolding fault workAfter
-  workAfterWhy est work out = elim (fault (length out)) [ zero ↦ workAfter ws ρ standingBound est work | suc n ↦ work ]
+  unfoldable pub work_after_why : (est work out : List ℕ) → List ℕ
+  unfolding fault work_after
+  work_after_why est work out = elim (fault (length out)) [ zero ↦ work_after ws ρ standing_bound est work | suc n ↦ work ]
 
   -- the path in the first words, and the rest untouched
-  unfoldable pub pathAfter : (est work out : List ℕ) → List ℕ
+  unfoldable pub path_after : (est work out : List ℕ) → List ℕ
   unfolding reply
-  pathAfter est work out =
-      elim (reply (length est) (length work) (length out)) [ refused number place ↦ out | found count ↦ startingWith path out ]
+  path_after est work out =
+      elim (reply (length est) (length work) (length out)) [ refused number place ↦ out | found count ↦ starting_with path out ]
 
   -- ---- the meaning
 

@@ -4,11 +4,11 @@ pub mod search;
 ghost use Rattle.std.specs.Prelude.{◌≡◌, ◌≤◌, ◌<◌, length, take};
 ghost use Rattle.table.specs.Scan.{accepted, reading};
 ghost use Rattle.table.specs.Code.{code};
-ghost use Rattle.calculus.specs.Layout.{estimateWords, sets, WellFormed};
-ghost use Rattle.calculus.specs.Answer.{standingBound};
+ghost use Rattle.calculus.specs.Layout.{estimate_words, sets, WellFormed};
+ghost use Rattle.calculus.specs.Answer.{standing_bound};
 ghost use Rattle.calls.specs.Calls.{Fits};
-ghost use Rattle.paths.specs.Search.{shortestPath};
-ghost use Rattle.leak_path.specs.Reply.{replyOf, reply, estimateAfterWhy, workAfterWhy, pathAfter, Means};
+ghost use Rattle.paths.specs.Search.{shortest_path};
+ghost use Rattle.leak_path.specs.Reply.{reply_of, reply, estimate_after_why, work_after_why, path_after, Means};
 ghost use Rattle.leak_path.specs.Parts.{Wrote, Answered};
 
 use crate::search::path_in;
@@ -18,7 +18,7 @@ use permset::PermSet;
 use solver::analyse::find;
 
 // The answer to a call: refused, asked for what is no permission, with too little room, or so many words of a path, none where the permission
-// does not leak. `replyOf` of specs/Reply.antt gives each its number and place.
+// does not leak. `reply_of` of specs/Reply.antt gives each its number and place.
 #[derive(Drop)]
 pub enum Path {
     Refused(Fault),
@@ -29,9 +29,9 @@ pub enum Path {
 
 // By the estimate in the first words of a slice.
 fn from_slice(words: &[u32], est: &[u32], out: &mut [u32], rho: PermSet, x: u32) -> usize
-    requires words_value { (reading words.now ≡ accepted) × (estimateWords (code words.now) ≤ length est.now) × (length words.now ≤ length out.old) }
-    requires well_formed { WellFormed (code words.now) (take (estimateWords (code words.now)) est.now) }
-    ensures { Wrote (shortestPath (code words.now) (sets (code words.now) (take (estimateWords (code words.now)) est.now))
+    requires words_value { (reading words.now ≡ accepted) × (estimate_words (code words.now) ≤ length est.now) × (length words.now ≤ length out.old) }
+    requires well_formed { WellFormed (code words.now) (take (estimate_words (code words.now)) est.now) }
+    ensures { Wrote (shortest_path (code words.now) (sets (code words.now) (take (estimate_words (code words.now)) est.now))
         rho.bits x) out.old out.new result }
 {
     let need = words_needed(words);
@@ -47,7 +47,7 @@ fn solved(
     work: &mut [u32],
     path: &mut [u32],
 ) -> Path
-    requires { Fits words.now rho standingBound (length est.old) (length work.old) × (x < 24) × (length words.now ≤ length path.old) }
+    requires { Fits words.now rho standing_bound (length est.old) (length work.old) × (x < 24) × (length words.now ≤ length path.old) }
     ensures { Answered words.now rho x est.old work.old path.old est.new work.new
         path.new result }
 {
@@ -64,7 +64,7 @@ fn checked(
     work: &mut [u32],
     path: &mut [u32],
 ) -> Path
-    requires { Fits words.now rho standingBound (length est.old) (length work.old) }
+    requires { Fits words.now rho standing_bound (length est.old) (length work.old) }
     ensures { Answered words.now rho x est.old work.old path.old est.new work.new
         path.new result }
 {
@@ -87,12 +87,12 @@ pub fn why(
     work: &mut [u32],
     path: &mut [u32],
 ) -> Path
-    ensures answer { replyOf result
+    ensures answer { reply_of result
         ≡ reply words.now rho x (length est.old) (length work.old) (length path.old) }
-    ensures estimate { est.new ≡ estimateAfterWhy words.now rho x est.old work.old path.old }
-    ensures work { work.new ≡ workAfterWhy words.now rho x est.old work.old path.old }
-    ensures path { path.new ≡ pathAfter words.now rho x est.old work.old path.old }
-    ensures meaning { Means words.now rho x (replyOf result) path.new }
+    ensures estimate { est.new ≡ estimate_after_why words.now rho x est.old work.old path.old }
+    ensures work { work.new ≡ work_after_why words.now rho x est.old work.old path.old }
+    ensures path { path.new ≡ path_after words.now rho x est.old work.old path.old }
+    ensures meaning { Means words.now rho x (reply_of result) path.new }
 {
     match check(words, rho, 0x80000000, est.len(), work.len()) {
         Checked::Wrong(f) => Path::Refused(f),

@@ -6,7 +6,7 @@ ghost use Rattle.calculus.specs.Layout.{sets, WellFormed};
 ghost use Rattle.rows.specs.Laid.{LaidOut};
 ghost use Rattle.queries.specs.Ready.{Ready};
 ghost use Rattle.readers.specs.Reading.{Readable};
-ghost use Rattle.paths.specs.Search.{shortestPath};
+ghost use Rattle.paths.specs.Search.{shortest_path};
 ghost use Rattle.leak_path.specs.Parts.{Wrote};
 
 use masks::fill_masks;
@@ -28,7 +28,7 @@ fn with_notes(
     x: u32,
 ) -> usize
     requires { Ready words.now links.now masks.now l × WellFormed (code words.now) est.now × (l.size ≤ length out.old) }
-    ensures { Wrote (shortestPath (code words.now) (sets (code words.now) est.now) rho.bits x)
+    ensures { Wrote (shortest_path (code words.now) (sets (code words.now) est.now) rho.bits x)
         out.old out.new result }
 {
     let mut reached = [0u32; 1024];
@@ -47,7 +47,7 @@ fn with_masks(
     x: u32,
 ) -> usize
     requires { Readable words.now links.now est.now l × WellFormed (code words.now) est.now × (l.size ≤ length out.old) }
-    ensures { Wrote (shortestPath (code words.now) (sets (code words.now) est.now) rho.bits x)
+    ensures { Wrote (shortest_path (code words.now) (sets (code words.now) est.now) rho.bits x)
         out.old out.new result }
 {
     let mut masks = [0u32; 144];
@@ -58,7 +58,7 @@ fn with_masks(
 // The same with links of its own.
 fn with_links(words: &[u32], est: &[u32], out: &mut [u32], l: Layout, rho: PermSet, x: u32) -> usize
     requires { (reading words.now ≡ accepted) × LaidOut (code words.now) l × WellFormed (code words.now) est.now × (l.size ≤ length out.old) }
-    ensures { Wrote (shortestPath (code words.now) (sets (code words.now) est.now) rho.bits x)
+    ensures { Wrote (shortest_path (code words.now) (sets (code words.now) est.now) rho.bits x)
         out.old out.new result }
 {
     let mut links = [0u32; 1024];
@@ -69,7 +69,7 @@ fn with_links(words: &[u32], est: &[u32], out: &mut [u32], l: Layout, rho: PermS
 // Writes the words of the first of the shortest paths that show why x is in the leak, by the words of an estimate, and answers how many they are.
 pub fn path_in(words: &[u32], est: &[u32], out: &mut [u32], rho: PermSet, x: u32) -> usize
     requires { (reading words.now ≡ accepted) × WellFormed (code words.now) est.now × (length words.now ≤ length out.old) }
-    ensures { Wrote (shortestPath (code words.now) (sets (code words.now) est.now) rho.bits x)
+    ensures { Wrote (shortest_path (code words.now) (sets (code words.now) est.now) rho.bits x)
         out.old out.new result }
 {
     let l = Layout::of(words);

@@ -4,23 +4,23 @@ use mathlib.Core.Path.{◌≡◌, refl}
 use mathlib.Core.List.{List, [], ◌∷◌, ◌++◌}
 use lib.Count.{ones_in}
 use Rattle.permset.specs.Sets.{within, member, union, difference, lowest}
-use Rattle.table.specs.Words.{partsByKind, limitsByKind, parts, arity, limit, constantNumber, constant_of, operationOf, termsByKind, termOf, names_of}
-use Rattle.table.specs.Scan.{first_of, has, tests, fault, missing, keep, under, next, scan, reading, narrowReading}
-use Rattle.table.specs.Code.{code, skip, part, trace, tasks, taskAt, termNode, nodeFor, scopeFor, homeFor, blocks_from}
+use Rattle.table.specs.Words.{parts_by_kind, limits_by_kind, parts, arity, limit, constant_number, constant_of, operation_of, terms_by_kind, term_of, names_of}
+use Rattle.table.specs.Scan.{first_of, has, tests, fault, missing, keep, under, next, scan, reading, narrow_reading}
+use Rattle.table.specs.Code.{code, skip, part, trace, tasks, task_at, term_node, node_for, scope_for, home_for, blocks_from}
 use Rattle.delivery.specs.Delivery.{judged, delivered}
-use Rattle.calculus.specs.Elements.{constantElement, sign, isString, leafMakes, oneMakes, makes, isFunction, isRecord, isCell, making}
-use Rattle.calculus.specs.Elements.{sendable, anyRecord, isSign, signPlace, sumSigns, lessSigns, bySigns, comparable, isMany, equalResults, results}
+use Rattle.calculus.specs.Elements.{constant_element, sign, is_string, leaf_makes, one_makes, makes, is_function, is_record, is_cell, making}
+use Rattle.calculus.specs.Elements.{sendable, any_record, is_sign, sign_place, sum_signs, less_signs, by_signs, comparable, is_many, equal_results, results}
 use Rattle.calculus.specs.Constraint.{range}
-use Rattle.calculus.specs.Rules.{name_of, permsOf, guarded, isBlock, permissions, deliveryTo, leafRule, oneRule, twoRule, flow, entry}
-use Rattle.calculus.specs.Rules.{twoSender, sender, senders, rule}
-use Rattle.calculus.specs.Layout.{rowWords, estimateWords}
-use Rattle.report.specs.Lines.{refusalLine, verdictLine, handlerLine}
+use Rattle.calculus.specs.Rules.{name_of, perms_of, guarded, is_block, permissions, delivery_to, leaf_rule, one_rule, two_rule, flow, entry}
+use Rattle.calculus.specs.Rules.{two_sender, sender, senders, rule}
+use Rattle.calculus.specs.Layout.{row_words, estimate_words}
+use Rattle.report.specs.Lines.{refusal_line, verdict_line, handler_line}
 use Rattle.text.specs.Text.{bytes, decimal, set, numeral, digits, glyph}
 use Rattle.calculus.specs.Answer.{answer}
 use Rattle.solver.specs.Ceiling as ceiling
-use Rattle.printout.specs.Program.{answerText, handlerLines}
+use Rattle.printout.specs.Program.{answer_text, handler_lines}
 use Rattle.arguments.specs.declared.values.Value.TheVariants.{Number, Other}
-use Rattle.leaks.specs.Leak.{limitedTo, leakText, overLine, boundText, withinText}
+use Rattle.leaks.specs.Leak.{limited_to, leak_text, over_line, bound_text, within_text}
 
 abbrev direct : List ℕ
 direct = 0x01000001 ∷ 0x02000000 ∷ 0x03000003 ∷ 0x04000000 ∷ 0x24000002 ∷ []
@@ -33,18 +33,18 @@ abbrev handler : List ℕ
 handler = bytes "handler 0 name 0 entry yes live yes set 000002\n"
 
 pub leaks :
-    (leakText 0 0 Other direct
-    ∷ leakText 0 0 Other wide
-    ∷ leakText 0 2 (Number 70) direct
-    ∷ leakText 0 0 (Number 69) direct
-    ∷ leakText 0x1000000 0 (Number 0) direct
-    ∷ withinText 0 0 direct
-    ∷ withinText 0 1 direct
-    ∷ withinText 0 2 direct
-    ∷ withinText 0 3 wide
-    ∷ withinText 0 0xffffff (0x01000001 ∷ [])
-    ∷ withinText 0 0xffffff []
-    ∷ withinText 0x1000000 0xffffff direct
+    (leak_text 0 0 Other direct
+    ∷ leak_text 0 0 Other wide
+    ∷ leak_text 0 2 (Number 70) direct
+    ∷ leak_text 0 0 (Number 69) direct
+    ∷ leak_text 0x1000000 0 (Number 0) direct
+    ∷ within_text 0 0 direct
+    ∷ within_text 0 1 direct
+    ∷ within_text 0 2 direct
+    ∷ within_text 0 3 wide
+    ∷ within_text 0 0xffffff (0x01000001 ∷ [])
+    ∷ within_text 0 0xffffff []
+    ∷ within_text 0x1000000 0xffffff direct
     ∷ [])
     ≡ (bytes "leak 000002 bound 000000 verdict over first 1 facts 70\n" ++ handler)
     ∷ (bytes "leak 000002 bound 000000 verdict over first 1 facts 102\n" ++ handler)
@@ -59,5 +59,5 @@ pub leaks :
     ∷ bytes "refused 1 at 0\n"
     ∷ bytes "refused 20 at 0\n"
     ∷ []
-unfolding answer ones_in partsByKind limitsByKind parts arity limit constantNumber constant_of operationOf termsByKind termOf names_of first_of has tests fault missing keep under next scan reading narrowReading code skip part trace tasks taskAt termNode nodeFor scopeFor homeFor blocks_from within member union difference lowest constantElement sign isString leafMakes oneMakes makes isFunction isRecord isCell making sendable anyRecord isSign signPlace sumSigns lessSigns bySigns comparable isMany equalResults results range name_of permsOf guarded isBlock permissions deliveryTo judged delivered leafRule oneRule twoRule flow entry twoSender sender senders rule rowWords estimateWords decimal set refusalLine verdictLine handlerLine numeral digits glyph ceiling.under answerText handlerLines limitedTo leakText overLine boundText withinText
+unfolding answer ones_in parts_by_kind limits_by_kind parts arity limit constant_number constant_of operation_of terms_by_kind term_of names_of first_of has tests fault missing keep under next scan reading narrow_reading code skip part trace tasks task_at term_node node_for scope_for home_for blocks_from within member union difference lowest constant_element sign is_string leaf_makes one_makes makes is_function is_record is_cell making sendable any_record is_sign sign_place sum_signs less_signs by_signs comparable is_many equal_results results range name_of perms_of guarded is_block permissions delivery_to judged delivered leaf_rule one_rule two_rule flow entry two_sender sender senders rule row_words estimate_words decimal set refusal_line verdict_line handler_line numeral digits glyph ceiling.under answer_text handler_lines limited_to leak_text over_line bound_text within_text
 leaks = refl

@@ -3,7 +3,7 @@ ghost use Rattle.std.specs.Prelude.{◌≡◌, ◌≤◌, length};
 ghost use Rattle.text.specs.Writing.{Wrote};
 ghost use Rattle.comparison.specs.Values.{answer_of};
 ghost use Rattle.printout.specs.Program.{room};
-ghost use Rattle.leaks.specs.Leak.{leakText, overLine, boundText, withinText};
+ghost use Rattle.leaks.specs.Leak.{leak_text, over_line, bound_text, within_text};
 ghost use Rattle.arguments.specs.declared.values.Value.TheVariants.{Number, Other};
 
 use arguments::values::Value;
@@ -25,7 +25,7 @@ fn sized_leak(
     out: &mut [u8],
 ) -> usize
     requires { (length words.now ≤ 1024) × (length est.old ≡ 72704) × (length work.old ≡ 4096) × (room ≤ length out.old) }
-    ensures { Wrote out.old 0 (leakText rho bound Other words.now) out.new result }
+    ensures { Wrote out.old 0 (leak_text rho bound Other words.now) out.new result }
 {
     tell_either(words, rho, bound, est, work, out)
 }
@@ -41,14 +41,14 @@ fn sized_limited(
     out: &mut [u8],
 ) -> usize
     requires { (length words.now ≤ 1024) × (length est.old ≡ 72704) × (length work.old ≡ 4096) × (room ≤ length out.old) }
-    ensures { Wrote out.old 0 (leakText rho bound (Number ceiling) words.now) out.new result }
+    ensures { Wrote out.old 0 (leak_text rho bound (Number ceiling) words.now) out.new result }
 {
     tell_within(words, rho, bound, ceiling as usize, est, work, out)
 }
 
 fn unlimited(words: &[u32], rho: u32, bound: u32, out: &mut [u8]) -> usize
     requires { (length words.now ≤ 1024) × (room ≤ length out.old) }
-    ensures { Wrote out.old 0 (leakText rho bound Other words.now) out.new result }
+    ensures { Wrote out.old 0 (leak_text rho bound Other words.now) out.new result }
 {
     let mut est = [0u32; 72704];
     let mut work = [0u32; 4096];
@@ -57,7 +57,7 @@ fn unlimited(words: &[u32], rho: u32, bound: u32, out: &mut [u8]) -> usize
 
 fn limited(words: &[u32], rho: u32, bound: u32, ceiling: u32, out: &mut [u8]) -> usize
     requires { (length words.now ≤ 1024) × (room ≤ length out.old) }
-    ensures { Wrote out.old 0 (leakText rho bound (Number ceiling) words.now) out.new result }
+    ensures { Wrote out.old 0 (leak_text rho bound (Number ceiling) words.now) out.new result }
 {
     let mut est = [0u32; 72704];
     let mut work = [0u32; 4096];
@@ -67,7 +67,7 @@ fn limited(words: &[u32], rho: u32, bound: u32, ceiling: u32, out: &mut [u8]) ->
 // The verdict and a line for each handler.
 pub fn leak(words: &[u32], rho: u32, bound: u32, ceiling: Value, out: &mut [u8]) -> usize
     requires { (length words.now ≤ 1024) × (room ≤ length out.old) }
-    ensures { Wrote out.old 0 (leakText rho bound ceiling words.now) out.new result }
+    ensures { Wrote out.old 0 (leak_text rho bound ceiling words.now) out.new result }
 {
     match ceiling {
         Value::Number(n) => limited(words, rho, bound, n, out),
@@ -78,7 +78,7 @@ pub fn leak(words: &[u32], rho: u32, bound: u32, ceiling: Value, out: &mut [u8])
 // The members of the leak outside the bound.
 fn over_line(r: Report, out: &mut [u8]) -> usize
     requires { room ≤ length out.old }
-    ensures { Wrote out.old 0 (overLine r.leak.bits r.bound.bits) out.new result }
+    ensures { Wrote out.old 0 (over_line r.leak.bits r.bound.bits) out.new result }
 {
     let leak = r.leak;
     let outside = leak.difference(r.bound);
@@ -89,7 +89,7 @@ fn over_line(r: Report, out: &mut [u8]) -> usize
 // The one line of a verdict.
 fn bound_line(v: Verdict, out: &mut [u8]) -> usize
     requires { room ≤ length out.old }
-    ensures { Wrote out.old 0 (boundText (answer_of v)) out.new result }
+    ensures { Wrote out.old 0 (bound_text (answer_of v)) out.new result }
 {
     match v {
         Verdict::Refused(f) => refusal_line(out, 0, fault_number(f), fault_place(f)),
@@ -107,7 +107,7 @@ fn sized_within(
     out: &mut [u8],
 ) -> usize
     requires { (length words.now ≤ 1024) × (length est.old ≡ 72704) × (length work.old ≡ 4096) × (room ≤ length out.old) }
-    ensures { Wrote out.old 0 (withinText rho bound words.now) out.new result }
+    ensures { Wrote out.old 0 (within_text rho bound words.now) out.new result }
 {
     bound_line(verdict(words, rho, bound, est, work), out)
 }
@@ -115,7 +115,7 @@ fn sized_within(
 // Whether the leak is within the bound, in one line.
 pub fn within(words: &[u32], rho: u32, bound: u32, out: &mut [u8]) -> usize
     requires { (length words.now ≤ 1024) × (room ≤ length out.old) }
-    ensures { Wrote out.old 0 (withinText rho bound words.now) out.new result }
+    ensures { Wrote out.old 0 (within_text rho bound words.now) out.new result }
 {
     let mut est = [0u32; 72704];
     let mut work = [0u32; 4096];

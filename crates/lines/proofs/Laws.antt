@@ -12,18 +12,18 @@ use lib.Seq.{take-add, drop-drop, drop-cons}
 use Rattle.text.specs.Writing.{Wrote}
 use Rattle.text.proofs.Writing.{reworded, then, wrote-byte}
 use Rattle.listing.specs.Spelling.{feed}
-use Rattle.listing.specs.Listing.{cut, word_in, wordsOf}
-use Rattle.listing.specs.Decoding.{lineSize}
+use Rattle.listing.specs.Listing.{cut, word_in, words_of}
+use Rattle.listing.specs.Decoding.{line_size}
 use Rattle.listing.proofs.Cutting.{rest_lines, cut-none}
-use Rattle.lines.specs.Lines.{fromLine, bare, bareLine, Starts, Stops}
+use Rattle.lines.specs.Lines.{from_line, bare, bare_line, Starts, Stops}
 
 pub from_next : (text : List ℕ) (at left : ℕ) → 0 < left
-    → fromLine left (drop at text) ≡ fromLine (left - 1) (drop (at + lineSize (drop at text)) text)
-unfolding fromLine
+    → from_line left (drop at text) ≡ from_line (left - 1) (drop (at + line_size (drop at text)) text)
+unfolding from_line
 from_next text at zero h = absurd (omega arith)
 from_next text at (suc m) h =
     let e : m ≡ suc m - 1 = omega arith in
-    ap (fromLine m) (drop-drop (lineSize (drop at text)) at text) ∙ ap (λ (k : ℕ). fromLine k (drop (at + lineSize (drop at text)) text)) e
+    ap (from_line m) (drop-drop (line_size (drop at text)) at text) ∙ ap (λ (k : ℕ). from_line k (drop (at + line_size (drop at text)) text)) e
 
 -- ---- the bytes before a line feed
 
@@ -53,36 +53,36 @@ pub bare-part : (text : List ℕ) (start stop : ℕ) → Stops text start stop �
 bare-part text start stop s = ap (λ (n : ℕ). take n (drop start text)) (sym s.size) ∙ bare-taken (drop start text)
 
 -- line k as a part of the text
-pub line-part : (text : List ℕ) (k start stop : ℕ) → Starts text k start → Stops text start stop → take (stop - start) (drop start text) ≡ bareLine k text
-unfolding bareLine
+pub line-part : (text : List ℕ) (k start stop : ℕ) → Starts text k start → Stops text start stop → take (stop - start) (drop start text) ≡ bare_line k text
+unfolding bare_line
 line-part text k start stop r s = bare-part text start stop s ∙ ap bare r.rest
 
 -- ---- the words of the first lines
 
-module _ (text : List ℕ) (n at e : ℕ) (more : at < length text) (ends : e ≡ at + lineSize (drop at text))
-    (so_far : drop n (wordsOf text) ≡ wordsOf (drop at text)) where
+module _ (text : List ℕ) (n at e : ℕ) (more : at < length text) (ends : e ≡ at + line_size (drop at text))
+    (so_far : drop n (words_of text) ≡ words_of (drop at text)) where
   abbrev word : ℕ
   word = word_in (take (e - at) (drop at text))
 
-  here : drop n (wordsOf text) ≡ word ∷ wordsOf (drop e text)
-  unfolding wordsOf
+  here : drop n (words_of text) ≡ word ∷ words_of (drop e text)
+  unfolding words_of
   here = so_far ∙ ap (map word_in) (rest_lines text n at e more ends)
 
-  pub words-behind : drop (n + 1) (wordsOf text) ≡ wordsOf (drop e text)
-  words-behind = sym (drop-drop 1 n (wordsOf text)) ∙ ap (drop 1) here
+  pub words-behind : drop (n + 1) (words_of text) ≡ words_of (drop e text)
+  words-behind = sym (drop-drop 1 n (words_of text)) ∙ ap (drop 1) here
 
-  pub word-written : {before words : List ℕ} (w : ℕ) → w ≡ word → n < length words → Wrote before 0 (take n (wordsOf text)) words n
-      → Wrote before 0 (take (n + 1) (wordsOf text)) (set words n w) (n + 1)
+  pub word-written : {before words : List ℕ} (w : ℕ) → w ≡ word → n < length words → Wrote before 0 (take n (words_of text)) words n
+      → Wrote before 0 (take (n + 1) (words_of text)) (set words n w) (n + 1)
   word-written {before} {words} w q h so =
       reworded
-      (sym (take-add n 1 (wordsOf text) ∙ ap (λ (l : List ℕ). take n (wordsOf text) ++ take 1 l) (here ∙ ap (λ (v : ℕ). v ∷ wordsOf (drop e text)) (sym q))))
+      (sym (take-add n 1 (words_of text) ∙ ap (λ (l : List ℕ). take n (words_of text) ++ take 1 l) (here ∙ ap (λ (v : ℕ). v ∷ words_of (drop e text)) (sym q))))
       (then so (wrote-byte words n w h))
 
-pub words-end : (text : List ℕ) (n at : ℕ) → length text ≤ at → drop n (wordsOf text) ≡ wordsOf (drop at text) → length (wordsOf text) ≤ n
-unfolding wordsOf
+pub words-end : (text : List ℕ) (n at : ℕ) → length text ≤ at → drop n (words_of text) ≡ words_of (drop at text) → length (words_of text) ≤ n
+unfolding words_of
 words-end text n at h e =
-    let none : drop n (wordsOf text) ≡ [] = e ∙ ap (λ (l : List ℕ). map word_in (cut l)) (drop_of_length-le text h) ∙ ap (map word_in) cut-none in
-    omega (arith, ap length none, length-drop n (wordsOf text))
+    let none : drop n (words_of text) ≡ [] = e ∙ ap (λ (l : List ℕ). map word_in (cut l)) (drop_of_length-le text h) ∙ ap (map word_in) cut-none in
+    omega (arith, ap length none, length-drop n (words_of text))
 
 -- ---- the longest line
 
@@ -96,13 +96,13 @@ never : {A : Type 0} → false ≡ true → A
 never e = let z : ◌≡◌ {A = ℕ} 0 1 = cc in absurd (omega arith)
 
 module _ (b : ℕ) (bs : List ℕ) where
-  from-feed : eqb b feed ≡ true → (k : ℕ) → fromLine (suc k) (b ∷ bs) ≡ fromLine k bs
-  unfolding fromLine lineSize
-  from-feed e k = rw (fromLine, lineSize, e)
+  from-feed : eqb b feed ≡ true → (k : ℕ) → from_line (suc k) (b ∷ bs) ≡ from_line k bs
+  unfolding from_line line_size
+  from-feed e k = rw (from_line, line_size, e)
 
-  from-other : eqb b feed ≡ false → (k : ℕ) → fromLine (suc k) (b ∷ bs) ≡ fromLine (suc k) bs
-  unfolding fromLine lineSize
-  from-other e k = rw (fromLine, lineSize, e)
+  from-other : eqb b feed ≡ false → (k : ℕ) → from_line (suc k) (b ∷ bs) ≡ from_line (suc k) bs
+  unfolding from_line line_size
+  from-other e k = rw (from_line, line_size, e)
 
   module _ (room : ℕ) where
     short-feed : (left : ℕ) → eqb b feed ≡ true → short room left (b ∷ bs) ≡ true → short room room bs ≡ true
@@ -125,8 +125,8 @@ module _ (b : ℕ) (bs : List ℕ) where
   unfolding bare
   bare-next e = rw (bare, e)
 
-from-none : (k : ℕ) → length (bare (fromLine k [])) ≡ 0
-unfolding fromLine lineSize bare
+from-none : (k : ℕ) → length (bare (from_line k [])) ≡ 0
+unfolding from_line line_size bare
 from-none zero = refl
 from-none (suc k) = from-none k
 
@@ -140,14 +140,14 @@ module _ (room : ℕ) where
       go true e rest = omega (arith, bare-here b bs e)
       go false e rest = let o = short-other b bs room left e s in omega (arith, bare-next b bs e, rest (left - 1) o.1, o.0)
 
-  short-from : (l : List ℕ) (left : ℕ) → short room left l ≡ true → left ≤ room → (k : ℕ) → length (bare (fromLine k l)) ≤ room
-  unfolding fromLine
+  short-from : (l : List ℕ) (left : ℕ) → short room left l ≡ true → left ≤ room → (k : ℕ) → length (bare (from_line k l)) ≤ room
+  unfolding from_line
   short-from [] left s h k = omega (arith, from-none k)
   short-from (b ∷ bs) left s h zero = omega (arith, short-first (b ∷ bs) left s)
   short-from (b ∷ bs) left s h (suc k) = go (eqb b feed) refl (short-from bs)
     where
-      go : (t : Bool) → eqb b feed ≡ t → ((n : ℕ) → short room n bs ≡ true → n ≤ room → (i : ℕ) → length (bare (fromLine i bs)) ≤ room)
-          → length (bare (fromLine (suc k) (b ∷ bs))) ≤ room
+      go : (t : Bool) → eqb b feed ≡ t → ((n : ℕ) → short room n bs ≡ true → n ≤ room → (i : ℕ) → length (bare (from_line i bs)) ≤ room)
+          → length (bare (from_line (suc k) (b ∷ bs))) ≤ room
       go true e rest =
           subst (λ (l : List ℕ). length (bare l) ≤ room) (sym (from-feed b bs e k)) (rest room (short-feed b bs room left e s) (omega arith) k)
       go false e rest =
@@ -155,6 +155,6 @@ module _ (room : ℕ) where
           subst (λ (l : List ℕ). length (bare l) ≤ room) (sym (from-other b bs e k)) (rest (left - 1) o.1 (omega arith) (suc k))
 
   -- no line is longer
-  pub short-line : (l : List ℕ) → short room room l ≡ true → (k : ℕ) → length (bareLine k l) ≤ room
-  unfolding bareLine
+  pub short-line : (l : List ℕ) → short room room l ≡ true → (k : ℕ) → length (bare_line k l) ≤ room
+  unfolding bare_line
   short-line l s k = short-from l room s (omega arith) k

@@ -1,7 +1,7 @@
 // The lines of a text, counted from 0, and the words that they spell.
 ghost use Rattle.std.specs.Prelude.{◌≤◌, length, take};
 ghost use Rattle.text.specs.Writing.{Wrote};
-ghost use Rattle.listing.specs.Listing.{wordsOf};
+ghost use Rattle.listing.specs.Listing.{words_of};
 ghost use Rattle.lines.specs.Lines.{Starts, Stops};
 
 use listing::read::{line_end, word_of_line};
@@ -36,7 +36,7 @@ pub fn line_stop(text: &[u8], start: usize) -> usize
 
 // The words of the first lines, as many as there is room for; 0 for a line that spells none.
 pub fn line_words(text: &[u8], words: &mut [u32]) -> usize
-    ensures { Wrote words.old 0 (take (length words.old) (wordsOf text.now)) words.new result }
+    ensures { Wrote words.old 0 (take (length words.old) (words_of text.now)) words.new result }
 {
     let mut at = 0;
     let mut n = 0;

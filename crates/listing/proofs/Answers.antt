@@ -12,11 +12,11 @@ use lib.ListN.{length, get_or, drop, drop_of_length-le}
 use lib.Seq.{drop-cons}
 use borrow.Author.Tests.{lt-ltb, le-ltb, eq-eqb, ne_eqb}
 use Rattle.table.specs.Words.{kind, argument, names_of}
-use Rattle.table.specs.Scan.{head, accepted, refused, first_of, tests, fault, reading, narrowReading}
+use Rattle.table.specs.Scan.{head, accepted, refused, first_of, tests, fault, reading, narrow_reading}
 use Rattle.table.proofs.Faults.{one_of}
 use Rattle.table.proofs.Stack.{scan-stop}
 use Rattle.table.proofs.Widths.{narrow-read, wide-refused}
-use Rattle.listing.specs.Listing.{done, refusal, most, tested, depths, listing, written, wordsOf, indents, misspelled, misplaced, placed, tabled, spelt, readAs}
+use Rattle.listing.specs.Listing.{done, refusal, most, tested, depths, listing, written, words_of, indents, misspelled, misplaced, placed, tabled, spelt, read_as}
 
 -- ---- one or two tests
 
@@ -41,11 +41,11 @@ module _ (m k n : ℕ) where
 -- ---- the writer
 
 module _ (ws : List ℕ) (room : ℕ) where
-  pub write-refused : (n p : ℕ) → narrowReading ws ≡ refused n p → written ws room ≡ refusal n p
+  pub write-refused : (n p : ℕ) → narrow_reading ws ≡ refused n p → written ws room ≡ refusal n p
   unfolding written
   write-refused n p e = rw (e, written)
 
-  module _ (e : narrowReading ws ≡ accepted) where
+  module _ (e : narrow_reading ws ≡ accepted) where
     write-tested : written ws room ≡ tested ((ltb most (length (listing ws)), 41) ∷ (ltb room (length (listing ws)), 42) ∷ []) (length (listing ws))
     unfolding written
     write-tested = rw (e, written)
@@ -67,23 +67,23 @@ unfolding misplaced
 misplaced-next n d i ds is e = rw (eq-eqb i (2 * d) e, misplaced)
 
 -- from line i + 1 on
-abbrev pub misplacedFrom : List ℕ → List ℕ → ℕ → ℕ
-misplacedFrom ds is k = misplaced (k + 1) (drop k ds) (drop k is)
+abbrev pub misplaced_from : List ℕ → List ℕ → ℕ → ℕ
+misplaced_from ds is k = misplaced (k + 1) (drop k ds) (drop k is)
 
 module _ (ds is : List ℕ) (i : ℕ) where
-  pub placed_end : length ds ≤ i → misplacedFrom ds is i ≡ 0
+  pub placed_end : length ds ≤ i → misplaced_from ds is i ≡ 0
   unfolding misplaced
   placed_end h = rw (drop_of_length-le ds h)
 
-  pub placed-short : i < length ds → length is ≤ i → misplacedFrom ds is i ≡ 0
+  pub placed-short : i < length ds → length is ≤ i → misplaced_from ds is i ≡ 0
   unfolding misplaced
   placed-short h k = rw (drop_of_length-le is k, drop-cons ds i 0)
 
-  pub placed-other : i < length ds → i < length is → (get_or is i 0 ≡ 2 * get_or ds i 0 → ⊥) → misplacedFrom ds is i ≡ i + 1
+  pub placed-other : i < length ds → i < length is → (get_or is i 0 ≡ 2 * get_or ds i 0 → ⊥) → misplaced_from ds is i ≡ i + 1
   unfolding misplaced
   placed-other h k n = rw (drop-cons ds i 0, drop-cons is i 0, ne_eqb (get_or is i 0) (2 * get_or ds i 0) n, misplaced)
 
-  pub placed-more : i < length ds → i < length is → get_or is i 0 ≡ 2 * get_or ds i 0 → misplacedFrom ds is i ≡ misplacedFrom ds is (i + 1)
+  pub placed-more : i < length ds → i < length is → get_or is i 0 ≡ 2 * get_or ds i 0 → misplaced_from ds is i ≡ misplaced_from ds is (i + 1)
   placed-more h k e =
       ap₂ (misplaced (i + 1)) (drop-cons ds i 0 h) (drop-cons is i 0 k)
       ∙ misplaced-next (i + 1) (get_or ds i 0) (get_or is i 0) (drop (suc i) ds) (drop (suc i) is) e
@@ -91,11 +91,11 @@ module _ (ds is : List ℕ) (i : ℕ) where
       ∙ ap (λ (m : ℕ). misplaced (i + 1 + 1) (drop m ds) (drop m is)) (sym (add-one i))
 
 module _ (ws is : List ℕ) (room : ℕ) where
-  pub table-refused : (n p : ℕ) → narrowReading ws ≡ refused n p → tabled ws is room ≡ refusal n p
+  pub table-refused : (n p : ℕ) → narrow_reading ws ≡ refused n p → tabled ws is room ≡ refusal n p
   unfolding tabled
   table-refused n p e = rw (e, tabled)
 
-  module _ (e : narrowReading ws ≡ accepted) where
+  module _ (e : narrow_reading ws ≡ accepted) where
     table-placed : tabled ws is room ≡ placed ws is room
     unfolding tabled
     table-placed = rw (e, tabled)
@@ -127,13 +127,13 @@ module _ (ws is : List ℕ) (room : ℕ) where
   spelt-table f = rw (f, spelt)
 
 module _ (text : List ℕ) (room : ℕ) where
-  pub read-long : most < length text → readAs text room ≡ refusal 41 0
-  unfolding readAs
-  read-long h = rw (lt-ltb most (length text) h, readAs)
+  pub read-long : most < length text → read_as text room ≡ refusal 41 0
+  unfolding read_as
+  read-long h = rw (lt-ltb most (length text) h, read_as)
 
-  pub read-spelt : length text ≤ most → readAs text room ≡ spelt (wordsOf text) (indents text) room
-  unfolding readAs
-  read-spelt h = rw (le-ltb most (length text) h, readAs)
+  pub read-spelt : length text ≤ most → read_as text room ≡ spelt (words_of text) (indents text) room
+  unfolding read_as
+  read-spelt h = rw (le-ltb most (length text) h, read_as)
 
 -- a table of more than 1,024 words
 fault-head : (w n : ℕ) (a b : Bool) → not (eqb (kind w) 1 || eqb (kind w) 5) ≡ a → ltb 1024 n ≡ b
@@ -142,31 +142,31 @@ unfolding fault tests
 fault-head w n a b e f = rw (e, f)
 
 module _ (w : ℕ) (ws : List ℕ) (h : 1024 < length (w ∷ ws)) where
-  many-one : kind w ≡ 1 → narrowReading (w ∷ ws) ≡ refused 2 0
+  many-one : kind w ≡ 1 → narrow_reading (w ∷ ws) ≡ refused 2 0
   unfolding reading first_of
   many-one e =
       narrow-read (w ∷ ws) (ne_eqb (kind w) 5 (λ q. omega arith))
       ∙ scan-stop (names_of w) ws [] w 0 (head (length (w ∷ ws))) [] 1
       (fault-head w (length (w ∷ ws)) false true (ap not (one_of (kind w) (inl e))) (lt-ltb 1024 (length (w ∷ ws)) h))
 
-  many-other : (kind w ≡ 1 → ⊥) → narrowReading (w ∷ ws) ≡ refused 1 0
+  many-other : (kind w ≡ 1 → ⊥) → narrow_reading (w ∷ ws) ≡ refused 1 0
   unfolding reading first_of
   many-other n = go (ℕ_discrete (kind w) 5)
     where
       neither : (kind w ≡ 5 → ⊥) → (eqb (kind w) 1 || eqb (kind w) 5) ≡ false
       neither m = rw (ne_eqb (kind w) 1 n, ne_eqb (kind w) 5 m)
 
-      go : Dec (kind w ≡ 5) → narrowReading (w ∷ ws) ≡ refused 1 0
+      go : Dec (kind w ≡ 5) → narrow_reading (w ∷ ws) ≡ refused 1 0
       go (yes e) = wide-refused (w ∷ ws) (eq-eqb (kind w) 5 e)
       go (no m) =
           narrow-read (w ∷ ws) (ne_eqb (kind w) 5 m)
           ∙ scan-stop (names_of w) ws [] w 0 (head (length (w ∷ ws))) [] 0
           (fault-head w (length (w ∷ ws)) true true (ap not (neither m)) (lt-ltb 1024 (length (w ∷ ws)) h))
 
-pub long-one : (ws : List ℕ) → 1024 < length ws → kind (get_or ws 0 0) ≡ 1 → narrowReading ws ≡ refused 2 0
+pub long-one : (ws : List ℕ) → 1024 < length ws → kind (get_or ws 0 0) ≡ 1 → narrow_reading ws ≡ refused 2 0
 long-one [] h e = absurd (omega arith)
 long-one (w ∷ ws) h e = many-one w ws h e
 
-pub long-other : (ws : List ℕ) → 1024 < length ws → (kind (get_or ws 0 0) ≡ 1 → ⊥) → narrowReading ws ≡ refused 1 0
+pub long-other : (ws : List ℕ) → 1024 < length ws → (kind (get_or ws 0 0) ≡ 1 → ⊥) → narrow_reading ws ≡ refused 1 0
 long-other [] h n = absurd (omega arith)
 long-other (w ∷ ws) h n = many-other w ws h n

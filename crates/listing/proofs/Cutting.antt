@@ -11,24 +11,24 @@ use lib.ListN.{length, get_or, take, drop, set, length-drop, length-map, drop_of
 use lib.Seq.{take_all, drop-cons, drop-drop, get_or-drop, get_or-take}
 use borrow.Author.Tests.{eq-eqb, ne_eqb}
 use Rattle.listing.specs.Spelling.{feed}
-use Rattle.listing.specs.Listing.{onto, cut, indent, word_in, wordsOf, indents, misspelled}
-use Rattle.listing.specs.Decoding.{lineSize, Taken}
+use Rattle.listing.specs.Listing.{onto, cut, indent, word_in, words_of, indents, misspelled}
+use Rattle.listing.specs.Decoding.{line_size, Taken}
 use Rattle.listing.proofs.Taken.{taken_more}
 
 -- ---- the end of a line and its leading spaces, byte by byte
 
 module _ (l : List ℕ) (i : ℕ) where
-  pub size-end : length l ≤ i → lineSize (drop i l) ≡ 0
-  unfolding lineSize
+  pub size-end : length l ≤ i → line_size (drop i l) ≡ 0
+  unfolding line_size
   size-end h = rw (drop_of_length-le l h)
 
-  pub size-feed : i < length l → get_or l i 0 ≡ 10 → lineSize (drop i l) ≡ 1
-  unfolding lineSize
-  size-feed h e = rw (drop-cons l i 0, eq-eqb (get_or l i 0) 10 e, lineSize)
+  pub size-feed : i < length l → get_or l i 0 ≡ 10 → line_size (drop i l) ≡ 1
+  unfolding line_size
+  size-feed h e = rw (drop-cons l i 0, eq-eqb (get_or l i 0) 10 e, line_size)
 
-  pub size-more : i < length l → (get_or l i 0 ≡ 10 → ⊥) → lineSize (drop i l) ≡ suc (lineSize (drop (i + 1) l))
-  unfolding lineSize
-  size-more h n = rw (add-one, drop-cons l i 0, ne_eqb (get_or l i 0) 10 n, lineSize)
+  pub size-more : i < length l → (get_or l i 0 ≡ 10 → ⊥) → line_size (drop i l) ≡ suc (line_size (drop (i + 1) l))
+  unfolding line_size
+  size-more h n = rw (add-one, drop-cons l i 0, ne_eqb (get_or l i 0) 10 n, line_size)
 
   pub indent-end : length l ≤ i → indent (drop i l) ≡ 0
   unfolding indent
@@ -53,13 +53,13 @@ module _ (b : ℕ) (bs : List ℕ) where
   unfolding cut
   cut-other e = rw (e, cut)
 
-  feed-size : eqb b feed ≡ true → lineSize (b ∷ bs) ≡ 1
-  unfolding lineSize
-  feed-size e = rw (e, lineSize)
+  feed-size : eqb b feed ≡ true → line_size (b ∷ bs) ≡ 1
+  unfolding line_size
+  feed-size e = rw (e, line_size)
 
-  other-size : eqb b feed ≡ false → lineSize (b ∷ bs) ≡ suc (lineSize bs)
-  unfolding lineSize
-  other-size e = rw (e, lineSize)
+  other-size : eqb b feed ≡ false → line_size (b ∷ bs) ≡ suc (line_size bs)
+  unfolding line_size
+  other-size e = rw (e, line_size)
 
 pub onto-line : (b : ℕ) (l : List ℕ) (ls : List (List ℕ)) → onto b (l ∷ ls) ≡ (b ∷ l) ∷ ls
 unfolding onto
@@ -69,25 +69,25 @@ alone : (b : ℕ) → eqb b feed ≡ false → cut (b ∷ []) ≡ (b ∷ []) ∷
 unfolding cut onto
 alone b e = rw (e, cut)
 
-no_size : lineSize [] ≡ 0
-unfolding lineSize
+no_size : line_size [] ≡ 0
+unfolding line_size
 no_size = refl
 
 -- the first line and the others, where it has n bytes
-abbrev pub firstLine : List ℕ → ℕ → List (List ℕ)
-firstLine l n = take n l ∷ cut (drop n l)
+abbrev pub first_line : List ℕ → ℕ → List (List ℕ)
+first_line l n = take n l ∷ cut (drop n l)
 
-cut-byte : (b : ℕ) (bs : List ℕ) (t : Bool) → eqb b feed ≡ t → (0 < length bs → cut bs ≡ firstLine bs (lineSize bs))
-    → cut (b ∷ bs) ≡ firstLine (b ∷ bs) (lineSize (b ∷ bs))
-cut-byte b bs true e rest = cut-feed b bs e ∙ sym (ap (firstLine (b ∷ bs)) (feed-size b bs e))
-cut-byte b [] false e rest = alone b e ∙ sym (ap (firstLine (b ∷ [])) (other-size b [] e ∙ ap suc no_size))
+cut-byte : (b : ℕ) (bs : List ℕ) (t : Bool) → eqb b feed ≡ t → (0 < length bs → cut bs ≡ first_line bs (line_size bs))
+    → cut (b ∷ bs) ≡ first_line (b ∷ bs) (line_size (b ∷ bs))
+cut-byte b bs true e rest = cut-feed b bs e ∙ sym (ap (first_line (b ∷ bs)) (feed-size b bs e))
+cut-byte b [] false e rest = alone b e ∙ sym (ap (first_line (b ∷ [])) (other-size b [] e ∙ ap suc no_size))
 cut-byte b (c ∷ cs) false e rest =
     cut-other b (c ∷ cs) e
     ∙ ap (onto b) (rest (omega arith))
     ∙ onto-line b _ _
-    ∙ sym (ap (firstLine (b ∷ c ∷ cs)) (other-size b (c ∷ cs) e))
+    ∙ sym (ap (first_line (b ∷ c ∷ cs)) (other-size b (c ∷ cs) e))
 
-pub cut_line : (l : List ℕ) → 0 < length l → cut l ≡ firstLine l (lineSize l)
+pub cut_line : (l : List ℕ) → 0 < length l → cut l ≡ first_line l (line_size l)
 cut_line [] h = absurd (omega arith)
 cut_line (b ∷ bs) h = cut-byte b bs (eqb b feed) refl (cut_line bs)
 
@@ -115,17 +115,17 @@ misspelled-next n zero ws h = absurd (h refl)
 misspelled-next n (suc w) ws h = refl
 
 module _ (text : List ℕ) (n at e : ℕ) (words spaces : List ℕ) (taken : Taken text n at words spaces) (more : at < length text)
-    (ends : e ≡ at + lineSize (drop at text)) where
+    (ends : e ≡ at + line_size (drop at text)) where
   abbrev pub line_at : List ℕ
   line_at = take (e - at) (drop at text)
 
   here : drop n (cut text) ≡ line_at ∷ cut (drop e text)
   here =
-      let size : e - at ≡ lineSize (drop at text) = omega arith in
+      let size : e - at ≡ line_size (drop at text) = omega arith in
       sym taken.rest
       ∙ cut_line (drop at text) (omega (arith, length-drop at text))
-      ∙ ap (λ (k : ℕ). take k (drop at text) ∷ cut (drop (lineSize (drop at text)) (drop at text))) (sym size)
-      ∙ ap (λ (l : List ℕ). line_at ∷ cut l) (drop-drop (lineSize (drop at text)) at text ∙ ap (λ (k : ℕ). drop k text) (sym ends))
+      ∙ ap (λ (k : ℕ). take k (drop at text) ∷ cut (drop (line_size (drop at text)) (drop at text))) (sym size)
+      ∙ ap (λ (l : List ℕ). line_at ∷ cut l) (drop-drop (line_size (drop at text)) at text ∙ ap (λ (k : ℕ). drop k text) (sym ends))
 
   pub line-counts : n < length (cut text)
   line-counts = omega (arith, ap length here, length-drop n (cut text))
@@ -133,21 +133,21 @@ module _ (text : List ℕ) (n at e : ℕ) (words spaces : List ℕ) (taken : Tak
   next : drop (n + 1) (cut text) ≡ cut (drop e text)
   next = sym (drop-drop 1 n (cut text)) ∙ ap (drop 1) here
 
-  words-here : drop n (wordsOf text) ≡ word_in line_at ∷ drop (n + 1) (wordsOf text)
-  unfolding wordsOf
+  words-here : drop n (words_of text) ≡ word_in line_at ∷ drop (n + 1) (words_of text)
+  unfolding words_of
   words-here = map-drop word_in (cut text) n ∙ ap (map word_in) (here ∙ ap (λ (ls : List (List ℕ)). line_at ∷ ls) (sym next)) ∙ ap (λ (l : List ℕ). word_in line_at ∷ l) (sym (map-drop word_in (cut text) (n + 1)))
 
   spaces-here : drop n (indents text) ≡ indent line_at ∷ drop (n + 1) (indents text)
   unfolding indents
   spaces-here = map-drop indent (cut text) n ∙ ap (map indent) (here ∙ ap (λ (ls : List (List ℕ)). line_at ∷ ls) (sym next)) ∙ ap (λ (l : List ℕ). indent line_at ∷ l) (sym (map-drop indent (cut text) (n + 1)))
 
-  pub line-bad : word_in line_at ≡ 0 → misspelled 1 (wordsOf text) ≡ n + 1
+  pub line-bad : word_in line_at ≡ 0 → misspelled 1 (words_of text) ≡ n + 1
   line-bad z =
-      taken.fine ∙ ap (misspelled (n + 1)) (words-here ∙ ap (λ (w : ℕ). w ∷ drop (n + 1) (wordsOf text)) z) ∙ misspelled-zero (n + 1) (drop (n + 1) (wordsOf text))
+      taken.fine ∙ ap (misspelled (n + 1)) (words-here ∙ ap (λ (w : ℕ). w ∷ drop (n + 1) (words_of text)) z) ∙ misspelled-zero (n + 1) (drop (n + 1) (words_of text))
 
   pub line_taken : (w s : ℕ) → w ≡ word_in line_at → s ≡ indent line_at → (w ≡ 0 → ⊥) → e ≤ length text → n < length words → n < length spaces
       → Taken text (n + 1) e (set words n w) (set spaces n s)
-  unfolding wordsOf indents
+  unfolding words_of indents
   line_taken w s ew es some h kw ks =
       record {
         inside = h;
@@ -156,10 +156,10 @@ module _ (text : List ℕ) (n at e : ℕ) (words spaces : List ℕ) (taken : Tak
             taken.fine
             ∙ ap (misspelled (n + 1)) words-here
             ∙ misspelled-next (n + 1) (word_in line_at) _ (λ z. some (ew ∙ z))
-            ∙ ap (λ (k : ℕ). misspelled k (drop (n + 1) (wordsOf text))) (sym (add-one (n + 1)));
+            ∙ ap (λ (k : ℕ). misspelled k (drop (n + 1) (words_of text))) (sym (add-one (n + 1)));
         count = omega (arith, line-counts);
         read =
-            taken_more words (wordsOf text) n w kw (omega (arith, line-counts, length-map (cut text) word_in)) (ew ∙ sym (head-drop (wordsOf text) _ n _ words-here))
+            taken_more words (words_of text) n w kw (omega (arith, line-counts, length-map (cut text) word_in)) (ew ∙ sym (head-drop (words_of text) _ n _ words-here))
             taken.read;
         indented =
             taken_more spaces (indents text) n s ks (omega (arith, line-counts, length-map (cut text) indent)) (es ∙ sym (head-drop (indents text) _ n _ spaces-here))
@@ -176,13 +176,13 @@ behind l n = take_all (length l - n) (drop n l) (omega (arith, length-drop n l))
 -- ---- the lines that are left
 
 -- from the byte `at` on, where so many lines are before it
-module _ (text : List ℕ) (n at e : ℕ) (more : at < length text) (ends : e ≡ at + lineSize (drop at text)) where
+module _ (text : List ℕ) (n at e : ℕ) (more : at < length text) (ends : e ≡ at + line_size (drop at text)) where
   pub rest_lines : cut (drop at text) ≡ take (e - at) (drop at text) ∷ cut (drop e text)
   rest_lines =
-      let size : e - at ≡ lineSize (drop at text) = omega arith in
+      let size : e - at ≡ line_size (drop at text) = omega arith in
       cut_line (drop at text) (omega (arith, length-drop at text))
-      ∙ ap (λ (k : ℕ). take k (drop at text) ∷ cut (drop (lineSize (drop at text)) (drop at text))) (sym size)
-      ∙ ap (λ (l : List ℕ). take (e - at) (drop at text) ∷ cut l) (drop-drop (lineSize (drop at text)) at text ∙ ap (λ (k : ℕ). drop k text) (sym ends))
+      ∙ ap (λ (k : ℕ). take k (drop at text) ∷ cut (drop (line_size (drop at text)) (drop at text))) (sym size)
+      ∙ ap (λ (l : List ℕ). take (e - at) (drop at text) ∷ cut l) (drop-drop (line_size (drop at text)) at text ∙ ap (λ (k : ℕ). drop k text) (sym ends))
 
   pub rest-bad : word_in (take (e - at) (drop at text)) ≡ 0 → misspelled n (map word_in (cut (drop at text))) ≡ n
   rest-bad z =
@@ -202,25 +202,25 @@ unfolding misspelled cut
 rest-none text n at h = ap (λ (l : List ℕ). misspelled n (map word_in (cut l))) (drop_of_length-le text h)
 
 -- a line has a byte
-size-some : (l : List ℕ) → 0 < length l → 0 < lineSize l
+size-some : (l : List ℕ) → 0 < length l → 0 < line_size l
 size-some [] h = absurd (omega arith)
 size-some (b ∷ bs) h = go (eqb b feed) refl
   where
-    go : (t : Bool) → eqb b feed ≡ t → 0 < lineSize (b ∷ bs)
+    go : (t : Bool) → eqb b feed ≡ t → 0 < line_size (b ∷ bs)
     go true e = omega (arith, feed-size b bs e)
     go false e = omega (arith, other-size b bs e)
 
-pub end_after : (text : List ℕ) (at e : ℕ) → at < length text → e ≡ at + lineSize (drop at text) → at < e
+pub end_after : (text : List ℕ) (at e : ℕ) → at < length text → e ≡ at + line_size (drop at text) → at < e
 end_after text at e h ends = omega (arith, size-some (drop at text) (omega (arith, length-drop at text)))
 
 -- ---- what is known behind the first n lines
 
 module _ (text : List ℕ) (n at : ℕ) (words spaces : List ℕ) (taken : Taken text n at words spaces) where
-  left_over : misspelled 1 (wordsOf text) ≡ misspelled (n + 1) (map word_in (cut (drop at text)))
-  unfolding wordsOf
+  left_over : misspelled 1 (words_of text) ≡ misspelled (n + 1) (map word_in (cut (drop at text)))
+  unfolding words_of
   left_over = taken.fine ∙ ap (misspelled (n + 1)) (map-drop word_in (cut text) n ∙ ap (map word_in) (sym taken.rest))
 
-  pub left-bad : (m : ℕ) → m ≡ misspelled (n + 1) (map word_in (cut (drop at text))) → misspelled 1 (wordsOf text) ≡ m
+  pub left-bad : (m : ℕ) → m ≡ misspelled (n + 1) (map word_in (cut (drop at text))) → misspelled 1 (words_of text) ≡ m
   left-bad m e = left_over ∙ sym e
 
   -- all lines
@@ -231,12 +231,12 @@ module _ (text : List ℕ) (n at : ℕ) (words spaces : List ℕ) (taken : Taken
     all : length (cut text) ≤ n
     all = omega (arith, ap length none, length-drop n (cut text))
 
-    pub all-fine : misspelled 1 (wordsOf text) ≡ 0
+    pub all-fine : misspelled 1 (words_of text) ≡ 0
     all-fine = left_over ∙ rest-none text (n + 1) at done
 
-    pub all_words : take n words ≡ wordsOf text
-    unfolding wordsOf
-    all_words = taken.read ∙ take_all n (wordsOf text) (omega (arith, all, length-map (cut text) word_in))
+    pub all_words : take n words ≡ words_of text
+    unfolding words_of
+    all_words = taken.read ∙ take_all n (words_of text) (omega (arith, all, length-map (cut text) word_in))
 
     pub all-spaces : take n spaces ≡ indents text
     unfolding indents
@@ -244,10 +244,10 @@ module _ (text : List ℕ) (n at : ℕ) (words spaces : List ℕ) (taken : Taken
 
   -- more lines than n
   module _ (more : at < length text) where
-    pub more-words : n < length (wordsOf text)
-    unfolding wordsOf
+    pub more-words : n < length (words_of text)
+    unfolding words_of
     more-words =
-        omega (arith, line-counts text n at (at + lineSize (drop at text)) words spaces taken more refl, length-map (cut text) word_in)
+        omega (arith, line-counts text n at (at + line_size (drop at text)) words spaces taken more refl, length-map (cut text) word_in)
 
-    pub first_word : 0 < n → get_or (wordsOf text) 0 0 ≡ get_or words 0 0
-    first_word h = sym (get_or-take n (wordsOf text) 0 0 h) ∙ ap (λ (l : List ℕ). get_or l 0 0) (sym taken.read) ∙ get_or-take n words 0 0 h
+    pub first_word : 0 < n → get_or (words_of text) 0 0 ≡ get_or words 0 0
+    first_word h = sym (get_or-take n (words_of text) 0 0 h) ∙ ap (λ (l : List ℕ). get_or l 0 0) (sym taken.read) ∙ get_or-take n words 0 0 h

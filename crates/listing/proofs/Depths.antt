@@ -11,8 +11,8 @@ use lib.ListN.{length, get_or, drop, replicate, length-append, length-drop, leng
 use lib.Seq.{get_or-drop, drop-drop}
 use borrow.Author.Tests.{eq-eqb, ne_eqb, lt-ltb, le-ltb}
 use Rattle.table.specs.Words.{kind, argument, size, parts, arity}
-use Rattle.table.specs.Scan.{Task, head, name, perms, guard, term, accepted, next, under, keep, scan, names_at, narrowReading}
-use Rattle.table.specs.Code.{tasks, taskAt}
+use Rattle.table.specs.Scan.{Task, head, name, perms, guard, term, accepted, next, under, keep, scan, names_at, narrow_reading}
+use Rattle.table.specs.Code.{tasks, task_at}
 use Rattle.table.proofs.Faults.{Stands, stands}
 use Rattle.table.proofs.Stack.{At, at-start, at-step, at-end, refused-not-accepted, scan_step, scan-missing}
 use Rattle.table.proofs.Parts.{tasks-length}
@@ -88,7 +88,7 @@ waits-room {ws} {p} {ds} s =
     omega
     (arith, enough (names_at ws) (drop p ws) s.keys p s.stack s.there.scanned, length-drop p ws, ap length s.depths, length-map s.stack depth_of, s.there.bound)
 
-pub waits_start : (ws : List ℕ) → narrowReading ws ≡ accepted → Waits ws 0 (0 ∷ [])
+pub waits_start : (ws : List ℕ) → narrow_reading ws ≡ accepted → Waits ws 0 (0 ∷ [])
 unfolding depth_of
 waits_start ws e = record { keys = []; stack = head (length ws) ∷ []; there = at-start ws (narrow-accepted ws e).0; depths = refl }
 
@@ -99,15 +99,15 @@ pub record Stepped (ws : List ℕ) (p : ℕ) (ds : List ℕ) : Type 0 where
   pub low : get_or ds 0 0 ≤ 64
   pub goes : Waits ws (suc p) (leaves (get_or ws p 0) (get_or ds 0 0) ++ drop 1 ds)
 
-pub narrow_size : (ws : List ℕ) → narrowReading ws ≡ accepted → length ws ≤ size
+pub narrow_size : (ws : List ℕ) → narrow_reading ws ≡ accepted → length ws ≤ size
 narrow_size ws e = size-le ws (narrow-accepted ws e).0
 
-pub depths-length : (ws : List ℕ) → narrowReading ws ≡ accepted → length (depths ws) ≡ length ws
+pub depths-length : (ws : List ℕ) → narrow_reading ws ≡ accepted → length (depths ws) ≡ length ws
 unfolding depths
 depths-length ws e = length-map (tasks ws) depth_of ∙ tasks-length ws (narrow-accepted ws e).0
 
-depth-at : (ws : List ℕ) (p : ℕ) → get_or (depths ws) p 0 ≡ depth_of (taskAt ws p)
-unfolding depths depth_of taskAt
+depth-at : (ws : List ℕ) (p : ℕ) → get_or (depths ws) p 0 ≡ depth_of (task_at ws p)
+unfolding depths depth_of task_at
 depth-at ws p = get_or-map depth_of (tasks ws) p (head 0)
 
 stepped : (ws : List ℕ) (p : ℕ) (keys : List ℕ) (ts : List Task) → At ws p keys ts → p < length ws → (kind (get_or ws p 0) ≡ 5 → ⊥) → Stepped ws p (map depth_of ts)

@@ -10,7 +10,7 @@ use lib.ListN.{length, get_or, drop, drop_of_length-le, get_or-eq_default}
 use lib.Seq.{drop-cons, drop-drop, get_or-drop}
 use borrow.Author.Tests.{eq-eqb, ne_eqb, eqb-true}
 use Rattle.listing.specs.Keywords.{hex, whole, signed, Entry, unused, entries, entry_of, used}
-use Rattle.listing.specs.Spelling.{prefix, kindFrom, guessedKind, digitOf, folded, guessedArgument, guessed, same, spelled, spells, lineWord}
+use Rattle.listing.specs.Spelling.{prefix, kind_from, guessed_kind, digit_of, folded, guessed_argument, guessed, same, spelled, spells, line_word}
 
 -- ---- prefixes
 
@@ -44,7 +44,7 @@ module _ (base v : ℕ) (l : List ℕ) (i : ℕ) where
   folded-feed h e = rw (drop-cons l i 0, eq-eqb (get_or l i 0) 10 e, folded)
 
   pub folded_more : i < length l → (get_or l i 0 ≡ 10 → ⊥)
-      → folded base v (drop i l) ≡ folded base ((v * base + digitOf (get_or l i 0)) % 2 ^ 24) (drop (i + 1) l)
+      → folded base v (drop i l) ≡ folded base ((v * base + digit_of (get_or l i 0)) % 2 ^ 24) (drop (i + 1) l)
   unfolding folded
   folded_more h n = rw (add-one, drop-cons l i 0, ne_eqb (get_or l i 0) 10 n, folded)
 
@@ -57,11 +57,11 @@ chosen : Bool → ℕ → ℕ → ℕ
 chosen true k n = k
 chosen false k n = n
 
-kind-step : (k : ℕ) (es : List Entry) (e : Entry) (l : List ℕ) → kindFrom k (e ∷ es) l ≡ chosen (used e && prefix e.keyword l) k (kindFrom (suc k) es l)
-unfolding kindFrom chosen
+kind-step : (k : ℕ) (es : List Entry) (e : Entry) (l : List ℕ) → kind_from k (e ∷ es) l ≡ chosen (used e && prefix e.keyword l) k (kind_from (suc k) es l)
+unfolding kind_from chosen
 kind-step k es e l = go (used e && prefix e.keyword l)
   where
-    go : (b : Bool) → elim b [ true ↦ k | false ↦ kindFrom (suc k) es l ] ≡ chosen b k (kindFrom (suc k) es l)
+    go : (b : Bool) → elim b [ true ↦ k | false ↦ kind_from (suc k) es l ] ≡ chosen b k (kind_from (suc k) es l)
     go true = refl
     go false = refl
 
@@ -70,25 +70,25 @@ unfolding entries
 entries-length = refl
 
 module _ (k : ℕ) (l : List ℕ) where
-  kind-here : k ≤ 36 → kindFrom k (drop k entries) l ≡ chosen (matches k l) k (kindFrom (k + 1) (drop (k + 1) entries) l)
+  kind-here : k ≤ 36 → kind_from k (drop k entries) l ≡ chosen (matches k l) k (kind_from (k + 1) (drop (k + 1) entries) l)
   unfolding entry_of
   kind-here h =
       let inside : k < length entries = omega (arith, entries-length) in
-      ap (λ (es : List Entry). kindFrom k es l) (drop-cons entries k unused inside)
+      ap (λ (es : List Entry). kind_from k es l) (drop-cons entries k unused inside)
       ∙ kind-step k (drop (suc k) entries) (entry_of k) l
-      ∙ ap (λ (n : ℕ). chosen (matches k l) k (kindFrom n (drop n entries) l)) (sym (add-one k))
+      ∙ ap (λ (n : ℕ). chosen (matches k l) k (kind_from n (drop n entries) l)) (sym (add-one k))
 
-  pub kind-found : k ≤ 36 → matches k l ≡ true → kindFrom k (drop k entries) l ≡ k
+  pub kind-found : k ≤ 36 → matches k l ≡ true → kind_from k (drop k entries) l ≡ k
   unfolding chosen
-  kind-found h e = kind-here h ∙ ap (λ (b : Bool). chosen b k (kindFrom (k + 1) (drop (k + 1) entries) l)) e
+  kind-found h e = kind-here h ∙ ap (λ (b : Bool). chosen b k (kind_from (k + 1) (drop (k + 1) entries) l)) e
 
-  pub kind-next : k ≤ 36 → matches k l ≡ false → kindFrom k (drop k entries) l ≡ kindFrom (k + 1) (drop (k + 1) entries) l
+  pub kind-next : k ≤ 36 → matches k l ≡ false → kind_from k (drop k entries) l ≡ kind_from (k + 1) (drop (k + 1) entries) l
   unfolding chosen
-  kind-next h e = kind-here h ∙ ap (λ (b : Bool). chosen b k (kindFrom (k + 1) (drop (k + 1) entries) l)) e
+  kind-next h e = kind-here h ∙ ap (λ (b : Bool). chosen b k (kind_from (k + 1) (drop (k + 1) entries) l)) e
 
-  pub kind-none : 37 ≤ k → kindFrom k (drop k entries) l ≡ 0
-  unfolding kindFrom
-  kind-none h = ap (λ (es : List Entry). kindFrom k es l) (drop_of_length-le entries {i = k} (omega (arith, entries-length)))
+  pub kind-none : 37 ≤ k → kind_from k (drop k entries) l ≡ 0
+  unfolding kind_from
+  kind-none h = ap (λ (es : List Entry). kind_from k es l) (drop_of_length-le entries {i = k} (omega (arith, entries-length)))
 
   -- a keyword of no letters is none
   pub unused-no : length (entry_of k).keyword ≡ 0 → false ≡ matches k l
@@ -99,38 +99,38 @@ module _ (k : ℕ) (l : List ℕ) where
   unfolding used
   used-yes n = ap (λ (b : Bool). not b && prefix (entry_of k).keyword l) (sym (ne_eqb (length (entry_of k).keyword) 0 n))
 
-pub kind-start : (l : List ℕ) → guessedKind l ≡ kindFrom 0 (drop 0 entries) l
-unfolding guessedKind
+pub kind-start : (l : List ℕ) → guessed_kind l ≡ kind_from 0 (drop 0 entries) l
+unfolding guessed_kind
 kind-start l = refl
 
 -- ---- arguments
 
 module _ (l : List ℕ) (at : ℕ) where
-  pub argument-hex : folded 16 0 (drop (at + 1) l) ≡ guessedArgument hex (drop at l)
-  unfolding guessedArgument
+  pub argument-hex : folded 16 0 (drop (at + 1) l) ≡ guessed_argument hex (drop at l)
+  unfolding guessed_argument
   argument-hex = ap (folded 16 0) (sym (drop-drop 1 at l))
 
-  pub argument-whole : folded 10 0 (drop (at + 1) l) ≡ guessedArgument whole (drop at l)
-  unfolding guessedArgument
+  pub argument-whole : folded 10 0 (drop (at + 1) l) ≡ guessed_argument whole (drop at l)
+  unfolding guessed_argument
   argument-whole = ap (folded 10 0) (sym (drop-drop 1 at l))
 
-  pub argument-minus : get_or l (at + 1) 0 ≡ 45 → (2 ^ 24 - folded 10 0 (drop (at + 2) l)) % 2 ^ 24 ≡ guessedArgument signed (drop at l)
-  unfolding guessedArgument
+  pub argument-minus : get_or l (at + 1) 0 ≡ 45 → (2 ^ 24 - folded 10 0 (drop (at + 2) l)) % 2 ^ 24 ≡ guessed_argument signed (drop at l)
+  unfolding guessed_argument
   argument-minus e =
-      rw (get_or-drop at l 1 0, eq-eqb (get_or l (at + 1) 0) 45 e, guessedArgument) (ap (λ (m : List ℕ). (2 ^ 24 - folded 10 0 m) % 2 ^ 24) (sym (drop-drop 2 at l)))
+      rw (get_or-drop at l 1 0, eq-eqb (get_or l (at + 1) 0) 45 e, guessed_argument) (ap (λ (m : List ℕ). (2 ^ 24 - folded 10 0 m) % 2 ^ 24) (sym (drop-drop 2 at l)))
 
-  pub argument-plus : (get_or l (at + 1) 0 ≡ 45 → ⊥) → folded 10 0 (drop (at + 1) l) ≡ guessedArgument signed (drop at l)
-  unfolding guessedArgument
-  argument-plus n = rw (get_or-drop at l 1 0, ne_eqb (get_or l (at + 1) 0) 45 n, guessedArgument) (ap (folded 10 0) (sym (drop-drop 1 at l)))
+  pub argument-plus : (get_or l (at + 1) 0 ≡ 45 → ⊥) → folded 10 0 (drop (at + 1) l) ≡ guessed_argument signed (drop at l)
+  unfolding guessed_argument
+  argument-plus n = rw (get_or-drop at l 1 0, ne_eqb (get_or l (at + 1) 0) 45 n, guessed_argument) (ap (folded 10 0) (sym (drop-drop 1 at l)))
 
 -- no sign stands behind the end
 pub no_minus : (l : List ℕ) (i : ℕ) → length l ≤ i → get_or l i 0 ≡ 45 → ⊥
 no_minus l i h e = omega (arith, get_or-eq_default l 0 h)
 
-pub guessed-as : (l : List ℕ) (k a n : ℕ) → n ≡ length (entry_of k).keyword → a ≡ guessedArgument (entry_of k).style (drop n l) → k * 2 ^ 24 + a ≡ guessed k l
+pub guessed-as : (l : List ℕ) (k a n : ℕ) → n ≡ length (entry_of k).keyword → a ≡ guessed_argument (entry_of k).style (drop n l) → k * 2 ^ 24 + a ≡ guessed k l
 unfolding guessed
 guessed-as l k a n e f =
-    ap (λ (x : ℕ). k * 2 ^ 24 + x) (f ∙ ap (λ (m : ℕ). guessedArgument (entry_of k).style (drop m l)) e)
+    ap (λ (x : ℕ). k * 2 ^ 24 + x) (f ∙ ap (λ (m : ℕ). guessed_argument (entry_of k).style (drop m l)) e)
 
 -- ---- the comparison
 
@@ -171,23 +171,23 @@ spells-step l (suc j) n = go (same (spelled (guessed (suc j) l)) l)
     go true = refl
     go false = refl
 
-module _ (l : List ℕ) (k : ℕ) (e : k ≡ guessedKind l) where
-  pub spells-none : k ≡ 0 → 0 ≡ lineWord l
-  unfolding lineWord spells
+module _ (l : List ℕ) (k : ℕ) (e : k ≡ guessed_kind l) where
+  pub spells-none : k ≡ 0 → 0 ≡ line_word l
+  unfolding line_word spells
   spells-none z = sym (ap (spells l) (sym e ∙ z))
 
-  spells-kind : (k ≡ 0 → ⊥) → lineWord l ≡ judged (same (spelled (guessed k l)) l) (guessed k l)
-  unfolding lineWord
+  spells-kind : (k ≡ 0 → ⊥) → line_word l ≡ judged (same (spelled (guessed k l)) l) (guessed k l)
+  unfolding line_word
   spells-kind n = ap (spells l) (sym e) ∙ spells-step l k n
 
-  pub spells-yes : (k ≡ 0 → ⊥) → length (spelled (guessed k l)) ≡ length l → prefix (spelled (guessed k l)) l ≡ true → guessed k l ≡ lineWord l
+  pub spells-yes : (k ≡ 0 → ⊥) → length (spelled (guessed k l)) ≡ length l → prefix (spelled (guessed k l)) l ≡ true → guessed k l ≡ line_word l
   unfolding judged
   spells-yes n size p =
       sym
       (spells-kind n
       ∙ ap (λ (b : Bool). judged b (guessed k l)) (same-prefix (spelled (guessed k l)) l ∙ ap₂ ◌&&◌ p (eq-eqb (length (spelled (guessed k l))) (length l) size)))
 
-  pub spells-longer : (k ≡ 0 → ⊥) → (length (spelled (guessed k l)) ≡ length l → ⊥) → 0 ≡ lineWord l
+  pub spells-longer : (k ≡ 0 → ⊥) → (length (spelled (guessed k l)) ≡ length l → ⊥) → 0 ≡ line_word l
   unfolding judged
   spells-longer n size =
       sym
@@ -195,7 +195,7 @@ module _ (l : List ℕ) (k : ℕ) (e : k ≡ guessedKind l) where
       ∙ ap (λ (b : Bool). judged b (guessed k l))
       (same-prefix (spelled (guessed k l)) l ∙ ap (λ (b : Bool). prefix (spelled (guessed k l)) l && b) (ne_eqb (length (spelled (guessed k l))) (length l) size) ∙ and_no (prefix (spelled (guessed k l)) l)))
 
-  pub spells-other : (k ≡ 0 → ⊥) → prefix (spelled (guessed k l)) l ≡ false → 0 ≡ lineWord l
+  pub spells-other : (k ≡ 0 → ⊥) → prefix (spelled (guessed k l)) l ≡ false → 0 ≡ line_word l
   unfolding judged
   spells-other n p =
       sym
@@ -216,29 +216,29 @@ same_true (a ∷ xs) (b ∷ bs) e = go (eqb a b) refl e (same_true xs bs)
     go true t s rest = ap₂ (λ (x : ℕ) (l : List ℕ). x ∷ l) (eqb-true a b t) (rest s)
     go false t s rest = absurd (false≢true s)
 
-pub spells-sound : (l : List ℕ) → (lineWord l ≡ 0 → ⊥) → spelled (lineWord l) ≡ l
-unfolding lineWord
-spells-sound l n = kinds (guessedKind l) refl
+pub spells-sound : (l : List ℕ) → (line_word l ≡ 0 → ⊥) → spelled (line_word l) ≡ l
+unfolding line_word
+spells-sound l n = kinds (guessed_kind l) refl
   where
-    judge : (k : ℕ) (b : Bool) → spells l (guessedKind l) ≡ judged b (guessed k l) → same (spelled (guessed k l)) l ≡ b → spelled (spells l (guessedKind l)) ≡ l
+    judge : (k : ℕ) (b : Bool) → spells l (guessed_kind l) ≡ judged b (guessed k l) → same (spelled (guessed k l)) l ≡ b → spelled (spells l (guessed_kind l)) ≡ l
     judge k true e s = ap spelled (e ∙ judged-true (guessed k l)) ∙ same_true (spelled (guessed k l)) l s
     judge k false e s = absurd (n (e ∙ judged-false (guessed k l)))
 
-    kinds : (k : ℕ) → guessedKind l ≡ k → spelled (spells l (guessedKind l)) ≡ l
+    kinds : (k : ℕ) → guessed_kind l ≡ k → spelled (spells l (guessed_kind l)) ≡ l
     kinds zero e = absurd (n (sym (spells-none l 0 (sym e) refl)))
     kinds (suc j) e =
         judge (suc j) (same (spelled (guessed (suc j) l)) l) (ap (spells l) e ∙ spells-step l (suc j) (λ z. omega arith)) refl
 
 -- the word of a line is the one that was guessed
-pub spells-guess : (l : List ℕ) → (lineWord l ≡ 0 → ⊥) → (guessedKind l ≡ 0 → ⊥) × (lineWord l ≡ guessed (guessedKind l) l)
-unfolding lineWord
-spells-guess l n = kinds (guessedKind l) refl
+pub spells-guess : (l : List ℕ) → (line_word l ≡ 0 → ⊥) → (guessed_kind l ≡ 0 → ⊥) × (line_word l ≡ guessed (guessed_kind l) l)
+unfolding line_word
+spells-guess l n = kinds (guessed_kind l) refl
   where
-    judge : (k : ℕ) (b : Bool) → spells l (guessedKind l) ≡ judged b (guessed k l) → spells l (guessedKind l) ≡ guessed k l
+    judge : (k : ℕ) (b : Bool) → spells l (guessed_kind l) ≡ judged b (guessed k l) → spells l (guessed_kind l) ≡ guessed k l
     judge k true e = e ∙ judged-true (guessed k l)
     judge k false e = absurd (n (e ∙ judged-false (guessed k l)))
 
-    kinds : (k : ℕ) → guessedKind l ≡ k → (guessedKind l ≡ 0 → ⊥) × (spells l (guessedKind l) ≡ guessed (guessedKind l) l)
+    kinds : (k : ℕ) → guessed_kind l ≡ k → (guessed_kind l ≡ 0 → ⊥) × (spells l (guessed_kind l) ≡ guessed (guessed_kind l) l)
     kinds zero e = absurd (n (sym (spells-none l 0 (sym e) refl)))
     kinds (suc j) e = (
       λ z. omega arith,

@@ -10,7 +10,7 @@ use lib.Dec.{leb, leb→le}
 use lib.ListN.{length, get_or, drop, take, replicate, length-append, length-replicate, get_or-map, get_or-eq_default}
 use lib.Seq.{drop-append-add, get_or-drop, take-append_seam, drop-drop}
 use Rattle.table.proofs.Constants.{at}
-use Rattle.listing.specs.Keywords.{Entry, unused, entries, entry_of, styleLetter, packed, packedAll, letters}
+use Rattle.listing.specs.Keywords.{Entry, unused, entries, entry_of, style_letter, packed, packed_all, letters}
 
 -- every keyword has at most 11 letters
 sizes : List ℕ
@@ -37,15 +37,15 @@ packed-length e h =
     ∙ add-sub_of_le (omega arith))
 
 rows : (es : List Entry) → ((k : ℕ) → length (get_or es k unused).keyword ≤ 11) → (k : ℕ) → k < length es
-    → drop (16 * k) (packedAll es) ≡ packed (get_or es k unused) ++ packedAll (drop (suc k) es)
-unfolding packedAll
+    → drop (16 * k) (packed_all es) ≡ packed (get_or es k unused) ++ packed_all (drop (suc k) es)
+unfolding packed_all
 rows [] s k h = absurd (omega arith)
 rows (e ∷ es) s zero h = refl
 rows (e ∷ es) s (suc k) h =
     let size : length (packed e) ≡ 16 = packed-length e (s 0) in
     let ahead : 16 * suc k ≡ length (packed e) + 16 * k = omega arith in
-    ap (λ (n : ℕ). drop n (packed e ++ packedAll es)) ahead
-    ∙ drop-append-add (packed e) (packedAll es) (16 * k)
+    ap (λ (n : ℕ). drop n (packed e ++ packed_all es)) ahead
+    ∙ drop-append-add (packed e) (packed_all es) (16 * k)
     ∙ rows es (λ i. s (suc i)) k (omega arith)
 
 inside : {k : ℕ} → k ≤ 36 → k < length entries
@@ -53,7 +53,7 @@ unfolding entries
 inside h = omega arith
 
 module _ (k : ℕ) (h : k ≤ 36) where
-  row : drop (16 * k) letters ≡ packed (entry_of k) ++ packedAll (drop (suc k) entries)
+  row : drop (16 * k) letters ≡ packed (entry_of k) ++ packed_all (drop (suc k) entries)
   unfolding letters entry_of
   row = rows entries keyword-short k (inside h)
 
@@ -61,7 +61,7 @@ module _ (k : ℕ) (h : k ≤ 36) where
   unfolding packed
   size-at = ap (λ (n : ℕ). get_or letters n 0) (sym (add-zero (16 * k))) ∙ sym (get_or-drop (16 * k) letters 0 0) ∙ ap (λ (l : List ℕ). get_or l 0 0) row
 
-  pub style-at : get_or letters (16 * k + 1) 0 ≡ styleLetter (entry_of k).style
+  pub style-at : get_or letters (16 * k + 1) 0 ≡ style_letter (entry_of k).style
   unfolding packed
   style-at = sym (get_or-drop (16 * k) letters 1 0) ∙ ap (λ (l : List ℕ). get_or l 1 0) row
 
@@ -71,11 +71,11 @@ module _ (k : ℕ) (h : k ≤ 36) where
       ap (take (length (entry_of k).keyword))
       (sym (drop-drop 2 (16 * k) letters)
       ∙ ap (drop 2) row
-      ∙ append_assoc (entry_of k).keyword (replicate (14 - length (entry_of k).keyword) 46) (packedAll (drop (suc k) entries)))
+      ∙ append_assoc (entry_of k).keyword (replicate (14 - length (entry_of k).keyword) 46) (packed_all (drop (suc k) entries)))
       ∙ take-append_seam (entry_of k).keyword _
 
 pub letters-length : length letters ≡ 592
-unfolding letters entries packedAll packed styleLetter
+unfolding letters entries packed_all packed style_letter
 letters-length = refl
 
 -- the part of the letters that the code takes for a keyword

@@ -8,21 +8,21 @@ use native.Mathlib.Omega.{arith}
 use lib.Dec.{eqb, ltb}
 use lib.ListN.{length, drop, length-drop, length-map}
 use borrow.Author.Tests.{ltb-false}
-use Rattle.table.specs.Scan.{Outcome, accepted, refused, first_of, narrowReading}
+use Rattle.table.specs.Scan.{Outcome, accepted, refused, first_of, narrow_reading}
 use Rattle.table.proofs.Refusals.{narrow-bounded, bounded-number, bounded-place}
-use Rattle.listing.specs.Spelling.{feed, lineWord}
-use Rattle.listing.specs.Listing.{Answered, done, refusal, most, lastLine, tested, depths, listing, written}
-use Rattle.listing.specs.Listing.{onto, cut, indent, word_in, wordsOf, indents, misspelled, misplaced, placed, tabled, spelt, readAs}
+use Rattle.listing.specs.Spelling.{feed, line_word}
+use Rattle.listing.specs.Listing.{Answered, done, refusal, most, last_line, tested, depths, listing, written}
+use Rattle.listing.specs.Listing.{onto, cut, indent, word_in, words_of, indents, misspelled, misplaced, placed, tabled, spelt, read_as}
 use Rattle.listing.proofs.Cutting.{cut-feed, cut-other, cut-none}
 use Rattle.listing.proofs.ExactLines.{exact-line, line-long}
 
 -- ---- refusals of a table
 
-pub table-place : (ws : List ℕ) (n p : ℕ) → narrowReading ws ≡ refused n p → p ≤ length ws
-table-place ws n p = bounded-place (length ws) (narrowReading ws) n p (narrow-bounded ws)
+pub table-place : (ws : List ℕ) (n p : ℕ) → narrow_reading ws ≡ refused n p → p ≤ length ws
+table-place ws n p = bounded-place (length ws) (narrow_reading ws) n p (narrow-bounded ws)
 
-pub table-number : (ws : List ℕ) (n p : ℕ) → narrowReading ws ≡ refused n p → n ≤ 12
-table-number ws n p = bounded-number (length ws) (narrowReading ws) n p (narrow-bounded ws)
+pub table-number : (ws : List ℕ) (n p : ℕ) → narrow_reading ws ≡ refused n p → n ≤ 12
+table-number ws n p = bounded-number (length ws) (narrow_reading ws) n p (narrow-bounded ws)
 
 -- an answer has room in a number: how many bytes or words, a refusal's number, and its place, which is at most m
 abbrev pub Small : (m : ℕ) → Answered → Type 0
@@ -43,9 +43,9 @@ one-small m n false h = h
 
 pub write-small : (ws : List ℕ) (room : ℕ) → Small (length ws) (written ws room)
 unfolding written
-write-small ws room = go (narrowReading ws) refl
+write-small ws room = go (narrow_reading ws) refl
   where
-    go : (o : Outcome) → narrowReading ws ≡ o
+    go : (o : Outcome) → narrow_reading ws ≡ o
         → Small (length ws) (elim o as (λ x. Answered) [
           | refused n p ↦ refusal n p
           | accepted ↦ tested ((ltb most (length (listing ws)), 41) ∷ (ltb room (length (listing ws)), 42) ∷ []) (length (listing ws))
@@ -95,7 +95,7 @@ unfolding word_in
 word-long l n =
     let d = drop (indent l) l in
     let k = (exact-line d).only n in
-    omega (arith, line-long (lineWord d) k.0, ap length k.1, length-drop (indent l) l)
+    omega (arith, line-long (line_word d) k.0, ap length k.1, length-drop (indent l) l)
 
 -- lines without a word that is misspelled, and those up to one that is
 record Far (n : ℕ) (ls : List (List ℕ)) (m : ℕ) : Type 0 where
@@ -129,35 +129,35 @@ misplaced-inside n (d ∷ ds) (i ∷ is) h = go (eqb i (2 * d)) h (misplaced-ins
     go false f rest = omega arith
 
 module _ (ws is : List ℕ) (same : length is ≡ length ws) (room : ℕ) where
-  placed-last : length ws < lastLine → Small lastLine (placed ws is room)
+  placed-last : length ws < last_line → Small last_line (placed ws is room)
   unfolding placed
   placed-last few = go (misplaced 1 (depths ws) is) (misplaced-inside 1 (depths ws) is)
     where
       go : (k : ℕ) → (0 < k → k < 1 + length is)
-          → Small lastLine (elim k as (λ x. Answered) [ zero ↦ tested ((ltb room (length ws), 42) ∷ []) (length ws) | suc n ↦ refusal 40 (suc n) ])
-      go zero h = one-small lastLine (length ws) _ (omega arith)
+          → Small last_line (elim k as (λ x. Answered) [ zero ↦ tested ((ltb room (length ws), 42) ∷ []) (length ws) | suc n ↦ refusal 40 (suc n) ])
+      go zero h = one-small last_line (length ws) _ (omega arith)
       go (suc n) h = (omega arith, omega (arith, h (omega arith)))
 
-  tabled-last : length ws < lastLine → Small lastLine (tabled ws is room)
+  tabled-last : length ws < last_line → Small last_line (tabled ws is room)
   unfolding tabled
-  tabled-last few = go (narrowReading ws) refl
+  tabled-last few = go (narrow_reading ws) refl
     where
-      go : (o : Outcome) → narrowReading ws ≡ o
-          → Small lastLine (elim o as (λ x. Answered) [ refused n p ↦ refusal n p | accepted ↦ placed ws is room ])
+      go : (o : Outcome) → narrow_reading ws ≡ o
+          → Small last_line (elim o as (λ x. Answered) [ refused n p ↦ refusal n p | accepted ↦ placed ws is room ])
       go (refused n p) e = (omega (arith, table-number ws n p e), omega (arith, table-place ws n p e))
       go accepted e = placed-last few
 
-  spelt-last : (misspelled 1 ws ≡ 0 → length ws < lastLine) → (0 < misspelled 1 ws → misspelled 1 ws ≤ lastLine) → Small lastLine (spelt ws is room)
+  spelt-last : (misspelled 1 ws ≡ 0 → length ws < last_line) → (0 < misspelled 1 ws → misspelled 1 ws ≤ last_line) → Small last_line (spelt ws is room)
   unfolding spelt
   spelt-last none some = go (misspelled 1 ws) none some
     where
-      go : (k : ℕ) → (k ≡ 0 → length ws < lastLine) → (0 < k → k ≤ lastLine)
-          → Small lastLine (elim k as (λ x. Answered) [ zero ↦ tabled ws is room | suc n ↦ refusal 40 (suc n) ])
+      go : (k : ℕ) → (k ≡ 0 → length ws < last_line) → (0 < k → k ≤ last_line)
+          → Small last_line (elim k as (λ x. Answered) [ zero ↦ tabled ws is room | suc n ↦ refusal 40 (suc n) ])
       go zero f g = tabled-last (f refl)
       go (suc n) f g = (omega arith, g (omega arith))
 
-read_short : (text : List ℕ) (room : ℕ) → length text ≤ most → Small lastLine (spelt (wordsOf text) (indents text) room)
-unfolding wordsOf indents
+read_short : (text : List ℕ) (room : ℕ) → length text ≤ most → Small last_line (spelt (words_of text) (indents text) room)
+unfolding words_of indents
 read_short text room h =
     let ls = cut text in
     let c = cut-lines text in
@@ -166,12 +166,12 @@ read_short text room h =
     spelt-last (map word_in ls) (map indent ls) (length-map ls indent ∙ sym same) room (λ z. omega (arith, d.none z, c.bytes))
     (λ l. omega (arith, d.some l, c.bytes))
 
-pub read_small : (text : List ℕ) (room : ℕ) → Small lastLine (readAs text room)
-unfolding readAs
+pub read_small : (text : List ℕ) (room : ℕ) → Small last_line (read_as text room)
+unfolding read_as
 read_small text room = go (ltb most (length text)) refl
   where
     go : (t : Bool) → ltb most (length text) ≡ t
-        → Small lastLine (elim t as (λ x. Answered) [ true ↦ refusal 41 0 | false ↦ spelt (wordsOf text) (indents text) room ])
+        → Small last_line (elim t as (λ x. Answered) [ true ↦ refusal 41 0 | false ↦ spelt (words_of text) (indents text) room ])
     go true e = (omega arith, omega arith)
     go false e = read_short text room (ltb-false most (length text) e)
 
@@ -188,5 +188,5 @@ small-within m k (refusal n p) h s = omega (arith, s.1)
 pub write-within : (ws : List ℕ) (room : ℕ) → Within (length ws) (written ws room)
 write-within ws room = small-within (length ws) (length ws) (written ws room) (omega arith) (write-small ws room)
 
-pub read-within : (text : List ℕ) (room : ℕ) → Within most (readAs text room)
-read-within text room = small-within lastLine most (readAs text room) (omega arith) (read_small text room)
+pub read-within : (text : List ℕ) (room : ℕ) → Within most (read_as text room)
+read-within text room = small-within last_line most (read_as text room) (omega arith) (read_small text room)

@@ -9,8 +9,8 @@ use lib.ListN.{length, get_or, take, drop, replicate, length-append, length-repl
 use lib.Seq.{drop-cons, take_all, get_or-take, take-add, take-append_seam, drop-append_seam, drop-drop}
 use Rattle.table.specs.Words.{kind}
 use Rattle.text.specs.Writing.{Wrote}
-use Rattle.table.specs.Scan.{Task, head, name, perms, guard, term, accepted, names_at, narrowReading}
-use Rattle.table.specs.Code.{taskAt}
+use Rattle.table.specs.Scan.{Task, head, name, perms, guard, term, accepted, names_at, narrow_reading}
+use Rattle.table.specs.Code.{task_at}
 use Rattle.table.proofs.Faults.{Stands}
 use Rattle.table.proofs.Stack.{reach}
 use Rattle.table.proofs.Parts.{place-stands}
@@ -33,10 +33,10 @@ indented-length d w = length-append (replicate (2 * d) space) (spelled w) ∙ ap
 abbrev pub rest : List ℕ → ℕ → List ℕ
 rest ws i = lines (drop i (depths ws)) (drop i ws)
 
-module _ (ws : List ℕ) (e : narrowReading ws ≡ accepted) where
+module _ (ws : List ℕ) (e : narrow_reading ws ≡ accepted) where
   pub kind-small : (i : ℕ) → i < length ws → kind (get_or ws i 0) ≤ 36
   kind-small i l =
-      let r = (narrow-accepted ws e).0 in kind-of-task (names_at ws) (reach ws r i l).keys (get_or ws i 0) (taskAt ws i) (place-stands ws r i l)
+      let r = (narrow-accepted ws e).0 in kind-of-task (names_at ws) (reach ws r i l).keys (get_or ws i 0) (task_at ws i) (place-stands ws r i l)
 
   pub rest-start : rest ws 0 ≡ listing ws
   unfolding listing

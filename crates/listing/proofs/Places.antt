@@ -9,100 +9,100 @@ use lib.Dec.{ltb}
 use lib.ListN.{length, get_or, take, drop}
 use lib.Seq.{length-take-le, get_or-take, take_all, take_at}
 use borrow.Author.Tests.{le-ltb}
-use Rattle.table.specs.Scan.{Outcome, accepted, refused, first_of, narrowReading}
+use Rattle.table.specs.Scan.{Outcome, accepted, refused, first_of, narrow_reading}
 use Rattle.table.specs.Words.{kind}
 use Rattle.listing.proofs.Depths.{narrow_size}
 use native.Mathlib.Decide.{ℕ_discrete}
-use Rattle.listing.specs.Listing.{Answered, done, refusal, left, most, tested, depths, listing, written, wordsOf, indents, misspelled, misplaced, placed, tabled, spelt, readAs}
+use Rattle.listing.specs.Listing.{Answered, done, refusal, left, most, tested, depths, listing, written, words_of, indents, misspelled, misplaced, placed, tabled, spelt, read_as}
 use Rattle.listing.proofs.Answers.{write-refused, long-one, long-other}
 use Rattle.listing.proofs.Theorems.{read_count, read-accepted}
 pub use Rattle.listing.proofs.LineNumbers.{table-place, table-number, Small, write-small, read_small, Within, write-within, read-within}
 
 -- ---- a table of more than 1,024 words is refused by its first word alone
 
-many-same : (ws vs : List ℕ) → 1024 < length ws → 1024 < length vs → get_or ws 0 0 ≡ get_or vs 0 0 → narrowReading ws ≡ narrowReading vs
+many-same : (ws vs : List ℕ) → 1024 < length ws → 1024 < length vs → get_or ws 0 0 ≡ get_or vs 0 0 → narrow_reading ws ≡ narrow_reading vs
 many-same ws vs h k e = go (ℕ_discrete (kind (get_or ws 0 0)) 1)
   where
-    go : Dec (kind (get_or ws 0 0) ≡ 1) → narrowReading ws ≡ narrowReading vs
+    go : Dec (kind (get_or ws 0 0) ≡ 1) → narrow_reading ws ≡ narrow_reading vs
     go (yes o) = long-one ws h o ∙ sym (long-one vs k (ap kind (sym e) ∙ o))
     go (no n) = long-other ws h n ∙ sym (long-other vs k (λ q. n (ap kind e ∙ q)))
 
-refused-or : (ws : List ℕ) → 1024 < length ws → narrowReading ws ≡ accepted → ⊥
+refused-or : (ws : List ℕ) → 1024 < length ws → narrow_reading ws ≡ accepted → ⊥
 refused-or ws h e = let l = narrow_size ws e in omega arith
 
-pub reading-first : (ws : List ℕ) → narrowReading (take 1025 ws) ≡ narrowReading ws
+pub reading-first : (ws : List ℕ) → narrow_reading (take 1025 ws) ≡ narrow_reading ws
 reading-first ws = go (dec_lt 1024 (length ws))
   where
-    go : Dec (1024 < length ws) → narrowReading (take 1025 ws) ≡ narrowReading ws
-    go (no n) = ap narrowReading (take_all 1025 ws (omega (arith, n)))
+    go : Dec (1024 < length ws) → narrow_reading (take 1025 ws) ≡ narrow_reading ws
+    go (no n) = ap narrow_reading (take_all 1025 ws (omega (arith, n)))
     go (yes h) = many-same (take 1025 ws) ws (omega (arith, length-take-le 1025 ws (omega arith))) h (get_or-take 1025 ws 0 0 (omega arith))
 
 pub write-first : (ws : List ℕ) (room : ℕ) → written (take 1025 ws) room ≡ written ws room
 write-first ws room = go (dec_lt 1024 (length ws))
   where
-    both : (o : Outcome) → 1024 < length ws → narrowReading ws ≡ o → written (take 1025 ws) room ≡ written ws room
+    both : (o : Outcome) → 1024 < length ws → narrow_reading ws ≡ o → written (take 1025 ws) room ≡ written ws room
     both accepted h e = absurd (refused-or ws h e)
     both (refused n p) h e = write-refused (take 1025 ws) room n p (reading-first ws ∙ e) ∙ sym (write-refused ws room n p e)
 
     go : Dec (1024 < length ws) → written (take 1025 ws) room ≡ written ws room
     go (no n) = ap (λ (v : List ℕ). written v room) (take_all 1025 ws (omega (arith, n)))
-    go (yes h) = both (narrowReading ws) h refl
+    go (yes h) = both (narrow_reading ws) h refl
 
 -- ---- the room
 
 -- an answer given for 1,024 words of room, for another room
-unfoldable pub inRoom : ℕ → Answered → Answered
-inRoom room (done n) = tested ((ltb room n, 42) ∷ []) n
-inRoom room (refusal n p) = refusal n p
+unfoldable pub in_room : ℕ → Answered → Answered
+in_room room (done n) = tested ((ltb room n, 42) ∷ []) n
+in_room room (refusal n p) = refusal n p
 
 tested-done : (room n : ℕ) → n ≤ room → tested ((ltb room n, 42) ∷ []) n ≡ done n
 unfolding tested first_of
 tested-done room n h = ap (λ (b : Bool). tested ((b, 42) ∷ []) n) (le-ltb room n h)
 
 module _ (ws is : List ℕ) (room : ℕ) where
-  placed-room : narrowReading ws ≡ accepted → placed ws is room ≡ inRoom room (placed ws is 1024)
-  unfolding placed inRoom
+  placed-room : narrow_reading ws ≡ accepted → placed ws is room ≡ in_room room (placed ws is 1024)
+  unfolding placed in_room
   placed-room e = go (misplaced 1 (depths ws) is)
     where
       answer : ℕ → ℕ → Answered
       answer r k = elim k as (λ x. Answered) [ zero ↦ tested ((ltb r (length ws), 42) ∷ []) (length ws) | suc n ↦ refusal 40 (suc n) ]
 
-      go : (k : ℕ) → answer room k ≡ inRoom room (answer 1024 k)
-      go zero = sym (ap (inRoom room) (tested-done 1024 (length ws) (narrow_size ws e)))
+      go : (k : ℕ) → answer room k ≡ in_room room (answer 1024 k)
+      go zero = sym (ap (in_room room) (tested-done 1024 (length ws) (narrow_size ws e)))
       go (suc n) = refl
 
-  tabled-room : tabled ws is room ≡ inRoom room (tabled ws is 1024)
-  unfolding tabled inRoom
-  tabled-room = go (narrowReading ws) refl
+  tabled-room : tabled ws is room ≡ in_room room (tabled ws is 1024)
+  unfolding tabled in_room
+  tabled-room = go (narrow_reading ws) refl
     where
       answer : ℕ → Outcome → Answered
       answer r o = elim o as (λ x. Answered) [ refused n p ↦ refusal n p | accepted ↦ placed ws is r ]
 
-      go : (o : Outcome) → narrowReading ws ≡ o → answer room o ≡ inRoom room (answer 1024 o)
+      go : (o : Outcome) → narrow_reading ws ≡ o → answer room o ≡ in_room room (answer 1024 o)
       go (refused n p) e = refl
       go accepted e = placed-room e
 
-  spelt-room : spelt ws is room ≡ inRoom room (spelt ws is 1024)
-  unfolding spelt inRoom
+  spelt-room : spelt ws is room ≡ in_room room (spelt ws is 1024)
+  unfolding spelt in_room
   spelt-room = go (misspelled 1 ws)
     where
       answer : ℕ → ℕ → Answered
       answer r k = elim k as (λ x. Answered) [ zero ↦ tabled ws is r | suc n ↦ refusal 40 (suc n) ]
 
-      go : (k : ℕ) → answer room k ≡ inRoom room (answer 1024 k)
+      go : (k : ℕ) → answer room k ≡ in_room room (answer 1024 k)
       go zero = tabled-room
       go (suc n) = refl
 
-pub read-room : (text : List ℕ) (room : ℕ) → readAs text room ≡ inRoom room (readAs text 1024)
-unfolding readAs inRoom
+pub read-room : (text : List ℕ) (room : ℕ) → read_as text room ≡ in_room room (read_as text 1024)
+unfolding read_as in_room
 read-room text room = go (ltb most (length text))
   where
     answer : ℕ → Bool → Answered
-    answer r t = elim t as (λ x. Answered) [ true ↦ refusal 41 0 | false ↦ spelt (wordsOf text) (indents text) r ]
+    answer r t = elim t as (λ x. Answered) [ true ↦ refusal 41 0 | false ↦ spelt (words_of text) (indents text) r ]
 
-    go : (t : Bool) → answer room t ≡ inRoom room (answer 1024 t)
+    go : (t : Bool) → answer room t ≡ in_room room (answer 1024 t)
     go true = refl
-    go false = spelt-room (wordsOf text) (indents text) room
+    go false = spelt-room (words_of text) (indents text) room
 
 left-refused : (n p : ℕ) (l m out : List ℕ) → left (refusal n p) l out ≡ left (refusal n p) m out
 unfolding left
@@ -115,7 +115,7 @@ write-first-left ws room out = go (dec_lt 1024 (length ws))
     same : left (written (take 1025 ws) room) (listing (take 1025 ws)) out ≡ left (written ws room) (listing (take 1025 ws)) out
     same = ap (λ (a : Answered). left a (listing (take 1025 ws)) out) (write-first ws room)
 
-    both : (o : Outcome) → 1024 < length ws → narrowReading ws ≡ o → left (written ws room) (listing (take 1025 ws)) out ≡ left (written ws room) (listing ws) out
+    both : (o : Outcome) → 1024 < length ws → narrow_reading ws ≡ o → left (written ws room) (listing (take 1025 ws)) out ≡ left (written ws room) (listing ws) out
     both accepted h e = absurd (refused-or ws h e)
     both (refused n p) h e =
         ap (λ (a : Answered). left a (listing (take 1025 ws)) out) (write-refused ws room n p e)
@@ -124,15 +124,15 @@ write-first-left ws room out = go (dec_lt 1024 (length ws))
 
     go : Dec (1024 < length ws) → left (written (take 1025 ws) room) (listing (take 1025 ws)) out ≡ left (written ws room) (listing ws) out
     go (no n) = ap (λ (v : List ℕ). left (written v room) (listing v) out) (take_all 1025 ws (omega (arith, n)))
-    go (yes h) = same ∙ both (narrowReading ws) h refl
+    go (yes h) = same ∙ both (narrow_reading ws) h refl
 
 -- ---- the words that were read into 1,024 words, and how many they are
 
-pub read-few : (text : List ℕ) (n : ℕ) → readAs text 1024 ≡ done n → n ≤ 1024
-read-few text n e = omega (arith, read_count text 1024 n e, narrow_size (wordsOf text) (read-accepted text 1024 n e))
+pub read-few : (text : List ℕ) (n : ℕ) → read_as text 1024 ≡ done n → n ≤ 1024
+read-few text n e = omega (arith, read_count text 1024 n e, narrow_size (words_of text) (read-accepted text 1024 n e))
 
-pub read-words : (text words zeros : List ℕ) (n : ℕ) → readAs text 1024 ≡ done n → words ≡ left (readAs text 1024) (wordsOf text) zeros
-    → take n words ≡ wordsOf text
+pub read-words : (text words zeros : List ℕ) (n : ℕ) → read_as text 1024 ≡ done n → words ≡ left (read_as text 1024) (words_of text) zeros
+    → take n words ≡ words_of text
 unfolding left
 read-words text words zeros n e q =
-    ap (take n) (q ∙ ap (λ (a : Answered). left a (wordsOf text) zeros) e) ∙ take_at (wordsOf text) (drop n zeros) n (sym (read_count text 1024 n e))
+    ap (take n) (q ∙ ap (λ (a : Answered). left a (words_of text) zeros) e) ∙ take_at (words_of text) (drop n zeros) n (sym (read_count text 1024 n e))

@@ -9,9 +9,9 @@ use lib.Dec.{eqb, leb, ltb, T, leb→le}
 use lib.ListN.{length, get_or, drop, replicate, length-map, length-replicate}
 use lib.Seq.{drop_at}
 use borrow.Author.Tests.{eq-eqb, ne_eqb, eqb-true, ltb-true, ltb-false}
-use Rattle.table.specs.Words.{kind, argument, limit, limitsByKind, firstKind}
-use Rattle.table.specs.Scan.{Task, head, name, perms, guard, term, accepted, names_at, narrowReading}
-use Rattle.table.specs.Code.{taskAt}
+use Rattle.table.specs.Words.{kind, argument, limit, limits_by_kind, first_kind}
+use Rattle.table.specs.Scan.{Task, head, name, perms, guard, term, accepted, names_at, narrow_reading}
+use Rattle.table.specs.Code.{task_at}
 use Rattle.table.proofs.Faults.{Stands}
 use Rattle.table.proofs.Stack.{reach}
 use Rattle.table.proofs.Parts.{place-stands}
@@ -20,8 +20,8 @@ use Rattle.table.proofs.TermWords.{argument-lt}
 use Rattle.table.proofs.Constants.{at}
 use Rattle.text.specs.Text.{decimal, set}
 use Rattle.listing.specs.Keywords.{Style, omitted, hex, whole, signed, Entry, unused, entries, entry_of, used}
-use Rattle.listing.specs.Spelling.{space, feed, signedDecimal, spelledArgument, line_of, spelled, Kept, Known, same, lineWord}
-use Rattle.listing.specs.Listing.{indented, lines, onto, cut, indent, word_in, wordsOf, indents, misspelled, misplaced}
+use Rattle.listing.specs.Spelling.{space, feed, signed_decimal, spelled_argument, line_of, spelled, Kept, Known, same, line_word}
+use Rattle.listing.specs.Listing.{indented, lines, onto, cut, indent, word_in, words_of, indents, misspelled, misplaced}
 use Rattle.listing.proofs.Styles.{signed_low, signed_high}
 use Rattle.listing.proofs.Undone.{High, decimal-high, set-high, kind-some, word-undone}
 use Rattle.listing.proofs.Cutting.{cut-feed, cut-other, onto-line, cut-none, misspelled-next}
@@ -55,9 +55,9 @@ lettered : List ℕ → Bool
 lettered [] = true
 lettered (b ∷ bs) = leb 97 b && lettered bs
 
-allLettered : List Entry → Bool
-allLettered [] = true
-allLettered (e ∷ es) = lettered e.keyword && allLettered es
+all_lettered : List Entry → Bool
+all_lettered [] = true
+all_lettered (e ∷ es) = lettered e.keyword && all_lettered es
 
 and_left : (a b : Bool) → a && b ≡ true → a ≡ true
 and_left true b t = refl
@@ -67,15 +67,15 @@ and_right : (a b : Bool) → a && b ≡ true → b ≡ true
 and_right true b t = t
 and_right false b t = absurd (false≢true t)
 
-entries-lettered : allLettered entries ≡ true
-unfolding allLettered lettered entries
+entries-lettered : all_lettered entries ≡ true
+unfolding all_lettered lettered entries
 entries-lettered = refl
 
-lettered-at : (es : List Entry) → allLettered es ≡ true → (k : ℕ) → lettered (get_or es k unused).keyword ≡ true
-unfolding allLettered lettered
+lettered-at : (es : List Entry) → all_lettered es ≡ true → (k : ℕ) → lettered (get_or es k unused).keyword ≡ true
+unfolding all_lettered lettered
 lettered-at [] t k = refl
-lettered-at (e ∷ es) t zero = and_left (lettered e.keyword) (allLettered es) t
-lettered-at (e ∷ es) t (suc k) = lettered-at es (and_right (lettered e.keyword) (allLettered es) t) k
+lettered-at (e ∷ es) t zero = and_left (lettered e.keyword) (all_lettered es) t
+lettered-at (e ∷ es) t (suc k) = lettered-at es (and_right (lettered e.keyword) (all_lettered es) t) k
 
 keyword-lettered : (k : ℕ) → lettered (entry_of k).keyword ≡ true
 unfolding entry_of
@@ -91,20 +91,20 @@ plain-letters (b ∷ bs) t =
     let h = letter-not-feed b (and_left (leb 97 b) (lettered bs) t) in
     (λ e. omega (arith, h), plain-letters bs (and_right (leb 97 b) (lettered bs) t))
 
-plain-argument : (s : Style) (a : ℕ) → Plain (spelledArgument s a)
-unfolding spelledArgument
+plain-argument : (s : Style) (a : ℕ) → Plain (spelled_argument s a)
+unfolding spelled_argument
 plain-argument omitted a = tt
 plain-argument hex a = (λ e. omega arith, plain-high (set a) (set-high a))
 plain-argument whole a = (λ e. omega arith, plain-high (decimal a) (decimal-high a))
 plain-argument signed a = go (ltb a (2 ^ 23)) refl
   where
-    go : (b : Bool) → ltb a (2 ^ 23) ≡ b → Plain (space ∷ signedDecimal a)
+    go : (b : Bool) → ltb a (2 ^ 23) ≡ b → Plain (space ∷ signed_decimal a)
     go true t = subst Plain (signed_low a (ltb-true a (2 ^ 23) t)) (λ e. omega arith, plain-high (decimal a) (decimal-high a))
     go false t = subst Plain (signed_high a (ltb-false a (2 ^ 23) t)) (λ e. omega arith, (λ e. omega arith, plain-high (decimal (2 ^ 24 - a)) (decimal-high (2 ^ 24 - a))))
 
 -- a line without its line feed
 body : ℕ → ℕ → List ℕ
-body d w = replicate (2 * d) space ++ ((entry_of (kind w)).keyword ++ spelledArgument (entry_of (kind w)).style (argument w))
+body d w = replicate (2 * d) space ++ ((entry_of (kind w)).keyword ++ spelled_argument (entry_of (kind w)).style (argument w))
 
 body-plain : (d w : ℕ) → Plain (body d w)
 unfolding body
@@ -158,8 +158,8 @@ module _ (d w : ℕ) (known : Known w) where
   line-undone : word_in (indented d w) ≡ w
   unfolding word_in
   line-undone =
-      ap (λ (n : ℕ). lineWord (drop n (indented d w))) indent-undone
-      ∙ ap lineWord (drop_at (replicate (2 * d) space) (spelled w) (2 * d) (length-replicate (2 * d) space))
+      ap (λ (n : ℕ). line_word (drop n (indented d w))) indent-undone
+      ∙ ap line_word (drop_at (replicate (2 * d) space) (spelled w) (2 * d) (length-replicate (2 * d) space))
       ∙ word-undone w known
 
 -- ---- all lines
@@ -215,14 +215,14 @@ known_of w k e h u a =
       kept = subst (λ (n : ℕ). Kept (entry_of n).style (argument w)) (sym e) a;
     }
 
-isOmitted : Style → Bool
-isOmitted omitted = true
-isOmitted hex = false
-isOmitted whole = false
-isOmitted signed = false
+is_omitted : Style → Bool
+is_omitted omitted = true
+is_omitted hex = false
+is_omitted whole = false
+is_omitted signed = false
 
-keeps : (s : Style) (a : ℕ) → a < 2 ^ 24 → (T (isOmitted s) → a ≡ 0) → Kept s a
-unfolding isOmitted
+keeps : (s : Style) (a : ℕ) → a < 2 ^ 24 → (T (is_omitted s) → a ≡ 0) → Kept s a
+unfolding is_omitted
 keeps omitted a h z = z tt
 keeps hex a h z = h
 keeps whole a h z = h
@@ -233,8 +233,8 @@ implies : Bool → Bool → Bool
 implies true b = b
 implies false b = true
 
-termTest : ℕ → ℕ → Bool
-termTest j x = used (entry_of (firstKind + j)) && implies (isOmitted (entry_of (firstKind + j)).style) (leb x 1)
+term_test : ℕ → ℕ → Bool
+term_test j x = used (entry_of (first_kind + j)) && implies (is_omitted (entry_of (first_kind + j)).style) (leb x 1)
 
 T-left : (a b : Bool) → T (a && b) → T a
 T-left true b t = tt
@@ -249,21 +249,21 @@ unfolding implies
 implied true b t h = t
 implied false b t h = absurd h
 
-term-tested : (j : ℕ) → j < 21 → T (termTest j (get_or limitsByKind j 0))
-unfolding termTest implies isOmitted used entry_of entries limitsByKind
-term-tested j h = at termTest limitsByKind tt j h
+term-tested : (j : ℕ) → j < 21 → T (term_test j (get_or limits_by_kind j 0))
+unfolding term_test implies is_omitted used entry_of entries limits_by_kind
+term-tested j h = at term_test limits_by_kind tt j h
 
 known-term : (w : ℕ) → 16 ≤ kind w → kind w ≤ 36 → argument w < limit w → Known w
-unfolding termTest limit
+unfolding term_test limit
 known-term w low high small =
-    let j = kind w - firstKind in
-    let same : firstKind + j ≡ kind w = omega arith in
+    let j = kind w - first_kind in
+    let same : first_kind + j ≡ kind w = omega arith in
     let t = term-tested j (omega arith) in
-    let e = entry_of (firstKind + j) in
-    known_of w (firstKind + j) (sym same) (omega arith) (T-left (used e) _ t)
+    let e = entry_of (first_kind + j) in
+    known_of w (first_kind + j) (sym same) (omega arith) (T-left (used e) _ t)
     (keeps e.style (argument w) (argument-lt w)
-    (λ o. let one : get_or limitsByKind j 0 ≤ 1 = leb→le _ 1 (implied (isOmitted e.style) _ (T-right (used e) _ t) o) in
-    let less : argument w < get_or limitsByKind j 0 = small in
+    (λ o. let one : get_or limits_by_kind j 0 ≤ 1 = leb→le _ 1 (implied (is_omitted e.style) _ (T-right (used e) _ t) o) in
+    let less : argument w < get_or limits_by_kind j 0 = small in
     omega arith))
 
 known-task : (names : ℕ) (keys : List ℕ) (w : ℕ) (t : Task) → Stands names keys w t → (kind w ≡ 5 → ⊥) → Known w
@@ -278,10 +278,10 @@ each-known : (ws : List ℕ) → ((i : ℕ) → i < length ws → Known (get_or 
 each-known [] f = tt
 each-known (w ∷ ws) f = (f 0 (omega arith), each-known ws (λ i h. f (suc i) (omega arith)))
 
-pub all_known : (ws : List ℕ) → narrowReading ws ≡ accepted → AllKnown ws
+pub all_known : (ws : List ℕ) → narrow_reading ws ≡ accepted → AllKnown ws
 all_known ws e =
     let r = (narrow-accepted ws e).0 in
-    each-known ws (λ i l. known-task (names_at ws) (reach ws r i l).keys (get_or ws i 0) (taskAt ws i) (place-stands ws r i l) (no-wide-word ws e i l))
+    each-known ws (λ i l. known-task (names_at ws) (reach ws r i l).keys (get_or ws i 0) (task_at ws i) (place-stands ws r i l) (no-wide-word ws e i l))
 
 -- ---- the lines of a text that is accepted
 
@@ -358,7 +358,7 @@ lines-sound n (d ∷ ds) (l ∷ ls) e s p =
     let b = misplaced-here n d (indent l) ds (map indent ls) p in
     ap₂ ◌++◌ (line-sound d l a.0 b.0) (lines-sound (suc n) ds ls (omega arith) a.1 b.1)
 
-pub text-sound : (text ds : List ℕ) → length ds ≡ length (wordsOf text) → misspelled 1 (wordsOf text) ≡ 0 → misplaced 1 ds (indents text) ≡ 0
-    → lines ds (wordsOf text) ≡ text
-unfolding wordsOf indents
+pub text-sound : (text ds : List ℕ) → length ds ≡ length (words_of text) → misspelled 1 (words_of text) ≡ 0 → misplaced 1 ds (indents text) ≡ 0
+    → lines ds (words_of text) ≡ text
+unfolding words_of indents
 text-sound text ds e s p = lines-sound 0 ds (cut text) (e ∙ length-map (cut text) word_in) s p ∙ join-cut text

@@ -8,18 +8,18 @@ use lib.Dec.{ltb}
 use lib.ListN.{length, take, drop, length-append}
 use lib.Seq.{take_at}
 use borrow.Author.Tests.{ltb-false}
-use Rattle.table.specs.Scan.{Outcome, accepted, refused, first_of, narrowReading}
-use Rattle.listing.specs.Listing.{Answered, done, refusal, most, left, tested, depths, listing, written, textAfter}
-use Rattle.listing.specs.Listing.{wordsOf, indents, misspelled, misplaced, placed, tabled, spelt, readAs, wordsAfter}
+use Rattle.table.specs.Scan.{Outcome, accepted, refused, first_of, narrow_reading}
+use Rattle.listing.specs.Listing.{Answered, done, refusal, most, left, tested, depths, listing, written, text_after}
+use Rattle.listing.specs.Listing.{words_of, indents, misspelled, misplaced, placed, tabled, spelt, read_as, words_after}
 use Rattle.listing.specs.RoundTrip.{Makes, Takes, WrittenIsRead, ReadIsWritten, OneText}
 use Rattle.listing.proofs.Depths.{depths-length}
 use Rattle.listing.proofs.Answers.{write_done, read-spelt, spelt-table, place-done}
 use Rattle.listing.proofs.Texts.{doubled, words-undone, spaces-undone, none-misspelled, none-misplaced, all_known, text-sound}
 
-module _ (ws : List ℕ) (e : narrowReading ws ≡ accepted) where
+module _ (ws : List ℕ) (e : narrow_reading ws ≡ accepted) where
   -- the words that are read from the text of an accepted system are its words
-  pub words-of-listing : wordsOf (listing ws) ≡ ws
-  unfolding listing wordsOf
+  pub words-of-listing : words_of (listing ws) ≡ ws
+  unfolding listing words_of
   words-of-listing = words-undone (depths ws) ws (depths-length ws e) (all_known ws e)
 
   spaces-of-listing : indents (listing ws) ≡ doubled (depths ws)
@@ -27,7 +27,7 @@ module _ (ws : List ℕ) (e : narrowReading ws ≡ accepted) where
   spaces-of-listing = spaces-undone (depths ws) ws (depths-length ws e) (all_known ws e)
 
   -- an accepted system whose text fits: reading that text gives the same words
-  pub read-listing : (room : ℕ) → length (listing ws) ≤ most → length ws ≤ room → readAs (listing ws) room ≡ done (length ws)
+  pub read-listing : (room : ℕ) → length (listing ws) ≤ most → length ws ≤ room → read_as (listing ws) room ≡ done (length ws)
   read-listing room h r =
       read-spelt (listing ws) room h
       ∙ ap₂ (λ (v is : List ℕ). spelt v is room) words-of-listing spaces-of-listing
@@ -39,11 +39,11 @@ module _ (ws : List ℕ) (e : narrowReading ws ≡ accepted) where
 not_done : {n p m : ℕ} → refusal n p ≡ done m → ⊥
 not_done q = let z : ◌≡◌ {A = ℕ} 0 1 = cc in omega arith
 
-spelt-done : (text : List ℕ) (room n : ℕ) → readAs text room ≡ done n → spelt (wordsOf text) (indents text) room ≡ done n
-unfolding readAs
+spelt-done : (text : List ℕ) (room n : ℕ) → read_as text room ≡ done n → spelt (words_of text) (indents text) room ≡ done n
+unfolding read_as
 spelt-done text room n q = go (ltb most (length text)) q
   where
-    go : (t : Bool) → ◌≡◌ {A = Answered} (elim t [ true ↦ refusal 41 0 | false ↦ spelt (wordsOf text) (indents text) room ]) (done n) → spelt (wordsOf text) (indents text) room ≡ done n
+    go : (t : Bool) → ◌≡◌ {A = Answered} (elim t [ true ↦ refusal 41 0 | false ↦ spelt (words_of text) (indents text) room ]) (done n) → spelt (words_of text) (indents text) room ≡ done n
     go true f = absurd (not_done f)
     go false f = f
 
@@ -57,12 +57,12 @@ module _ (ws is : List ℕ) (room n : ℕ) where
       go zero f g = (f, g)
       go (suc k) f g = absurd (not_done g)
 
-  tabled-fine : tabled ws is room ≡ done n → (narrowReading ws ≡ accepted) × (placed ws is room ≡ done n)
+  tabled-fine : tabled ws is room ≡ done n → (narrow_reading ws ≡ accepted) × (placed ws is room ≡ done n)
   unfolding tabled
-  tabled-fine q = go (narrowReading ws) refl q
+  tabled-fine q = go (narrow_reading ws) refl q
     where
-      go : (o : Outcome) → narrowReading ws ≡ o → ◌≡◌ {A = Answered} (elim o [ refused a b ↦ refusal a b | accepted ↦ placed ws is room ]) (done n)
-          → (narrowReading ws ≡ accepted) × (placed ws is room ≡ done n)
+      go : (o : Outcome) → narrow_reading ws ≡ o → ◌≡◌ {A = Answered} (elim o [ refused a b ↦ refusal a b | accepted ↦ placed ws is room ]) (done n)
+          → (narrow_reading ws ≡ accepted) × (placed ws is room ≡ done n)
       go accepted f g = (f, g)
       go (refused a b) f g = absurd (not_done g)
 
@@ -80,27 +80,27 @@ module _ (ws is : List ℕ) (room n : ℕ) where
       go zero f g = (f, tested-count (ltb room (length ws)) g)
       go (suc k) f g = absurd (not_done g)
 
-module _ (text : List ℕ) (room n : ℕ) (q : readAs text room ≡ done n) where
-  fine : (misspelled 1 (wordsOf text) ≡ 0) × (tabled (wordsOf text) (indents text) room ≡ done n)
-  fine = spelt-fine (wordsOf text) (indents text) room n (spelt-done text room n q)
+module _ (text : List ℕ) (room n : ℕ) (q : read_as text room ≡ done n) where
+  fine : (misspelled 1 (words_of text) ≡ 0) × (tabled (words_of text) (indents text) room ≡ done n)
+  fine = spelt-fine (words_of text) (indents text) room n (spelt-done text room n q)
 
-  table : (narrowReading (wordsOf text) ≡ accepted) × (placed (wordsOf text) (indents text) room ≡ done n)
-  table = tabled-fine (wordsOf text) (indents text) room n fine.1
+  table : (narrow_reading (words_of text) ≡ accepted) × (placed (words_of text) (indents text) room ≡ done n)
+  table = tabled-fine (words_of text) (indents text) room n fine.1
 
   -- the words that are read are an accepted system
-  pub read-accepted : narrowReading (wordsOf text) ≡ accepted
+  pub read-accepted : narrow_reading (words_of text) ≡ accepted
   read-accepted = table.0
 
   -- the reader accepts a text only if the writer makes it
-  pub read-written : listing (wordsOf text) ≡ text
+  pub read-written : listing (words_of text) ≡ text
   unfolding listing
   read-written =
-      text-sound text (depths (wordsOf text)) (depths-length (wordsOf text) read-accepted) fine.0
-      (placed-fine (wordsOf text) (indents text) room n table.1).0
+      text-sound text (depths (words_of text)) (depths-length (words_of text) read-accepted) fine.0
+      (placed-fine (words_of text) (indents text) room n table.1).0
 
   -- and as many words are written as it has
-  pub read_count : n ≡ length (wordsOf text)
-  read_count = (placed-fine (wordsOf text) (indents text) room n table.1).1
+  pub read_count : n ≡ length (words_of text)
+  read_count = (placed-fine (words_of text) (indents text) room n table.1).1
 
 -- ---- an answer that tells a count has room for it
 
@@ -120,21 +120,21 @@ none-refused : (n m : ℕ) → tested ((false, 41) ∷ (false, 42) ∷ []) n ≡
 unfolding tested first_of
 none-refused n m q = cc
 
-pub read_fits : (text : List ℕ) (room n : ℕ) → readAs text room ≡ done n → n ≤ room
+pub read_fits : (text : List ℕ) (room n : ℕ) → read_as text room ≡ done n → n ≤ room
 unfolding placed
-read_fits text room n q = go (misplaced 1 (depths (wordsOf text)) (indents text)) (table text room n q).1
+read_fits text room n q = go (misplaced 1 (depths (words_of text)) (indents text)) (table text room n q).1
   where
-    last : (b : Bool) → ltb room (length (wordsOf text)) ≡ b → tested ((b, 42) ∷ []) (length (wordsOf text)) ≡ done n → n ≤ room
-    last true e f = absurd (not_done (sym (last-refused (length (wordsOf text))) ∙ f))
-    last false e f = omega (arith, ltb-false room (length (wordsOf text)) e, read_count text room n q)
+    last : (b : Bool) → ltb room (length (words_of text)) ≡ b → tested ((b, 42) ∷ []) (length (words_of text)) ≡ done n → n ≤ room
+    last true e f = absurd (not_done (sym (last-refused (length (words_of text))) ∙ f))
+    last false e f = omega (arith, ltb-false room (length (words_of text)) e, read_count text room n q)
 
-    go : (m : ℕ) → ◌≡◌ {A = Answered} (elim m [ zero ↦ tested ((ltb room (length (wordsOf text)), 42) ∷ []) (length (wordsOf text)) | suc k ↦ refusal 40 (suc k) ]) (done n) → n ≤ room
-    go zero f = last (ltb room (length (wordsOf text))) refl f
+    go : (m : ℕ) → ◌≡◌ {A = Answered} (elim m [ zero ↦ tested ((ltb room (length (words_of text)), 42) ∷ []) (length (words_of text)) | suc k ↦ refusal 40 (suc k) ]) (done n) → n ≤ room
+    go zero f = last (ltb room (length (words_of text))) refl f
     go (suc k) f = absurd (not_done f)
 
 pub write-fits : (ws : List ℕ) (room n : ℕ) → written ws room ≡ done n → n ≤ room
 unfolding written
-write-fits ws room n q = go (narrowReading ws) q
+write-fits ws room n q = go (narrow_reading ws) q
   where
     tests : (a b : Bool) → ltb room (length (listing ws)) ≡ b → tested ((a, 41) ∷ (b, 42) ∷ []) (length (listing ws)) ≡ done n → n ≤ room
     tests true b e f = absurd (not_done (sym (first-refused b (length (listing ws))) ∙ f))
@@ -150,40 +150,40 @@ write-fits ws room n q = go (narrowReading ws) q
 
 -- ---- the two calls after each other
 
-few-read : (text : List ℕ) (room n : ℕ) → readAs text room ≡ done n → length text ≤ most
-unfolding readAs
+few-read : (text : List ℕ) (room n : ℕ) → read_as text room ≡ done n → length text ≤ most
+unfolding read_as
 few-read text room n q = go (ltb most (length text)) refl q
   where
     go : (t : Bool) → ltb most (length text) ≡ t
-        → ◌≡◌ {A = Answered} (elim t [ true ↦ refusal 41 0 | false ↦ spelt (wordsOf text) (indents text) room ]) (done n) → length text ≤ most
+        → ◌≡◌ {A = Answered} (elim t [ true ↦ refusal 41 0 | false ↦ spelt (words_of text) (indents text) room ]) (done n) → length text ≤ most
     go true e f = absurd (not_done f)
     go false e f = ltb-false most (length text) e
 
 -- an accepted system whose text is not too long
 record Written (ws : List ℕ) (n : ℕ) : Type 0 where
-  reads : narrowReading ws ≡ accepted
+  reads : narrow_reading ws ≡ accepted
   short : length (listing ws) ≤ most
   count : n ≡ length (listing ws)
 
 write-fine : (ws : List ℕ) (room n : ℕ) → written ws room ≡ done n → Written ws n
 unfolding written
-write-fine ws room n q = go (narrowReading ws) refl q
+write-fine ws room n q = go (narrow_reading ws) refl q
   where
-    tests : (a b : Bool) → narrowReading ws ≡ accepted → ltb most (length (listing ws)) ≡ a
+    tests : (a b : Bool) → narrow_reading ws ≡ accepted → ltb most (length (listing ws)) ≡ a
         → tested ((a, 41) ∷ (b, 42) ∷ []) (length (listing ws)) ≡ done n → Written ws n
     tests true b r e f = absurd (not_done (sym (first-refused b (length (listing ws))) ∙ f))
     tests false true r e f = absurd (not_done (sym (second-refused (length (listing ws))) ∙ f))
     tests false false r e f =
         record { reads = r; short = ltb-false most (length (listing ws)) e; count = sym (none-refused (length (listing ws)) n f) }
 
-    go : (o : Outcome) → narrowReading ws ≡ o → ◌≡◌ {A = Answered} (elim o [
+    go : (o : Outcome) → narrow_reading ws ≡ o → ◌≡◌ {A = Answered} (elim o [
       | refused a b ↦ refusal a b
       | accepted ↦ tested ((ltb most (length (listing ws)), 41) ∷ (ltb room (length (listing ws)), 42) ∷ []) (length (listing ws))
     ]) (done n) → Written ws n
     go accepted r f = tests (ltb most (length (listing ws))) (ltb room (length (listing ws))) r refl f
     go (refused a b) r f = absurd (not_done f)
 
-module _ (ws : List ℕ) (e : narrowReading ws ≡ accepted) (short : length (listing ws) ≤ most) where
+module _ (ws : List ℕ) (e : narrow_reading ws ≡ accepted) (short : length (listing ws) ≤ most) where
   listing-made : Makes ws (listing ws)
   unfolding left
   listing-made =
@@ -198,7 +198,7 @@ module _ (ws : List ℕ) (e : narrowReading ws ≡ accepted) (short : length (li
       record {
         answer = λ out h. read-listing ws e (length out) short h;
         output = λ out h.
-            ap (λ (a : Answered). left a (wordsOf (listing ws)) out) (read-listing ws e (length out) short h)
+            ap (λ (a : Answered). left a (words_of (listing ws)) out) (read-listing ws e (length out) short h)
             ∙ ap (λ (l : List ℕ). l ++ drop (length ws) out) (words-of-listing ws e);
       }
 
@@ -207,7 +207,7 @@ pub written_read : WrittenIsRead
 unfolding left
 written_read ws out n q =
     let w = write-fine ws (length out) n q in
-    let same : take n (textAfter ws out) ≡ listing ws =
+    let same : take n (text_after ws out) ≡ listing ws =
     ap (λ (a : Answered). take n (left a (listing ws) out)) q ∙ take_at (listing ws) (drop n out) n (sym w.count) in (
       subst (Makes ws) (sym same) (listing-made ws w.reads w.short),
       subst (λ (l : List ℕ). Takes l ws) (sym same) (listing-taken ws w.reads w.short),
@@ -217,11 +217,11 @@ written_read ws out n q =
 pub read-written-back : ReadIsWritten
 unfolding left
 read-written-back text out n q =
-    let ws = wordsOf text in
+    let ws = words_of text in
     let e = read-accepted text (length out) n q in
     let back = read-written text (length out) n q in
     let short : length (listing ws) ≤ most = omega (arith, few-read text (length out) n q, ap length back) in
-    let same : take n (wordsAfter text out) ≡ ws =
+    let same : take n (words_after text out) ≡ ws =
     ap (λ (a : Answered). take n (left a ws out)) q ∙ take_at ws (drop n out) n (sym (read_count text (length out) n q)) in (
       subst₂ Takes back (sym same) (listing-taken ws e short),
       subst₂ Makes (sym same) back (listing-made ws e short),
@@ -229,11 +229,11 @@ read-written-back text out n q =
 
 -- ---- each is what the other undoes
 
-taken-whole : (text ws : List ℕ) → Takes text ws → take (length ws) (wordsAfter text ws) ≡ ws
+taken-whole : (text ws : List ℕ) → Takes text ws → take (length ws) (words_after text ws) ≡ ws
 taken-whole text ws t =
     ap (take (length ws)) (t.output ws (omega arith)) ∙ take_at ws (drop (length ws) ws) (length ws) refl
 
-made-whole : (ws text : List ℕ) → Makes ws text → take (length text) (textAfter ws text) ≡ text
+made-whole : (ws text : List ℕ) → Makes ws text → take (length text) (text_after ws text) ≡ text
 made-whole ws text m =
     ap (take (length text)) (m.output text (omega arith)) ∙ take_at text (drop (length text) text) (length text) refl
 

@@ -10,20 +10,20 @@ use lib.ListN.{length, get_or, drop, replicate}
 use lib.Seq.{drop-append_seam}
 use borrow.Author.Tests.{eq-eqb, ne_eqb, ltb-true, ltb-false}
 use Rattle.table.specs.Words.{kind, argument}
-use Rattle.table.proofs.TermWords.{wordOf-parts}
+use Rattle.table.proofs.TermWords.{word_of-parts}
 use Rattle.table.proofs.Constants.{at}
 use Rattle.text.specs.Text.{digits, value, glyph, numeral, decimal, set}
 use Rattle.text.proofs.Digits.{Below, digits-below, digits_value}
 use Rattle.listing.specs.Keywords.{Style, omitted, hex, whole, signed, Entry, unused, entries, entry_of, used}
-use Rattle.listing.specs.Spelling.{space, feed, minus, spelledArgument, line_of, spelled, Kept, Known, prefix, kindFrom, guessedKind, digitOf, folded, guessedArgument, guessed, lineWord}
+use Rattle.listing.specs.Spelling.{space, feed, minus, spelled_argument, line_of, spelled, Kept, Known, prefix, kind_from, guessed_kind, digit_of, folded, guessed_argument, guessed, line_word}
 use Rattle.listing.proofs.Styles.{signed_low, signed_high}
 use Rattle.listing.proofs.Guessing.{argument-minus, argument-plus, guessed-as, spells-yes}
 
 -- ---- digits
 
 -- the byte of a digit stands for it, and is not less than `0`
-glyphTest : ℕ → ℕ → Bool
-glyphTest d x = eqb (digitOf (glyph d)) d && leb 48 (glyph d)
+glyph_test : ℕ → ℕ → Bool
+glyph_test d x = eqb (digit_of (glyph d)) d && leb 48 (glyph d)
 
 and_left : (a b : Bool) → T (a && b) → T a
 and_left true b t = tt
@@ -33,17 +33,17 @@ and_right : (a b : Bool) → T (a && b) → T b
 and_right true b t = t
 and_right false b t = absurd t
 
-glyph-tested : (d : ℕ) → d < 16 → T (glyphTest d (get_or (replicate 16 0) d 0))
-unfolding glyphTest glyph
-glyph-tested d h = at glyphTest (replicate 16 0) tt d h
+glyph-tested : (d : ℕ) → d < 16 → T (glyph_test d (get_or (replicate 16 0) d 0))
+unfolding glyph_test glyph
+glyph-tested d h = at glyph_test (replicate 16 0) tt d h
 
-pub glyph-digit : (d : ℕ) → d < 16 → digitOf (glyph d) ≡ d
-unfolding glyphTest
-glyph-digit d h = eqb→eq _ d (and_left (eqb (digitOf (glyph d)) d) (leb 48 (glyph d)) (glyph-tested d h))
+pub glyph-digit : (d : ℕ) → d < 16 → digit_of (glyph d) ≡ d
+unfolding glyph_test
+glyph-digit d h = eqb→eq _ d (and_left (eqb (digit_of (glyph d)) d) (leb 48 (glyph d)) (glyph-tested d h))
 
 pub glyph-high : (d : ℕ) → d < 16 → 48 ≤ glyph d
-unfolding glyphTest
-glyph-high d h = leb→le 48 (glyph d) (and_right (eqb (digitOf (glyph d)) d) _ (glyph-tested d h))
+unfolding glyph_test
+glyph-high d h = leb→le 48 (glyph d) (and_right (eqb (digit_of (glyph d)) d) _ (glyph-tested d h))
 
 times_mod : (m u b : ℕ) → (u % m) * b % m ≡ u * b % m
 times_mod m u zero = ap (λ (x : ℕ). x % m) (mul-zero (u % m) ∙ sym (mul-zero u))
@@ -55,7 +55,7 @@ times_mod m u (suc b) =
     ∙ ap (λ (x : ℕ). x % m) (sym (mul-suc u b))
 
 module _ (base : ℕ) (small : base ≤ 16) where
-  fold_step : (v b : ℕ) (bs : List ℕ) → (b ≡ feed → ⊥) → folded base v (b ∷ bs) ≡ folded base ((v * base + digitOf b) % 2 ^ 24) bs
+  fold_step : (v b : ℕ) (bs : List ℕ) → (b ≡ feed → ⊥) → folded base v (b ∷ bs) ≡ folded base ((v * base + digit_of b) % 2 ^ 24) bs
   unfolding folded
   fold_step v b bs n = rw (ne_eqb b feed n, folded)
 
@@ -121,21 +121,21 @@ no_sign : (l bs : List ℕ) → High l → get_or (l ++ feed ∷ bs) 0 0 ≡ min
 no_sign [] bs h e = omega arith
 no_sign (b ∷ l) bs h e = omega (arith, h.0)
 
-signed-undone : (a : ℕ) (b : Bool) → ltb a (2 ^ 23) ≡ b → a < 2 ^ 24 → guessedArgument signed (spelledArgument signed a ++ feed ∷ []) ≡ a
+signed-undone : (a : ℕ) (b : Bool) → ltb a (2 ^ 23) ≡ b → a < 2 ^ 24 → guessed_argument signed (spelled_argument signed a ++ feed ∷ []) ≡ a
 signed-undone a true t h =
-    ap (λ (l : List ℕ). guessedArgument signed (l ++ feed ∷ [])) (sym (signed_low a (ltb-true a (2 ^ 23) t)))
+    ap (λ (l : List ℕ). guessed_argument signed (l ++ feed ∷ [])) (sym (signed_low a (ltb-true a (2 ^ 23) t)))
     ∙ sym (argument-plus (space ∷ decimal a ++ feed ∷ []) 0 (no_sign (decimal a) [] (decimal-high a)))
     ∙ decimal-folded a h
 signed-undone a false t h =
     let back : 2 ^ 24 - (2 ^ 24 - a) ≡ a = omega arith in
-    ap (λ (l : List ℕ). guessedArgument signed (l ++ feed ∷ [])) (sym (signed_high a (ltb-false a (2 ^ 23) t)))
+    ap (λ (l : List ℕ). guessed_argument signed (l ++ feed ∷ [])) (sym (signed_high a (ltb-false a (2 ^ 23) t)))
     ∙ sym (argument-minus (space ∷ minus ∷ decimal (2 ^ 24 - a) ++ feed ∷ []) 0 refl)
     ∙ ap (λ (n : ℕ). (2 ^ 24 - n) % 2 ^ 24) (decimal-folded (2 ^ 24 - a) (omega (arith, ltb-false a (2 ^ 23) t)))
     ∙ ap (λ (n : ℕ). n % 2 ^ 24) back
     ∙ mod-eq_of_lt h
 
-argument-undone : (s : Style) (a : ℕ) → Kept s a → guessedArgument s (spelledArgument s a ++ feed ∷ []) ≡ a
-unfolding spelledArgument guessedArgument
+argument-undone : (s : Style) (a : ℕ) → Kept s a → guessed_argument s (spelled_argument s a ++ feed ∷ []) ≡ a
+unfolding spelled_argument guessed_argument
 argument-undone omitted a h = sym h
 argument-undone hex a h = set-folded a h
 argument-undone whole a h = decimal-folded a h
@@ -145,14 +145,14 @@ argument-undone signed a h = signed-undone a (ltb a (2 ^ 23)) refl h
 
 Found : List Entry → ℕ → Type 0
 Found [] i = Unit {0}
-Found (e ∷ es) i = ((a : ℕ) → T (used e) → guessedKind (line_of e a) ≡ i) × Found es (suc i)
+Found (e ∷ es) i = ((a : ℕ) → T (used e) → guessed_kind (line_of e a) ≡ i) × Found es (suc i)
 
 all_found : Found entries 0
-unfolding Found entries used guessedKind kindFrom prefix line_of spelledArgument
+unfolding Found entries used guessed_kind kind_from prefix line_of spelled_argument
 all_found =
     (λ a t. absurd t, (λ a t. refl, (λ a t. refl, (λ a t. refl, (λ a t. refl, (λ a t. absurd t, (λ a t. absurd t, (λ a t. absurd t, (λ a t. absurd t, (λ a t. absurd t, (λ a t. absurd t, (λ a t. absurd t, (λ a t. absurd t, (λ a t. absurd t, (λ a t. absurd t, (λ a t. absurd t, (λ a t. refl, (λ a t. refl, (λ a t. refl, (λ a t. refl, (λ a t. refl, (λ a t. refl, (λ a t. refl, (λ a t. refl, (λ a t. refl, (λ a t. refl, (λ a t. refl, (λ a t. refl, (λ a t. refl, (λ a t. refl, (λ a t. refl, (λ a t. refl, (λ a t. refl, (λ a t. refl, (λ a t. refl, (λ a t. refl, (λ a t. refl, tt)))))))))))))))))))))))))))))))))))))
 
-found_at : (es : List Entry) (i : ℕ) → Found es i → (k : ℕ) (a : ℕ) → k < length es → T (used (get_or es k unused)) → guessedKind (line_of (get_or es k unused) a) ≡ i + k
+found_at : (es : List Entry) (i : ℕ) → Found es i → (k : ℕ) (a : ℕ) → k < length es → T (used (get_or es k unused)) → guessed_kind (line_of (get_or es k unused) a) ≡ i + k
 unfolding Found
 found_at [] i f k a h t = absurd (omega arith)
 found_at (e ∷ es) i f zero a h t = f.0 a t ∙ sym (add-zero i)
@@ -172,14 +172,14 @@ same_self [] = refl
 same_self (b ∷ bs) = ap (λ (t : Bool). t && prefix bs bs) (eq-eqb b b refl) ∙ same_self bs
 
 module _ (w : ℕ) (known : Known w) where
-  kind-undone : kind w ≡ guessedKind (spelled w)
+  kind-undone : kind w ≡ guessed_kind (spelled w)
   unfolding spelled entry_of
   kind-undone = sym (found_at entries 0 all_found (kind w) (argument w) (inside known.small) known.named ∙ zero-add (kind w))
 
   pub kind-some : kind w ≡ 0 → ⊥
   kind-some z = not-zero (subst (λ (k : ℕ). T (used (entry_of k))) z known.named)
 
-  behind : drop (length (entry_of (kind w)).keyword) (spelled w) ≡ spelledArgument (entry_of (kind w)).style (argument w) ++ feed ∷ []
+  behind : drop (length (entry_of (kind w)).keyword) (spelled w) ≡ spelled_argument (entry_of (kind w)).style (argument w) ++ feed ∷ []
   unfolding spelled line_of
   behind =
       ap (drop (length (entry_of (kind w)).keyword)) (append_assoc (entry_of (kind w)).keyword _ (feed ∷ []))
@@ -189,11 +189,11 @@ module _ (w : ℕ) (known : Known w) where
   guess-undone =
       sym
       (guessed-as (spelled w) (kind w) (argument w) _ refl
-      (sym (ap (guessedArgument (entry_of (kind w)).style) behind ∙ argument-undone (entry_of (kind w)).style (argument w) known.kept)))
-      ∙ wordOf-parts w
+      (sym (ap (guessed_argument (entry_of (kind w)).style) behind ∙ argument-undone (entry_of (kind w)).style (argument w) known.kept)))
+      ∙ word_of-parts w
 
   -- the word of its line is the word
-  pub word-undone : lineWord (spelled w) ≡ w
+  pub word-undone : line_word (spelled w) ≡ w
   word-undone =
       sym
       (spells-yes (spelled w) (kind w) kind-undone kind-some (ap (λ (v : ℕ). length (spelled v)) guess-undone)

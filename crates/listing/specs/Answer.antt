@@ -1,6 +1,6 @@
 -- The number and the place of each refusal (document 02, wish 1), and what an answer says.
 use Rattle.std.specs.Prelude.{ℕ}
-use Rattle.table.specs.Answer.{number as tableNumber, place as tablePlace}
+use Rattle.table.specs.Answer.{number as table_number, place as table_place}
 use Rattle.listing.specs.declared.Refusal.{Refusal}
 use Rattle.listing.specs.declared.Refusal.TheVariants.{Table, Line, TooLong, NoRoom}
 use Rattle.listing.specs.declared.Answer.{Answer}
@@ -8,13 +8,13 @@ use Rattle.listing.specs.declared.Answer.TheVariants.{Done, Refused}
 use Rattle.listing.specs.Listing.{Answered, done, refusal}
 
 unfoldable pub number : Refusal → ℕ
-number (Table r) = tableNumber r
+number (Table r) = table_number r
 number (Line n) = 40
 number TooLong = 41
 number NoRoom = 42
 
 unfoldable pub place : Refusal → ℕ
-place (Table r) = tablePlace r
+place (Table r) = table_place r
 place (Line n) = n
 place TooLong = 0
 place NoRoom = 0

@@ -55,22 +55,22 @@ used e = not (eqb (length e.keyword) 0)
 -- ---- the entries as the code holds them: 16 bytes for each kind
 
 -- a letter for each style: o, h, w, s
-unfoldable pub styleLetter : Style → ℕ
-styleLetter omitted = 111
-styleLetter hex = 104
-styleLetter whole = 119
-styleLetter signed = 115
+unfoldable pub style_letter : Style → ℕ
+style_letter omitted = 111
+style_letter hex = 104
+style_letter whole = 119
+style_letter signed = 115
 
 -- the keyword's length, its style and its letters, with full stops behind them
 unfoldable pub packed : Entry → List ℕ
-unfolding styleLetter
-packed e = length e.keyword ∷ styleLetter e.style ∷ e.keyword ++ replicate (14 - length e.keyword) 46
+unfolding style_letter
+packed e = length e.keyword ∷ style_letter e.style ∷ e.keyword ++ replicate (14 - length e.keyword) 46
 
-unfoldable pub packedAll : List Entry → List ℕ
+unfoldable pub packed_all : List Entry → List ℕ
 unfolding packed
-packedAll [] = []
-packedAll (e ∷ es) = packed e ++ packedAll es
+packed_all [] = []
+packed_all (e ∷ es) = packed e ++ packed_all es
 
 unfoldable pub letters : List ℕ
-unfolding entries packedAll
-letters = packedAll entries
+unfolding entries packed_all
+letters = packed_all entries

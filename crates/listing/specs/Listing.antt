@@ -1,8 +1,8 @@
 -- The listing of a system, what the writer answers and what the reader answers (document 02, wish 1).
 use Rattle.std.specs.Prelude.{ℕ, zero, suc, ◌*◌, Bool, true, false, List, [], ◌∷◌, ◌++◌, map, eqb, ltb, length, drop, replicate}
-use Rattle.table.specs.Scan.{Task, head, name, perms, guard, term, accepted, refused, first_of, narrowReading}
+use Rattle.table.specs.Scan.{Task, head, name, perms, guard, term, accepted, refused, first_of, narrow_reading}
 use Rattle.table.specs.Code.{tasks}
-use Rattle.listing.specs.Spelling.{space, feed, spelled, lineWord}
+use Rattle.listing.specs.Spelling.{space, feed, spelled, line_word}
 
 -- what a call answers: so many bytes or words are written, or a number and a place
 pub data Answered : Type 0 where
@@ -14,8 +14,8 @@ abbrev pub most : ℕ
 most = 65536
 
 -- the largest number of a line that is refused: 21,845 lines `if`, and one byte more
-abbrev pub lastLine : ℕ
-lastLine = 21846
+abbrev pub last_line : ℕ
+last_line = 21846
 
 -- what a call leaves in the output slice, where it writes `l` if it accepts
 unfoldable pub left : Answered → List ℕ → List ℕ → List ℕ
@@ -57,14 +57,14 @@ listing ws = lines (depths ws) ws
 unfoldable pub written : List ℕ → ℕ → Answered
 unfolding tested listing
 written ws room =
-    elim (narrowReading ws) [
+    elim (narrow_reading ws) [
       | refused n p ↦ refusal n p
       | accepted ↦ tested ((ltb most (length (listing ws)), 41) ∷ (ltb room (length (listing ws)), 42) ∷ []) (length (listing ws))
     ]
 
 -- the bytes of the output slice after the call, from those before it
-abbrev pub textAfter : List ℕ → List ℕ → List ℕ
-textAfter ws out = left (written ws (length out)) (listing ws) out
+abbrev pub text_after : List ℕ → List ℕ → List ℕ
+text_after ws out = left (written ws (length out)) (listing ws) out
 
 -- ---- reading
 
@@ -86,11 +86,11 @@ indent (b ∷ bs) = elim (eqb b space) [ true ↦ suc (indent bs) | false ↦ 0 
 -- the word of a line, leading spaces aside
 unfoldable pub word_in : List ℕ → ℕ
 unfolding indent
-word_in l = lineWord (drop (indent l) l)
+word_in l = line_word (drop (indent l) l)
 
-unfoldable pub wordsOf : List ℕ → List ℕ
+unfoldable pub words_of : List ℕ → List ℕ
 unfolding cut word_in
-wordsOf text = map word_in (cut text)
+words_of text = map word_in (cut text)
 
 unfoldable pub indents : List ℕ → List ℕ
 unfolding cut indent
@@ -118,17 +118,17 @@ placed ws is room =
 
 unfoldable pub tabled : List ℕ → List ℕ → ℕ → Answered
 unfolding placed
-tabled ws is room = elim (narrowReading ws) [ refused n p ↦ refusal n p | accepted ↦ placed ws is room ]
+tabled ws is room = elim (narrow_reading ws) [ refused n p ↦ refusal n p | accepted ↦ placed ws is room ]
 
 unfoldable pub spelt : List ℕ → List ℕ → ℕ → Answered
 unfolding misspelled tabled
 spelt ws is room = elim (misspelled 1 ws) [ zero ↦ tabled ws is room | suc n ↦ refusal 40 (suc n) ]
 
 -- the reader's answer, where the output slice has `room` words
-unfoldable pub readAs : List ℕ → ℕ → Answered
-unfolding spelt wordsOf indents
-readAs text room = elim (ltb most (length text)) [ true ↦ refusal 41 0 | false ↦ spelt (wordsOf text) (indents text) room ]
+unfoldable pub read_as : List ℕ → ℕ → Answered
+unfolding spelt words_of indents
+read_as text room = elim (ltb most (length text)) [ true ↦ refusal 41 0 | false ↦ spelt (words_of text) (indents text) room ]
 
 -- the words of the output slice after the call, from those before it
-abbrev pub wordsAfter : List ℕ → List ℕ → List ℕ
-wordsAfter text out = left (readAs text (length out)) (wordsOf text) out
+abbrev pub words_after : List ℕ → List ℕ → List ℕ
+words_after text out = left (read_as text (length out)) (words_of text) out

@@ -14,20 +14,20 @@ abbrev pub minus : ℕ
 minus = 45
 
 -- a number of 24 bits, those from 2^23 on being negative
-unfoldable pub signedDecimal : ℕ → List ℕ
-signedDecimal a = elim (ltb a (2 ^ 23)) [ true ↦ decimal a | false ↦ minus ∷ decimal (2 ^ 24 - a) ]
+unfoldable pub signed_decimal : ℕ → List ℕ
+signed_decimal a = elim (ltb a (2 ^ 23)) [ true ↦ decimal a | false ↦ minus ∷ decimal (2 ^ 24 - a) ]
 
 -- the argument with the space before it
-unfoldable pub spelledArgument : Style → ℕ → List ℕ
-unfolding signedDecimal
-spelledArgument omitted a = []
-spelledArgument hex a = space ∷ set a
-spelledArgument whole a = space ∷ decimal a
-spelledArgument signed a = space ∷ signedDecimal a
+unfoldable pub spelled_argument : Style → ℕ → List ℕ
+unfolding signed_decimal
+spelled_argument omitted a = []
+spelled_argument hex a = space ∷ set a
+spelled_argument whole a = space ∷ decimal a
+spelled_argument signed a = space ∷ signed_decimal a
 
 unfoldable pub line_of : Entry → ℕ → List ℕ
-unfolding spelledArgument
-line_of e a = e.keyword ++ spelledArgument e.style a ++ feed ∷ []
+unfolding spelled_argument
+line_of e a = e.keyword ++ spelled_argument e.style a ++ feed ∷ []
 
 -- the line of a word, without leading spaces and with its line feed
 unfoldable pub spelled : ℕ → List ℕ
@@ -55,36 +55,36 @@ prefix (a ∷ xs) [] = false
 prefix (a ∷ xs) (b ∷ bs) = eqb a b && prefix xs bs
 
 -- the first kind from k on whose keyword a line starts with, and 0 where there is none
-unfoldable pub kindFrom : ℕ → List Entry → List ℕ → ℕ
+unfoldable pub kind_from : ℕ → List Entry → List ℕ → ℕ
 unfolding used prefix
-kindFrom k [] l = 0
-kindFrom k (e ∷ es) l = elim (used e && prefix e.keyword l) [ true ↦ k | false ↦ kindFrom (suc k) es l ]
+kind_from k [] l = 0
+kind_from k (e ∷ es) l = elim (used e && prefix e.keyword l) [ true ↦ k | false ↦ kind_from (suc k) es l ]
 
-unfoldable pub guessedKind : List ℕ → ℕ
-unfolding kindFrom entries
-guessedKind l = kindFrom 0 entries l
+unfoldable pub guessed_kind : List ℕ → ℕ
+unfolding kind_from entries
+guessed_kind l = kind_from 0 entries l
 
 -- the digit that a byte stands for, where it stands for one: `0` to `9`, `a` to `f`
-abbrev pub digitOf : ℕ → ℕ
-digitOf b = b % 16 + 9 * (b / 64)
+abbrev pub digit_of : ℕ → ℕ
+digit_of b = b % 16 + 9 * (b / 64)
 
 -- the number of the digits up to the line feed, modulo 2^24
 unfoldable pub folded : (base v : ℕ) → List ℕ → ℕ
 folded base v [] = v
-folded base v (b ∷ bs) = elim (eqb b feed) [ true ↦ v | false ↦ folded base ((v * base + digitOf b) % 2 ^ 24) bs ]
+folded base v (b ∷ bs) = elim (eqb b feed) [ true ↦ v | false ↦ folded base ((v * base + digit_of b) % 2 ^ 24) bs ]
 
 -- the argument, from what follows the keyword
-unfoldable pub guessedArgument : Style → List ℕ → ℕ
+unfoldable pub guessed_argument : Style → List ℕ → ℕ
 unfolding folded
-guessedArgument omitted l = 0
-guessedArgument hex l = folded 16 0 (drop 1 l)
-guessedArgument whole l = folded 10 0 (drop 1 l)
-guessedArgument signed l =
+guessed_argument omitted l = 0
+guessed_argument hex l = folded 16 0 (drop 1 l)
+guessed_argument whole l = folded 10 0 (drop 1 l)
+guessed_argument signed l =
     elim (eqb (get_or l 1 0) minus) [ true ↦ (2 ^ 24 - folded 10 0 (drop 2 l)) % 2 ^ 24 | false ↦ folded 10 0 (drop 1 l) ]
 
 unfoldable pub guessed : ℕ → List ℕ → ℕ
-unfolding entry_of guessedArgument
-guessed k l = word_of k (guessedArgument (entry_of k).style (drop (length (entry_of k).keyword) l))
+unfolding entry_of guessed_argument
+guessed k l = word_of k (guessed_argument (entry_of k).style (drop (length (entry_of k).keyword) l))
 
 unfoldable pub same : List ℕ → List ℕ → Bool
 same [] [] = true
@@ -102,6 +102,6 @@ spells l k =
       | suc j ↦ elim (same (spelled (guessed (suc j) l)) l) [ true ↦ guessed (suc j) l | false ↦ 0 ]
     ]
 
-unfoldable pub lineWord : List ℕ → ℕ
-unfolding guessedKind spells
-lineWord l = spells l (guessedKind l)
+unfoldable pub line_word : List ℕ → ℕ
+unfolding guessed_kind spells
+line_word l = spells l (guessed_kind l)

@@ -1,6 +1,6 @@
 // The depth of each word of an accepted table, with a stack of the depths that wait. The stack grows downwards: `top` is its first entry.
 ghost use Rattle.std.specs.Prelude.{◌≡◌, ◌++◌, ◌+◌, ◌≤◌, ◌<◌, length, take, drop, replicate};
-ghost use Rattle.table.specs.Scan.{accepted, narrowReading};
+ghost use Rattle.table.specs.Scan.{accepted, narrow_reading};
 ghost use Rattle.listing.specs.Listing.{depths as Listing·depths};
 ghost use Rattle.listing.specs.Depths.{leaves};
 
@@ -55,7 +55,7 @@ fn push_left(stack: &mut [u8], top: usize, w: u32, d: u8) -> usize
 
 // The depths of all words, at the start of `depths`.
 pub fn find_depths(words: &[u32], depths: &mut [u8])
-    requires { (narrowReading words.now ≡ accepted) × (length words.now ≤ length depths.old) }
+    requires { (narrow_reading words.now ≡ accepted) × (length words.now ≤ length depths.old) }
     ensures { take (length words.now) depths.new ≡ Listing·depths words.now }
 {
     let mut stack = [0u8; MOST_WORDS];

@@ -1,9 +1,9 @@
 // The word that a line spells: the one that it could be is spelled again and compared. `letters` are the keywords as crate::keywords holds
 // them.
 ghost use Rattle.std.specs.Prelude.{◌≡◌, ◌&&◌, ◌<◌, ◌≤◌, ◌^◌, drop};
-ghost use Rattle.listing.specs.Keywords.{Style, styleLetter, entry_of, used};
+ghost use Rattle.listing.specs.Keywords.{Style, style_letter, entry_of, used};
 ghost use Rattle.listing.specs.Keywords.{letters as Keywords·letters};
-ghost use Rattle.listing.specs.Spelling.{prefix, guessedKind, digitOf, guessedArgument, lineWord};
+ghost use Rattle.listing.specs.Spelling.{prefix, guessed_kind, digit_of, guessed_argument, line_word};
 ghost use Rattle.listing.specs.Spelling.{folded as Spelling·folded};
 
 use crate::spell::{keyword_size, spell, style_at};
@@ -42,7 +42,7 @@ fn has_keyword(letters: &[u8], k: usize, l: &[u8]) -> bool
 // The first kind whose keyword a line starts with, 0 where there is none.
 fn guessed_kind(letters: &[u8], l: &[u8]) -> usize
     requires { letters.now ≡ Keywords·letters }
-    ensures { (result ≡ guessedKind l.now) × (result ≤ 36) }
+    ensures { (result ≡ guessed_kind l.now) × (result ≤ 36) }
 {
     let mut k = 0;
     while k < 37 {
@@ -55,7 +55,7 @@ fn guessed_kind(letters: &[u8], l: &[u8]) -> usize
 }
 
 fn digit(b: u8) -> u32
-    ensures { (result ≡ digitOf b) × (result ≤ 42) }
+    ensures { (result ≡ digit_of b) × (result ≤ 42) }
 {
     (b % 16) as u32 + 9 * (b / 64) as u32
 }
@@ -80,7 +80,7 @@ fn folded(l: &[u8], at: usize, base: u32) -> u32
 
 fn signed_argument(l: &[u8], at: usize) -> u32
     requires { at ≤ 11 }
-    ensures { (result ≡ guessedArgument Style.signed (drop at l.now)) × (result < 2 ^ 24) }
+    ensures { (result ≡ guessed_argument Style.signed (drop at l.now)) × (result < 2 ^ 24) }
 {
     let first = at + 1;
     if first < l.len() {
@@ -94,7 +94,7 @@ fn signed_argument(l: &[u8], at: usize) -> u32
 // The argument, from what stands behind the keyword.
 fn guessed_argument(l: &[u8], at: usize, style: u8) -> u32
     requires { at ≤ 11 }
-    ensures value { (s : Style) → style ≡ styleLetter s → result ≡ guessedArgument s (drop at l.now) }
+    ensures value { (s : Style) → style ≡ style_letter s → result ≡ guessed_argument s (drop at l.now) }
     ensures upper_bound { result < 2 ^ 24 }
 {
     match style {
@@ -108,7 +108,7 @@ fn guessed_argument(l: &[u8], at: usize, style: u8) -> u32
 // The word that a line without leading spaces spells, 0 where it spells none.
 pub fn line_word(letters: &[u8], l: &[u8]) -> u32
     requires { letters.now ≡ Keywords·letters }
-    ensures { result ≡ lineWord l.now }
+    ensures { result ≡ line_word l.now }
 {
     let k = guessed_kind(letters, l);
     if k == 0 {

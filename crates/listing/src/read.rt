@@ -1,13 +1,13 @@
 // The reader: the length of the text, its lines, the table's numbers, the leading spaces, then the room for the words.
 ghost use Rattle.std.specs.Prelude.{◌≡◌, List, ◌++◌, map, ◌⊎◌, ℕ, ◌+◌, ◌<◌, ◌≤◌, length, drop, get_or};
-ghost use Rattle.table.specs.Scan.{accepted, refused, narrowReading};
+ghost use Rattle.table.specs.Scan.{accepted, refused, narrow_reading};
 ghost use Rattle.table.specs.Answer.{number, place as Table·place};
 ghost use Rattle.listing.specs.Keywords.{letters as Keywords·letters};
-ghost use Rattle.listing.specs.Listing.{cut, word_in, wordsOf, indents, tabled, spelt, readAs, left, wordsAfter};
+ghost use Rattle.listing.specs.Listing.{cut, word_in, words_of, indents, tabled, spelt, read_as, left, words_after};
 ghost use Rattle.listing.specs.Listing.{indent as Listing·indent};
 ghost use Rattle.listing.specs.Listing.{misspelled as Listing·misspelled};
 ghost use Rattle.listing.specs.Listing.{misplaced as Listing·misplaced};
-ghost use Rattle.listing.specs.Decoding.{lineSize, DecodedAs, Taken};
+ghost use Rattle.listing.specs.Decoding.{line_size, DecodedAs, Taken};
 ghost use Rattle.listing.specs.Answer.{answered};
 
 use crate::depth::{find_depths, levels};
@@ -27,7 +27,7 @@ enum Decoded {
 // The place after the line that starts at a place.
 pub fn line_end(text: &[u8], at: usize) -> usize
     requires { at ≤ length text.now }
-    ensures { (result ≡ at + lineSize (drop at text.now)) × (result ≤ length text.now) }
+    ensures { (result ≡ at + line_size (drop at text.now)) × (result ≤ length text.now) }
 {
     let mut i = at;
     while i < text.len() {
@@ -146,7 +146,7 @@ fn put_words(words: &[u32], out: &mut [u32])
 }
 
 fn place_accepted(words: &[u32], spaces: &[usize], out: &mut [u32]) -> Answer
-    requires { narrowReading words.now ≡ accepted }
+    requires { narrow_reading words.now ≡ accepted }
     ensures result_value { answered result ≡ tabled words.now spaces.now (length out.old) }
     ensures out_after { out.new ≡ left (answered result) words.now out.old }
 {
@@ -177,7 +177,7 @@ fn place(words: &[u32], spaces: &[usize], out: &mut [u32]) -> Answer
 
 // Why a table of more than 1,024 words is refused, by its first word.
 fn too_many(w: u32) -> table::Refusal
-    ensures { (ws : List ℕ) → 1024 < length ws → get_or ws 0 0 ≡ w → narrowReading ws ≡ refused (number result) (Table·place result) }
+    ensures { (ws : List ℕ) → 1024 < length ws → get_or ws 0 0 ≡ w → narrow_reading ws ≡ refused (number result) (Table·place result) }
 {
     if kind_of(w) == kinds::SYSTEM {
         table::Refusal::TooManyWords
@@ -198,8 +198,8 @@ fn finish(
 ) -> Answer
     requires letters_value { (letters.now ≡ Keywords·letters) × (1024 ≤ length words.now) × (1024 ≤ length spaces.now) }
     requires taken { Taken text.now n at words.now spaces.now × (n ≤ 1024) × ((length text.now ≤ at) ⊎ (n ≡ 1024)) }
-    ensures result_value { answered result ≡ spelt (wordsOf text.now) (indents text.now) (length out.old) }
-    ensures out_after { out.new ≡ left (answered result) (wordsOf text.now) out.old }
+    ensures result_value { answered result ≡ spelt (words_of text.now) (indents text.now) (length out.old) }
+    ensures out_after { out.new ≡ left (answered result) (words_of text.now) out.old }
 {
     if at < text.len() {
         let wrong = misspelled(letters, text, at, n);
@@ -214,8 +214,8 @@ fn finish(
 
 // The words of a listing, at the start of out, and how many they are.
 pub fn read(text: &[u8], out: &mut [u32]) -> Answer
-    ensures answer { answered result ≡ readAs text.now (length out.old) }
-    ensures words { out.new ≡ wordsAfter text.now out.old }
+    ensures answer { answered result ≡ read_as text.now (length out.old) }
+    ensures words { out.new ≡ words_after text.now out.old }
 {
     if 65536 < text.len() {
         return Answer::Refused(Refusal::TooLong);

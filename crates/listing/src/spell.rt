@@ -2,9 +2,9 @@
 ghost use Rattle.std.specs.Prelude.{◌≡◌, ◌+◌, ◌<◌, ◌≤◌, ◌^◌, length};
 ghost use Rattle.table.specs.Words.{kind};
 ghost use Rattle.text.specs.Writing.{Wrote, Line};
-ghost use Rattle.listing.specs.Keywords.{Style, styleLetter, entry_of};
+ghost use Rattle.listing.specs.Keywords.{Style, style_letter, entry_of};
 ghost use Rattle.listing.specs.Keywords.{letters as Keywords·letters};
-ghost use Rattle.listing.specs.Spelling.{spelledArgument, spelled};
+ghost use Rattle.listing.specs.Spelling.{spelled_argument, spelled};
 
 use table::sizes::{ARGUMENTS, NEGATIVES};
 use table::{argument_of, kind_of};
@@ -13,7 +13,7 @@ use text::{number_field, put, set_field};
 // A number of 24 bits with its sign, and the space before it.
 fn signed_field(out: &mut [u8], at: usize, a: u32) -> usize
     requires { (at + 22 ≤ length out.old) × (a < 2 ^ 24) }
-    ensures wrote { Wrote out.old at (spelledArgument Style.signed a) out.new result }
+    ensures wrote { Wrote out.old at (spelled_argument Style.signed a) out.new result }
     ensures upper_bound { result ≤ at + 22 }
 {
     if a < NEGATIVES {
@@ -26,7 +26,7 @@ fn signed_field(out: &mut [u8], at: usize, a: u32) -> usize
 // The argument of a word, by the letter of its style.
 fn argument_field(out: &mut [u8], at: usize, style: u8, a: u32) -> usize
     requires { (at + 22 ≤ length out.old) × (a < 2 ^ 24) }
-    ensures wrote { (s : Style) → style ≡ styleLetter s → Wrote out.old at (spelledArgument s a) out.new result }
+    ensures wrote { (s : Style) → style ≡ style_letter s → Wrote out.old at (spelled_argument s a) out.new result }
     ensures upper_bound { result ≤ at + 22 }
 {
     match style {
@@ -49,7 +49,7 @@ pub fn keyword_size(letters: &[u8], k: usize) -> usize
 // The letter of a kind's style.
 pub fn style_at(letters: &[u8], k: usize) -> u8
     requires { (letters.now ≡ Keywords·letters) × (k ≤ 36) }
-    ensures { result ≡ styleLetter (entry_of k).style }
+    ensures { result ≡ style_letter (entry_of k).style }
 {
     letters[16 * k + 1]
 }

@@ -1,11 +1,11 @@
 // The writer: the table's numbers, then the length of the listing, then the room for it.
 ghost use Rattle.std.specs.Prelude.{◌≡◌, ◌++◌, ◌+◌, ◌*◌, ◌≤◌, ◌<◌, length, take, drop, replicate};
 ghost use Rattle.table.specs.Words.{kind};
-ghost use Rattle.table.specs.Scan.{accepted, narrowReading};
+ghost use Rattle.table.specs.Scan.{accepted, narrow_reading};
 ghost use Rattle.text.specs.Writing.{Wrote};
 ghost use Rattle.listing.specs.Keywords.{letters as Keywords·letters};
 ghost use Rattle.listing.specs.Spelling.{space};
-ghost use Rattle.listing.specs.Listing.{indented, listing, written, left, textAfter};
+ghost use Rattle.listing.specs.Listing.{indented, listing, written, left, text_after};
 ghost use Rattle.listing.specs.Listing.{depths as Listing·depths};
 ghost use Rattle.listing.specs.Answer.{answered};
 
@@ -43,7 +43,7 @@ fn put_line(letters: &[u8], w: u32, d: u8, out: &mut [u8], at: usize) -> usize
 
 // The length of the listing.
 fn text_size(letters: &[u8], words: &[u32], depths: &[u8]) -> usize
-    requires letters_value { (letters.now ≡ Keywords·letters) × (narrowReading words.now ≡ accepted) }
+    requires letters_value { (letters.now ≡ Keywords·letters) × (narrow_reading words.now ≡ accepted) }
     requires depths_value { take (length words.now) depths.now ≡ Listing·depths words.now }
     ensures { result ≡ length (listing words.now) }
 {
@@ -59,7 +59,7 @@ fn text_size(letters: &[u8], words: &[u32], depths: &[u8]) -> usize
 
 // The lines of all words.
 fn put_lines(letters: &[u8], words: &[u32], depths: &[u8], out: &mut [u8])
-    requires letters_value { (letters.now ≡ Keywords·letters) × (narrowReading words.now ≡ accepted) }
+    requires letters_value { (letters.now ≡ Keywords·letters) × (narrow_reading words.now ≡ accepted) }
     requires depths_value { take (length words.now) depths.now ≡ Listing·depths words.now }
     requires words_in_bounds { length (listing words.now) ≤ length out.old }
     ensures { out.new ≡ listing words.now ++ drop (length (listing words.now)) out.old }
@@ -73,7 +73,7 @@ fn put_lines(letters: &[u8], words: &[u32], depths: &[u8], out: &mut [u8])
 }
 
 fn write_accepted(words: &[u32], out: &mut [u8]) -> Answer
-    requires { narrowReading words.now ≡ accepted }
+    requires { narrow_reading words.now ≡ accepted }
     ensures result_value { answered result ≡ written words.now (length out.old) }
     ensures out_after { out.new ≡ left (answered result) (listing words.now) out.old }
 {
@@ -94,7 +94,7 @@ fn write_accepted(words: &[u32], out: &mut [u8]) -> Answer
 // The listing of a system, at the start of out, and its length.
 pub fn write(words: &[u32], out: &mut [u8]) -> Answer
     ensures answer { answered result ≡ written words.now (length out.old) }
-    ensures text { out.new ≡ textAfter words.now out.old }
+    ensures text { out.new ≡ text_after words.now out.old }
 {
     if let Reading::Refused(r) = table::read::read_narrow(words) {
         return Answer::Refused(Refusal::Table(r));

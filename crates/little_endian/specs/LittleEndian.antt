@@ -12,17 +12,17 @@ low_bytes zero n = []
 low_bytes (suc k) n = n % 256 ∷ low_bytes k (n / 256)
 
 -- bytes that make no whole word at the end are passed over
-unfoldable pub wordsOf : List ℕ → List ℕ
-wordsOf [] = []
-wordsOf (a ∷ []) = []
-wordsOf (a ∷ b ∷ []) = []
-wordsOf (a ∷ b ∷ c ∷ []) = []
-wordsOf (a ∷ b ∷ c ∷ d ∷ bs) = number (a ∷ b ∷ c ∷ d ∷ []) ∷ wordsOf bs
+unfoldable pub words_of : List ℕ → List ℕ
+words_of [] = []
+words_of (a ∷ []) = []
+words_of (a ∷ b ∷ []) = []
+words_of (a ∷ b ∷ c ∷ []) = []
+words_of (a ∷ b ∷ c ∷ d ∷ bs) = number (a ∷ b ∷ c ∷ d ∷ []) ∷ words_of bs
 
-unfoldable pub bytesOf : List ℕ → List ℕ
-bytesOf [] = []
-bytesOf (w ∷ ws) = low_bytes 4 w ++ bytesOf ws
+unfoldable pub bytes_of : List ℕ → List ℕ
+bytes_of [] = []
+bytes_of (w ∷ ws) = low_bytes 4 w ++ bytes_of ws
 
 -- how many whole words a list of bytes and a list of words have both room for
-abbrev pub wholeWords : List ℕ → List ℕ → ℕ
-wholeWords bytes words = min (length bytes / 4) (length words)
+abbrev pub whole_words : List ℕ → List ℕ → ℕ
+whole_words bytes words = min (length bytes / 4) (length words)

@@ -1,6 +1,6 @@
 // Little-endian words of four bytes, from bytes and to bytes.
 ghost use Rattle.std.specs.Prelude.{◌≡◌, [], ◌∷◌, ◌++◌, ◌+◌, ◌*◌, ◌≤◌, min, length, take, drop};
-ghost use Rattle.little_endian.specs.LittleEndian.{number, low_bytes, wordsOf, bytesOf, wholeWords};
+ghost use Rattle.little_endian.specs.LittleEndian.{number, low_bytes, words_of, bytes_of, whole_words};
 
 fn least(a: usize, b: usize) -> usize
     ensures { result ≡ min a b }
@@ -28,8 +28,8 @@ fn put(bytes: &mut [u8], at: usize, w: u32)
 
 // The whole words of `bytes`, as many as `words` has room for, at its start, and how many they are.
 pub fn words_of(bytes: &[u8], words: &mut [u32]) -> usize
-    ensures count { result ≡ wholeWords bytes.now words.old }
-    ensures content { words.new ≡ take result (wordsOf bytes.now) ++ drop result words.old }
+    ensures count { result ≡ whole_words bytes.now words.old }
+    ensures content { words.new ≡ take result (words_of bytes.now) ++ drop result words.old }
 {
     let n = least(bytes.len() / 4, words.len());
     let mut i = 0;
@@ -43,8 +43,8 @@ pub fn words_of(bytes: &[u8], words: &mut [u32]) -> usize
 
 // The bytes of `words`, as many whole words as `bytes` has room for, at its start, and how many words they are.
 pub fn bytes_of(words: &[u32], bytes: &mut [u8]) -> usize
-    ensures count { result ≡ wholeWords bytes.old words.now }
-    ensures content { bytes.new ≡ bytesOf (take result words.now) ++ drop (4 * result) bytes.old }
+    ensures count { result ≡ whole_words bytes.old words.now }
+    ensures content { bytes.new ≡ bytes_of (take result words.now) ++ drop (4 * result) bytes.old }
 {
     let n = least(bytes.len() / 4, words.len());
     let mut i = 0;

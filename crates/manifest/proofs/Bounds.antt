@@ -13,12 +13,12 @@ use Rattle.permset.proofs.Laws.{union-lt}
 use Rattle.json.specs.Bytes.{head, tail, Rest, nothing, rest}
 use Rattle.json.specs.Strings.{units}
 use Rattle.json.specs.Units.{matches}
-use Rattle.manifest.specs.Strings.{ascii, nameBits, isHost, nameSet, hostSet, setOf}
+use Rattle.manifest.specs.Strings.{ascii, name_bits, is_host, name_set, host_set, set_of}
 use Rattle.names.specs.Table.{names, named}
-use Rattle.manifest.specs.Members.{members, repeated, find, Count, notStrings, strings}
-use Rattle.manifest.specs.Manifest.{Source, sources, total, goesOn, version, Outcome, refused, accepted, isObject, counts, judgedFrom, judged}
+use Rattle.manifest.specs.Members.{members, repeated, find, Count, not_strings, strings}
+use Rattle.manifest.specs.Manifest.{Source, sources, total, goes_on, version, Outcome, refused, accepted, is_object, counts, judged_from, judged}
 use Rattle.manifest.proofs.Judged.{judged-repeated, judged-unversioned, judged-versioned}
-use Rattle.manifest.proofs.Unions.{unite, stringsOf, uniteAll, Sets, total-set}
+use Rattle.manifest.proofs.Unions.{unite, strings_of, unite_all, Sets, total-set}
 
 -- either way of a choice
 pick : {A : Type 0} (P : A → Type 0) (t : Bool) (x y : A) → P x → P y → P (elim t [ true ↦ x | false ↦ y ])
@@ -42,35 +42,35 @@ named-top passes (n ∷ ns) bit =
     pick (λ (x : ℕ). x ≤ top ns (2 * bit)) (passes n) bit (named passes ns (2 * bit))
     (let h : 2 * bit ≤ top ns (2 * bit) = bit-top ns (2 * bit) in omega arith) (named-top passes ns (2 * bit))
 
-name-small : (b : Bool) (us : List ℕ) → nameSet b us < 2 ^ 24
-unfolding nameSet top
+name-small : (b : Bool) (us : List ℕ) → name_set b us < 2 ^ 24
+unfolding name_set top
 name-small false us = omega arith
-name-small true us = let h : nameBits us ≤ 1024 = named-top (λ n. matches true n us) names 1 in omega arith
+name-small true us = let h : name_bits us ≤ 1024 = named-top (λ n. matches true n us) names 1 in omega arith
 
-host-small : (b : Bool) (us : List ℕ) → hostSet b us < 2 ^ 24
-unfolding hostSet
+host-small : (b : Bool) (us : List ℕ) → host_set b us < 2 ^ 24
+unfolding host_set
 host-small false us = omega arith
-host-small true us = pick (λ (x : ℕ). x < 2 ^ 24) (isHost us) (2 ^ 23) 0 (omega arith) (omega arith)
+host-small true us = pick (λ (x : ℕ). x < 2 ^ 24) (is_host us) (2 ^ 23) 0 (omega arith) (omega arith)
 
-pub set-small : (n h : Bool) (us : List ℕ) → setOf n h us < 2 ^ 24
-unfolding setOf
-set-small n h us = union-lt 24 (nameSet n us) (hostSet h us) (name-small n us) (host-small h us)
+pub set-small : (n h : Bool) (us : List ℕ) → set_of n h us < 2 ^ 24
+unfolding set_of
+set-small n h us = union-lt 24 (name_set n us) (host_set h us) (name-small n us) (host-small h us)
 
 unite-small : (n h : Bool) (s : ℕ) (es : List (List ℕ)) → s < 2 ^ 24 → unite n h s es < 2 ^ 24
 unfolding unite
 unite-small n h s [] l = l
-unite-small n h s (e ∷ es) l = unite-small n h (union s (setOf n h (units (tail e)))) es (union-lt 24 s (setOf n h (units (tail e))) l (set-small n h (units (tail e))))
+unite-small n h s (e ∷ es) l = unite-small n h (union s (set_of n h (units (tail e)))) es (union-lt 24 s (set_of n h (units (tail e))) l (set-small n h (units (tail e))))
 
-unite-all-small : (s : ℕ) (rs : List Source) (ms : List (List ℕ)) → s < 2 ^ 24 → uniteAll s rs ms < 2 ^ 24
-unfolding uniteAll
+unite-all-small : (s : ℕ) (rs : List Source) (ms : List (List ℕ)) → s < 2 ^ 24 → unite_all s rs ms < 2 ^ 24
+unfolding unite_all
 unite-all-small s [] ms l = l
 unite-all-small s (r ∷ rs) ms l =
-    unite-all-small (unite r.byName r.byHost s (stringsOf (find r.key ms))) rs ms (unite-small r.byName r.byHost s (stringsOf (find r.key ms)) l)
+    unite-all-small (unite r.by_name r.by_host s (strings_of (find r.key ms))) rs ms (unite-small r.by_name r.by_host s (strings_of (find r.key ms)) l)
 
 version-small : (r : Rest) → version r < 4
 unfolding version
 version-small nothing = omega arith
-version-small (rest bs) = pick P (goesOn (head (tail bs))) 0 alone (omega arith) (pick P (eqb (head bs) 0x32) 2 three (omega arith) (pick P (eqb (head bs) 0x33) 3 0 (omega arith) (omega arith)))
+version-small (rest bs) = pick P (goes_on (head (tail bs))) 0 alone (omega arith) (pick P (eqb (head bs) 0x32) 2 three (omega arith) (pick P (eqb (head bs) 0x33) 3 0 (omega arith) (omega arith)))
   where
     P : ℕ → Type 0
     P x = x < 4
@@ -86,26 +86,26 @@ Small (refused number place) = Unit {0}
 Small (accepted v set others) = (v < 4) × (set < 2 ^ 24)
 
 counts-small : (v : ℕ) (s : ℕ) (c : Count) → v < 4 → s < 2 ^ 24 → Sets s c → Small (counts v c)
-counts-small v s notStrings l m h = tt
+counts-small v s not_strings l m h = tt
 counts-small v s (strings set others) l m h = (l, subst (λ (x : ℕ). x < 2 ^ 24) (sym h) m)
 
-from-small : (ms : List (List ℕ)) → Small (judgedFrom ms)
+from-small : (ms : List (List ℕ)) → Small (judged_from ms)
 from-small ms = by (repeated [] ms) (version (find (ascii "manifest_version") ms)) refl refl
   where
-    by : (b : Bool) (v : ℕ) → repeated [] ms ≡ b → version (find (ascii "manifest_version") ms) ≡ v → Small (judgedFrom ms)
+    by : (b : Bool) (v : ℕ) → repeated [] ms ≡ b → version (find (ascii "manifest_version") ms) ≡ v → Small (judged_from ms)
     by true v p q = subst Small (sym (judged-repeated ms p)) tt
     by false zero p q = subst Small (sym (judged-unversioned ms p q)) tt
     by false (suc v) p q =
         subst Small (sym (judged-versioned ms p (suc v) q (λ z. omega arith)))
-        (counts-small (suc v) (uniteAll 0 (sources (suc v)) ms) (total (sources (suc v)) ms (strings 0 0))
+        (counts-small (suc v) (unite_all 0 (sources (suc v)) ms) (total (sources (suc v)) ms (strings 0 0))
         (subst (λ (x : ℕ). x < 4) q (version-small (find (ascii "manifest_version") ms)))
         (unite-all-small 0 (sources (suc v)) ms (omega arith))
         (total-set (sources (suc v)) ms 0 0))
 
 pub judged-small : (text : List ℕ) → Small (judged text)
 unfolding judged
-judged-small text = by (isObject text)
+judged-small text = by (is_object text)
   where
-    by : (b : Bool) → Small (elim b [ false ↦ refused 43 0 | true ↦ judgedFrom (members text) ])
+    by : (b : Bool) → Small (elim b [ false ↦ refused 43 0 | true ↦ judged_from (members text) ])
     by true = from-small (members text)
     by false = tt

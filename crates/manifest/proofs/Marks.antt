@@ -11,7 +11,7 @@ use lib.Seq.{get_or-set_same, get_or-set_other}
 use borrow.Author.Tests.{eq-eqb, ne_eqb}
 use Rattle.json.specs.Units.{matches, spread}
 use Rattle.json.proofs.Compared.{matches-same}
-use Rattle.manifest.specs.Members.{key_of, has, unlessZero}
+use Rattle.manifest.specs.Members.{key_of, has, unless_zero}
 use Rattle.manifest.proofs.Tops.{has-none, has-yes, has_no}
 
 abbrev pub Marked : List ℕ → List (List ℕ) → Type 0
@@ -22,24 +22,24 @@ marked-none marks key e = let n : has [] key ≡ false = has-none key in let z :
 
 -- a test that is made only where a mark is there
 module _ (mark : ℕ) (t : Bool) where
-  pub unmarked : mark ≡ 0 → unlessZero mark t ≡ false
-  unfolding unlessZero
-  unmarked e = rw (eq-eqb mark 0 e, unlessZero)
+  pub unmarked : mark ≡ 0 → unless_zero mark t ≡ false
+  unfolding unless_zero
+  unmarked e = rw (eq-eqb mark 0 e, unless_zero)
 
-  pub marked : (mark ≡ 0 → ⊥) → unlessZero mark t ≡ t
-  unfolding unlessZero
-  marked n = rw (ne_eqb mark 0 n, unlessZero)
+  pub marked : (mark ≡ 0 → ⊥) → unless_zero mark t ≡ t
+  unfolding unless_zero
+  marked n = rw (ne_eqb mark 0 n, unless_zero)
 
-pub made : (mark : ℕ) (t : Bool) → unlessZero mark t ≡ true → t ≡ true
+pub made : (mark : ℕ) (t : Bool) → unless_zero mark t ≡ true → t ≡ true
 made mark t e = by (ℕ_discrete mark 0)
   where
     by : Dec (mark ≡ 0) → t ≡ true
-    by (yes z) = let f : unlessZero mark t ≡ false = unmarked mark t z in let o : ◌≡◌ {A = ℕ} 0 1 = cc in absurd (omega arith)
+    by (yes z) = let f : unless_zero mark t ≡ false = unmarked mark t z in let o : ◌≡◌ {A = ℕ} 0 1 = cc in absurd (omega arith)
     by (no n) = sym (marked mark t n) ∙ e
 
 -- a key that is new, marked or not
 pub free : (marks : List ℕ) (ms : List (List ℕ)) (key : List ℕ) (number : ℕ) → Marked marks ms → number ≡ spread 0 key
-    → unlessZero (get_or marks number 0) (has ms key) ≡ false → has ms key ≡ false
+    → unless_zero (get_or marks number 0) (has ms key) ≡ false → has ms key ≡ false
 free marks ms key number m n e = by (ℕ_discrete (get_or marks number 0) 0) (has ms key) refl
   where
     by : Dec (get_or marks number 0 ≡ 0) → (t : Bool) → has ms key ≡ t → has ms key ≡ false

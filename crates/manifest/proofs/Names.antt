@@ -5,40 +5,40 @@ use mathlib.Core.Path.{◌≡◌, refl, ap, ◌∙◌}
 use mathlib.Core.Bool.{Bool, true, false}
 use mathlib.Core.List.{List}
 use Rattle.json.specs.Units.{matches, contains}
-use Rattle.manifest.specs.Strings.{ascii, nameBits, isHost, nameSet, hostSet}
+use Rattle.manifest.specs.Strings.{ascii, name_bits, is_host, name_set, host_set}
 
-host-there : (us : List ℕ) → isHost us ≡ true → hostSet true us ≡ 2 ^ 23
-unfolding hostSet
-host-there us e = rw (e, hostSet)
+host-there : (us : List ℕ) → is_host us ≡ true → host_set true us ≡ 2 ^ 23
+unfolding host_set
+host-there us e = rw (e, host_set)
 
-host-absent : (us : List ℕ) → isHost us ≡ false → hostSet true us ≡ 0
-unfolding hostSet
-host-absent us e = rw (e, hostSet)
+host-absent : (us : List ℕ) → is_host us ≡ false → host_set true us ≡ 0
+unfolding host_set
+host-absent us e = rw (e, host_set)
 
 module _ (us : List ℕ) where
-  pub host-all : matches true (ascii "<all_urls>") us ≡ true → isHost us ≡ true
-  unfolding isHost
-  host-all e = rw (e, isHost)
+  pub host-all : matches true (ascii "<all_urls>") us ≡ true → is_host us ≡ true
+  unfolding is_host
+  host-all e = rw (e, is_host)
 
-  pub host-other : matches true (ascii "<all_urls>") us ≡ false → isHost us ≡ contains (ascii "://") us
-  unfolding isHost
-  host-other e = rw (e, isHost)
+  pub host-other : matches true (ascii "<all_urls>") us ≡ false → is_host us ≡ contains (ascii "://") us
+  unfolding is_host
+  host-other e = rw (e, is_host)
 
   module _ (counts : Bool) where
-    pub name-counts : counts ≡ true → nameSet counts us ≡ nameBits us
-    unfolding nameSet
-    name-counts e = ap (λ (b : Bool). nameSet b us) e
+    pub name-counts : counts ≡ true → name_set counts us ≡ name_bits us
+    unfolding name_set
+    name-counts e = ap (λ (b : Bool). name_set b us) e
 
-    pub name-not : counts ≡ false → nameSet counts us ≡ 0
-    unfolding nameSet
-    name-not e = ap (λ (b : Bool). nameSet b us) e
+    pub name-not : counts ≡ false → name_set counts us ≡ 0
+    unfolding name_set
+    name-not e = ap (λ (b : Bool). name_set b us) e
 
-    pub host-not : counts ≡ false → hostSet counts us ≡ 0
-    unfolding hostSet
-    host-not e = ap (λ (b : Bool). hostSet b us) e
+    pub host-not : counts ≡ false → host_set counts us ≡ 0
+    unfolding host_set
+    host-not e = ap (λ (b : Bool). host_set b us) e
 
-    pub host-yes : counts ≡ true → isHost us ≡ true → hostSet counts us ≡ 2 ^ 23
-    host-yes e h = ap (λ (b : Bool). hostSet b us) e ∙ host-there us h
+    pub host-yes : counts ≡ true → is_host us ≡ true → host_set counts us ≡ 2 ^ 23
+    host-yes e h = ap (λ (b : Bool). host_set b us) e ∙ host-there us h
 
-    pub host-no : counts ≡ true → isHost us ≡ false → hostSet counts us ≡ 0
-    host-no e h = ap (λ (b : Bool). hostSet b us) e ∙ host-absent us h
+    pub host-no : counts ≡ true → is_host us ≡ false → host_set counts us ≡ 0
+    host-no e h = ap (λ (b : Bool). host_set b us) e ∙ host-absent us h

@@ -4,15 +4,15 @@ use Prim.Native.Nat.{ℕ}
 use mathlib.Core.Path.{◌≡◌, refl}
 use mathlib.Core.List.{List, [], ◌∷◌, map}
 use Rattle.permset.specs.Sets.{union}
-use Rattle.json.specs.Bytes.{head, tail, then, afterBy, startsBy, unitsBy, space}
-use Rattle.json.specs.Numbers.{digits, someDigits, minus, int, frac, sign, exp, number}
-use Rattle.json.specs.Strings.{hexOf, hexed, hexUnit, escapeOf, escaped, continued, low, high, second, point_of, unitsOf, pointed, character}
+use Rattle.json.specs.Bytes.{head, tail, then, after_by, starts_by, units_by, space}
+use Rattle.json.specs.Numbers.{digits, some_digits, minus, int, frac, sign, exp, number}
+use Rattle.json.specs.Strings.{hex_of, hexed, hex_unit, escape_of, escaped, continued, low, high, second, point_of, units_of, pointed, character}
 use Rattle.json.specs.Units.{matches, contains}
-use Rattle.json.specs.Values.{literal, start, closing, mark, name, separated, item, items, first, startsFrom, parts, value, isText}
-use Rattle.manifest.specs.Strings.{ascii, isHost, nameSet, hostSet, setOf}
+use Rattle.json.specs.Values.{literal, start, closing, mark, name, separated, item, items, first, starts_from, parts, value, is_text}
+use Rattle.manifest.specs.Strings.{ascii, is_host, name_set, host_set, set_of}
 use Rattle.names.specs.Table.{named}
 use Rattle.manifest.specs.Members.{members, has, repeated, find, counted, listed}
-use Rattle.manifest.specs.Manifest.{sources, total, version, isObject, refused, accepted, judgedFrom, judged}
+use Rattle.manifest.specs.Manifest.{sources, total, version, is_object, refused, accepted, judged_from, judged}
 
 abbrev pub texts : List (List ℕ)
 texts =
@@ -40,5 +40,5 @@ pub answers : map judged texts
     ∷ refused 46 0
     ∷ refused 46 0
     ∷ []
-unfolding union head tail then afterBy startsBy unitsBy space digits someDigits minus int frac sign exp number hexOf hexed hexUnit escapeOf escaped continued low high second point_of unitsOf pointed character matches contains literal start closing mark name separated item items first startsFrom parts value isText named isHost nameSet hostSet setOf members has repeated find counted listed sources total version isObject judgedFrom judged
+unfolding union head tail then after_by starts_by units_by space digits some_digits minus int frac sign exp number hex_of hexed hex_unit escape_of escaped continued low high second point_of units_of pointed character matches contains literal start closing mark name separated item items first starts_from parts value is_text named is_host name_set host_set set_of members has repeated find counted listed sources total version is_object judged_from judged
 answers = refl

@@ -9,10 +9,10 @@ use mathlib.Core.List.{List, [], ◌∷◌, ◌++◌}
 use lib.ListN.{length, take, drop}
 use Rattle.json.specs.declared.Ending.{Ending}
 use Rattle.json.specs.declared.Ending.TheVariants as ending
-use Rattle.json.specs.Bytes.{nothing, Step, fails, goes, ends, startsBy, starts}
+use Rattle.json.specs.Bytes.{nothing, Step, fails, goes, ends, starts_by, starts}
 use Rattle.json.specs.Answers.{ended}
 use Rattle.json.specs.Units.{matches}
-use Rattle.json.specs.Values.{name, value, item, startsFrom}
+use Rattle.json.specs.Values.{name, value, item, starts_from}
 use Rattle.json.proofs.Repetition.{Narrow}
 use Rattle.json.proofs.Shorter.{item-narrow, value_in}
 use Rattle.manifest.specs.Members.{key_of, has, repeated, find}
@@ -21,13 +21,13 @@ pub narrow : (nest : ℕ) (k : Bool) → Narrow (item (value nest) k)
 narrow nest k = item-narrow (value nest) (value_in nest) k
 
 module _ (nest : ℕ) (k : Bool) (text : List ℕ) (e : Ending) where
-  pub starts_none : e ≡ ending.Nowhere → startsFrom (value nest) k (ended text e) ≡ []
-  unfolding startsFrom
-  starts_none q = ap (λ (x : Ending). startsFrom (value nest) k (ended text x)) q
+  pub starts_none : e ≡ ending.Nowhere → starts_from (value nest) k (ended text e) ≡ []
+  unfolding starts_from
+  starts_none q = ap (λ (x : Ending). starts_from (value nest) k (ended text x)) q
 
-  pub starts-at : (at : ℕ) → e ≡ ending.At at → startsFrom (value nest) k (ended text e) ≡ starts (item (value nest) k) (drop at text)
-  unfolding startsFrom
-  starts-at at q = ap (λ (x : Ending). startsFrom (value nest) k (ended text x)) q
+  pub starts-at : (at : ℕ) → e ≡ ending.At at → starts_from (value nest) k (ended text e) ≡ starts (item (value nest) k) (drop at text)
+  unfolding starts_from
+  starts-at at q = ap (λ (x : Ending). starts_from (value nest) k (ended text x)) q
 
 -- ---- the value of a key
 
@@ -97,17 +97,17 @@ module _ (before : List (List ℕ)) where
 
 module _ (f : List ℕ → Step) (key bs : List ℕ) where
   pub find-here : matches true key (key_of bs) ≡ true → find key (starts f bs) ≡ name true bs
-  unfolding startsBy
-  find-here e = find-yes key bs (elim (f bs) [ fails ↦ [] | goes us cs ↦ startsBy f (length bs) cs | ends cs ↦ [] ]) e
+  unfolding starts_by
+  find-here e = find-yes key bs (elim (f bs) [ fails ↦ [] | goes us cs ↦ starts_by f (length bs) cs | ends cs ↦ [] ]) e
 
   pub find-later : (ms : List (List ℕ)) → starts f bs ≡ bs ∷ ms → matches true key (key_of bs) ≡ false → find key (starts f bs) ≡ find key ms
   find-later ms s e = ap (find key) s ∙ find-no key bs ms e
 
   module _ (n : ℕ) (some : 0 < n) where
     pub has_here : matches true (key_of bs) key ≡ true → has (take n (starts f bs)) key ≡ true
-    unfolding startsBy
+    unfolding starts_by
     has_here e =
-        let ms : List (List ℕ) = elim (f bs) [ fails ↦ [] | goes us cs ↦ startsBy f (length bs) cs | ends cs ↦ [] ] in
+        let ms : List (List ℕ) = elim (f bs) [ fails ↦ [] | goes us cs ↦ starts_by f (length bs) cs | ends cs ↦ [] ] in
         ap (λ (l : List (List ℕ)). has l key) (take_more n bs ms some) ∙ has-yes key bs (take (n - 1) ms) e
 
     pub has-later : (ms : List (List ℕ)) → starts f bs ≡ bs ∷ ms → matches true (key_of bs) key ≡ false
@@ -122,8 +122,8 @@ module _ (f : List ℕ → Step) (key bs : List ℕ) where
 
 module _ (f : List ℕ → Step) (before : List (List ℕ)) (bs : List ℕ) where
   pub repeated-here : has before (key_of bs) ≡ true → repeated before (starts f bs) ≡ true
-  unfolding startsBy
-  repeated-here e = repeated-yes before bs (elim (f bs) [ fails ↦ [] | goes us cs ↦ startsBy f (length bs) cs | ends cs ↦ [] ]) e
+  unfolding starts_by
+  repeated-here e = repeated-yes before bs (elim (f bs) [ fails ↦ [] | goes us cs ↦ starts_by f (length bs) cs | ends cs ↦ [] ]) e
 
   pub repeated-later : (ms : List (List ℕ)) → starts f bs ≡ bs ∷ ms → has before (key_of bs) ≡ false → repeated before (starts f bs) ≡ repeated (before ++ bs ∷ []) ms
   repeated-later ms s e = ap (repeated before) s ∙ repeated-no before bs ms e

@@ -8,10 +8,10 @@ use mathlib.Core.List.{List}
 use lib.Dec.{eqb}
 use borrow.Author.Tests.{le-leb, ne_eqb}
 use Rattle.json.specs.Bytes.{head, tail, nothing, rest}
-use Rattle.json.specs.Numbers.{isDigit, int, number}
+use Rattle.json.specs.Numbers.{is_digit, int, number}
 use Rattle.json.proofs.Numerals.{digits-yes, minus-no, int-more, frac-no, exp-no, number-whole}
 use Rattle.json.proofs.Places.{digits-end}
-use Rattle.manifest.specs.Manifest.{goesOn, version}
+use Rattle.manifest.specs.Manifest.{goes_on, version}
 
 none_of : (a b : Bool) → (a || b) ≡ false → (a ≡ false) × (b ≡ false)
 none_of true b e = let z : ◌≡◌ {A = ℕ} 0 1 = cc in absurd (omega arith)
@@ -22,11 +22,11 @@ unfolding version
 version-missing = refl
 
 module _ (bs : List ℕ) where
-  pub version-long : goesOn (head (tail bs)) ≡ true → version (rest bs) ≡ 0
+  pub version-long : goes_on (head (tail bs)) ≡ true → version (rest bs) ≡ 0
   unfolding version
   version-long e = rw (e, version)
 
-  module _ (alone : goesOn (head (tail bs)) ≡ false) where
+  module _ (alone : goes_on (head (tail bs)) ≡ false) where
     pub version-two : eqb (head bs) 0x32 ≡ true → version (rest bs) ≡ 2
     unfolding version
     version-two e = rw (alone, e, version)
@@ -42,9 +42,9 @@ module _ (bs : List ℕ) where
 -- ---- a value that spells a version is a number of that one byte
 
 module _ (bs : List ℕ) (digit : ℕ) (is : head bs ≡ digit) (low : 0x30 < digit) (high : digit ≤ 0x39) where
-  pub one-digit : goesOn (head (tail bs)) ≡ false → number bs ≡ rest (tail bs)
+  pub one-digit : goes_on (head (tail bs)) ≡ false → number bs ≡ rest (tail bs)
   one-digit alone =
-      let no : (isDigit (head (tail bs)) ≡ false) × (eqb (head (tail bs)) 0x2e ≡ false) × ((eqb (head (tail bs)) 0x65 || eqb (head (tail bs)) 0x45) ≡ false) = ends (tail bs) alone in
+      let no : (is_digit (head (tail bs)) ≡ false) × (eqb (head (tail bs)) 0x2e ≡ false) × ((eqb (head (tail bs)) 0x65 || eqb (head (tail bs)) 0x45) ≡ false) = ends (tail bs) alone in
       number-whole bs (tail bs) (tail bs)
       (ap int (minus-no bs (ne_eqb (head bs) 0x2d (λ e. omega arith)))
       ∙ int-more bs (ne_eqb (head bs) 0x30 (λ e. omega arith))
@@ -53,12 +53,12 @@ module _ (bs : List ℕ) (digit : ℕ) (is : head bs ≡ digit) (low : 0x30 < di
       (frac-no (tail bs) no.1)
       ∙ exp-no (tail bs) no.2
     where
-      within : isDigit (head bs) ≡ true
+      within : is_digit (head bs) ≡ true
       within = rw (le-leb 0x30 (head bs) (omega arith), le-leb (head bs) 0x39 (omega arith))
 
-      ends : (cs : List ℕ) → goesOn (head cs) ≡ false
-          → (isDigit (head cs) ≡ false) × (eqb (head cs) 0x2e ≡ false) × ((eqb (head cs) 0x65 || eqb (head cs) 0x45) ≡ false)
+      ends : (cs : List ℕ) → goes_on (head cs) ≡ false
+          → (is_digit (head cs) ≡ false) × (eqb (head cs) 0x2e ≡ false) × ((eqb (head cs) 0x65 || eqb (head cs) 0x45) ≡ false)
       ends cs e =
-          let a = none_of (isDigit (head cs)) (eqb (head cs) 0x2e || (eqb (head cs) 0x65 || eqb (head cs) 0x45)) e in
+          let a = none_of (is_digit (head cs)) (eqb (head cs) 0x2e || (eqb (head cs) 0x65 || eqb (head cs) 0x45)) e in
           let b = none_of (eqb (head cs) 0x2e) (eqb (head cs) 0x65 || eqb (head cs) 0x45) a.1 in
           (a.0, b.0, b.1)

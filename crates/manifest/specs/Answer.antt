@@ -6,7 +6,7 @@ use Rattle.manifest.specs.declared.Reading.{Reading}
 use Rattle.manifest.specs.declared.Reading.TheVariants.{Accepted, Refused}
 use Rattle.manifest.specs.declared.members.Tally.{Tally}
 use Rattle.manifest.specs.declared.members.Tally.TheVariants as tally
-use Rattle.manifest.specs.Members.{Count, notStrings, strings}
+use Rattle.manifest.specs.Members.{Count, not_strings, strings}
 use Rattle.manifest.specs.Manifest.{Outcome, refused, accepted}
 
 abbrev pub number : Refusal → ℕ
@@ -20,14 +20,14 @@ outcome (Refused r) = refused (number r) 0
 outcome (Accepted v s n) = accepted v s.bits n
 
 -- how many strings an answer says to set nothing
-abbrev pub othersIn : Reading → ℕ
-othersIn (Refused r) = 0
-othersIn (Accepted v s n) = n
+abbrev pub others_in : Reading → ℕ
+others_in (Refused r) = 0
+others_in (Accepted v s n) = n
 
 abbrev pub count_of : Tally → Count
-count_of tally.NotStrings = notStrings
+count_of tally.NotStrings = not_strings
 count_of (tally.Strings s n) = strings s.bits n
 
-abbrev pub othersOf : Tally → ℕ
-othersOf tally.NotStrings = 0
-othersOf (tally.Strings s n) = n
+abbrev pub others_of : Tally → ℕ
+others_of tally.NotStrings = 0
+others_of (tally.Strings s n) = n

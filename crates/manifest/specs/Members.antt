@@ -6,7 +6,7 @@ use Rattle.json.specs.Bytes.{head, tail, space, Rest, nothing, rest, starts}
 use Rattle.json.specs.Strings.{units}
 use Rattle.json.specs.Units.{matches}
 use Rattle.json.specs.Values.{name, item, value, parts}
-use Rattle.manifest.specs.Strings.{setOf}
+use Rattle.manifest.specs.Strings.{set_of}
 
 -- how deep arrays and objects may nest, the top object being the first
 abbrev pub deepest : ℕ
@@ -18,11 +18,11 @@ unfolding tail space parts
 members text = parts (value 15) true (tail (space text))
 
 -- the members from the start of one on, and the elements of a list that is read
-abbrev pub membersFrom : List ℕ → List (List ℕ)
-membersFrom bs = starts (item (value 15) true) bs
+abbrev pub members_from : List ℕ → List (List ℕ)
+members_from bs = starts (item (value 15) true) bs
 
-abbrev pub elementsFrom : List ℕ → List (List ℕ)
-elementsFrom bs = starts (item (value 14) false) bs
+abbrev pub elements_from : List ℕ → List (List ℕ)
+elements_from bs = starts (item (value 14) false) bs
 
 -- the units of a member's key, behind its first quotation mark
 abbrev pub key_of : List ℕ → List ℕ
@@ -35,8 +35,8 @@ has [] key = false
 has (m ∷ ms) key = matches true (key_of m) key || has ms key
 
 -- a test that is made only where a mark is there
-unfoldable pub unlessZero : ℕ → Bool → Bool
-unlessZero mark t = elim (eqb mark 0) [ true ↦ false | false ↦ t ]
+unfoldable pub unless_zero : ℕ → Bool → Bool
+unless_zero mark t = elim (eqb mark 0) [ true ↦ false | false ↦ t ]
 
 -- some member has a key of one before it
 unfoldable pub repeated : (before members : List (List ℕ)) → Bool
@@ -52,25 +52,25 @@ find key (m ∷ ms) = elim (matches true key (key_of m)) [ true ↦ name true m 
 
 -- the set of some strings, and how many of them set nothing; or that not all are strings
 pub data Count : Type 0 where
-  notStrings : Count
+  not_strings : Count
   strings : (set others : ℕ) → Count
 
-unfoldable pub counted : (byName byHost : Bool) → List (List ℕ) → Count → Count
-unfolding head tail setOf union
+unfoldable pub counted : (by_name by_host : Bool) → List (List ℕ) → Count → Count
+unfolding head tail set_of union
 counted n h [] c = c
-counted n h (e ∷ es) notStrings = notStrings
+counted n h (e ∷ es) not_strings = not_strings
 counted n h (e ∷ es) (strings set others) =
     elim (eqb (head e) 0x22) [
-      | false ↦ notStrings
+      | false ↦ not_strings
       | true ↦
-          elim (eqb (setOf n h (units (tail e))) 0) [
+          elim (eqb (set_of n h (units (tail e))) 0) [
             | true ↦ counted n h es (strings set (others + 1))
-            | false ↦ counted n h es (strings (union set (setOf n h (units (tail e)))) others)
+            | false ↦ counted n h es (strings (union set (set_of n h (units (tail e)))) others)
           ]
     ]
 
 -- a list that is read: an array of strings; a missing one is empty. Its elements stand two deep.
-unfoldable pub listed : (byName byHost : Bool) → Rest → Count → Count
+unfoldable pub listed : (by_name by_host : Bool) → Rest → Count → Count
 unfolding head tail parts counted
 listed n h nothing c = c
-listed n h (rest bs) c = elim (eqb (head bs) 0x5b) [ true ↦ counted n h (parts (value 14) false (tail bs)) c | false ↦ notStrings ]
+listed n h (rest bs) c = elim (eqb (head bs) 0x5b) [ true ↦ counted n h (parts (value 14) false (tail bs)) c | false ↦ not_strings ]

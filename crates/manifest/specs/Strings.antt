@@ -12,25 +12,25 @@ ascii ε = []
 ascii (c ◂ s) = code c ∷ ascii s
 
 -- the set of the name that these units are, empty where they are no permission's
-abbrev pub nameBits : List ℕ → ℕ
-nameBits us = named (λ n. matches true n us) names 1
+abbrev pub name_bits : List ℕ → ℕ
+name_bits us = named (λ n. matches true n us) names 1
 
-unfoldable pub isHost : List ℕ → Bool
+unfoldable pub is_host : List ℕ → Bool
 unfolding matches contains
-isHost us = matches true (ascii "<all_urls>") us || contains (ascii "://") us
+is_host us = matches true (ascii "<all_urls>") us || contains (ascii "://") us
 
 -- the set of a string as a name, or as a host, where those count
-unfoldable pub nameSet : (counts : Bool) → List ℕ → ℕ
+unfoldable pub name_set : (counts : Bool) → List ℕ → ℕ
 unfolding named matches
-nameSet false us = 0
-nameSet true us = nameBits us
+name_set false us = 0
+name_set true us = name_bits us
 
-unfoldable pub hostSet : (counts : Bool) → List ℕ → ℕ
-unfolding isHost
-hostSet false us = 0
-hostSet true us = elim (isHost us) [ true ↦ 2 ^ 23 | false ↦ 0 ]
+unfoldable pub host_set : (counts : Bool) → List ℕ → ℕ
+unfolding is_host
+host_set false us = 0
+host_set true us = elim (is_host us) [ true ↦ 2 ^ 23 | false ↦ 0 ]
 
 -- 0 where it sets nothing
-unfoldable pub setOf : (byName byHost : Bool) → List ℕ → ℕ
-unfolding nameSet hostSet union
-setOf byName byHost us = union (nameSet byName us) (hostSet byHost us)
+unfoldable pub set_of : (by_name by_host : Bool) → List ℕ → ℕ
+unfolding name_set host_set union
+set_of by_name by_host us = union (name_set by_name us) (host_set by_host us)

@@ -2,10 +2,10 @@
 ghost use Rattle.std.specs.Prelude.{◌≡◌, true, false, [], ◌∷◌, ◌+◌, ◌≤◌, ◌<◌, ◌^◌, length, drop, take};
 ghost use Rattle.json.specs.Bytes.{tail};
 ghost use Rattle.json.specs.Strings.{units};
-ghost use Rattle.json.specs.Values.{value, startsFrom};
+ghost use Rattle.json.specs.Values.{value, starts_from};
 ghost use Rattle.json.specs.Answers.{ended};
-ghost use Rattle.manifest.specs.Members.{membersFrom, elementsFrom, has, repeated, unlessZero, find, counted, listed};
-ghost use Rattle.manifest.specs.Answer.{count_of, othersOf};
+ghost use Rattle.manifest.specs.Members.{members_from, elements_from, has, repeated, unless_zero, find, counted, listed};
+ghost use Rattle.manifest.specs.Answer.{count_of, others_of};
 
 use crate::strings::set_of;
 use json::bytes::byte;
@@ -30,7 +30,7 @@ pub fn behind(text: &[u8], at: usize) -> usize
 
 // The value of the first member with this key.
 pub fn find(text: &[u8], members: Ending, key: &[u8]) -> Ending
-    ensures { ended text.now result ≡ find key.now (startsFrom (value 15) true (ended text.now members)) }
+    ensures { ended text.now result ≡ find key.now (starts_from (value 15) true (ended text.now members)) }
 {
     let Ending::At(at) = members else {
         return Ending::Nowhere;
@@ -50,7 +50,7 @@ pub fn find(text: &[u8], members: Ending, key: &[u8]) -> Ending
 
 // Whether one of the first members from a place on, so many of them, has the key that stands at another place.
 fn has(text: &[u8], at: usize, count: usize, key: usize) -> bool
-    ensures { result ≡ has (take count (membersFrom (drop at text.now))) (units (drop key text.now)) }
+    ensures { result ≡ has (take count (members_from (drop at text.now))) (units (drop key text.now)) }
 {
     let mut p = at;
     let mut left = count;
@@ -70,7 +70,7 @@ fn has(text: &[u8], at: usize, count: usize, key: usize) -> bool
 
 // The same, where a mark says whether there may be one.
 fn has_marked(text: &[u8], at: usize, count: usize, key: usize, mark: u8) -> bool
-    ensures { result ≡ unlessZero mark (has (take count (membersFrom (drop at text.now))) (units (drop key text.now))) }
+    ensures { result ≡ unless_zero mark (has (take count (members_from (drop at text.now))) (units (drop key text.now))) }
 {
     if mark == 0 {
         return false;
@@ -82,7 +82,7 @@ fn has_marked(text: &[u8], at: usize, count: usize, key: usize, mark: u8) -> boo
 // marked at first does not matter.
 fn repeated_from(text: &[u8], at: usize, marks: &mut [u8]) -> bool
     requires { 2 ^ 18 ≤ length marks.old }
-    ensures { result ≡ repeated [] (membersFrom (drop at text.now)) }
+    ensures { result ≡ repeated [] (members_from (drop at text.now)) }
 {
     let mut p = at;
     let mut count = 0;
@@ -104,7 +104,7 @@ fn repeated_from(text: &[u8], at: usize, marks: &mut [u8]) -> bool
 
 // Whether a member has the key of one before it.
 pub fn repeated(text: &[u8], members: Ending) -> bool
-    ensures { result ≡ repeated [] (startsFrom (value 15) true (ended text.now members)) }
+    ensures { result ≡ repeated [] (starts_from (value 15) true (ended text.now members)) }
 {
     let Ending::At(at) = members else {
         return false;
@@ -115,8 +115,8 @@ pub fn repeated(text: &[u8], members: Ending) -> bool
 
 // With one more element of a list.
 fn element(text: &[u8], at: usize, names: bool, hosts: bool, tally: Tally) -> Tally
-    requires { othersOf tally + 1 < 2 ^ 32 }
-    ensures { (count_of result ≡ counted names hosts (drop at text.now ∷ []) (count_of tally)) × (othersOf result ≤ othersOf tally + 1) }
+    requires { others_of tally + 1 < 2 ^ 32 }
+    ensures { (count_of result ≡ counted names hosts (drop at text.now ∷ []) (count_of tally)) × (others_of result ≤ others_of tally + 1) }
 {
     let Tally::Strings(set, others) = tally else {
         return Tally::NotStrings;
@@ -134,9 +134,9 @@ fn element(text: &[u8], at: usize, names: bool, hosts: bool, tally: Tally) -> Ta
 
 // With the elements of a list from a place on.
 fn elements(text: &[u8], at: usize, names: bool, hosts: bool, tally: Tally) -> Tally
-    requires { othersOf tally + length text.now + 1 < 2 ^ 32 }
-    ensures counts { count_of result ≡ counted names hosts (elementsFrom (drop at text.now)) (count_of tally) }
-    ensures few { othersOf result ≤ othersOf tally + length text.now + 1 }
+    requires { others_of tally + length text.now + 1 < 2 ^ 32 }
+    ensures counts { count_of result ≡ counted names hosts (elements_from (drop at text.now)) (count_of tally) }
+    ensures few { others_of result ≤ others_of tally + length text.now + 1 }
 {
     let mut p = at;
     let mut sum = tally;
@@ -152,9 +152,9 @@ fn elements(text: &[u8], at: usize, names: bool, hosts: bool, tally: Tally) -> T
 
 // With a list that is read, where it is there.
 pub fn list(text: &[u8], value: Ending, names: bool, hosts: bool, tally: Tally) -> Tally
-    requires { othersOf tally + length text.now + 1 < 2 ^ 32 }
+    requires { others_of tally + length text.now + 1 < 2 ^ 32 }
     ensures counts { count_of result ≡ listed names hosts (ended text.now value) (count_of tally) }
-    ensures few { othersOf result ≤ othersOf tally + length text.now + 1 }
+    ensures few { others_of result ≤ others_of tally + length text.now + 1 }
 {
     let Ending::At(at) = value else {
         return tally;

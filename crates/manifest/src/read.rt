@@ -1,10 +1,10 @@
 // The reading of a manifest: `read` answers its version, its set and how many strings set nothing, or the first refusal.
 ghost use Rattle.std.specs.Prelude.{◌≡◌, true, ◌≤◌, length};
-ghost use Rattle.json.specs.Values.{value, startsFrom};
+ghost use Rattle.json.specs.Values.{value, starts_from};
 ghost use Rattle.json.specs.Answers.{ended};
 ghost use Rattle.manifest.specs.Members.{strings};
-ghost use Rattle.manifest.specs.Manifest.{sources, total, goesOn, version, judgedFrom, judged};
-ghost use Rattle.manifest.specs.Answer.{count_of, othersOf, othersIn, outcome};
+ghost use Rattle.manifest.specs.Manifest.{sources, total, goes_on, version, judged_from, judged};
+ghost use Rattle.manifest.specs.Answer.{count_of, others_of, others_in, outcome};
 
 use crate::members::{Tally, behind, find, list, repeated};
 use crate::{Reading, Refusal};
@@ -15,7 +15,7 @@ use permset::PermSet;
 
 // Whether a number goes on with this byte.
 fn goes_on(b: u32) -> bool
-    ensures { result ≡ goesOn b }
+    ensures { result ≡ goes_on b }
 {
     if is_within(0x30, 0x39, b) {
         return true;
@@ -49,8 +49,8 @@ fn version(text: &[u8], value: Ending) -> u32
 // What the lists of a version say.
 fn total(text: &[u8], members: Ending, version: u32) -> Tally
     requires { length text.now ≤ 16384 }
-    ensures counts { count_of result ≡ total (sources version) (startsFrom (value 15) true (ended text.now members)) (strings 0 0) }
-    ensures few { othersOf result ≤ 32770 }
+    ensures counts { count_of result ≡ total (sources version) (starts_from (value 15) true (ended text.now members)) (strings 0 0) }
+    ensures few { others_of result ≤ 32770 }
 {
     let none = Tally::Strings(PermSet::empty(), 0);
     let names = find(text, members, b"permissions");
@@ -70,8 +70,8 @@ fn total(text: &[u8], members: Ending, version: u32) -> Tally
 // The members of the top object, judged.
 fn judge(text: &[u8], members: Ending) -> Reading
     requires { length text.now ≤ 16384 }
-    ensures says { outcome result ≡ judgedFrom (startsFrom (value 15) true (ended text.now members)) }
-    ensures few { othersIn result ≤ 32770 }
+    ensures says { outcome result ≡ judged_from (starts_from (value 15) true (ended text.now members)) }
+    ensures few { others_in result ≤ 32770 }
 {
     if repeated(text, members) {
         return Reading::Refused(Refusal::KeyRepeated);
@@ -89,7 +89,7 @@ fn judge(text: &[u8], members: Ending) -> Reading
 // The whole manifest.
 pub fn read(text: &[u8]) -> Reading
     ensures says { outcome result ≡ judged text.now }
-    ensures few { othersIn result ≤ 32770 }
+    ensures few { others_in result ≤ 32770 }
 {
     if 16384 < text.len() {
         return Reading::Refused(Refusal::NotObject);

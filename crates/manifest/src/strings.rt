@@ -3,7 +3,7 @@ ghost use Rattle.std.specs.Prelude.{◌≡◌, true, drop};
 ghost use Rattle.json.specs.Strings.{units};
 ghost use Rattle.json.specs.Units.{matches};
 ghost use Rattle.names.specs.Table.{name_of};
-ghost use Rattle.manifest.specs.Strings.{nameBits, isHost, nameSet, hostSet, setOf};
+ghost use Rattle.manifest.specs.Strings.{name_bits, is_host, name_set, host_set, set_of};
 
 use json::units::{contains, spells};
 use names::name::name;
@@ -20,7 +20,7 @@ fn is_name(text: &[u8], at: usize, i: u32) -> bool
 
 // The set of the name that stands at a place, and 0 where it is no permission's.
 fn name_set(text: &[u8], at: usize) -> u32
-    ensures { result ≡ nameBits (units (drop at text.now)) }
+    ensures { result ≡ name_bits (units (drop at text.now)) }
 {
     let mut bit = 1;
     let mut i = 0;
@@ -35,7 +35,7 @@ fn name_set(text: &[u8], at: usize) -> u32
 }
 
 fn is_host(text: &[u8], at: usize) -> bool
-    ensures { result ≡ isHost (units (drop at text.now)) }
+    ensures { result ≡ is_host (units (drop at text.now)) }
 {
     if spells(text, at, b"<all_urls>") {
         return true;
@@ -45,7 +45,7 @@ fn is_host(text: &[u8], at: usize) -> bool
 
 // The set of a string where names count.
 fn by_name(text: &[u8], at: usize, counts: bool) -> PermSet
-    ensures { result.bits ≡ nameSet counts (units (drop at text.now)) }
+    ensures { result.bits ≡ name_set counts (units (drop at text.now)) }
 {
     if counts {
         PermSet::of(name_set(text, at))
@@ -56,7 +56,7 @@ fn by_name(text: &[u8], at: usize, counts: bool) -> PermSet
 
 // The set of a string where hosts count.
 fn by_host(text: &[u8], at: usize, counts: bool) -> PermSet
-    ensures { result.bits ≡ hostSet counts (units (drop at text.now)) }
+    ensures { result.bits ≡ host_set counts (units (drop at text.now)) }
 {
     if !counts {
         return PermSet::empty();
@@ -70,7 +70,7 @@ fn by_host(text: &[u8], at: usize, counts: bool) -> PermSet
 
 // The set of a string; empty where it sets nothing.
 pub fn set_of(text: &[u8], at: usize, names: bool, hosts: bool) -> PermSet
-    ensures { result.bits ≡ setOf names hosts (units (drop at text.now)) }
+    ensures { result.bits ≡ set_of names hosts (units (drop at text.now)) }
 {
     by_name(text, at, names).union(by_host(text, at, hosts))
 }

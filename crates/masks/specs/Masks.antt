@@ -1,60 +1,60 @@
 -- The four masks: the sorts of elements that the rules ask for, and the digits of the elements of a sort set in a list of words.
 use Rattle.std.specs.Prelude.{ℕ, ◌+◌, ◌*◌, ◌<◌, ◌≡◌, Bool, true, false, not, ◌&&◌, ◌||◌, List, [], ◌∷◌, eqb, ltb, get_or, take, drop, replicate}
-use Rattle.table.specs.Words.{termOf}
-use Rattle.table.specs.Code.{Code, termNode}
-use Rattle.calculus.specs.Elements.{Making, nothing, aFunction, aRecord, aCell, makes, isFunction, isCell, sendable, anyRecord, elements}
+use Rattle.table.specs.Words.{term_of}
+use Rattle.table.specs.Code.{Code, term_node}
+use Rattle.calculus.specs.Elements.{Making, nothing, a_function, a_record, a_cell, makes, is_function, is_cell, sendable, any_record, elements}
 use Rattle.calculus.specs.Layout.{bit, mark, pour, Words}
 use Rattle.masks.specs.declared.Sort.{Sort}
 use Rattle.masks.specs.declared.Sort.TheVariants as sorts
-use Rattle.rows.specs.Mask.{Mask, madeAs}
+use Rattle.rows.specs.Mask.{Mask, made_as}
 
 -- the property of the elements of a sort
 unfoldable pub property : Sort → Code → ℕ → Bool
-property sorts.Function c v = madeAs c isFunction v
-property sorts.Record c v = anyRecord c v
-property sorts.Cell c v = madeAs c isCell v
+property sorts.Function c v = made_as c is_function v
+property sorts.Record c v = any_record c v
+property sorts.Cell c v = made_as c is_cell v
 property sorts.Message c v = sendable c v
 
 -- four rows, one after the other: functions, records, cells and what may be sent
 pub record Masked (c : Code) (masks : List ℕ) (row : ℕ) : Type 0 where
-  pub functions : Mask c (madeAs c isFunction) (take row masks)
-  pub records : Mask c (anyRecord c) (take row (drop row masks))
-  pub cells : Mask c (madeAs c isCell) (take row (drop (2 * row) masks))
+  pub functions : Mask c (made_as c is_function) (take row masks)
+  pub records : Mask c (any_record c) (take row (drop row masks))
+  pub cells : Mask c (made_as c is_cell) (take row (drop (2 * row) masks))
   pub messages : Mask c (sendable c) (take row (drop (3 * row) masks))
 
 -- what a word makes, as a number
-unfoldable pub makingNumber : Making → ℕ
-makingNumber nothing = 0
-makingNumber aFunction = 1
-makingNumber aRecord = 2
-makingNumber aCell = 3
+unfoldable pub making_number : Making → ℕ
+making_number nothing = 0
+making_number a_function = 1
+making_number a_record = 2
+making_number a_cell = 3
 
 -- what a word makes, as its term does
-unfoldable pub wordMakes : ℕ → ℕ
-wordMakes w = makingNumber (makes (termNode (termOf w) 0 0 0))
+unfoldable pub word_makes : ℕ → ℕ
+word_makes w = making_number (makes (term_node (term_of w) 0 0 0))
 
 -- whether what is made is of a sort
-unfoldable pub sortHas : Sort → ℕ → Bool
-sortHas sorts.Function m = eqb m 1
-sortHas sorts.Record m = eqb m 2
-sortHas sorts.Cell m = eqb m 3
-sortHas sorts.Message m = not (eqb m 1 || eqb m 3)
+unfoldable pub sort_has : Sort → ℕ → Bool
+sort_has sorts.Function m = eqb m 1
+sort_has sorts.Record m = eqb m 2
+sort_has sorts.Cell m = eqb m 3
+sort_has sorts.Message m = not (eqb m 1 || eqb m 3)
 
 -- digit n set or not
-unfoldable pub markIf : Bool → List ℕ → ℕ → List ℕ
-markIf true ws n = mark ws n
-markIf false ws n = ws
+unfoldable pub mark_if : Bool → List ℕ → ℕ → List ℕ
+mark_if true ws n = mark ws n
+mark_if false ws n = ws
 
 -- the mask of each sort with the element v set where what is made, m, is of that sort
-unfoldable pub markWord : ℕ → ℕ → ℕ → List ℕ → List ℕ
-markWord row v m ws =
-    markIf (sortHas sorts.Message m)
-    (markIf (sortHas sorts.Cell m) (markIf (sortHas sorts.Record m) (markIf (sortHas sorts.Function m) ws v) (32 * row + v)) (64 * row + v))
+unfoldable pub mark_word : ℕ → ℕ → ℕ → List ℕ → List ℕ
+mark_word row v m ws =
+    mark_if (sort_has sorts.Message m)
+    (mark_if (sort_has sorts.Cell m) (mark_if (sort_has sorts.Record m) (mark_if (sort_has sorts.Function m) ws v) (32 * row + v)) (64 * row + v))
     (96 * row + v)
 
 -- the masks with their plain elements, which fill `lead` words: 7 among the records, and all that may be sent
-unfoldable pub plainMasks : (row lead : ℕ) → List ℕ → List ℕ
-plainMasks row lead ws = pour (mark ws (32 * row + 7)) (3 * row) (replicate lead 4294967295)
+unfoldable pub plain_masks : (row lead : ℕ) → List ℕ → List ℕ
+plain_masks row lead ws = pour (mark ws (32 * row + 7)) (3 * row) (replicate lead 4294967295)
 
 -- the first word of the mask of a sort
 unfoldable pub first_word : Sort → ℕ → ℕ

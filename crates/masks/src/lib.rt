@@ -5,7 +5,7 @@ ghost use Rattle.table.specs.Code.{code};
 ghost use Rattle.calculus.specs.Elements.{plain};
 ghost use Rattle.calculus.specs.Layout.{mark, pour};
 ghost use Rattle.rows.specs.Laid.{LaidOut};
-ghost use Rattle.masks.specs.Masks.{wordMakes, sortHas, markIf, markWord, plainMasks, Filled, FilledIn};
+ghost use Rattle.masks.specs.Masks.{word_makes, sort_has, mark_if, mark_word, plain_masks, Filled, FilledIn};
 
 use results::digit;
 use rows::elements::OPPONENT_RECORD;
@@ -34,7 +34,7 @@ fn set_digit(masks: &mut [u32], n: usize)
 // Sets digit n if it is told to.
 pub fn set_if(masks: &mut [u32], n: usize, told: bool)
     requires { n < 32 * length masks.old }
-    ensures { masks.new ≡ markIf told masks.old n }
+    ensures { masks.new ≡ mark_if told masks.old n }
 {
     if told {
         set_digit(masks, n);
@@ -51,7 +51,7 @@ const RECORD: u32 = 2;
 const CELL: u32 = 3;
 
 pub fn word_makes(w: u32) -> u32
-    ensures { result ≡ wordMakes w }
+    ensures { result ≡ word_makes w }
 {
     match term_of(w) {
         Term::Function => FUNCTION,
@@ -64,7 +64,7 @@ pub fn word_makes(w: u32) -> u32
 
 // Whether what a word makes is of a sort.
 fn made_has(s: Sort, m: u32) -> bool
-    ensures { result ≡ sortHas s m }
+    ensures { result ≡ sort_has s m }
 {
     match s {
         Sort::Function => m == FUNCTION,
@@ -77,7 +77,7 @@ fn made_has(s: Sort, m: u32) -> bool
 // Sets digit n if what a word makes is of a sort.
 fn set_sort(masks: &mut [u32], s: Sort, n: usize, m: u32)
     requires { n < 32 * length masks.old }
-    ensures { masks.new ≡ markIf (sortHas s m) masks.old n }
+    ensures { masks.new ≡ mark_if (sort_has s m) masks.old n }
 {
     set_if(masks, n, made_has(s, m));
 }
@@ -85,7 +85,7 @@ fn set_sort(masks: &mut [u32], s: Sort, n: usize, m: u32)
 // Sets the element v, which is a word that makes m, in the mask of each sort that it has.
 fn set_word(masks: &mut [u32], row: usize, v: usize, m: u32)
     requires { (v < 32 * row) × (4 * row ≤ length masks.old) × (length masks.old ≤ 256) }
-    ensures { masks.new ≡ markWord row v m masks.old }
+    ensures { masks.new ≡ mark_word row v m masks.old }
 {
     set_sort(masks, Sort::Function, v, m);
     set_sort(masks, Sort::Record, 32 * row + v, m);
@@ -123,7 +123,7 @@ fn set_words(masks: &mut [u32], at: usize, n: usize)
 // Sets the plain elements, which fill `lead` words: 7, the opponent's record, and all that may be sent.
 fn fill_plain(masks: &mut [u32], row: usize, lead: usize)
     requires { (1 ≤ lead) × (lead ≤ row) × (4 * row ≤ length masks.old) × (length masks.old ≤ 256) }
-    ensures { masks.new ≡ plainMasks row lead masks.old }
+    ensures { masks.new ≡ plain_masks row lead masks.old }
 {
     set_digit(masks, 32 * row + OPPONENT_RECORD);
     set_words(masks, 3 * row, lead);

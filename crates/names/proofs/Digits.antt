@@ -9,7 +9,7 @@ use lib.Pow.{pow_mono, pow-add}
 use lib.ListN.{length, get_or, drop, drop_of_length-le}
 use lib.Seq.{drop-cons}
 use Rattle.names.specs.declared.argument.Argument.TheVariants.{Set, Other}
-use Rattle.names.specs.Argument.{setAs, digit, folded, byDigits}
+use Rattle.names.specs.Argument.{set_as, digit, folded, by_digits}
 
 module _ (b : ℕ) where
   pub digit_low : b < 48 → digit b ≡ 16
@@ -36,7 +36,7 @@ module _ (b : ℕ) where
         digit-high h = rw (digit, le-ltb b 48 l, le-ltb b 58 m, le-ltb b 97 n, le-ltb b 103 h)
 
 module _ (n : ℕ) (l : List ℕ) (i : ℕ) where
-  pub folded-end : length l ≤ i → folded n (drop i l) ≡ setAs n
+  pub folded-end : length l ≤ i → folded n (drop i l) ≡ set_as n
   unfolding folded
   folded-end h = rw (drop_of_length-le l h, folded)
 
@@ -49,20 +49,20 @@ module _ (n : ℕ) (l : List ℕ) (i : ℕ) where
     unfolding folded
     folded-other d = rw (drop-cons l i 0 h, folded, le-ltb (digit (get_or l i 0)) 16 d)
 
-pub digits-none : (l : List ℕ) → length l ≡ 0 → byDigits l ≡ Other
-unfolding byDigits
+pub digits-none : (l : List ℕ) → length l ≡ 0 → by_digits l ≡ Other
+unfolding by_digits
 digits-none [] h = refl
 digits-none (b ∷ bs) h = absurd (omega arith)
 
-pub digits_long : (l : List ℕ) → 6 < length l → byDigits l ≡ Other
-unfolding byDigits
+pub digits_long : (l : List ℕ) → 6 < length l → by_digits l ≡ Other
+unfolding by_digits
 digits_long [] h = refl
-digits_long (b ∷ bs) h = rw (byDigits, lt-ltb 6 (length (b ∷ bs)) h)
+digits_long (b ∷ bs) h = rw (by_digits, lt-ltb 6 (length (b ∷ bs)) h)
 
-pub digits-short : (l : List ℕ) → (length l ≡ 0 → ⊥) → length l ≤ 6 → byDigits l ≡ folded 0 l
-unfolding byDigits
+pub digits-short : (l : List ℕ) → (length l ≡ 0 → ⊥) → length l ≤ 6 → by_digits l ≡ folded 0 l
+unfolding by_digits
 digits-short [] n h = absurd (n refl)
-digits-short (b ∷ bs) n h = rw (byDigits, le-ltb 6 (length (b ∷ bs)) h)
+digits-short (b ∷ bs) n h = rw (by_digits, le-ltb 6 (length (b ∷ bs)) h)
 
 -- ---- so many digits make no larger number
 

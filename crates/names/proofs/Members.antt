@@ -13,7 +13,7 @@ use Rattle.text.specs.Writing.{Line}
 use Rattle.text.specs.Added.{Added}
 use Rattle.text.proofs.Adding.{added-nothing, added_then, added-as}
 use Rattle.names.specs.Table.{names, hosts, name_of}
-use Rattle.names.specs.Text.{gap, members, orNone}
+use Rattle.names.specs.Text.{gap, members, or_none}
 
 pub line_as : {before text other after : List ℕ} {size : ℕ} → text ≡ other → Line before text after size → Line before other after size
 line_as {before} {text} {other} {after} {size} e w = subst (λ (l : List ℕ). Line before l after size) e w
@@ -105,21 +105,21 @@ module _ {s : ℕ} {before : List ℕ} {at : ℕ} where
 
 -- ---- nobody or somebody, by whether a place moved
 
-none-there : (l : List ℕ) → length l ≡ 0 → orNone l ++ bytes "\n" ≡ l ++ bytes "-\n"
-unfolding orNone
+none-there : (l : List ℕ) → length l ≡ 0 → or_none l ++ bytes "\n" ≡ l ++ bytes "-\n"
+unfolding or_none
 none-there [] h = refl
 none-there (x ∷ xs) h = absurd (omega arith)
 
-some-there : (l : List ℕ) → (length l ≡ 0 → ⊥) → orNone l ≡ l
-unfolding orNone
+some-there : (l : List ℕ) → (length l ≡ 0 → ⊥) → or_none l ≡ l
+unfolding or_none
 some-there [] h = absurd (h refl)
 some-there (x ∷ xs) h = refl
 
 module _ {before l mid : List ℕ} {at end : ℕ} (a : Added before at l mid end) {after : List ℕ} {next : ℕ} where
-  pub added_none : end ≡ at → Added mid at (bytes "-\n") after next → Added before at (orNone l ++ bytes "\n") after next
+  pub added_none : end ≡ at → Added mid at (bytes "-\n") after next → Added before at (or_none l ++ bytes "\n") after next
   added_none e r =
       added-as (sym (none-there l (omega (arith, a.ends)))) (added_then (subst (λ (n : ℕ). Added before at l mid n) e a) r)
 
-  pub added-some : (end ≡ at → ⊥) → Added mid end (bytes "\n") after next → Added before at (orNone l ++ bytes "\n") after next
+  pub added-some : (end ≡ at → ⊥) → Added mid end (bytes "\n") after next → Added before at (or_none l ++ bytes "\n") after next
   added-some f r =
       added-as (ap (λ (t : List ℕ). t ++ bytes "\n") (sym (some-there l (λ z. f (omega (arith, a.ends)))))) (added_then a r)

@@ -15,8 +15,8 @@ use Rattle.permset.specs.Sets.{union}
 use Rattle.permset.specs.declared.PermSet.{PermSet}
 use Rattle.names.specs.declared.argument.Argument.{Argument}
 use Rattle.names.specs.declared.argument.Argument.TheVariants.{Set, Other}
-use Rattle.names.specs.Table.{names, hosts, hostPermission, named}
-use Rattle.names.specs.Argument.{setAs, same, setOfName, comma, parts, withNames, byNames, or_else}
+use Rattle.names.specs.Table.{names, hosts, host_permission, named}
+use Rattle.names.specs.Argument.{set_as, same, set_of_name, comma, parts, with_names, by_names, or_else}
 
 -- ---- equal words
 
@@ -70,13 +70,13 @@ pub ten-names : (bit i : ℕ) → bit ≡ 2 ^ i → i < 10 → bit ≤ 512
 ten-names bit i e h = let m : 2 ^ i ≤ 2 ^ 9 = pow_mono {i = i} {j = 9} (omega arith) in omega arith
 
 module _ (word : List ℕ) where
-  pub host-named : same word hosts ≡ true → setOfName word ≡ 2 ^ 23
-  unfolding setOfName
-  host-named e = rw (e, setOfName)
+  pub host-named : same word hosts ≡ true → set_of_name word ≡ 2 ^ 23
+  unfolding set_of_name
+  host-named e = rw (e, set_of_name)
 
-  pub other-named : same word hosts ≡ false → setOfName word ≡ named (same word) names 1
-  unfolding setOfName
-  other-named e = rw (e, setOfName)
+  pub other-named : same word hosts ≡ false → set_of_name word ≡ named (same word) names 1
+  unfolding set_of_name
+  other-named e = rw (e, set_of_name)
 
 pub digits-first : (a b : Argument) (s : PermSet) → a ≡ Set s → or_else a b ≡ Set s
 unfolding or_else
@@ -89,20 +89,20 @@ names-then a b e = ap (λ (x : Argument). or_else x b) e
 -- ---- words between commas
 
 module _ (s : ℕ) (word : List ℕ) (ws : List (List ℕ)) where
-  pub with_none : setOfName word ≡ 0 → withNames s (word ∷ ws) ≡ Other
-  unfolding withNames
-  with_none e = rw (withNames, e)
+  pub with_none : set_of_name word ≡ 0 → with_names s (word ∷ ws) ≡ Other
+  unfolding with_names
+  with_none e = rw (with_names, e)
 
-  pub with-one : (setOfName word ≡ 0 → ⊥) → withNames s (word ∷ ws) ≡ withNames (union s (setOfName word)) ws
-  unfolding withNames
-  with-one n = go (setOfName word) refl
+  pub with-one : (set_of_name word ≡ 0 → ⊥) → with_names s (word ∷ ws) ≡ with_names (union s (set_of_name word)) ws
+  unfolding with_names
+  with-one n = go (set_of_name word) refl
     where
-      go : (k : ℕ) → setOfName word ≡ k → withNames s (word ∷ ws) ≡ withNames (union s (setOfName word)) ws
+      go : (k : ℕ) → set_of_name word ≡ k → with_names s (word ∷ ws) ≡ with_names (union s (set_of_name word)) ws
       go zero e = absurd (n e)
-      go (suc k) e = ap (λ (x : ℕ). elim x [ zero ↦ Other | suc m ↦ withNames (union s (setOfName word)) ws ]) e
+      go (suc k) e = ap (λ (x : ℕ). elim x [ zero ↦ Other | suc m ↦ with_names (union s (set_of_name word)) ws ]) e
 
-pub with-last : (s : ℕ) → withNames s [] ≡ setAs s
-unfolding withNames
+pub with-last : (s : ℕ) → with_names s [] ≡ set_as s
+unfolding with_names
 with-last s = refl
 
 module _ (bs : List ℕ) where

@@ -3,10 +3,10 @@ use Rattle.std.specs.Prelude.{ℕ, zero, suc, ◌+◌, ◌-◌, ◌*◌, ◌^◌
 use Rattle.permset.specs.Sets.{union}
 use Rattle.names.specs.declared.argument.Argument.{Argument}
 use Rattle.names.specs.declared.argument.Argument.TheVariants.{Set, Other}
-use Rattle.names.specs.Table.{names, hosts, hostPermission, named}
+use Rattle.names.specs.Table.{names, hosts, host_permission, named}
 
-abbrev pub setAs : ℕ → Argument
-setAs s = Set (record { bits = s })
+abbrev pub set_as : ℕ → Argument
+set_as s = Set (record { bits = s })
 
 -- ---- digits
 
@@ -24,13 +24,13 @@ digit b =
 -- digits behind those of n
 unfoldable pub folded : (n : ℕ) → List ℕ → Argument
 unfolding digit
-folded n [] = setAs n
+folded n [] = set_as n
 folded n (b ∷ bs) = elim (ltb (digit b) 16) [ true ↦ folded (n * 16 + digit b) bs | false ↦ Other ]
 
-unfoldable pub byDigits : List ℕ → Argument
+unfoldable pub by_digits : List ℕ → Argument
 unfolding folded
-byDigits [] = Other
-byDigits (b ∷ bs) = elim (ltb 6 (length (b ∷ bs))) [ true ↦ Other | false ↦ folded 0 (b ∷ bs) ]
+by_digits [] = Other
+by_digits (b ∷ bs) = elim (ltb 6 (length (b ∷ bs))) [ true ↦ Other | false ↦ folded 0 (b ∷ bs) ]
 
 -- ---- names
 
@@ -41,9 +41,9 @@ same (a ∷ l) [] = false
 same (a ∷ l) (b ∷ bs) = eqb a b && same l bs
 
 -- the set of the permission that is called so; empty where none is
-unfoldable pub setOfName : (word : List ℕ) → ℕ
+unfoldable pub set_of_name : (word : List ℕ) → ℕ
 unfolding same named
-setOfName word = elim (same word hosts) [ true ↦ 2 ^ hostPermission | false ↦ named (same word) names 1 ]
+set_of_name word = elim (same word hosts) [ true ↦ 2 ^ host_permission | false ↦ named (same word) names 1 ]
 
 abbrev pub comma : ℕ
 comma = 44
@@ -54,14 +54,14 @@ parts word [] = word ∷ []
 parts word (b ∷ bs) = elim (eqb b comma) [ true ↦ word ∷ parts [] bs | false ↦ parts (word ++ b ∷ []) bs ]
 
 -- the set s with the permissions of these names
-unfoldable pub withNames : (s : ℕ) → List (List ℕ) → Argument
-unfolding setOfName union
-withNames s [] = setAs s
-withNames s (w ∷ ws) = elim (setOfName w) [ zero ↦ Other | suc n ↦ withNames (union s (setOfName w)) ws ]
+unfoldable pub with_names : (s : ℕ) → List (List ℕ) → Argument
+unfolding set_of_name union
+with_names s [] = set_as s
+with_names s (w ∷ ws) = elim (set_of_name w) [ zero ↦ Other | suc n ↦ with_names (union s (set_of_name w)) ws ]
 
-unfoldable pub byNames : List ℕ → Argument
-unfolding parts withNames
-byNames bs = withNames 0 (parts [] bs)
+unfoldable pub by_names : List ℕ → Argument
+unfolding parts with_names
+by_names bs = with_names 0 (parts [] bs)
 
 -- ---- a set, or anything else
 
@@ -69,6 +69,6 @@ unfoldable pub or_else : Argument → Argument → Argument
 or_else (Set s) other = Set s
 or_else Other other = other
 
-unfoldable pub setOf : List ℕ → Argument
-unfolding byDigits byNames or_else
-setOf bs = or_else (byDigits bs) (byNames bs)
+unfoldable pub set_of : List ℕ → Argument
+unfolding by_digits by_names or_else
+set_of bs = or_else (by_digits bs) (by_names bs)

@@ -21,13 +21,13 @@ abbrev pub hosts : List ℕ
 hosts = bytes "hosts"
 
 -- the permission that host patterns set
-abbrev pub hostPermission : ℕ
-hostPermission = 23
+abbrev pub host_permission : ℕ
+host_permission = 23
 
 -- what permission i is called: its name, or its number where it has none
 unfoldable pub name_of : ℕ → List ℕ
 name_of i =
-    elim (ltb i 10) [ true ↦ get_or names i [] | false ↦ elim (eqb i hostPermission) [ true ↦ hosts | false ↦ decimal i ] ]
+    elim (ltb i 10) [ true ↦ get_or names i [] | false ↦ elim (eqb i host_permission) [ true ↦ hosts | false ↦ decimal i ] ]
 
 -- the set of the first name that passes a test, where `bit` is that of the first of them; empty where none passes
 unfoldable pub named : (passes : List ℕ → Bool) → List (List ℕ) → (bit : ℕ) → ℕ

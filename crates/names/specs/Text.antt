@@ -15,14 +15,14 @@ members first s i zero = []
 members first s i (suc left) =
     elim (member s i) [ true ↦ (gap first ++ name_of i) ++ members false s (suc i) left | false ↦ members first s (suc i) left ]
 
-unfoldable pub orNone : List ℕ → List ℕ
-orNone [] = bytes "-"
-orNone (b ∷ bs) = b ∷ bs
+unfoldable pub or_none : List ℕ → List ℕ
+or_none [] = bytes "-"
+or_none (b ∷ bs) = b ∷ bs
 
 -- the line of a set
-unfoldable pub namesText : (s : ℕ) → List ℕ
-unfolding members orNone
-namesText s = orNone (members true s 0 width) ++ bytes "\n"
+unfoldable pub names_text : (s : ℕ) → List ℕ
+unfolding members or_none
+names_text s = or_none (members true s 0 width) ++ bytes "\n"
 
 -- room for the line of every set
 abbrev pub room : ℕ

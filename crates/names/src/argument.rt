@@ -2,7 +2,7 @@
 ghost use Rattle.std.specs.Prelude.{◌≡◌, ◌≤◌, ◌<◌, length};
 ghost use Rattle.names.specs.Table.{names, name_of};
 ghost use Rattle.names.specs.Table.{named as Table·named};
-ghost use Rattle.names.specs.Argument.{byDigits, same, setOfName, byNames, setOf};
+ghost use Rattle.names.specs.Argument.{by_digits, same, set_of_name, by_names, set_of};
 ghost use Rattle.names.specs.Argument.{digit as Argument·digit};
 
 use crate::name::name;
@@ -36,7 +36,7 @@ fn digit(b: u8) -> u32
 
 // The set of one to six digits.
 fn by_digits(bytes: &[u8]) -> Argument
-    ensures { result ≡ byDigits bytes.now }
+    ensures { result ≡ by_digits bytes.now }
 {
     if bytes.len() == 0 {
         return Argument::Other;
@@ -84,7 +84,7 @@ fn named(word: &[u8]) -> u32
 
 // The set of the permission that is called so, empty where none is.
 fn set_of_name(word: &[u8]) -> u32
-    ensures { result ≡ setOfName word.now }
+    ensures { result ≡ set_of_name word.now }
 {
     if is_name(word, 23) {
         return 8388608;
@@ -94,7 +94,7 @@ fn set_of_name(word: &[u8]) -> u32
 
 // The set of names with commas between them.
 fn by_names(bytes: &[u8]) -> Argument
-    ensures { result ≡ byNames bytes.now }
+    ensures { result ≡ by_names bytes.now }
 {
     let mut set = PermSet::empty();
     let mut start = 0;
@@ -119,7 +119,7 @@ fn by_names(bytes: &[u8]) -> Argument
 
 // The set that an argument says, in digits or by names.
 pub fn set_of(bytes: &[u8]) -> Argument
-    ensures { result ≡ setOf bytes.now }
+    ensures { result ≡ set_of bytes.now }
 {
     match by_digits(bytes) {
         Argument::Set(s) => Argument::Set(s),

@@ -3,7 +3,7 @@ ghost use Rattle.std.specs.Prelude.{true, ◌++◌, ◌+◌, ◌≤◌};
 ghost use Rattle.permset.specs.Sets.{width};
 ghost use Rattle.text.specs.Added.{Added};
 ghost use Rattle.names.specs.Table.{name_of};
-ghost use Rattle.names.specs.Text.{gap, members, namesText, room};
+ghost use Rattle.names.specs.Text.{gap, members, names_text, room};
 
 use crate::name::name;
 use permset::PermSet;
@@ -55,7 +55,7 @@ fn put_members(out: &mut [u8], at: usize, s: PermSet) -> usize
 // The line of a set, where it has room, and the place after it.
 pub fn put_names(out: &mut [u8], at: usize, s: PermSet) -> usize
     requires { at ≤ 100000 }
-    ensures added { Added out.old at (namesText s.bits) out.new result }
+    ensures added { Added out.old at (names_text s.bits) out.new result }
     ensures upper_bound { result ≤ at + room }
 {
     let next = put_members(out, at, s);

@@ -11,17 +11,17 @@ use lib.ListN.{length, get_or}
 use Rattle.table.specs.Words.{kind}
 use Rattle.table.specs.Links.{block_at}
 use Rattle.text.specs.Text.{bytes, decimal, set}
-use Rattle.notes.specs.Notes.{lacking, exerciseNote, gets, got, sendNote, noteAt, homeBefore, notesBefore}
+use Rattle.notes.specs.Notes.{lacking, exercise_note, gets, got, send_note, note_at, home_before, notes_before}
 
 module _ (ws : List ℕ) (p home : ℕ) where
-  pub exercise-none : lacking ws p home ≡ 0 → [] ≡ exerciseNote ws p home
-  unfolding exerciseNote
-  exercise-none e = rw (exerciseNote, eq-eqb (lacking ws p home) 0 e)
+  pub exercise-none : lacking ws p home ≡ 0 → [] ≡ exercise_note ws p home
+  unfolding exercise_note
+  exercise-none e = rw (exercise_note, eq-eqb (lacking ws p home) 0 e)
 
   pub exercise-some : (l : ℕ) → l ≡ lacking ws p home → (l ≡ 0 → ⊥)
-      → (bytes "note line " ++ decimal (suc p)) ++ (bytes ": this exercise never proceeds: the handler lacks " ++ set l) ++ bytes "\n" ≡ exerciseNote ws p home
-  unfolding exerciseNote
-  exercise-some l e n = rw (exerciseNote, ← e, ne_eqb l 0 n)
+      → (bytes "note line " ++ decimal (suc p)) ++ (bytes ": this exercise never proceeds: the handler lacks " ++ set l) ++ bytes "\n" ≡ exercise_note ws p home
+  unfolding exercise_note
+  exercise-some l e n = rw (exercise_note, ← e, ne_eqb l 0 n)
 
   pub got-none : (q : ℕ) → q ≤ 0 → false ≡ got ws p home q
   unfolding got
@@ -42,42 +42,42 @@ module _ (ws : List ℕ) (p home : ℕ) where
     got-here e k =
         sym (ap (got ws p home) (add-one q) ∙ ap₂ (λ (x y : Bool). x || (y && gets ws p home q)) e (eq-eqb (kind (get_or ws q 0)) 2 k))
 
-  pub send-other : (kind (get_or ws (p + 1) 0) ≡ 19 → ⊥) → [] ≡ sendNote ws p home
-  unfolding sendNote
-  send-other n = rw (sendNote, ne_eqb (kind (get_or ws (p + 1) 0)) 19 n)
+  pub send-other : (kind (get_or ws (p + 1) 0) ≡ 19 → ⊥) → [] ≡ send_note ws p home
+  unfolding send_note
+  send-other n = rw (send_note, ne_eqb (kind (get_or ws (p + 1) 0)) 19 n)
 
-  pub send-got : kind (get_or ws (p + 1) 0) ≡ 19 → got ws p home (length ws) ≡ true → [] ≡ sendNote ws p home
-  unfolding sendNote
-  send-got k e = rw (sendNote, eq-eqb (kind (get_or ws (p + 1) 0)) 19 k, e)
+  pub send-got : kind (get_or ws (p + 1) 0) ≡ 19 → got ws p home (length ws) ≡ true → [] ≡ send_note ws p home
+  unfolding send_note
+  send-got k e = rw (send_note, eq-eqb (kind (get_or ws (p + 1) 0)) 19 k, e)
 
   pub send-lost : kind (get_or ws (p + 1) 0) ≡ 19 → got ws p home (length ws) ≡ false
-      → (bytes "note line " ++ decimal (suc p)) ++ bytes ": no handler gets this send\n" ≡ sendNote ws p home
-  unfolding sendNote
-  send-lost k e = rw (sendNote, eq-eqb (kind (get_or ws (p + 1) 0)) 19 k, e)
+      → (bytes "note line " ++ decimal (suc p)) ++ bytes ": no handler gets this send\n" ≡ send_note ws p home
+  unfolding send_note
+  send-lost k e = rw (send_note, eq-eqb (kind (get_or ws (p + 1) 0)) 19 k, e)
 
-  pub note-exercise : kind (get_or ws p 0) ≡ 36 → exerciseNote ws p home ≡ noteAt ws p home
-  unfolding noteAt
-  note-exercise e = rw (noteAt, eq-eqb (kind (get_or ws p 0)) 36 e)
+  pub note-exercise : kind (get_or ws p 0) ≡ 36 → exercise_note ws p home ≡ note_at ws p home
+  unfolding note_at
+  note-exercise e = rw (note_at, eq-eqb (kind (get_or ws p 0)) 36 e)
 
-  pub note-send : (kind (get_or ws p 0) ≡ 36 → ⊥) → kind (get_or ws p 0) ≡ 35 → sendNote ws p home ≡ noteAt ws p home
-  unfolding noteAt
-  note-send n e = rw (noteAt, ne_eqb (kind (get_or ws p 0)) 36 n, eq-eqb (kind (get_or ws p 0)) 35 e)
+  pub note-send : (kind (get_or ws p 0) ≡ 36 → ⊥) → kind (get_or ws p 0) ≡ 35 → send_note ws p home ≡ note_at ws p home
+  unfolding note_at
+  note-send n e = rw (note_at, ne_eqb (kind (get_or ws p 0)) 36 n, eq-eqb (kind (get_or ws p 0)) 35 e)
 
-  pub note-none : (kind (get_or ws p 0) ≡ 36 → ⊥) → (kind (get_or ws p 0) ≡ 35 → ⊥) → [] ≡ noteAt ws p home
-  unfolding noteAt
-  note-none n m = rw (noteAt, ne_eqb (kind (get_or ws p 0)) 36 n, ne_eqb (kind (get_or ws p 0)) 35 m)
+  pub note-none : (kind (get_or ws p 0) ≡ 36 → ⊥) → (kind (get_or ws p 0) ≡ 35 → ⊥) → [] ≡ note_at ws p home
+  unfolding note_at
+  note-none n m = rw (note_at, ne_eqb (kind (get_or ws p 0)) 36 n, ne_eqb (kind (get_or ws p 0)) 35 m)
 
 module _ (ws : List ℕ) (p home : ℕ) where
-  pub home-next : home ≡ homeBefore ws p → block_at (get_or ws p 0) p home ≡ homeBefore ws (p + 1)
-  unfolding homeBefore
-  home-next e = rw (add-one, homeBefore, e)
+  pub home-next : home ≡ home_before ws p → block_at (get_or ws p 0) p home ≡ home_before ws (p + 1)
+  unfolding home_before
+  home-next e = rw (add-one, home_before, e)
 
-  pub notes-next : home ≡ homeBefore ws (p + 1) → notesBefore ws p ++ noteAt ws p home ≡ notesBefore ws (p + 1)
-  unfolding notesBefore
-  notes-next e = ap (λ (h : ℕ). notesBefore ws p ++ noteAt ws p h) (e ∙ ap (homeBefore ws) (add-one p)) ∙ rw (add-one, notesBefore)
+  pub notes-next : home ≡ home_before ws (p + 1) → notes_before ws p ++ note_at ws p home ≡ notes_before ws (p + 1)
+  unfolding notes_before
+  notes-next e = ap (λ (h : ℕ). notes_before ws p ++ note_at ws p h) (e ∙ ap (home_before ws) (add-one p)) ∙ rw (add-one, notes_before)
 
-pub notes-start : (ws : List ℕ) → ([] ≡ notesBefore ws 0) × (0 ≡ homeBefore ws 0)
-unfolding notesBefore homeBefore
+pub notes-start : (ws : List ℕ) → ([] ≡ notes_before ws 0) × (0 ≡ home_before ws 0)
+unfolding notes_before home_before
 notes-start ws = (refl, refl)
 
 pub block-most : (w p home : ℕ) → home ≤ p → block_at w p home ≤ p

@@ -2,7 +2,7 @@
 ghost use Rattle.std.specs.Prelude.{◌≡◌, ◌++◌, suc, ◌+◌, ◌*◌, ◌≤◌, ◌<◌, length, get_or};
 ghost use Rattle.text.specs.Text.{bytes, decimal};
 ghost use Rattle.text.specs.Writing.{Wrote};
-ghost use Rattle.notes.specs.Notes.{exerciseNote, sendNote, noteAt, notes};
+ghost use Rattle.notes.specs.Notes.{exercise_note, send_note, note_at, notes};
 ghost use Rattle.notes.specs.Notes.{lacking as Notes·lacking};
 ghost use Rattle.notes.specs.Notes.{gets as Notes·gets};
 ghost use Rattle.notes.specs.Notes.{got as Notes·got};
@@ -43,7 +43,7 @@ fn lacking(words: &[u32], p: usize, home: usize) -> u32
 // Of the exercise at p.
 fn put_exercise(words: &[u32], p: usize, home: usize, out: &mut [u8], at: usize) -> usize
     requires { (home < length words.now) × (p ≤ 65536) × (at + 96 ≤ length out.old) }
-    ensures wrote { Wrote out.old at (exerciseNote words.now p home) out.new result }
+    ensures wrote { Wrote out.old at (exercise_note words.now p home) out.new result }
     ensures upper_bound { result ≤ at + 96 }
 {
     let lacks = lacking(words, p, home);
@@ -104,7 +104,7 @@ fn found_at(found: bool, words: &[u32], p: usize, home: usize, q: usize) -> bool
 // Of the send at p.
 fn put_send(words: &[u32], p: usize, home: usize, out: &mut [u8], at: usize) -> usize
     requires { (home < length words.now) × (p ≤ 65536) × (at + 96 ≤ length out.old) }
-    ensures wrote { Wrote out.old at (sendNote words.now p home) out.new result }
+    ensures wrote { Wrote out.old at (send_note words.now p home) out.new result }
     ensures upper_bound { result ≤ at + 96 }
 {
     if kind_of(word_at(words, p + 1)) != 19 {
@@ -120,7 +120,7 @@ fn put_send(words: &[u32], p: usize, home: usize, out: &mut [u8], at: usize) -> 
 // Of the word at p, in the block at `home`.
 fn put_note(words: &[u32], p: usize, home: usize, out: &mut [u8], at: usize) -> usize
     requires { (home < length words.now) × (p < length words.now) × (p ≤ 65536) × (at + 96 ≤ length out.old) }
-    ensures wrote { Wrote out.old at (noteAt words.now p home) out.new result }
+    ensures wrote { Wrote out.old at (note_at words.now p home) out.new result }
     ensures upper_bound { result ≤ at + 96 }
 {
     let kind = kind_of(words[p]);

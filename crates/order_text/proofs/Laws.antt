@@ -13,7 +13,7 @@ use lib.Seq.{drop-cons}
 use Rattle.text.specs.Text.{bytes, decimal}
 use Rattle.text.specs.Writing.{Wrote}
 use Rattle.text.proofs.Writing.{wrote_nothing, reworded, then}
-use Rattle.order_text.specs.Text.{spaced, room, textSize, textAfter}
+use Rattle.order_text.specs.Text.{spaced, room, text_size, text_after}
 
 -- ---- the loop over positions
 
@@ -65,17 +65,17 @@ divided size n h = go (dec_lt size (room n))
 -- what a call answers and leaves
 abbrev pub Printed : (n : ℕ) (text out new : List ℕ) (size : ℕ) → Type 0
 Printed n text out new size =
-    (size ≡ textSize n text (length out)) × ((new ≡ textAfter n text out) × (size ≤ length out))
+    (size ≡ text_size n text (length out)) × ((new ≡ text_after n text out) × (size ≤ length out))
 
 module _ (n : ℕ) (text out : List ℕ) where
   pub unwritten : ltb (length out) (room n) ≡ true → Printed n text out out 0
-  unfolding textSize textAfter
-  unwritten t = (sym (rw (t, textSize)), (sym (rw (t, textAfter)), omega arith))
+  unfolding text_size text_after
+  unwritten t = (sym (rw (t, text_size)), (sym (rw (t, text_after)), omega arith))
 
   pub written : ltb (length out) (room n) ≡ false → (new : List ℕ) (size : ℕ) → Wrote out 0 text new size → Printed n text out new size
-  unfolding textSize textAfter
+  unfolding text_size text_after
   written t new size w =
       let e : size ≡ length text = omega (arith, w.ends) in (
-        e ∙ sym (rw (t, textSize)),
-        (w.bytes ∙ ap (λ (k : ℕ). text ++ drop k out) e ∙ sym (rw (t, textAfter)), w.fits),
+        e ∙ sym (rw (t, text_size)),
+        (w.bytes ∙ ap (λ (k : ℕ). text ++ drop k out) e ∙ sym (rw (t, text_after)), w.fits),
       )

@@ -10,8 +10,8 @@ use lib.Seq.{drop-cons}
 use Rattle.table.specs.Words.{kind}
 use Rattle.text.specs.Added.{Added}
 use Rattle.text.proofs.Adding.{added-nothing, added_then, added-as}
-use Rattle.handler_lines.specs.Parts.{headAt, tail_at}
-use Rattle.order_text.specs.Handlers.{line_for, lineOfPosition, lines}
+use Rattle.handler_lines.specs.Parts.{head_at, tail_at}
+use Rattle.order_text.specs.Handlers.{line_for, line_of_position, lines}
 
 module _ (ws : List ℕ) (position b count : ℕ) where
   pub line-no-block : (kind (get_or ws b 0) ≡ 2 → ⊥) → line_for ws position b count (get_or ws b 0) ≡ []
@@ -23,7 +23,7 @@ module _ (ws : List ℕ) (position b count : ℕ) where
     unfolding line_for
     line_other n = rw (line_for, eq-eqb (kind (get_or ws b 0)) 2 k, ne_eqb count position n)
 
-    pub line-here : count ≡ position → line_for ws position b count (get_or ws b 0) ≡ headAt ws b count ++ tail_at ws b
+    pub line-here : count ≡ position → line_for ws position b count (get_or ws b 0) ≡ head_at ws b count ++ tail_at ws b
     unfolding line_for
     line-here e = rw (line_for, eq-eqb (kind (get_or ws b 0)) 2 k, eq-eqb count position e)
 
@@ -46,13 +46,13 @@ module _ (ws : List ℕ) (count : ℕ) (ps : List ℕ) where
   unfolding lines
   rest_end i h = let none : count - i ≡ 0 = omega arith in ap (λ (n : ℕ). lines ws (take n (drop i ps))) none
 
-  rest-here : (i : ℕ) → i < count → i < length ps → rest i ≡ lineOfPosition ws (get_or ps i 0) ++ rest (i + 1)
+  rest-here : (i : ℕ) → i < count → i < length ps → rest i ≡ line_of_position ws (get_or ps i 0) ++ rest (i + 1)
   unfolding lines
   rest-here i h k =
       let more : count - i ≡ suc (count - (i + 1)) = omega arith in
       ap (λ (n : ℕ). lines ws (take n (drop i ps))) more
       ∙ ap (λ (l : List ℕ). lines ws (take (suc (count - (i + 1))) l)) (drop-cons ps i 0 k)
-      ∙ ap (λ (n : ℕ). lineOfPosition ws (get_or ps i 0) ++ lines ws (take (count - (i + 1)) (drop n ps))) (sym (add-one i))
+      ∙ ap (λ (n : ℕ). line_of_position ws (get_or ps i 0) ++ lines ws (take (count - (i + 1)) (drop n ps))) (sym (add-one i))
 
   -- A loop over the positions: what it added, with what is left, is the whole.
   pub record Listed (before : List ℕ) (at i : ℕ) (after : List ℕ) (next : ℕ) : Type 0 where
@@ -74,10 +74,10 @@ module _ (ws : List ℕ) (count : ℕ) (ps : List ℕ) where
       }
 
   module _ {before after : List ℕ} {at i next : ℕ} (l : Listed before at i after next) where
-    pub listed-step : i < count → i < length ps → {after' : List ℕ} {next' : ℕ} → Added after next (lineOfPosition ws (get_or ps i 0)) after' next'
+    pub listed-step : i < count → i < length ps → {after' : List ℕ} {next' : ℕ} → Added after next (line_of_position ws (get_or ps i 0)) after' next'
         → next' ≤ next + 263168 → Listed before at (i + 1) after' next'
     listed-step h k {after'} {next'} a n =
-        let t = lineOfPosition ws (get_or ps i 0) in
+        let t = line_of_position ws (get_or ps i 0) in
         record {
           done = l.done ++ t;
           added = added_then l.added a;

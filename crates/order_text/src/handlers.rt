@@ -1,9 +1,9 @@
 // The handlers of an order or a loop, a line each, in that order.
 ghost use Rattle.std.specs.Prelude.{◌≡◌, ◌++◌, ◌+◌, ◌*◌, ◌≤◌, ◌<◌, length, get_or, take};
 ghost use Rattle.text.specs.Added.{Added};
-ghost use Rattle.handler_lines.specs.Parts.{headAt, tail_at};
-ghost use Rattle.reading_order.specs.Reply.{replyOf};
-ghost use Rattle.order_text.specs.Handlers.{line_for, lineOfPosition, lines, counts, handlersText};
+ghost use Rattle.handler_lines.specs.Parts.{head_at, tail_at};
+ghost use Rattle.reading_order.specs.Reply.{reply_of};
+ghost use Rattle.order_text.specs.Handlers.{line_for, line_of_position, lines, counts, handlers_text};
 
 use deliveries::counted;
 use handler_lines::{put_head, put_tail};
@@ -13,7 +13,7 @@ use table::kind_of;
 // The line of the block at b.
 fn put_handler(words: &[u32], b: usize, position: usize, out: &mut [u8], at: usize) -> usize
     requires { (b < 1024) × (at ≤ 800000000) }
-    ensures added { Added out.old at (headAt words.now b position ++ tail_at words.now b) out.new result }
+    ensures added { Added out.old at (head_at words.now b position ++ tail_at words.now b) out.new result }
     ensures upper_bound { result ≤ at + 257 }
 {
     let next = put_head(words, b, position, out, at);
@@ -45,7 +45,7 @@ fn put_word(
 // The line of the block with this position.
 fn put_position(words: &[u32], position: usize, out: &mut [u8], at: usize) -> usize
     requires { (length words.now ≤ 1024) × (at ≤ 400000000) }
-    ensures added { Added out.old at (lineOfPosition words.now position) out.new result }
+    ensures added { Added out.old at (line_of_position words.now position) out.new result }
     ensures upper_bound { result ≤ at + 263168 }
 {
     let mut next = at;
@@ -78,7 +78,7 @@ fn put_lines(words: &[u32], count: usize, positions: &[u32], out: &mut [u8], at:
 
 // How many positions a reply says.
 fn said(r: Ordering) -> usize
-    ensures { result ≡ counts (replyOf r) }
+    ensures { result ≡ counts (reply_of r) }
 {
     match r {
         Ordering::Ordered(n) => n,
@@ -93,7 +93,7 @@ fn said(r: Ordering) -> usize
 // after them.
 pub fn add(words: &[u32], r: Ordering, positions: &[u32], out: &mut [u8], at: usize) -> usize
     requires { (length words.now ≤ 1024) × (length positions.now ≤ 64) × (at ≤ 100000000) }
-    ensures { Added out.old at (handlersText words.now (replyOf r) positions.now) out.new result }
+    ensures { Added out.old at (handlers_text words.now (reply_of r) positions.now) out.new result }
 {
     put_lines(words, said(r), positions, out, at)
 }

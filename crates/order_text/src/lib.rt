@@ -3,8 +3,8 @@ pub mod handlers;
 
 ghost use Rattle.std.specs.Prelude.{◌≡◌, ◌+◌, ◌*◌, ◌≤◌, ltb, length, take};
 ghost use Rattle.text.specs.Writing.{Wrote};
-ghost use Rattle.reading_order.specs.Reply.{replyOf};
-ghost use Rattle.order_text.specs.Text.{spaced, line, replyText, room, textSize, textAfter};
+ghost use Rattle.reading_order.specs.Reply.{reply_of};
+ghost use Rattle.order_text.specs.Text.{spaced, line, reply_text, room, text_size, text_after};
 
 use calls::numbers::{fault_number, fault_place};
 use reading_order::Ordering;
@@ -48,7 +48,7 @@ fn put_first(out: &mut [u8], word: &[u8], count: usize, positions: &[u32]) -> us
 
 fn put_reply(out: &mut [u8], r: Ordering, positions: &[u32]) -> usize
     requires { room (length positions.now) ≤ length out.old }
-    ensures { Wrote out.old 0 (replyText (replyOf r) positions.now) out.new result }
+    ensures { Wrote out.old 0 (reply_text (reply_of r) positions.now) out.new result }
 {
     match r {
         Ordering::Refused(f) => refusal_line(out, 0, fault_number(f), fault_place(f)),
@@ -69,8 +69,8 @@ fn lacks_room(size: usize, positions: usize) -> bool
 // The line of a reply, where `positions` starts with the order or loop, at the start of `out`, and how long it is. A slice of less than 96 bytes and 21
 // for each position gets nothing.
 pub fn write(r: Ordering, positions: &[u32], out: &mut [u8]) -> usize
-    ensures size { result ≡ textSize (length positions.now) (replyText (replyOf r) positions.now) (length out.old) }
-    ensures text { out.new ≡ textAfter (length positions.now) (replyText (replyOf r) positions.now) out.old }
+    ensures size { result ≡ text_size (length positions.now) (reply_text (reply_of r) positions.now) (length out.old) }
+    ensures text { out.new ≡ text_after (length positions.now) (reply_text (reply_of r) positions.now) out.old }
     ensures fits { result ≤ length out.old }
 {
     if lacks_room(out.len(), positions.len()) {

@@ -9,7 +9,7 @@ use lib.ListN.{length, get_or, drop, drop_of_length-le}
 use lib.Seq.{drop-cons, drop-drop}
 use Rattle.table.specs.Words.{arity}
 use Rattle.table.specs.Code.{skip}
-use Rattle.blocks.specs.Blocks.{blockLength}
+use Rattle.blocks.specs.Blocks.{block_length}
 
 module _ (ws : List ℕ) (at : ℕ) where
   -- no word is left
@@ -30,6 +30,6 @@ module _ (ws : List ℕ) (at : ℕ) where
       rw add-one (one ∙ (let e : at + suc (skip v (arity w + n)) ≡ suc at + skip v (suc n - 1 + arity w) = omega (arith, two) in e))
 
 -- a block's body follows its three words
-pub block-ends : (ws : List ℕ) (at : ℕ) → at + 3 + skip (drop (at + 3) ws) 1 ≡ at + blockLength (drop at ws)
-unfolding blockLength
+pub block-ends : (ws : List ℕ) (at : ℕ) → at + 3 + skip (drop (at + 3) ws) 1 ≡ at + block_length (drop at ws)
+unfolding block_length
 block-ends ws at = let e = ap (λ (l : List ℕ). skip l 1) (drop-drop 3 at ws) in omega arith

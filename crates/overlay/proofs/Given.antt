@@ -6,7 +6,7 @@ use Prim.Native.Nat.{ℕ, ◌+◌, ◌-◌, ◌≤◌, ◌<◌}
 use native.Mathlib.Omega.{arith}
 use lib.ListN.{length, get_or, drop, length-drop}
 use lib.Seq.{get_or-drop, get_or-take, length-take-le}
-use Rattle.blocks.specs.Blocks.{name_of, permsOf}
+use Rattle.blocks.specs.Blocks.{name_of, perms_of}
 use Rattle.overlay.specs.Lookup.{Sought, nothing, found, seek}
 use Rattle.overlay.specs.Parts.{part, given}
 
@@ -18,24 +18,24 @@ pub length_part : (ws : List ℕ) (a e : ℕ) → e ≤ length ws → length (pa
 length_part ws a e h = length-take-le (e - a) (drop a ws) (omega (arith, length-drop a ws))
 
 module _ (os : List (List ℕ)) (b : List ℕ) where
-  pub given-own : (new : Bool) → seek (name_of b) (permsOf b) 1 os ≡ nothing → given new os b ≡ b
+  pub given-own : (new : Bool) → seek (name_of b) (perms_of b) 1 os ≡ nothing → given new os b ≡ b
   unfolding given
   given-own new e = rw (given, e)
 
-  pub given-none : (a : ℕ) (o : List ℕ) → seek (name_of b) (permsOf b) 1 os ≡ found a o → given true os b ≡ []
+  pub given-none : (a : ℕ) (o : List ℕ) → seek (name_of b) (perms_of b) 1 os ≡ found a o → given true os b ≡ []
   unfolding given
   given-none a o e = rw (given, e)
 
-  pub given-other : (a : ℕ) (o : List ℕ) → seek (name_of b) (permsOf b) 1 os ≡ found a o → given false os b ≡ o
+  pub given-other : (a : ℕ) (o : List ℕ) → seek (name_of b) (perms_of b) 1 os ≡ found a o → given false os b ≡ o
   unfolding given
   given-other a o e = rw (given, e)
 
   -- no more words than the block or the other table has
-  pub given-short : (new : Bool) (k : ℕ) → length b ≤ k → ((a : ℕ) (o : List ℕ) → seek (name_of b) (permsOf b) 1 os ≡ found a o → length o ≤ k)
+  pub given-short : (new : Bool) (k : ℕ) → length b ≤ k → ((a : ℕ) (o : List ℕ) → seek (name_of b) (perms_of b) 1 os ≡ found a o → length o ≤ k)
       → length (given new os b) ≤ k
-  given-short new k h f = go new (seek (name_of b) (permsOf b) 1 os) refl
+  given-short new k h f = go new (seek (name_of b) (perms_of b) 1 os) refl
     where
-      go : (x : Bool) (q : Sought) → seek (name_of b) (permsOf b) 1 os ≡ q → length (given x os b) ≤ k
+      go : (x : Bool) (q : Sought) → seek (name_of b) (perms_of b) 1 os ≡ q → length (given x os b) ≤ k
       go x nothing e = subst (λ (l : List ℕ). length l ≤ k) (sym (given-own x e)) h
       go true (found a o) e = subst (λ (l : List ℕ). length l ≤ k) (sym (given-none a o e)) (omega arith)
       go false (found a o) e = subst (λ (l : List ℕ). length l ≤ k) (sym (given-other a o e)) (f a o e)

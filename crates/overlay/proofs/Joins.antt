@@ -8,14 +8,14 @@ use borrow.Author.Tests.{lt-ltb, le-ltb}
 use lib.ListN.{length, take, drop, set, length-append}
 use lib.Seq.{paste, take-length, take-append_seam}
 use Rattle.table.specs.Words.{word_of, narrow, size}
-use Rattle.table.specs.Scan.{accepted, refused, narrowReading}
+use Rattle.table.specs.Scan.{accepted, refused, narrow_reading}
 use Rattle.table.proofs.read.Steps.{hit, miss, none}
-use Rattle.blocks.specs.Blocks.{blocks, tableOf, name_of, permsOf, Good, All}
+use Rattle.blocks.specs.Blocks.{blocks, table_of, name_of, perms_of, Good, All}
 use Rattle.blocks.proofs.Block.{good-long}
 use Rattle.blocks.proofs.Narrow.{blocks-good}
 use Rattle.overlay.specs.declared.join.Put.{Put}
-use Rattle.overlay.specs.Lookup.{tablesRead, Sought, nothing, found, seek}
-use Rattle.overlay.specs.Join.{replaced, fresh, joinedBlocks, joined, written, refusal, joinFault, joinAnswer, outAfter}
+use Rattle.overlay.specs.Lookup.{tables_read, Sought, nothing, found, seek}
+use Rattle.overlay.specs.Join.{replaced, fresh, joined_blocks, joined, written, refusal, join_fault, join_answer, out_after}
 use Rattle.overlay.specs.Parts.{given, some, AppendedTo, PutTo}
 use Rattle.overlay.proofs.Seek.{seek-good}
 use Rattle.overlay.proofs.Given.{given-own, given-none, given-other}
@@ -29,18 +29,18 @@ flatten-append (x ∷ xs) ys = ap (λ (l : List ℕ). x ++ l) (flatten-append xs
 -- ---- the base's blocks
 
 module _ (os : List (List ℕ)) where
-  pub replaced-own : (b : List ℕ) → seek (name_of b) (permsOf b) 1 os ≡ nothing → replaced os b ≡ b
+  pub replaced-own : (b : List ℕ) → seek (name_of b) (perms_of b) 1 os ≡ nothing → replaced os b ≡ b
   unfolding replaced
   replaced-own b e = rw (replaced, e)
 
-  pub replaced-other : (b : List ℕ) (a : ℕ) (o : List ℕ) → seek (name_of b) (permsOf b) 1 os ≡ found a o → replaced os b ≡ o
+  pub replaced-other : (b : List ℕ) (a : ℕ) (o : List ℕ) → seek (name_of b) (perms_of b) 1 os ≡ found a o → replaced os b ≡ o
   unfolding replaced
   replaced-other b a o e = rw (replaced, e)
 
   given-replaced : (b : List ℕ) → given false os b ≡ replaced os b
-  given-replaced b = go (seek (name_of b) (permsOf b) 1 os) refl
+  given-replaced b = go (seek (name_of b) (perms_of b) 1 os) refl
     where
-      go : (q : Sought) → seek (name_of b) (permsOf b) 1 os ≡ q → given false os b ≡ replaced os b
+      go : (q : Sought) → seek (name_of b) (perms_of b) 1 os ≡ q → given false os b ≡ replaced os b
       go nothing e = given-own os b false e ∙ sym (replaced-own b e)
       go (found a o) e = given-other os b a o e ∙ sym (replaced-other b a o e)
 
@@ -49,11 +49,11 @@ module _ (os : List (List ℕ)) where
   all-replaced (b ∷ bs) = ap₂ (λ (x : List ℕ) (y : List (List ℕ)). x ∷ y) (given-replaced b) (all-replaced bs)
 
   pub replaced-good : All (Good narrow) os → (b : List ℕ) → (Good narrow) b → (Good narrow) (replaced os b)
-  replaced-good h b g = go (seek (name_of b) (permsOf b) 1 os) refl
+  replaced-good h b g = go (seek (name_of b) (perms_of b) 1 os) refl
     where
-      go : (q : Sought) → seek (name_of b) (permsOf b) 1 os ≡ q → (Good narrow) (replaced os b)
+      go : (q : Sought) → seek (name_of b) (perms_of b) 1 os ≡ q → (Good narrow) (replaced os b)
       go nothing e = subst (Good narrow) (sym (replaced-own b e)) g
-      go (found a o) e = subst (Good narrow) (sym (replaced-other b a o e)) (seek-good (name_of b) (permsOf b) (Good narrow) 1 os h a o e)
+      go (found a o) e = subst (Good narrow) (sym (replaced-other b a o e)) (seek-good (name_of b) (perms_of b) (Good narrow) 1 os h a o e)
 
   pub all-replaced-good : All (Good narrow) os → (bs : List (List ℕ)) → All (Good narrow) bs → All (Good narrow) (map (replaced os) bs)
   all-replaced-good h [] g = tt
@@ -68,20 +68,20 @@ some_good (b ∷ bs) g = let l = good-long narrow b g.0 in some_more b bs (omega
 -- ---- the overlay's new blocks
 
 module _ (bs : List (List ℕ)) where
-  pub fresh-new : (o : List ℕ) (os : List (List ℕ)) → seek (name_of o) (permsOf o) 1 bs ≡ nothing → fresh bs (o ∷ os) ≡ o ∷ fresh bs os
+  pub fresh-new : (o : List ℕ) (os : List (List ℕ)) → seek (name_of o) (perms_of o) 1 bs ≡ nothing → fresh bs (o ∷ os) ≡ o ∷ fresh bs os
   unfolding fresh
   fresh-new o os e = rw (fresh, e)
 
-  pub fresh-old : (o : List ℕ) (os : List (List ℕ)) (a : ℕ) (b : List ℕ) → seek (name_of o) (permsOf o) 1 bs ≡ found a b → fresh bs (o ∷ os) ≡ fresh bs os
+  pub fresh-old : (o : List ℕ) (os : List (List ℕ)) (a : ℕ) (b : List ℕ) → seek (name_of o) (perms_of o) 1 bs ≡ found a b → fresh bs (o ∷ os) ≡ fresh bs os
   unfolding fresh
   fresh-old o os a b e = rw (fresh, e)
 
   pub fresh-good : (os : List (List ℕ)) → All (Good narrow) os → All (Good narrow) (fresh bs os)
   unfolding fresh
   fresh-good [] g = tt
-  fresh-good (o ∷ os) g = go (seek (name_of o) (permsOf o) 1 bs) refl (fresh-good os g.1)
+  fresh-good (o ∷ os) g = go (seek (name_of o) (perms_of o) 1 bs) refl (fresh-good os g.1)
     where
-      go : (q : Sought) → seek (name_of o) (permsOf o) 1 bs ≡ q → All (Good narrow) (fresh bs os) → All (Good narrow) (fresh bs (o ∷ os))
+      go : (q : Sought) → seek (name_of o) (perms_of o) 1 bs ≡ q → All (Good narrow) (fresh bs os) → All (Good narrow) (fresh bs (o ∷ os))
       go nothing e r = subst (All (Good narrow)) (sym (fresh-new o os e)) (g.0, r)
       go (found a b) e r = subst (All (Good narrow)) (sym (fresh-old o os a b e)) r
 
@@ -91,9 +91,9 @@ module _ (bs : List (List ℕ)) where
   pub all-fresh : (os : List (List ℕ)) → All (Good narrow) os → Fresh os
   unfolding flatten some fresh
   all-fresh [] g = (refl, refl)
-  all-fresh (o ∷ os) g = go (seek (name_of o) (permsOf o) 1 bs) refl (all-fresh os g.1)
+  all-fresh (o ∷ os) g = go (seek (name_of o) (perms_of o) 1 bs) refl (all-fresh os g.1)
     where
-      go : (q : Sought) → seek (name_of o) (permsOf o) 1 bs ≡ q → Fresh os → Fresh (o ∷ os)
+      go : (q : Sought) → seek (name_of o) (perms_of o) 1 bs ≡ q → Fresh os → Fresh (o ∷ os)
       go nothing e r =
           let f = fresh-new o os e in
           let w = given-own bs o true e in
@@ -114,55 +114,55 @@ module _ (bs : List (List ℕ)) where
 -- ---- the answers
 
 module _ (base overlay : List ℕ) where
-  module _ (out : List ℕ) (k p : ℕ) (e : tablesRead base overlay ≡ refused k p) where
-    pub join-refused : joinAnswer base overlay (length out) ≡ refusal k p
-    unfolding joinAnswer
-    join-refused = rw (joinAnswer, e)
+  module _ (out : List ℕ) (k p : ℕ) (e : tables_read base overlay ≡ refused k p) where
+    pub join-refused : join_answer base overlay (length out) ≡ refusal k p
+    unfolding join_answer
+    join-refused = rw (join_answer, e)
 
-    pub out-refused : outAfter base overlay out ≡ out
-    unfolding outAfter
-    out-refused = rw (outAfter, join-refused)
+    pub out-refused : out_after base overlay out ≡ out
+    unfolding out_after
+    out-refused = rw (out_after, join-refused)
 
-  module _ (out : List ℕ) (t : tablesRead base overlay ≡ accepted) where
-    pub join-stopped : (n : ℕ) → joinFault base overlay (length out) ≡ suc n
-        → (joinAnswer base overlay (length out) ≡ refusal (suc n) 0) × (outAfter base overlay out ≡ out)
-    unfolding joinAnswer outAfter
+  module _ (out : List ℕ) (t : tables_read base overlay ≡ accepted) where
+    pub join-stopped : (n : ℕ) → join_fault base overlay (length out) ≡ suc n
+        → (join_answer base overlay (length out) ≡ refusal (suc n) 0) × (out_after base overlay out ≡ out)
+    unfolding join_answer out_after
     join-stopped n e =
-        let a : joinAnswer base overlay (length out) ≡ refusal (suc n) 0 = rw (joinAnswer, t, e) in
-        (a, rw (outAfter, a))
+        let a : join_answer base overlay (length out) ≡ refusal (suc n) 0 = rw (join_answer, t, e) in
+        (a, rw (out_after, a))
 
-    pub join_written : joinFault base overlay (length out) ≡ 0
-        → (joinAnswer base overlay (length out) ≡ written (length (joined base overlay)))
-        × (outAfter base overlay out ≡ joined base overlay ++ drop (length (joined base overlay)) out)
-    unfolding joinAnswer outAfter
+    pub join_written : join_fault base overlay (length out) ≡ 0
+        → (join_answer base overlay (length out) ≡ written (length (joined base overlay)))
+        × (out_after base overlay out ≡ joined base overlay ++ drop (length (joined base overlay)) out)
+    unfolding join_answer out_after
     join_written e =
-        let a : joinAnswer base overlay (length out) ≡ written (length (joined base overlay)) = rw (joinAnswer, t, e) in
-        (a, rw (outAfter, a))
+        let a : join_answer base overlay (length out) ≡ written (length (joined base overlay)) = rw (join_answer, t, e) in
+        (a, rw (out_after, a))
 
   -- which number refuses a join
   module _ (room : ℕ) where
     abbrev pub count : ℕ
-    count = length (joinedBlocks (blocks base) (blocks overlay))
+    count = length (joined_blocks (blocks base) (blocks overlay))
 
     abbrev pub words : ℕ
     words = length (joined base overlay)
 
-    pub fault-48 : narrow < count → joinFault base overlay room ≡ 48
-    unfolding joinFault
+    pub fault-48 : narrow < count → join_fault base overlay room ≡ 48
+    unfolding join_fault
     fault-48 h = hit _ 48 _ (lt-ltb narrow count h)
 
     module _ (few : count ≤ narrow) where
-      pub fault-49 : size < words → joinFault base overlay room ≡ 49
-      unfolding joinFault
+      pub fault-49 : size < words → join_fault base overlay room ≡ 49
+      unfolding join_fault
       fault-49 h = miss _ 48 _ (le-ltb narrow count few) ∙ hit _ 49 _ (lt-ltb size words h)
 
       module _ (short : words ≤ size) where
-        pub fault-50 : room < words → joinFault base overlay room ≡ 50
-        unfolding joinFault
+        pub fault-50 : room < words → join_fault base overlay room ≡ 50
+        unfolding join_fault
         fault-50 h = miss _ 48 _ (le-ltb narrow count few) ∙ miss _ 49 _ (le-ltb size words short) ∙ hit _ 50 _ (lt-ltb room words h)
 
-        pub no-fault : words ≤ room → joinFault base overlay room ≡ 0
-        unfolding joinFault
+        pub no-fault : words ≤ room → join_fault base overlay room ≡ 0
+        unfolding join_fault
         no-fault h =
             miss _ 48 _ (le-ltb narrow count few)
             ∙ miss _ 49 _ (le-ltb size words short)
@@ -182,18 +182,18 @@ headed (x ∷ z) f w e h l =
 
 module _ (base overlay : List ℕ) where
   abbrev blocks-joined : List (List ℕ)
-  blocks-joined = joinedBlocks (blocks base) (blocks overlay)
+  blocks-joined = joined_blocks (blocks base) (blocks overlay)
 
   pub record Ready (before after : List ℕ) (count end : ℕ) : Type 0 where
-    pub counted : count ≡ length (joinedBlocks (blocks base) (blocks overlay))
+    pub counted : count ≡ length (joined_blocks (blocks base) (blocks overlay))
     pub ended : end ≡ length (joined base overlay)
     pub listed : end ≤ length before → take end (set after 0 (word_of 1 count)) ≡ joined base overlay
 
-  pub ready : narrowReading base ≡ accepted → narrowReading overlay ≡ accepted → {first second : Put} {z z' z'' : List ℕ} → 0 < length z
+  pub ready : narrow_reading base ≡ accepted → narrow_reading overlay ≡ accepted → {first second : Put} {z z' z'' : List ℕ} → 0 < length z
       → length z' ≡ length z → PutTo 1 (map (given false (blocks overlay)) (blocks base)) z z' first
       → PutTo first.end (map (given true (blocks base)) (blocks overlay)) z' z'' second
       → Ready z z'' (first.count + second.count) second.end
-  unfolding joined tableOf
+  unfolding joined table_of
   ready ba oa {first} {second} {z} {z'} {z''} some-room kept one two =
       let bs = blocks base in
       let os = blocks overlay in
@@ -216,18 +216,18 @@ module _ (base overlay : List ℕ) where
       }
 
   -- what a join answers where the two tables are accepted, by what was written to the buffer
-  module _ {before after : List ℕ} {count end : ℕ} (r : Ready before after count end) (out : List ℕ) (t : tablesRead base overlay ≡ accepted) where
+  module _ {before after : List ℕ} {count end : ℕ} (r : Ready before after count end) (out : List ℕ) (t : tables_read base overlay ≡ accepted) where
     abbrev Stopped : ℕ → Type 0
-    Stopped k = (refusal k 0 ≡ joinAnswer base overlay (length out)) × (out ≡ outAfter base overlay out)
+    Stopped k = (refusal k 0 ≡ join_answer base overlay (length out)) × (out ≡ out_after base overlay out)
 
-    stopped : (n : ℕ) → joinFault base overlay (length out) ≡ suc n → Stopped (suc n)
+    stopped : (n : ℕ) → join_fault base overlay (length out) ≡ suc n → Stopped (suc n)
     stopped n e = let q = join-stopped base overlay out t n e in (sym q.0, sym q.1)
 
     pub too-many-handlers : narrow < count → Stopped 48
     too-many-handlers h = stopped 47 (fault-48 base overlay (length out) (subst (λ (n : ℕ). narrow < n) r.counted h))
 
     module _ (few : count ≤ narrow) where
-      few-joined : length (joinedBlocks (blocks base) (blocks overlay)) ≤ narrow
+      few-joined : length (joined_blocks (blocks base) (blocks overlay)) ≤ narrow
       few-joined = subst (λ (n : ℕ). n ≤ narrow) r.counted few
 
       pub too-many-words : size < end → Stopped 49
@@ -241,8 +241,8 @@ module _ (base overlay : List ℕ) where
         short-output h = stopped 49 (fault-50 base overlay (length out) few-joined short-joined (subst (λ (n : ℕ). length out < n) r.ended h))
 
         pub all-written : end ≤ length out
-            → (written end ≡ joinAnswer base overlay (length out))
-            × (joined base overlay ++ drop (length (joined base overlay)) out ≡ outAfter base overlay out)
+            → (written end ≡ join_answer base overlay (length out))
+            × (joined base overlay ++ drop (length (joined base overlay)) out ≡ out_after base overlay out)
         all-written h =
             let fits = subst (λ (n : ℕ). n ≤ length out) r.ended h in
             let q = join_written base overlay out t (no-fault base overlay (length out) few-joined short-joined fits) in

@@ -6,18 +6,18 @@ use Prim.Native.Nat.{ℕ, ◌+◌}
 use borrow.Author.Tests.{eqb-true}
 use lib.Dec.{eqb}
 use lib.ListN.{length}
-use Rattle.blocks.specs.Blocks.{name_of, permsOf}
+use Rattle.blocks.specs.Blocks.{name_of, perms_of}
 use Rattle.overlay.specs.Lookup.{keyed, Sought, nothing, found, seek, words_in}
-use Rattle.overlay.specs.Join.{replaced, fresh, joinedBlocks}
+use Rattle.overlay.specs.Join.{replaced, fresh, joined_blocks}
 use Rattle.overlay.proofs.Seek.{nothing-not-found, seek-none, seek-yes, seek-no}
 use Rattle.overlay.proofs.Joins.{replaced-own, replaced-other, fresh-new, fresh-old}
 
 -- a block with a key has that name and that permission set
-pub keyed-is : (n s : ℕ) (b : List ℕ) → keyed n s b ≡ true → (name_of b ≡ n) × (permsOf b ≡ s)
-keyed-is n s b e = go (eqb (name_of b) n) (eqb (permsOf b) s) refl refl e
+pub keyed-is : (n s : ℕ) (b : List ℕ) → keyed n s b ≡ true → (name_of b ≡ n) × (perms_of b ≡ s)
+keyed-is n s b e = go (eqb (name_of b) n) (eqb (perms_of b) s) refl refl e
   where
-    go : (x y : Bool) → eqb (name_of b) n ≡ x → eqb (permsOf b) s ≡ y → (x && y) ≡ true → (name_of b ≡ n) × (permsOf b ≡ s)
-    go true true p q h = (eqb-true (name_of b) n p, eqb-true (permsOf b) s q)
+    go : (x y : Bool) → eqb (name_of b) n ≡ x → eqb (perms_of b) s ≡ y → (x && y) ≡ true → (name_of b ≡ n) × (perms_of b ≡ s)
+    go true true p q h = (eqb-true (name_of b) n p, eqb-true (perms_of b) s q)
     go true false p q h = absurd (false≢true h)
     go false y p q h = absurd (false≢true h)
 
@@ -31,18 +31,18 @@ seek-keyed n s at (c ∷ bs) a b e = go (keyed n s c) refl (seek-keyed n s (at +
     go false k later = later (sym (seek-no n s at c bs k) ∙ e)
 
 -- a block that replaces another has its name and its permission set
-pub replaced-key : (os : List (List ℕ)) (b : List ℕ) → (name_of (replaced os b) ≡ name_of b) × (permsOf (replaced os b) ≡ permsOf b)
-replaced-key os b = go (seek (name_of b) (permsOf b) 1 os) refl
+pub replaced-key : (os : List (List ℕ)) (b : List ℕ) → (name_of (replaced os b) ≡ name_of b) × (perms_of (replaced os b) ≡ perms_of b)
+replaced-key os b = go (seek (name_of b) (perms_of b) 1 os) refl
   where
-    go : (q : Sought) → seek (name_of b) (permsOf b) 1 os ≡ q → (name_of (replaced os b) ≡ name_of b) × (permsOf (replaced os b) ≡ permsOf b)
-    go nothing e = let r = replaced-own os b e in (ap name_of r, ap permsOf r)
+    go : (q : Sought) → seek (name_of b) (perms_of b) 1 os ≡ q → (name_of (replaced os b) ≡ name_of b) × (perms_of (replaced os b) ≡ perms_of b)
+    go nothing e = let r = replaced-own os b e in (ap name_of r, ap perms_of r)
     go (found a o) e =
         let r = replaced-other os b a o e in
-        let k = keyed-is (name_of b) (permsOf b) o (seek-keyed (name_of b) (permsOf b) 1 os a o e) in
-        (ap name_of r ∙ k.0, ap permsOf r ∙ k.1)
+        let k = keyed-is (name_of b) (perms_of b) o (seek-keyed (name_of b) (perms_of b) 1 os a o e) in
+        (ap name_of r ∙ k.0, ap perms_of r ∙ k.1)
 
 -- and the searches for two keys that are the same find the same
-same-search : (n s : ℕ) (b : List ℕ) (bs : List (List ℕ)) → keyed n s b ≡ true → seek (name_of b) (permsOf b) 1 bs ≡ seek n s 1 bs
+same-search : (n s : ℕ) (b : List ℕ) (bs : List (List ℕ)) → keyed n s b ≡ true → seek (name_of b) (perms_of b) 1 bs ≡ seek n s 1 bs
 same-search n s b bs k = let i = keyed-is n s b k in ap₂ (λ (x y : ℕ). seek x y 1 bs) i.0 i.1
 
 -- what is found, its place aside
@@ -120,9 +120,9 @@ module _ (n s : ℕ) where
   pick-fresh : (bs os : List (List ℕ)) → pick bs ≡ nothing → pick (fresh bs os) ≡ pick os
   unfolding pick fresh
   pick-fresh bs [] h = refl
-  pick-fresh bs (o ∷ os) h = go (keyed n s o) refl (seek (name_of o) (permsOf o) 1 bs) refl (pick-fresh bs os h)
+  pick-fresh bs (o ∷ os) h = go (keyed n s o) refl (seek (name_of o) (perms_of o) 1 bs) refl (pick-fresh bs os h)
     where
-      go : (x : Bool) → keyed n s o ≡ x → (q : Sought) → seek (name_of o) (permsOf o) 1 bs ≡ q → pick (fresh bs os) ≡ pick os
+      go : (x : Bool) → keyed n s o ≡ x → (q : Sought) → seek (name_of o) (perms_of o) 1 bs ≡ q → pick (fresh bs os) ≡ pick os
           → pick (fresh bs (o ∷ os)) ≡ pick (o ∷ os)
       go true k nothing e later = ap pick (fresh-new bs o os e) ∙ pick_yes o (fresh bs os) k ∙ sym (pick_yes o os k)
       go false k nothing e later = ap pick (fresh-new bs o os e) ∙ pick_no o (fresh bs os) k ∙ later ∙ sym (pick_no o os k)
@@ -138,7 +138,7 @@ module _ (n s : ℕ) where
   or-found nothing r a b = refl
   or-found (found c o) r a b = refl
 
-  pick-joined : (bs os : List (List ℕ)) → pick (joinedBlocks bs os) ≡ or (pick os) (pick bs)
+  pick-joined : (bs os : List (List ℕ)) → pick (joined_blocks bs os) ≡ or (pick os) (pick bs)
   pick-joined bs os =
       pick-append (map (replaced os) bs) (fresh bs os) ∙ ap (λ (q : Sought). or q (pick (fresh bs os))) (pick-replaced os bs) ∙ go (pick bs) refl
     where
@@ -164,9 +164,9 @@ module _ (n s : ℕ) where
   words-or (found c o) (found a b) = refl
 
   -- the words of a key in the joined blocks
-  pub joined-search : (bs os : List (List ℕ)) → words_in (seek n s 1 (joinedBlocks bs os)) nothing ≡ words_in (seek n s 1 bs) (seek n s 1 os)
+  pub joined-search : (bs os : List (List ℕ)) → words_in (seek n s 1 (joined_blocks bs os)) nothing ≡ words_in (seek n s 1 bs) (seek n s 1 os)
   joined-search bs os =
-      words-bare (seek n s 1 (joinedBlocks bs os))
+      words-bare (seek n s 1 (joined_blocks bs os))
       ∙ ap (λ (q : Sought). words_in q nothing)
-      (seek-pick 1 (joinedBlocks bs os) ∙ pick-joined bs os ∙ sym (ap₂ or (seek-pick 1 os) (seek-pick 1 bs)))
+      (seek-pick 1 (joined_blocks bs os) ∙ pick-joined bs os ∙ sym (ap₂ or (seek-pick 1 os) (seek-pick 1 bs)))
       ∙ sym (words-or (seek n s 1 bs) (seek n s 1 os))

@@ -7,10 +7,10 @@ use native.Mathlib.Omega.{arith}
 use borrow.Author.Tests.{ne_eqb}
 use lib.Dec.{eqb}
 use lib.ListN.{length}
-use Rattle.table.specs.Scan.{Outcome, accepted, refused, narrowReading}
+use Rattle.table.specs.Scan.{Outcome, accepted, refused, narrow_reading}
 use Rattle.overlay.specs.declared.search.Span.TheVariants as spans
-use Rattle.overlay.specs.Lookup.{tablesRead, Sought, nothing, found, sought, Place, inBase, inOverlay, refusal, is_refused}
-use Rattle.overlay.specs.Lookup.{place_in, words_in, place_of, lookedUp}
+use Rattle.overlay.specs.Lookup.{tables_read, Sought, nothing, found, sought, Place, in_base, in_overlay, refusal, is_refused}
+use Rattle.overlay.specs.Lookup.{place_in, words_in, place_of, looked_up}
 use Rattle.overlay.specs.Parts.{part, span_of}
 use Rattle.overlay.proofs.Refusals.{tables-accepted}
 use Rattle.overlay.proofs.Seek.{sought-part, sought-long}
@@ -33,33 +33,33 @@ no_span (found x b) h =
     absurd f
 
 module _ (base overlay : List ℕ) (n s : ℕ) where
-  pub place-refused : (k p : ℕ) → tablesRead base overlay ≡ refused k p → place_of base overlay n s ≡ refusal k p
+  pub place-refused : (k p : ℕ) → tables_read base overlay ≡ refused k p → place_of base overlay n s ≡ refusal k p
   unfolding place_of
   place-refused k p e = rw (place_of, e)
 
-  looked-refused : (k p : ℕ) → tablesRead base overlay ≡ refused k p → lookedUp base overlay n s ≡ []
-  unfolding lookedUp
-  looked-refused k p e = rw (lookedUp, e)
+  looked-refused : (k p : ℕ) → tables_read base overlay ≡ refused k p → looked_up base overlay n s ≡ []
+  unfolding looked_up
+  looked-refused k p e = rw (looked_up, e)
 
-  module _ (t : tablesRead base overlay ≡ accepted) (b o : Sought) (eb : sought base n s ≡ b) (eo : sought overlay n s ≡ o) where
+  module _ (t : tables_read base overlay ≡ accepted) (b o : Sought) (eb : sought base n s ≡ b) (eo : sought overlay n s ≡ o) where
     pub place_found : place_of base overlay n s ≡ place_in b o
     unfolding place_of
     place_found = rw (place_of, t) (ap₂ place_in eb eo)
 
-    pub looked-found : lookedUp base overlay n s ≡ words_in b o
-    unfolding lookedUp
-    looked-found = rw (lookedUp, t) (ap₂ words_in eb eo)
+    pub looked-found : looked_up base overlay n s ≡ words_in b o
+    unfolding looked_up
+    looked-found = rw (looked_up, t) (ap₂ words_in eb eo)
 
   -- the part of a table that a place names
   abbrev pub Stands : Place → Type 0
-  Stands (inOverlay a e) = (a ≤ e) × (e ≤ length overlay) × (part a e overlay ≡ lookedUp base overlay n s)
-  Stands (inBase a e) = (a ≤ e) × (e ≤ length base) × (part a e base ≡ lookedUp base overlay n s)
-  Stands (refusal k p) = lookedUp base overlay n s ≡ []
+  Stands (in_overlay a e) = (a ≤ e) × (e ≤ length overlay) × (part a e overlay ≡ looked_up base overlay n s)
+  Stands (in_base a e) = (a ≤ e) × (e ≤ length base) × (part a e base ≡ looked_up base overlay n s)
+  Stands (refusal k p) = looked_up base overlay n s ≡ []
 
   pub place-stands : Stands (place_of base overlay n s)
-  place-stands = go (tablesRead base overlay) (sought base n s) (sought overlay n s) refl refl refl
+  place-stands = go (tables_read base overlay) (sought base n s) (sought overlay n s) refl refl refl
     where
-      go : (t : Outcome) (b o : Sought) → tablesRead base overlay ≡ t → sought base n s ≡ b → sought overlay n s ≡ o
+      go : (t : Outcome) (b o : Sought) → tables_read base overlay ≡ t → sought base n s ≡ b → sought overlay n s ≡ o
           → Stands (place_of base overlay n s)
       go (refused k p) b o t eb eo = subst Stands (sym (place-refused k p t)) (looked-refused k p t)
       go accepted b (found a w) t eb eo =
@@ -72,25 +72,25 @@ module _ (base overlay : List ℕ) (n s : ℕ) where
           subst Stands (sym (place_found t nothing nothing eb eo)) (looked-found t nothing nothing eb eo)
 
   -- no words are given exactly where the look-up is refused
-  pub none-refused : eqb (length (lookedUp base overlay n s)) 0 ≡ is_refused (place_of base overlay n s)
+  pub none-refused : eqb (length (looked_up base overlay n s)) 0 ≡ is_refused (place_of base overlay n s)
   unfolding is_refused
-  none-refused = go (tablesRead base overlay) (sought base n s) (sought overlay n s) refl refl refl
+  none-refused = go (tables_read base overlay) (sought base n s) (sought overlay n s) refl refl refl
     where
-      told : (p : Place) (ws : List ℕ) → place_of base overlay n s ≡ p → lookedUp base overlay n s ≡ ws → eqb (length ws) 0 ≡ is_refused p
-          → eqb (length (lookedUp base overlay n s)) 0 ≡ is_refused (place_of base overlay n s)
+      told : (p : Place) (ws : List ℕ) → place_of base overlay n s ≡ p → looked_up base overlay n s ≡ ws → eqb (length ws) 0 ≡ is_refused p
+          → eqb (length (looked_up base overlay n s)) 0 ≡ is_refused (place_of base overlay n s)
       told p ws e l q = ap (λ (xs : List ℕ). eqb (length xs) 0) l ∙ q ∙ sym (ap is_refused e)
 
-      some : (ws : List ℕ) → narrowReading ws ≡ accepted → (a : ℕ) (w : List ℕ) → sought ws n s ≡ found a w → eqb (length w) 0 ≡ false
+      some : (ws : List ℕ) → narrow_reading ws ≡ accepted → (a : ℕ) (w : List ℕ) → sought ws n s ≡ found a w → eqb (length w) 0 ≡ false
       some ws r a w e = let l = sought-long n s ws r a w e in ne_eqb (length w) 0 (λ z. omega arith)
 
-      go : (t : Outcome) (b o : Sought) → tablesRead base overlay ≡ t → sought base n s ≡ b → sought overlay n s ≡ o
-          → eqb (length (lookedUp base overlay n s)) 0 ≡ is_refused (place_of base overlay n s)
+      go : (t : Outcome) (b o : Sought) → tables_read base overlay ≡ t → sought base n s ≡ b → sought overlay n s ≡ o
+          → eqb (length (looked_up base overlay n s)) 0 ≡ is_refused (place_of base overlay n s)
       go (refused k p) b o t eb eo = told (refusal k p) [] (place-refused k p t) (looked-refused k p t) refl
       go accepted b (found a w) t eb eo =
-          told (inOverlay a (a + length w)) w (place_found t b (found a w) eb eo) (looked-found t b (found a w) eb eo)
+          told (in_overlay a (a + length w)) w (place_found t b (found a w) eb eo) (looked-found t b (found a w) eb eo)
           (some overlay (tables-accepted base overlay t).1 a w eo)
       go accepted (found a w) nothing t eb eo =
-          told (inBase a (a + length w)) w (place_found t (found a w) nothing eb eo) (looked-found t (found a w) nothing eb eo)
+          told (in_base a (a + length w)) w (place_found t (found a w) nothing eb eo) (looked-found t (found a w) nothing eb eo)
           (some base (tables-accepted base overlay t).0 a w eb)
       go accepted nothing nothing t eb eo =
           told (refusal 47 0) [] (place_found t nothing nothing eb eo) (looked-found t nothing nothing eb eo) refl

@@ -3,32 +3,32 @@ use mathlib.Core.Path.{◌≡◌, refl, sym, ◌∙◌}
 use mathlib.Core.List.{List}
 use Prim.Native.Nat.{ℕ, ◌+◌, ◌≤◌}
 use native.Mathlib.Omega.{arith}
-use Rattle.table.specs.Scan.{Outcome, accepted, refused, narrowReading}
+use Rattle.table.specs.Scan.{Outcome, accepted, refused, narrow_reading}
 use Rattle.table.specs.Answer.{number}
 use Rattle.table.specs.declared.Refusal.{Refusal}
 use Rattle.table.specs.declared.Refusal.TheVariants as refusals
 use Rattle.table.proofs.Stack.{refused-not-accepted}
-use Rattle.overlay.specs.Lookup.{tablesRead}
+use Rattle.overlay.specs.Lookup.{tables_read}
 
 module _ (base overlay : List ℕ) where
-  pub base-refused : (n p : ℕ) → narrowReading base ≡ refused n p → tablesRead base overlay ≡ refused n p
-  unfolding tablesRead
-  base-refused n p e = rw (tablesRead, e)
+  pub base-refused : (n p : ℕ) → narrow_reading base ≡ refused n p → tables_read base overlay ≡ refused n p
+  unfolding tables_read
+  base-refused n p e = rw (tables_read, e)
 
-  module _ (e : narrowReading base ≡ accepted) where
-    pub overlay-refused : (n p : ℕ) → narrowReading overlay ≡ refused n p → tablesRead base overlay ≡ refused (100 + n) p
-    unfolding tablesRead
-    overlay-refused n p f = rw (tablesRead, e, f)
+  module _ (e : narrow_reading base ≡ accepted) where
+    pub overlay-refused : (n p : ℕ) → narrow_reading overlay ≡ refused n p → tables_read base overlay ≡ refused (100 + n) p
+    unfolding tables_read
+    overlay-refused n p f = rw (tables_read, e, f)
 
-    pub both-accepted : narrowReading overlay ≡ accepted → tablesRead base overlay ≡ accepted
-    unfolding tablesRead
-    both-accepted f = rw (tablesRead, e, f)
+    pub both-accepted : narrow_reading overlay ≡ accepted → tables_read base overlay ≡ accepted
+    unfolding tables_read
+    both-accepted f = rw (tables_read, e, f)
 
   -- both are accepted where nothing is refused
-  pub tables-accepted : tablesRead base overlay ≡ accepted → (narrowReading base ≡ accepted) × (narrowReading overlay ≡ accepted)
-  tables-accepted e = go (narrowReading base) (narrowReading overlay) refl refl
+  pub tables-accepted : tables_read base overlay ≡ accepted → (narrow_reading base ≡ accepted) × (narrow_reading overlay ≡ accepted)
+  tables-accepted e = go (narrow_reading base) (narrow_reading overlay) refl refl
     where
-      go : (b o : Outcome) → narrowReading base ≡ b → narrowReading overlay ≡ o → (narrowReading base ≡ accepted) × (narrowReading overlay ≡ accepted)
+      go : (b o : Outcome) → narrow_reading base ≡ b → narrow_reading overlay ≡ o → (narrow_reading base ≡ accepted) × (narrow_reading overlay ≡ accepted)
       go accepted accepted p q = (p, q)
       go accepted (refused n k) p q = absurd (refused-not-accepted (sym (overlay-refused p n k q) ∙ e))
       go (refused n k) o p q = absurd (refused-not-accepted (sym (base-refused n k p) ∙ e))

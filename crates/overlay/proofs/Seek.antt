@@ -10,7 +10,7 @@ use lib.Dec.{eqb}
 use lib.ListN.{length, get_or, take, drop}
 use lib.Seq.{get_or-drop, get_or-take}
 use Rattle.table.specs.Words.{narrow, argument}
-use Rattle.table.specs.Scan.{accepted, narrowReading}
+use Rattle.table.specs.Scan.{accepted, narrow_reading}
 use Rattle.blocks.specs.Blocks.{cut, blocks, All, Good}
 use Rattle.blocks.proofs.Tables.{Cuts}
 use Rattle.blocks.proofs.Narrow.{table, blocks-good}
@@ -90,7 +90,7 @@ module _ (n s : ℕ) where
           later (at + r.size) r.inside (subst (λ (i : ℕ). Cuts narrow i (drop (at + r.size) ws)) one r.rest)
           (sym (seek-on ws (suc m) at r k ∙ ap (λ (i : ℕ). seek n s (at + r.size) (cut i (drop (at + r.size) ws))) one) ∙ e)
 
-  pub sought-part : (ws : List ℕ) → narrowReading ws ≡ accepted → (a : ℕ) (b : List ℕ) → sought ws n s ≡ found a b
+  pub sought-part : (ws : List ℕ) → narrow_reading ws ≡ accepted → (a : ℕ) (b : List ℕ) → sought ws n s ≡ found a b
       → (a + length b ≤ length ws) × (part a (a + length b) ws ≡ b)
   unfolding blocks
   sought-part ws r a b e =
@@ -99,6 +99,6 @@ module _ (n s : ℕ) where
       (f.0, ap (λ (k : ℕ). take k (drop a ws)) (let k : a + length b - a ≡ length b = omega arith in k) ∙ f.1)
 
   -- and it has words
-  pub sought-long : (ws : List ℕ) → narrowReading ws ≡ accepted → (a : ℕ) (b : List ℕ) → sought ws n s ≡ found a b → 0 < length b
+  pub sought-long : (ws : List ℕ) → narrow_reading ws ≡ accepted → (a : ℕ) (b : List ℕ) → sought ws n s ≡ found a b → 0 < length b
   sought-long ws r a b e =
       let l = good-long narrow b (seek-good (Good narrow) 1 (blocks ws) (blocks-good ws r) a b e) in omega arith

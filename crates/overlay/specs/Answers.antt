@@ -10,34 +10,34 @@ use Rattle.overlay.specs.declared.Joined.{Joined}
 use Rattle.overlay.specs.declared.Joined.TheVariants as joins
 use Rattle.overlay.specs.declared.Checked.{Checked}
 use Rattle.overlay.specs.declared.Checked.TheVariants as checks
-use Rattle.overlay.specs.Lookup.{Place, inBase, inOverlay, refusal}
+use Rattle.overlay.specs.Lookup.{Place, in_base, in_overlay, refusal}
 use Rattle.overlay.specs.Join as join
 
-unfoldable pub faultNumber : Fault → ℕ
-faultNumber (faults.Base r) = number r
-faultNumber (faults.Overlay r) = 100 + number r
-faultNumber faults.NoBlock = 47
-faultNumber faults.TooManyHandlers = 48
-faultNumber faults.TooManyWords = 49
-faultNumber faults.ShortOutput = 50
+unfoldable pub fault_number : Fault → ℕ
+fault_number (faults.Base r) = number r
+fault_number (faults.Overlay r) = 100 + number r
+fault_number faults.NoBlock = 47
+fault_number faults.TooManyHandlers = 48
+fault_number faults.TooManyWords = 49
+fault_number faults.ShortOutput = 50
 
-unfoldable pub faultPlace : Fault → ℕ
-faultPlace (faults.Base r) = place r
-faultPlace (faults.Overlay r) = place r
-faultPlace faults.NoBlock = 0
-faultPlace faults.TooManyHandlers = 0
-faultPlace faults.TooManyWords = 0
-faultPlace faults.ShortOutput = 0
+unfoldable pub fault_place : Fault → ℕ
+fault_place (faults.Base r) = place r
+fault_place (faults.Overlay r) = place r
+fault_place faults.NoBlock = 0
+fault_place faults.TooManyHandlers = 0
+fault_place faults.TooManyWords = 0
+fault_place faults.ShortOutput = 0
 
-unfoldable pub foundAs : Found → Place
-foundAs (finds.Base a e) = inBase a e
-foundAs (finds.Overlay a e) = inOverlay a e
-foundAs (finds.Refused f) = refusal (faultNumber f) (faultPlace f)
+unfoldable pub found_as : Found → Place
+found_as (finds.Base a e) = in_base a e
+found_as (finds.Overlay a e) = in_overlay a e
+found_as (finds.Refused f) = refusal (fault_number f) (fault_place f)
 
-unfoldable pub joinedAs : Joined → join.Answer
-joinedAs (joins.Words n) = join.written n
-joinedAs (joins.Refused f) = join.refusal (faultNumber f) (faultPlace f)
+unfoldable pub joined_as : Joined → join.Answer
+joined_as (joins.Words n) = join.written n
+joined_as (joins.Refused f) = join.refusal (fault_number f) (fault_place f)
 
-unfoldable pub checkedAs : Checked → Outcome
-checkedAs checks.Accepted = accepted
-checkedAs (checks.Refused f) = refused (faultNumber f) (faultPlace f)
+unfoldable pub checked_as : Checked → Outcome
+checked_as checks.Accepted = accepted
+checked_as (checks.Refused f) = refused (fault_number f) (fault_place f)

@@ -1,20 +1,20 @@
 -- The block with a name and a permission set in one of two tables: the overlay's if it is there, otherwise the base's
 -- (document 02, wish 5).
 use Rattle.std.specs.Prelude.{ℕ, ◌+◌, Bool, true, false, ◌&&◌, List, [], ◌∷◌, eqb, length}
-use Rattle.table.specs.Scan.{Outcome, accepted, refused, narrowReading}
-use Rattle.blocks.specs.Blocks.{blocks, name_of, permsOf}
+use Rattle.table.specs.Scan.{Outcome, accepted, refused, narrow_reading}
+use Rattle.blocks.specs.Blocks.{blocks, name_of, perms_of}
 
 -- the numbers of the two tables: the base's, then the overlay's plus 100
-unfoldable pub tablesRead : (base overlay : List ℕ) → Outcome
-tablesRead base overlay =
-    elim (narrowReading base) [
+unfoldable pub tables_read : (base overlay : List ℕ) → Outcome
+tables_read base overlay =
+    elim (narrow_reading base) [
       | refused n p ↦ refused n p
-      | accepted ↦ elim (narrowReading overlay) [ refused n p ↦ refused (100 + n) p | accepted ↦ accepted ]
+      | accepted ↦ elim (narrow_reading overlay) [ refused n p ↦ refused (100 + n) p | accepted ↦ accepted ]
     ]
 
 -- a block has this name and this permission set
 abbrev pub keyed : (name perms : ℕ) → List ℕ → Bool
-keyed n s b = eqb (name_of b) n && eqb (permsOf b) s
+keyed n s b = eqb (name_of b) n && eqb (perms_of b) s
 
 -- what a search finds: where a block starts, and its words
 pub data Sought : Type 0 where
@@ -31,18 +31,18 @@ sought ws n s = seek n s 1 (blocks ws)
 
 -- where the block is: in which table, from which word up to which
 pub data Place : Type 0 where
-  inBase : (start end : ℕ) → Place
-  inOverlay : (start end : ℕ) → Place
+  in_base : (start end : ℕ) → Place
+  in_overlay : (start end : ℕ) → Place
   refusal : (number place : ℕ) → Place
 
 unfoldable pub is_refused : Place → Bool
-is_refused (inBase start end) = false
-is_refused (inOverlay start end) = false
+is_refused (in_base start end) = false
+is_refused (in_overlay start end) = false
 is_refused (refusal number place) = true
 
 abbrev pub place_in : (base overlay : Sought) → Place
-place_in base (found a b) = inOverlay a (a + length b)
-place_in (found a b) nothing = inBase a (a + length b)
+place_in base (found a b) = in_overlay a (a + length b)
+place_in (found a b) nothing = in_base a (a + length b)
 place_in nothing nothing = refusal 47 0
 
 abbrev pub words_in : (base overlay : Sought) → List ℕ
@@ -52,9 +52,9 @@ words_in nothing nothing = []
 
 unfoldable pub place_of : (base overlay : List ℕ) (name perms : ℕ) → Place
 place_of base overlay n s =
-    elim (tablesRead base overlay) [ refused k p ↦ refusal k p | accepted ↦ place_in (sought base n s) (sought overlay n s) ]
+    elim (tables_read base overlay) [ refused k p ↦ refusal k p | accepted ↦ place_in (sought base n s) (sought overlay n s) ]
 
 -- its words; none where it is refused
-unfoldable pub lookedUp : (base overlay : List ℕ) (name perms : ℕ) → List ℕ
-lookedUp base overlay n s =
-    elim (tablesRead base overlay) [ refused k p ↦ [] | accepted ↦ words_in (sought base n s) (sought overlay n s) ]
+unfoldable pub looked_up : (base overlay : List ℕ) (name perms : ℕ) → List ℕ
+looked_up base overlay n s =
+    elim (tables_read base overlay) [ refused k p ↦ [] | accepted ↦ words_in (sought base n s) (sought overlay n s) ]

@@ -3,7 +3,7 @@
 use Rattle.std.specs.Prelude.{ℕ, suc, ◌+◌, ◌-◌, ◌≤◌, ◌≡◌, Bool, true, false, length, take, drop}
 use mathlib.Core.List.{List, [], ◌∷◌, flatten}
 use Rattle.std.proofs.Math.Seq.{paste}
-use Rattle.blocks.specs.Blocks.{name_of, permsOf}
+use Rattle.blocks.specs.Blocks.{name_of, perms_of}
 use Rattle.overlay.specs.declared.join.Put.{Put}
 use Rattle.overlay.specs.declared.search.Span.{Span}
 use Rattle.overlay.specs.declared.search.Span.TheVariants as spans
@@ -21,7 +21,7 @@ span_of (found a b) = spans.At a (a + length b)
 -- wanted; otherwise its own
 unfoldable pub given : (new : Bool) (other : List (List ℕ)) → List ℕ → List ℕ
 given new os b =
-    elim (seek (name_of b) (permsOf b) 1 os) [ nothing ↦ b | found a o ↦ elim new [ true ↦ [] | false ↦ o ] ]
+    elim (seek (name_of b) (perms_of b) 1 os) [ nothing ↦ b | found a o ↦ elim new [ true ↦ [] | false ↦ o ] ]
 
 -- how many lists have words
 unfoldable pub some : List (List ℕ) → ℕ

@@ -1,9 +1,9 @@
 // The joined table.
 ghost use Rattle.std.specs.Prelude.{◌≡◌, map, ◌+◌, ◌≤◌, length};
-ghost use Rattle.table.specs.Scan.{accepted, narrowReading};
+ghost use Rattle.table.specs.Scan.{accepted, narrow_reading};
 ghost use Rattle.blocks.specs.Blocks.{blocks};
-ghost use Rattle.overlay.specs.Join.{joinAnswer, outAfter};
-ghost use Rattle.overlay.specs.Answers.{joinedAs};
+ghost use Rattle.overlay.specs.Join.{join_answer, out_after};
+ghost use Rattle.overlay.specs.Answers.{joined_as};
 ghost use Rattle.overlay.specs.Parts.{part as part_of, given, AppendedTo, PutTo};
 
 use crate::search::{Span, block_end, seek};
@@ -47,7 +47,7 @@ fn put_block(
     other: &[u32],
     new: bool,
 ) -> usize
-    requires { (at ≤ 131072) × (start + 2 ≤ end) × (end ≤ length table.now) × (length table.now ≤ 1024) × (narrowReading other.now ≡ accepted) }
+    requires { (at ≤ 131072) × (start + 2 ≤ end) × (end ≤ length table.now) × (length table.now ≤ 1024) × (narrow_reading other.now ≡ accepted) }
     ensures { AppendedTo at (given new (blocks other.now) (part_of start end table.now)) out.old out.new result }
 {
     let name = argument_of(table[start]);
@@ -66,7 +66,7 @@ fn put_block(
 
 // What the blocks of a table give to the joined table, one after the other, written from a place on.
 fn put_blocks(out: &mut [u32], start: usize, table: &[u32], other: &[u32], new: bool) -> Put
-    requires { (start ≤ 65536) × (narrowReading table.now ≡ accepted) × (narrowReading other.now ≡ accepted) }
+    requires { (start ≤ 65536) × (narrow_reading table.now ≡ accepted) × (narrow_reading other.now ≡ accepted) }
     ensures { PutTo start (map (given new (blocks other.now)) (blocks table.now)) out.old out.new result }
 {
     let mut left = argument_of(table[0]);
@@ -88,8 +88,8 @@ fn put_blocks(out: &mut [u32], start: usize, table: &[u32], other: &[u32], new: 
 
 // The base's blocks, each replaced where the overlay has its key, then the overlay's new ones.
 pub fn join(base: &[u32], overlay: &[u32], out: &mut [u32]) -> Joined
-    ensures answer { joinedAs result ≡ joinAnswer base.now overlay.now (length out.old) }
-    ensures out { out.new ≡ outAfter base.now overlay.now out.old }
+    ensures answer { joined_as result ≡ join_answer base.now overlay.now (length out.old) }
+    ensures out { out.new ≡ out_after base.now overlay.now out.old }
 {
     if let Checked::Refused(f) = check(base, overlay) {
         return Joined::Refused(f);

@@ -5,14 +5,14 @@ pub mod numbers;
 mod search;
 
 ghost use Rattle.std.specs.Prelude.{◌≡◌};
-ghost use Rattle.overlay.specs.Lookup.{tablesRead};
-ghost use Rattle.overlay.specs.Answers.{checkedAs};
+ghost use Rattle.overlay.specs.Lookup.{tables_read};
+ghost use Rattle.overlay.specs.Answers.{checked_as};
 
 use table::read::read_narrow;
 use table::{Reading, Refusal};
 
 // Why a look-up or a join is refused: one of the tables, no block with the key, or a join that is too large for a table or for
-// the output. `faultNumber` and `faultPlace` of specs/Answers.antt give each its number and place.
+// the output. `fault_number` and `fault_place` of specs/Answers.antt give each its number and place.
 #[derive(Drop)]
 pub enum Fault {
     Base(Refusal),
@@ -23,7 +23,7 @@ pub enum Fault {
     ShortOutput,
 }
 
-// Where a block is: in which table, from which word up to which. `foundAs` of specs/Answers.antt says what each case means.
+// Where a block is: in which table, from which word up to which. `found_as` of specs/Answers.antt says what each case means.
 #[derive(Drop)]
 pub enum Found {
     Base(usize, usize),
@@ -31,7 +31,7 @@ pub enum Found {
     Refused(Fault),
 }
 
-// How many words a join wrote, or why it was refused. `joinedAs` of specs/Answers.antt says what each case means.
+// How many words a join wrote, or why it was refused. `joined_as` of specs/Answers.antt says what each case means.
 #[derive(Drop)]
 pub enum Joined {
     Words(usize),
@@ -46,7 +46,7 @@ enum Checked {
 }
 
 fn check(base: &[u32], overlay: &[u32]) -> Checked
-    ensures { checkedAs result ≡ tablesRead base.now overlay.now }
+    ensures { checked_as result ≡ tables_read base.now overlay.now }
 {
     if let Reading::Refused(r) = read_narrow(base) {
         return Checked::Refused(Fault::Base(r));

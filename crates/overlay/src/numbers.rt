@@ -1,12 +1,12 @@
 // The number and the place of a refusal.
 ghost use Rattle.std.specs.Prelude.{◌≡◌};
-ghost use Rattle.overlay.specs.Answers.{faultNumber, faultPlace};
+ghost use Rattle.overlay.specs.Answers.{fault_number, fault_place};
 
 use crate::Fault;
 use table::numbers::{refusal_number, refusal_place};
 
 pub fn fault_number(f: Fault) -> u32
-    ensures { result ≡ faultNumber f }
+    ensures { result ≡ fault_number f }
 {
     match f {
         Fault::Base(r) => refusal_number(r),
@@ -19,7 +19,7 @@ pub fn fault_number(f: Fault) -> u32
 }
 
 pub fn fault_place(f: Fault) -> usize
-    ensures { result ≡ faultPlace f }
+    ensures { result ≡ fault_place f }
 {
     match f {
         Fault::Base(r) => refusal_place(r),

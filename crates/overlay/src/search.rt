@@ -1,8 +1,8 @@
 // The search for a block in an accepted table.
 ghost use Rattle.std.specs.Prelude.{◌≡◌, ◌+◌, ◌≤◌, length, drop};
-ghost use Rattle.table.specs.Scan.{accepted, narrowReading};
+ghost use Rattle.table.specs.Scan.{accepted, narrow_reading};
 ghost use Rattle.table.specs.Code.{skip};
-ghost use Rattle.blocks.specs.Blocks.{blockLength};
+ghost use Rattle.blocks.specs.Blocks.{block_length};
 ghost use Rattle.overlay.specs.Lookup.{keyed, sought};
 ghost use Rattle.overlay.specs.Parts.{span_of};
 
@@ -35,7 +35,7 @@ fn term_end(words: &[u32], at: usize) -> usize
 // The word after the block at a place.
 pub fn block_end(words: &[u32], at: usize) -> usize
     requires { (length words.now ≤ 1024) × (at ≤ length words.now) }
-    ensures { result ≡ at + blockLength (drop at words.now) }
+    ensures { result ≡ at + block_length (drop at words.now) }
 {
     term_end(words, at + 3)
 }
@@ -54,7 +54,7 @@ fn has_key(words: &[u32], at: usize, name: u32, perms: u32) -> bool
 
 // The block with this name and this permission set.
 pub fn seek(words: &[u32], name: u32, perms: u32) -> Span
-    requires { narrowReading words.now ≡ accepted }
+    requires { narrow_reading words.now ≡ accepted }
     ensures { result ≡ span_of (sought words.now name perms) }
 {
     let mut left = argument_of(words[0]);

@@ -2,8 +2,8 @@
 use Prim.Native.Nat.{ℕ}
 use mathlib.Core.Path.{◌≡◌, refl}
 use mathlib.Core.List.{List, [], ◌∷◌, map}
-use Rattle.packing.specs.Packing.{tableWords}
+use Rattle.packing.specs.Packing.{table_words}
 
-pub words-of-bytes : map tableWords ((0 ∷ 0 ∷ 0 ∷ 1 ∷ []) ∷ (0 ∷ 0 ∷ 0 ∷ 1 ∷ 7 ∷ []) ∷ [] ∷ []) ≡ (0x01000000 ∷ []) ∷ (0x01000000 ∷ 0 ∷ []) ∷ [] ∷ []
-unfolding tableWords
+pub words-of-bytes : map table_words ((0 ∷ 0 ∷ 0 ∷ 1 ∷ []) ∷ (0 ∷ 0 ∷ 0 ∷ 1 ∷ 7 ∷ []) ∷ [] ∷ []) ≡ (0x01000000 ∷ []) ∷ (0x01000000 ∷ 0 ∷ []) ∷ [] ∷ []
+unfolding table_words
 words-of-bytes = refl

@@ -1,8 +1,8 @@
 // A system of the stream of a class, made of a listing or of words, whether they are right or not.
 ghost use Rattle.std.specs.Prelude.{◌≡◌, List, ℕ, ◌≤◌, length, take};
 ghost use Rattle.text.specs.Writing.{Wrote};
-ghost use Rattle.listing.specs.Listing.{wordsOf as lineWords};
-ghost use Rattle.packing.specs.Packing.{holds, kept, packed, listingPacked, tableWords, tablePacked, size_of, is_held};
+ghost use Rattle.listing.specs.Listing.{words_of as line_words};
+ghost use Rattle.packing.specs.Packing.{holds, kept, packed, listing_packed, table_words, table_packed, size_of, is_held};
 ghost use Rattle.packing.specs.Held.{Held};
 
 use listing::read::{line_end, word_of_line};
@@ -29,7 +29,7 @@ fn put_packed(rho: u32, words: &[u32], out: &mut [u8]) -> usize
 // The words of a listing's lines, at the start of a slice, and how many they are; or 257 where there are more than 256.
 fn line_words(text: &[u8], words: &mut [u32]) -> usize
     requires { length words.old ≡ 256 }
-    ensures { Held (lineWords text.now) words.new result }
+    ensures { Held (line_words text.now) words.new result }
 {
     let mut n = 0;
     let mut at = 0;
@@ -48,7 +48,7 @@ fn line_words(text: &[u8], words: &mut [u32]) -> usize
 // The whole words of bytes and 0 for a part of one, at the start of a slice, and how many they are; or 257 where there are more than 256.
 fn table_words(bytes: &[u8], words: &mut [u32]) -> usize
     requires { length words.old ≡ 256 }
-    ensures { Held (tableWords bytes.now) words.new result }
+    ensures { Held (table_words bytes.now) words.new result }
 {
     if 1024 < bytes.len() {
         return 257;
@@ -82,8 +82,8 @@ fn put_held(rho: u32, bytes: usize, words: &[u32], n: usize, out: &mut [u8]) -> 
 // A listing as a system of the stream: the word of each line, leading spaces aside, 0 for a line that spells none.
 pub fn pack_listing(rho: u32, text: &[u8], out: &mut [u8]) -> Packed
     requires { 1032 ≤ length out.old }
-    ensures wrote { Wrote out.old 0 (listingPacked rho text.now) out.new (size_of result) }
-    ensures result_value { is_held result ≡ holds (length text.now) (lineWords text.now) }
+    ensures wrote { Wrote out.old 0 (listing_packed rho text.now) out.new (size_of result) }
+    ensures result_value { is_held result ≡ holds (length text.now) (line_words text.now) }
 {
     let mut words = [0u32; 256];
     let n = line_words(text, &mut words);
@@ -93,8 +93,8 @@ pub fn pack_listing(rho: u32, text: &[u8], out: &mut [u8]) -> Packed
 // The bytes of words as a system of the stream, 0 for a part of a word at the end.
 pub fn pack_words(rho: u32, bytes: &[u8], out: &mut [u8]) -> Packed
     requires { 1032 ≤ length out.old }
-    ensures wrote { Wrote out.old 0 (tablePacked rho bytes.now) out.new (size_of result) }
-    ensures result_value { is_held result ≡ holds (length bytes.now) (tableWords bytes.now) }
+    ensures wrote { Wrote out.old 0 (table_packed rho bytes.now) out.new (size_of result) }
+    ensures result_value { is_held result ≡ holds (length bytes.now) (table_words bytes.now) }
 {
     let mut words = [0u32; 256];
     let n = table_words(bytes, &mut words);

@@ -9,11 +9,11 @@ use native.Mathlib.Omega.{arith}
 use lib.Dec.{T}
 use lib.ListN.{length}
 use Rattle.table.specs.declared.Link.{Link}
-use Rattle.table.specs.Links.{linkAt, LinksOf}
+use Rattle.table.specs.Links.{link_at, LinksOf}
 use Rattle.table.specs.Scan.{accepted, reading}
 use Rattle.table.specs.Code.{code, end_of}
 use Rattle.table.proofs.Blocks.{Follows, blocks-first, blocks-next, blocks_end}
-use Rattle.table.proofs.BlockLoop.{blocksOn, named-there, follows-first, next-is, follows_next, next-later}
+use Rattle.table.proofs.BlockLoop.{blocks_on, named-there, follows-first, next-is, follows_next, next-later}
 use Rattle.path_search.specs.declared.span.Span.{Span}
 use Rattle.path_search.specs.Levels.{level, Spread, SpreadTo}
 use Rattle.path_search.proofs.Rounds.{spread_none, spread-then}
@@ -22,7 +22,7 @@ use Rattle.path_search.proofs.Rounds.{spread_none, spread-then}
 pub record Passed (ws : List ℕ) (goes : ℕ → ℕ → Bool) (n w : ℕ) (s r : Span) (old ds : List ℕ) (b : ℕ) : Type 0 where
   pub follows : Follows ws b
   pub spread : Spread (code ws).size goes n w s r old ds
-  pub passed : (v : ℕ) → Memᴰ v (code ws).blocks → Memᴰ v (blocksOn ws b) ⊎ (T (goes v w) → 0 < level ds v)
+  pub passed : (v : ℕ) → Memᴰ v (code ws).blocks → Memᴰ v (blocks_on ws b) ⊎ (T (goes v w) → 0 < level ds v)
 
 module _ (ws : List ℕ) (q : reading ws ≡ accepted) (goes : ℕ → ℕ → Bool) {n w : ℕ} where
   pub passed_start : (s : Span) (ds : List ℕ) → Passed ws goes n w s s ds ds 1
@@ -35,7 +35,7 @@ module _ (ws : List ℕ) (q : reading ws ≡ accepted) (goes : ℕ → ℕ → B
       }
 
   module _ {s r : Span} {old ds : List ℕ} {b : ℕ} (h : Passed ws goes n w s r old ds b) where
-    pub passed-next : b < length ws → {links : List ℕ} → LinksOf ws links → {x : Link} → x ≡ linkAt links (b + 3) → {t : Span} {new : List ℕ}
+    pub passed-next : b < length ws → {links : List ℕ} → LinksOf ws links → {x : Link} → x ≡ link_at links (b + 3) → {t : Span} {new : List ℕ}
         → SpreadTo (code ws).size goes (λ v. v ≡ b) n w r t ds new → Passed ws goes n w s t old new x.end × (b < x.end)
     passed-next i {links} l {x} e {t} {new} y =
         let k = named-there ws q b h.follows i in
@@ -45,7 +45,7 @@ module _ (ws : List ℕ) (q : reading ws ≡ accepted) (goes : ℕ → ℕ → B
             spread = spread-then (code ws).size goes h.spread y.spread;
             passed =
                 λ v m. ⊎_elim
-                (λ a. ⊎_elim (λ d. inr (λ u. y.reached v d u)) (λ d. inl (subst (λ (u : ℕ). Memᴰ v (blocksOn ws u)) (sym z) d))
+                (λ a. ⊎_elim (λ d. inr (λ u. y.reached v d u)) (λ d. inl (subst (λ (u : ℕ). Memᴰ v (blocks_on ws u)) (sym z) d))
                 (Memᴰ.cases_cons (subst (Memᴰ v) (blocks-next ws q b i k) a)))
                 (λ a. inr (λ u. let p = a u in let d = y.spread.stays v p in omega arith)) (h.passed v m);
           },
@@ -58,5 +58,5 @@ module _ (ws : List ℕ) (q : reading ws ≡ accepted) (goes : ℕ → ℕ → B
         record {
           spread = h.spread;
           reached =
-              λ v m u. ⊎_elim (λ a. absurd (Memᴰ.not-nil (subst (Memᴰ v) (ap (blocksOn ws) z ∙ blocks_end ws q) a))) (λ a. a u) (h.passed v m);
+              λ v m u. ⊎_elim (λ a. absurd (Memᴰ.not-nil (subst (Memᴰ v) (ap (blocks_on ws) z ∙ blocks_end ws q) a))) (λ a. a u) (h.passed v m);
         }

@@ -10,7 +10,7 @@ use lib.Dec.{T}
 use lib.ListN.{get_or, length, set, length-set}
 use lib.Seq.{get_or-set_same, get_or-set_other}
 use Rattle.graph.proofs.Lowest.{lowest-is}
-use Rattle.paths.specs.Search.{Inside, near, reach, nextIn, Exact}
+use Rattle.paths.specs.Search.{Inside, near, reach, next_in, Exact}
 use Rattle.paths.proofs.Reach.{when, when-both, reach-zero, reach-inside, reach-more, reach_step, reach-all}
 use Rattle.paths.proofs.Fewest.{next-is}
 use Rattle.path_search.specs.declared.span.Span.{Span}
@@ -136,7 +136,7 @@ module _ (size : ℕ) (goes : ℕ → ℕ → Bool) (last : ℕ → Bool) where
       found : (v : ℕ) → At (suc n) v → level ds v ≡ suc (suc n)
       found v a =
           let x = next-is size goes last k n v a in
-          let q = nextIn size goes last (near size goes last n) v in
+          let q = next_in size goes last (near size goes last n) v in
           let l : q < w = (let z = (o.front q x.exact).1 in omega arith) in
           let p = above (level ds v) (h.done q v l x.exact x.step) in
           let i : v < size = reach-inside size goes last (suc n) v a.reached in
@@ -170,7 +170,7 @@ module _ (size : ℕ) (goes : ℕ → ℕ → Bool) (last : ℕ → Bool) where
       none-on (suc d) v a =
           let z : n + suc d ≡ suc (n + d) = omega arith in
           let x = next-is size goes last k (n + d) v (subst (λ (m : ℕ). At m v) z a) in
-          none-on d (nextIn size goes last (near size goes last (n + d)) v) x.exact
+          none-on d (next_in size goes last (near size goes last (n + d)) v) x.exact
 
       pub explored : Explored size goes last ds
       explored = record { sound = λ v m i j. (h.sound v m i j).0; all = λ v m a. go v m a (dec_lt n m); origin = h.origin }
@@ -245,8 +245,8 @@ module _ (size : ℕ) (goes : ℕ → ℕ → Bool) (last : ℕ → Bool) where
             go x (no i) =
                 unreached (suc x.steps) (let m = x.most in omega arith) (reach_step size goes last x.steps q z inside g x.exact.reached)
 
-        w-is-next : w ≡ nextIn size goes last (near size goes last n) q
-        unfolding nextIn reach
+        w-is-next : w ≡ next_in size goes last (near size goes last n) q
+        unfolding next_in reach
         w-is-next =
             sym
             (lowest-is (λ z. elim (reach size goes last n z) [ true ↦ goes q z | false ↦ false ]) size 0 w (omega arith) (omega arith)
@@ -270,11 +270,11 @@ module _ (size : ℕ) (goes : ℕ → ℕ → Bool) (last : ℕ → Bool) where
           done' u v l a t (yes d) = let x = there-level in let b = ap (λ (x : ℕ). level ds' x) d in omega arith
           done' u v l a t (no d) = let x = h.done u v l a t in let y = other v d in omega arith
 
-          origin' : (v m : ℕ) → v < size → level ds' v ≡ suc (suc m) → Dec (v ≡ q) → before ds' v ≡ nextIn size goes last (near size goes last m) v
+          origin' : (v m : ℕ) → v < size → level ds' v ≡ suc (suc m) → Dec (v ≡ q) → before ds' v ≡ next_in size goes last (near size goes last m) v
           origin' v m l i (yes d) =
               let z : m ≡ n = (let a = there-level in let b = ap (λ (x : ℕ). level ds' x) d in omega arith) in
               ap (before ds') d ∙ there-before ∙ w-is-next
-              ∙ ap (λ (x : ℕ). nextIn size goes last (near size goes last x) q) (sym z) ∙ ap (nextIn size goes last (near size goes last m)) (sym d)
+              ∙ ap (λ (x : ℕ). next_in size goes last (near size goes last x) q) (sym z) ∙ ap (next_in size goes last (near size goes last m)) (sym d)
           origin' v m l i (no d) =
               ap (λ (x : ℕ). x % 1024) (other v d) ∙ h.origin v m l (ap (λ (x : ℕ). x / 1024) (sym (other v d)) ∙ i)
 

@@ -7,8 +7,8 @@ use native.Mathlib.Numerals.{add-one}
 use native.Mathlib.Omega.{arith}
 use lib.ListN.{length, get_or, set, drop, length-set, length-reverse}
 use lib.Seq.{drop-cons, get_or-set_same, drop-set-lt, set_split}
-use Rattle.graph.specs.Answer.{startingWith}
-use Rattle.paths.specs.Search.{Inside, near, nextIn, follow}
+use Rattle.graph.specs.Answer.{starting_with}
+use Rattle.paths.specs.Search.{Inside, near, next_in, follow}
 use Rattle.paths.proofs.Reach.{reach-inside}
 use Rattle.paths.proofs.Fewest.{next-is, follow-length}
 use Rattle.path_search.specs.Levels.{level, before, Explored}
@@ -37,7 +37,7 @@ module _ (size : ℕ) (goes : ℕ → ℕ → Bool) (last : ℕ → Bool) (ds : 
     unfolding follow
     step now zero at h t = set_split now 0 at h ∙ t.2
     step now (suc i) at h t =
-        let q = nextIn size goes last (near size goes last i) at in
+        let q = next_in size goes last (near size goes last i) at in
         let x = next-is size goes last k i at (o.sound at (suc i) t.0 t.1) in
         let e : before ds at ≡ q = o.origin at i t.0 t.1 in (
           subst (λ (z : ℕ). z < size) (sym e) (reach-inside size goes last i q x.exact.reached),
@@ -52,7 +52,7 @@ module _ (size : ℕ) (goes : ℕ → ℕ → Bool) (last : ℕ → Bool) (ds : 
     left-on now (suc j) at p h t =
         let e : j ≡ suc j - 1 = omega arith in subst (λ (z : ℕ). Left old w n (set now z at) z (before ds at)) e (step now j at (omega arith) t)
 
-    pub left_end : (now : List ℕ) (m at : ℕ) → m ≤ 0 → Left old w n now m at → now ≡ startingWith (reverse (w ∷ follow size goes last n w)) old
+    pub left_end : (now : List ℕ) (m at : ℕ) → m ≤ 0 → Left old w n now m at → now ≡ starting_with (reverse (w ∷ follow size goes last n w)) old
     left_end now zero at z t =
         t ∙ reverse_aux-eq (w ∷ follow size goes last n w) (drop (suc n) old)
         ∙ ap (λ (i : ℕ). reverse (w ∷ follow size goes last n w) ++ drop i old)

@@ -5,11 +5,11 @@ use mathlib.Core.Bool.{Bool}
 use mathlib.Core.List.{List, [], ◌∷◌, reverse}
 use native.Mathlib.Omega.{arith}
 use lib.ListN.{length, length-reverse}
-use Rattle.graph.specs.Answer.{startingWith}
+use Rattle.graph.specs.Answer.{starting_with}
 use Rattle.table.specs.Code.{Code, Linked}
 use Rattle.calculus.specs.Constraint.{Sets}
 use Rattle.paths.specs.Path.{ends}
-use Rattle.paths.specs.Search.{Inside, comes, opens, follow, shortest, shortestPath}
+use Rattle.paths.specs.Search.{Inside, comes, opens, follow, shortest, shortest_path}
 use Rattle.paths.proofs.Fewest.{follow-length}
 use Rattle.paths.proofs.Answer.{comes-inside}
 use Rattle.path_search.specs.Levels.{level, Explored, Nearest}
@@ -30,23 +30,23 @@ level-most {size} {goes} {last} {ds} o v h = go (level ds v) refl
 
 module _ (c : Code) (k : Linked c) (e : Sets) (ρ x : ℕ) (ds : List ℕ) (o : Explored c.size (comes c e) (opens c e ρ) ds) where
   abbrev path : List ℕ
-  path = shortestPath c e ρ x
+  path = shortest_path c e ρ x
 
   module _ {size best : ℕ} (z : c.size ≡ size) where
     nearest-here : Nearest size (ends c e x) ds size best → Nearest c.size (ends c e x) ds c.size best
     nearest-here n = subst (λ (s : ℕ). Nearest s (ends c e x) ds s best) (sym z) n
 
-    pub wrote_none : size ≤ best → Nearest size (ends c e x) ds size best → {old : List ℕ} → (0 ≡ length path) × (old ≡ startingWith path old)
-    unfolding shortestPath
+    pub wrote_none : size ≤ best → Nearest size (ends c e x) ds size best → {old : List ℕ} → (0 ≡ length path) × (old ≡ starting_with path old)
+    unfolding shortest_path
     wrote_none h n {old} =
         let i : path ≡ [] = ap reverse (shortest-none c.size (comes c e) (opens c e ρ) (comes-inside c k e ρ) (ends c e x) ds o (omega arith) (nearest-here n)) in
-        (ap length (sym i), ap (λ (l : List ℕ). startingWith l old) (sym i))
+        (ap length (sym i), ap (λ (l : List ℕ). starting_with l old) (sym i))
 
     pub wrote-some : best < size → Nearest size (ends c e x) ds size best → (n : ℕ) (old new : List ℕ) → 0 < level ds best → n ≡ level ds best - 1
         → (Inside c.size (comes c e) (opens c e ρ) → Explored c.size (comes c e) (opens c e ρ) ds → (best < c.size) × (level ds best ≡ suc n)
-        → new ≡ startingWith (reverse (best ∷ follow c.size (comes c e) (opens c e ρ) n best)) old)
-        → (level ds best ≡ length path) × (new ≡ startingWith path old)
-    unfolding shortestPath
+        → new ≡ starting_with (reverse (best ∷ follow c.size (comes c e) (opens c e ρ) n best)) old)
+        → (level ds best ≡ length path) × (new ≡ starting_with path old)
+    unfolding shortest_path
     wrote-some h y n old new p q t =
         let s : level ds best ≡ suc n = omega arith in
         let j : best < c.size = omega arith in
@@ -55,5 +55,5 @@ module _ (c : Code) (k : Linked c) (e : Sets) (ρ x : ℕ) (ds : List ℕ) (o : 
         in (
           s
               ∙ sym (ap length i ∙ length-reverse (best ∷ follow c.size (comes c e) (opens c e ρ) n best) ∙ ap suc (follow-length c.size (comes c e) (opens c e ρ) (comes-inside c k e ρ) n best)),
-          t (comes-inside c k e ρ) o (j, s) ∙ ap (λ (l : List ℕ). startingWith l old) (sym i),
+          t (comes-inside c k e ρ) o (j, s) ∙ ap (λ (l : List ℕ). starting_with l old) (sym i),
         )

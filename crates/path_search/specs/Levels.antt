@@ -1,7 +1,7 @@
 -- What is noted of each word while the words are searched round by round: how many steps away it is, and one more, and the word before it. All
 -- over any chains, which go from a word to the word before it.
 use Rattle.std.specs.Prelude.{ℕ, suc, ◌+◌, ◌*◌, ◌/◌, ◌%◌, ◌≤◌, ◌<◌, ◌≡◌, ◌⊎◌, Bool, List, T, get_or, length, set}
-use Rattle.paths.specs.Search.{Inside, near, nextIn, Exact}
+use Rattle.paths.specs.Search.{Inside, near, next_in, Exact}
 use Rattle.path_search.specs.declared.span.Span.{Span}
 
 -- 0 for a word that is not reached, and one more than its steps for another
@@ -32,13 +32,13 @@ module _ (size : ℕ) (goes : ℕ → ℕ → Bool) where
     pub record Explored (ds : List ℕ) : Type 0 where
       pub sound : (v m : ℕ) → v < size → level ds v ≡ suc m → Exact size goes last m v
       pub all : (v m : ℕ) → Exact size goes last m v → level ds v ≡ suc m
-      pub origin : (v m : ℕ) → v < size → level ds v ≡ suc (suc m) → before ds v ≡ nextIn size goes last (near size goes last m) v
+      pub origin : (v m : ℕ) → v < size → level ds v ≡ suc (suc m) → before ds v ≡ next_in size goes last (near size goes last m) v
 
     -- those of at most n steps; the words of n steps stand in the span
     pub record Levels (n : ℕ) (s : Span) (ds : List ℕ) : Type 0 where
       pub sound : (v m : ℕ) → v < size → level ds v ≡ suc m → Exact size goes last m v × (m ≤ n)
       pub all : (v m : ℕ) → m ≤ n → Exact size goes last m v → level ds v ≡ suc m
-      pub origin : (v m : ℕ) → v < size → level ds v ≡ suc (suc m) → before ds v ≡ nextIn size goes last (near size goes last m) v
+      pub origin : (v m : ℕ) → v < size → level ds v ≡ suc (suc m) → before ds v ≡ next_in size goes last (near size goes last m) v
       pub front : (v : ℕ) → Exact size goes last n v → (s.lo ≤ v) × (v < s.hi)
       pub few : s.lo < size → n < size
       pub inside : s.hi ≤ size
@@ -48,7 +48,7 @@ module _ (size : ℕ) (goes : ℕ → ℕ → Bool) where
       pub sound : (v m : ℕ) → v < size → level ds v ≡ suc m → Exact size goes last m v × (m ≤ suc n)
       pub all : (v m : ℕ) → m ≤ n → Exact size goes last m v → level ds v ≡ suc m
       pub done : (u v : ℕ) → u < w → Exact size goes last n u → T (goes v u) → 0 < level ds v
-      pub origin : (v m : ℕ) → v < size → level ds v ≡ suc (suc m) → before ds v ≡ nextIn size goes last (near size goes last m) v
+      pub origin : (v m : ℕ) → v < size → level ds v ≡ suc (suc m) → before ds v ≡ next_in size goes last (near size goes last m) v
       pub within : (v : ℕ) → v < size → level ds v ≡ suc (suc n) → (s.lo ≤ v) × (v < s.hi)
       pub some : s.lo < size → level ds s.lo ≡ suc (suc n)
       pub inside : s.hi ≤ size

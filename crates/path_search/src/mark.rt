@@ -2,11 +2,11 @@
 ghost use Rattle.std.specs.Prelude.{◌≡◌, ◌⊎◌, ℕ, ◌+◌, ◌≤◌, ◌<◌, length, get_or, T};
 ghost use mathlib.Core.List.{Memᴰ};
 ghost use Rattle.table.specs.Words.{kind as Kind};
-ghost use Rattle.table.specs.Links.{linkAt};
+ghost use Rattle.table.specs.Links.{link_at};
 ghost use Rattle.table.specs.Code.{code};
 ghost use Rattle.calculus.specs.Layout.{sets};
 ghost use Rattle.queries.specs.Ready.{At};
-ghost use Rattle.paths.specs.Path.{isBody};
+ghost use Rattle.paths.specs.Path.{is_body};
 ghost use Rattle.paths.specs.Search.{comes};
 ghost use Rattle.path_search.specs.Levels.{Marked, SpreadTo};
 
@@ -75,7 +75,7 @@ fn to_parts(
 ) -> Span
     requires { At words.now links.now masks.now est.now l w × (l.size ≤ length reached.old) × (n < 1024) }
     ensures { SpreadTo (code words.now).size (comes (code words.now) (sets (code words.now) est.now))
-        (λ v. (v ≡ w + 3) ⊎ ((v ≡ w + 1) ⊎ ((v ≡ (linkAt links.now (w + 1)).end) ⊎ (v ≡ (linkAt links.now (linkAt links.now (w + 1)).end).end))))
+        (λ v. (v ≡ w + 3) ⊎ ((v ≡ w + 1) ⊎ ((v ≡ (link_at links.now (w + 1)).end) ⊎ (v ≡ (link_at links.now (link_at links.now (w + 1)).end).end))))
         n w s result reached.old reached.new }
 {
     let second = second_of(links, w);
@@ -100,7 +100,7 @@ fn to_bodies(
 ) -> Span
     requires { At words.now links.now masks.now est.now l w × (Kind (get_or words.now w 0) ≡ 22) × (l.size ≤ length reached.old) × (n < 1024) }
     ensures { SpreadTo (code words.now).size (comes (code words.now) (sets (code words.now) est.now))
-        (λ v. T (isBody (code words.now) (sets (code words.now) est.now) (w + 1) v))
+        (λ v. T (is_body (code words.now) (sets (code words.now) est.now) (w + 1) v))
         n w s result reached.old reached.new }
 {
     let mut found = s;
@@ -152,7 +152,7 @@ fn beyond(
 ) -> Span
     requires { At words.now links.now masks.now est.now l w × (l.size ≤ length reached.old) × (n < 1024) }
     ensures { SpreadTo (code words.now).size (comes (code words.now) (sets (code words.now) est.now))
-        (λ v. ((Kind (get_or words.now w 0) ≡ 22) × T (isBody (code words.now) (sets (code words.now) est.now) (w + 1) v))
+        (λ v. ((Kind (get_or words.now w 0) ≡ 22) × T (is_body (code words.now) (sets (code words.now) est.now) (w + 1) v))
         ⊎ ((Kind (get_or words.now w 0) ≡ 35) × Memᴰ v (code words.now).blocks))
         n w s result reached.old reached.new }
 {

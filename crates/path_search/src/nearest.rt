@@ -2,10 +2,10 @@
 ghost use Rattle.std.specs.Prelude.{◌≡◌, ◌∷◌, reverse, Bool, true, false, ℕ, suc, ◌+◌, ◌≤◌, ◌<◌, length};
 ghost use Rattle.table.specs.Code.{code};
 ghost use Rattle.calculus.specs.Layout.{sets, WellFormed};
-ghost use Rattle.graph.specs.Answer.{startingWith};
+ghost use Rattle.graph.specs.Answer.{starting_with};
 ghost use Rattle.queries.specs.Ready.{Ready, At};
 ghost use Rattle.paths.specs.Path.{ends as Ends};
-ghost use Rattle.paths.specs.Search.{Inside, comes, opens, follow, shortestPath};
+ghost use Rattle.paths.specs.Search.{Inside, comes, opens, follow, shortest_path};
 ghost use Rattle.path_search.specs.Levels.{level, Explored, Nearest};
 
 use rows::layout::Layout;
@@ -78,7 +78,7 @@ fn nearest(
 fn trace(reached: &[u32], out: &mut [u32], w: usize, n: usize)
     requires { (1024 ≤ length reached.now) × (w < 1024) × (n < length out.old) }
     ensures { (size : ℕ) (goes : ℕ → ℕ → Bool) (last : ℕ → Bool) → Inside size goes last → Explored size goes last reached.now → (w < size)
-        × (level reached.now w ≡ suc n) → out.new ≡ startingWith (reverse (w ∷ follow size goes last n w)) out.old }
+        × (level reached.now w ≡ suc n) → out.new ≡ starting_with (reverse (w ∷ follow size goes last n w)) out.old }
 {
     let mut k = n + 1;
     let mut at = w;
@@ -104,8 +104,8 @@ pub fn write_path(
     requires by_index { (v : ℕ) → v < l.size → level reached.now v ≤ l.size }
     ensures { (ρ : ℕ) → Explored (code words.now).size (comes (code words.now) (sets (code words.now) est.now))
         (opens (code words.now) (sets (code words.now) est.now) ρ) reached.now
-        → (result ≡ length (shortestPath (code words.now) (sets (code words.now) est.now) ρ x))
-        × (out.new ≡ startingWith (shortestPath (code words.now) (sets (code words.now) est.now) ρ x) out.old) }
+        → (result ≡ length (shortest_path (code words.now) (sets (code words.now) est.now) ρ x))
+        × (out.new ≡ starting_with (shortest_path (code words.now) (sets (code words.now) est.now) ρ x) out.old) }
 {
     let w = nearest(words, links, masks, est, reached, l, x);
     if l.size <= w {

@@ -13,13 +13,13 @@ use Rattle.delivery.specs.Delivery.{delivered}
 use Rattle.graph.specs.Loop.{NotAfter}
 use Rattle.table.specs.Code.{Code, Node, Two, gap, block, leaf, one, two, bind, while, branch, update, Linked, NodeLinked}
 use Rattle.table.specs.Code.{apply, sequence, get, delete, assign, operation, send}
-use Rattle.calculus.specs.Elements.{made, nameElement, makes, isFunction, sendable}
+use Rattle.calculus.specs.Elements.{made, name_element, makes, is_function, sendable}
 use Rattle.calculus.specs.Constraint.{C, L, Sets}
-use Rattle.calculus.specs.Rules.{name_of, permissions, deliveryTo, guarded, isBlock}
+use Rattle.calculus.specs.Rules.{name_of, permissions, delivery_to, guarded, is_block}
 use Rattle.calculus.proofs.Fitting.{body-lt}
 use Rattle.calculus.proofs.Senders.{listed-node}
-use Rattle.paths.specs.Path.{Chain, someIn, isBody, delivers, twoLeads, nodeLeads, leads, ends, Path, Why}
-use Rattle.paths.specs.Search.{Inside, shortest, comes, opens, shortestPath, First, Answers}
+use Rattle.paths.specs.Path.{Chain, some_in, is_body, delivers, two_leads, node_leads, leads, ends, Path, Why}
+use Rattle.paths.specs.Search.{Inside, shortest, comes, opens, shortest_path, First, Answers}
 use Rattle.paths.proofs.Sound.{delivered-block, inside_of, leads-inside, ends-inside}
 use Rattle.paths.proofs.Fewest.{Finds, Shortest, shortest-finds}
 
@@ -34,8 +34,8 @@ not-after-both (x ∷ xs) (y ∷ ys) (inr a) (inl b) = let e = a.0 in absurd (om
 not-after-both (x ∷ xs) (y ∷ ys) (inr a) (inr b) = ap₂ (λ (z : ℕ) (l : List ℕ). z ∷ l) a.0 (not-after-both xs ys a.1 b.1)
 
 -- what has a guard is a block
-guarded-is : (n : Node) (ρ : ℕ) → T (guarded n ρ) → T (isBlock n)
-unfolding guarded isBlock
+guarded-is : (n : Node) (ρ : ℕ) → T (guarded n ρ) → T (is_block n)
+unfolding guarded is_block
 guarded-is gap ρ t = t
 guarded-is (block n s g) ρ t = tt
 guarded-is (leaf l) ρ t = t
@@ -52,22 +52,22 @@ module _ (c : Code) (k : Linked c) (e : Sets) where
   is : (q a : ℕ) → T (eqb q a) → a < c.size → q < c.size
   is q a t h = omega (arith, eqb→eq q a t)
 
-  pub body-inside : (a q : ℕ) → T (isBody c e a q) → q < c.size
-  unfolding isBody makes isFunction
+  pub body-inside : (a q : ℕ) → T (is_body c e a q) → q < c.size
+  unfolding is_body makes is_function
   body-inside a zero t = absurd t
   body-inside a (suc f) t =
-      let u : T (isFunction (makes (c.node f))) = T-fst (isFunction (makes (c.node f))) (e (C a) (made c f)) t in
-      body-lt c k f (inside_of c k f (λ n. isFunction (makes n)) (λ z. z) u) u
+      let u : T (is_function (makes (c.node f))) = T-fst (is_function (makes (c.node f))) (e (C a) (made c f)) t in
+      body-lt c k f (inside_of c k f (λ n. is_function (makes n)) (λ z. z) u) u
 
   receiver-inside : (p r a d q : ℕ) → T (delivers c e p r a d q) → q < c.size
-  unfolding delivers isBlock
+  unfolding delivers is_block
   receiver-inside p r a d q t =
-      let u = T-snd (someIn c e (C d) (sendable c)) (delivered (deliveryTo (name_of (c.node q)) r (permissions c p) (c.node q)) && e (C a) (nameElement (name_of (c.node q)))) t in
-      let g = T-fst (delivered (deliveryTo (name_of (c.node q)) r (permissions c p) (c.node q))) (e (C a) (nameElement (name_of (c.node q)))) u in
-      inside_of c k q isBlock (λ z. z) (delivered-block (name_of (c.node q)) r (permissions c p) (c.node q) g)
+      let u = T-snd (some_in c e (C d) (sendable c)) (delivered (delivery_to (name_of (c.node q)) r (permissions c p) (c.node q)) && e (C a) (name_element (name_of (c.node q)))) t in
+      let g = T-fst (delivered (delivery_to (name_of (c.node q)) r (permissions c p) (c.node q))) (e (C a) (name_element (name_of (c.node q)))) u in
+      inside_of c k q is_block (λ z. z) (delivered-block (name_of (c.node q)) r (permissions c p) (c.node q) g)
 
-  two-into : (p q : ℕ) (t : Two) (a d : ℕ) → T (twoLeads c e p q t a d) → q < c.size
-  unfolding twoLeads
+  two-into : (p q : ℕ) (t : Two) (a d : ℕ) → T (two_leads c e p q t a d) → q < c.size
+  unfolding two_leads
   two-into p q apply a d t = body-inside a q t
   two-into p q sequence a d t = absurd t
   two-into p q get a d t = absurd t
@@ -76,16 +76,16 @@ module _ (c : Code) (k : Linked c) (e : Sets) where
   two-into p q (operation f) a d t = absurd t
   two-into p q (send s) a d t = receiver-inside p s a d q t
 
-  node-into : (p q : ℕ) (n : Node) → NodeLinked c p n → T (nodeLeads c e p q n) → q < c.size
-  unfolding nodeLeads
+  node-into : (p q : ℕ) (n : Node) → NodeLinked c p n → T (node_leads c e p q n) → q < c.size
+  unfolding node_leads
   node-into p q gap l t = absurd t
   node-into p q (block n s g) l t = is q (p + 3) t l.3.inside
   node-into p q (leaf f) l t = absurd t
   node-into p q (one f a) l t = is q a t l.inside
   node-into p q (two u a d) l t =
       ⊎_elim (λ s. is q a s l.1.inside)
-      (λ s. ⊎_elim (λ v. is q d v l.2.inside) (λ v. two-into p q u a d v) (T-or (eqb q d) (twoLeads c e p q u a d) s))
-      (T-or (eqb q a) (eqb q d || twoLeads c e p q u a d) t)
+      (λ s. ⊎_elim (λ v. is q d v l.2.inside) (λ v. two-into p q u a d v) (T-or (eqb q d) (two_leads c e p q u a d) s))
+      (T-or (eqb q a) (eqb q d || two_leads c e p q u a d) t)
   node-into p q (bind a d) l t = ⊎_elim (λ s. is q a s l.0.inside) (λ s. is q d s l.1.inside) (T-or (eqb q a) (eqb q d) t)
   node-into p q (while a d) l t = ⊎_elim (λ s. is q a s l.0.inside) (λ s. is q d s l.1.inside) (T-or (eqb q a) (eqb q d) t)
   node-into p q (branch a b d) l t =
@@ -98,7 +98,7 @@ module _ (c : Code) (k : Linked c) (e : Sets) where
   pub leads-into : (p q : ℕ) → T (leads c e p q) → q < c.size
   unfolding leads
   leads-into p q t =
-      node-into p q (c.node p) (k.nodes p (leads-inside c k e p q t)) (T-snd (e (L p) 0) (nodeLeads c e p q (c.node p)) t)
+      node-into p q (c.node p) (k.nodes p (leads-inside c k e p q t)) (T-snd (e (L p) 0) (node_leads c e p q (c.node p)) t)
 
   module _ (ρ : ℕ) where
     pub comes-inside : Inside c.size (comes c e) (opens c e ρ)
@@ -156,12 +156,12 @@ module _ (c : Code) (k : Linked c) (e : Sets) where
         low (v ∷ vs) t i = s.lowest v vs t.0 t.1 (omega arith)
 
         answers : (b : ℕ) (ws : List ℕ) → reverse (w ∷ us) ≡ b ∷ ws → First c e ρ x b ws
-        unfolding isBlock
+        unfolding is_block
         answers b ws i =
             let p : IsPath (b ∷ ws) = subst IsPath i (to-path w us [] s.chain s.starts) in
             let n : length (b ∷ ws) ≡ suc (length us) = ap length (sym i) ∙ (let z = length-turned us (w ∷ []) in omega arith) in
             record {
-              listed = listed-node c b (c.node b) (k.nodes b (inside_of c k b (λ m. isBlock m) (λ z. z) (guarded-is (c.node b) ρ p.0))) (guarded-is (c.node b) ρ p.0);
+              listed = listed-node c b (c.node b) (k.nodes b (inside_of c k b (λ m. is_block m) (λ z. z) (guarded-is (c.node b) ρ p.0))) (guarded-is (c.node b) ρ p.0);
               opened = p.0;
               path = p.1;
               fewest = λ y. let h = short (reverse (y.block ∷ y.words)) (turned y) in let z = length-turned y.words (y.block ∷ []) in omega arith;
@@ -170,8 +170,8 @@ module _ (c : Code) (k : Linked c) (e : Sets) where
                   (low (reverse (y.block ∷ y.words)) (turned y) (let z = length-turned y.words (y.block ∷ []) in omega arith));
             }
 
-      pub shortest-answers : Answers c e ρ x (shortestPath c e ρ x)
-      unfolding shortestPath
+      pub shortest-answers : Answers c e ρ x (shortest_path c e ρ x)
+      unfolding shortest_path
       shortest-answers = go (shortest c.size (comes c e) (opens c e ρ) (ends c e x)) (shortest-finds c.size (comes c e) (opens c e ρ) comes-inside (ends c e x))
         where
           whole : (w : ℕ) (us : List ℕ) → Shortest c.size (comes c e) (opens c e ρ) (ends c e x) w us → (l : List ℕ) → reverse (w ∷ us) ≡ l → Answers c e ρ x l

@@ -15,9 +15,9 @@ use Rattle.permset.specs.Sets.{width, member, within}
 use Rattle.table.specs.declared.Item.TheVariants as items
 use Rattle.table.specs.declared.Handler.{Handler}
 use Rattle.table.specs.declared.Term.{Term}
-use Rattle.table.specs.Item.{handlerAt, item_at}
+use Rattle.table.specs.Item.{handler_at, item_at}
 use Rattle.table.specs.Scan.{Task, head, name, perms, guard, term, accepted, names_at, reading}
-use Rattle.table.specs.Code.{Code, Node, code, nodeFor, tasks, taskAt, blocks_from}
+use Rattle.table.specs.Code.{Code, Node, code, node_for, tasks, task_at, blocks_from}
 use Rattle.table.proofs.Faults.{Stands}
 use Rattle.table.proofs.Items.{item-block, item-gap, item-term}
 use Rattle.table.proofs.Stack.{reach}
@@ -27,20 +27,20 @@ use Rattle.table.proofs.Limits.{size-le, blocks-le}
 use Rattle.table.proofs.Widths.{names-most}
 use Rattle.calculus.specs.Constraint.{P, L}
 use Rattle.calculus.specs.Rules.{name_of, guarded}
-use Rattle.calculus.specs.Layout.{rowWords, estimateWords, base, shift, owner, span, place, allowed, sets, bit, content}
-use Rattle.calculus.specs.Estimate.{permissionsAt}
+use Rattle.calculus.specs.Layout.{row_words, estimate_words, base, shift, owner, span, place, allowed, sets, bit, content}
+use Rattle.calculus.specs.Estimate.{permissions_at}
 use Rattle.rows.proofs.Bounds.{words-bound}
 use Rattle.text.specs.Writing.{Wrote}
 use Rattle.text.proofs.Writing.{wrote_nothing, wrote-length, reworded, then}
-use Rattle.report.specs.Lines.{handlerLine}
-use Rattle.printout.specs.Program.{handlerLines}
+use Rattle.report.specs.Lines.{handler_line}
+use Rattle.printout.specs.Program.{handler_lines}
 use Rattle.printout.specs.Handlers.{Printable, here, onward, Stepped, Listed}
 
 -- ---- the word of P(p) and of the live flag
 
 -- a line in other terms
 pub line-is : (position n : ℕ) {a a' b b' : Bool} {s s' : ℕ} → a ≡ a' → b ≡ b' → s ≡ s'
-    → handlerLine position n a b s ≡ handlerLine position n a' b' s'
+    → handler_line position n a b s ≡ handler_line position n a' b' s'
 line-is position n p q r = cc
 
 module _ (ws est : List ℕ) (r : Printable ws est) where
@@ -52,17 +52,17 @@ module _ (ws est : List ℕ) (r : Printable ws est) where
 
   module _ (p f : ℕ) (h : p < length ws) (at-word : base (code ws) (P p) ≡ f) where
     pub word-inside : f < length est
-    unfolding base estimateWords code
+    unfolding base estimate_words code
     word-inside = omega (arith, r.long)
 
-    pub permissions-read : (ρ : ℕ) → permissionsAt (code ws) ρ est p ≡ get_or est f 0 % 2 ^ width
-    unfolding permissionsAt content
+    pub permissions-read : (ρ : ℕ) → permissions_at (code ws) ρ est p ≡ get_or est f 0 % 2 ^ width
+    unfolding permissions_at content
     permissions-read ρ = ap (λ (n : ℕ). get_or est n 0 % 2 ^ width) at-word
 
     pub flag-read : sets (code ws) est (L p) 0 ≡ eqb (get_or est f 0 / 2 ^ 24 % 2) 1
     unfolding sets allowed owner span place shift bit base member code
     flag-read =
-        let n = 2 * length ws * rowWords (code ws) + p in
+        let n = 2 * length ws * row_words (code ws) + p in
         let quotient : (32 * n + 24 + 0) / 32 ≡ f = omega (arith, at-word) in
         let rest : (32 * n + 24 + 0) % 32 ≡ 24 = omega arith in
         let inside : (ltb p (length ws) && ltb 0 1) ≡ true = ap (λ (b : Bool). b && ltb 0 1) (lt-ltb p (length ws) h) in
@@ -75,19 +75,19 @@ module _ (ws : List ℕ) (e : reading ws ≡ accepted) (p : ℕ) (h : p < length
   abbrev keys : List ℕ
   keys = (reach ws e p h).keys
 
-  stands-as : (t : Task) → taskAt ws p ≡ t → Stands (names_at ws) keys (get_or ws p 0) t
+  stands-as : (t : Task) → task_at ws p ≡ t → Stands (names_at ws) keys (get_or ws p 0) t
   stands-as t k = subst (Stands (names_at ws) keys (get_or ws p 0)) k (place-stands ws e p h)
 
-  name-block : taskAt ws p ≡ name → item_at ws p ≡ items.Block (handlerAt ws p)
+  name-block : task_at ws p ≡ name → item_at ws p ≡ items.Block (handler_at ws p)
   name-block k = item-block ws p (stands-as name k).0
 
-  block-name : (x : Handler) → item_at ws p ≡ items.Block x → taskAt ws p ≡ name
-  block-name x b = go (taskAt ws p) refl
+  block-name : (x : Handler) → item_at ws p ≡ items.Block x → task_at ws p ≡ name
+  block-name x b = go (task_at ws p) refl
     where
-      gap-not : item_at ws p ≡ items.Gap → taskAt ws p ≡ name
+      gap-not : item_at ws p ≡ items.Gap → task_at ws p ≡ name
       gap-not g = let z : ◌≡◌ {A = ℕ} 0 1 = cc in absurd (omega arith)
 
-      go : (t : Task) → taskAt ws p ≡ t → taskAt ws p ≡ name
+      go : (t : Task) → task_at ws p ≡ t → task_at ws p ≡ name
       go (head n) k =
           ⊎_elim (λ s. gap-not (item-gap ws p (λ z. omega arith) (omega arith))) (λ s. gap-not (item-gap ws p (λ z. omega arith) (omega arith)))
           (stands-as (head n) k).0
@@ -99,13 +99,13 @@ module _ (ws : List ℕ) (e : reading ws ≡ accepted) (p : ℕ) (h : p < length
           let z : ◌≡◌ {A = ℕ} 0 1 = cc in
           absurd (omega arith)
 
-  here-block : taskAt ws p ≡ name → here ws p ≡ p ∷ []
+  here-block : task_at ws p ≡ name → here ws p ≡ p ∷ []
   unfolding here blocks_from
   here-block k = ap (λ (t : Task). blocks_from (t ∷ []) p) k
 
-  here-none : (taskAt ws p ≡ name → ⊥) → here ws p ≡ []
+  here-none : (task_at ws p ≡ name → ⊥) → here ws p ≡ []
   unfolding here blocks_from
-  here-none f = go (taskAt ws p) f
+  here-none f = go (task_at ws p) f
     where
       go : (t : Task) → (t ≡ name → ⊥) → blocks_from (t ∷ []) p ≡ []
       go (head n) g = refl
@@ -124,41 +124,41 @@ module _ (ws : List ℕ) (e : reading ws ≡ accepted) (p : ℕ) (h : p < length
   here-handler x b = here-block (block-name x b)
 
   -- the line of a block by its node
-  node-line : (ρ position : ℕ) (est : List ℕ) → taskAt ws p ≡ name
-      → handlerLines (code ws) ρ est position (p ∷ [])
-      ≡ handlerLine position (handlerAt ws p).name (within (handlerAt ws p).guard.bits ρ) (sets (code ws) est (L p) 0) (permissionsAt (code ws) ρ est p)
-  unfolding handlerLines code nodeFor name_of guarded handlerAt
+  node-line : (ρ position : ℕ) (est : List ℕ) → task_at ws p ≡ name
+      → handler_lines (code ws) ρ est position (p ∷ [])
+      ≡ handler_line position (handler_at ws p).name (within (handler_at ws p).guard.bits ρ) (sets (code ws) est (L p) 0) (permissions_at (code ws) ρ est p)
+  unfolding handler_lines code node_for name_of guarded handler_at
   node-line ρ position est k =
       append-nil _
-      ∙ ap (λ (n : Node). handlerLine position (name_of n) (guarded n ρ) (sets (code ws) est (L p) 0) (permissionsAt (code ws) ρ est p)) (ap (nodeFor ws p) k)
+      ∙ ap (λ (n : Node). handler_line position (name_of n) (guarded n ρ) (sets (code ws) est (L p) 0) (permissions_at (code ws) ρ est p)) (ap (node_for ws p) k)
 
   -- a word without a handler's line
   pub stepped-none : (ρ : ℕ) (est out : List ℕ) (at position : ℕ) → at + 96 * length (here ws p) ≤ length out → here ws p ≡ []
       → Stepped ws ρ est out p at position out at position
-  unfolding handlerLines
+  unfolding handler_lines
   stepped-none ρ est out at position fits none =
       record {
         wrote =
-            reworded (ap (handlerLines (code ws) ρ est position) (sym none)) (wrote_nothing out at (omega arith));
+            reworded (ap (handler_lines (code ws) ρ est position) (sym none)) (wrote_nothing out at (omega arith));
         counted = omega (arith, ap length none);
         most = omega arith;
       }
 
   -- a word with one
   pub stepped-block : (x : Handler) → item_at ws p ≡ items.Block x → (ρ : ℕ) (est out : List ℕ) (at position : ℕ) (out' : List ℕ) (at' : ℕ)
-      → Wrote out at (handlerLine position x.name (within x.guard.bits ρ) (sets (code ws) est (L p) 0) (permissionsAt (code ws) ρ est p)) out' at'
+      → Wrote out at (handler_line position x.name (within x.guard.bits ρ) (sets (code ws) est (L p) 0) (permissions_at (code ws) ρ est p)) out' at'
       → at' ≤ at + 96 → Stepped ws ρ est out p at position out' at' (position + 1)
   stepped-block x b ρ est out at position out' at' w l =
       let k = block-name x b in
       let n = name-block k in
-      let s : handlerAt ws p ≡ x = cc in
+      let s : handler_at ws p ≡ x = cc in
       let one = here-block k in
       record {
         wrote =
             reworded
-            (ap (λ (y : Handler). handlerLine position y.name (within y.guard.bits ρ) (sets (code ws) est (L p) 0) (permissionsAt (code ws) ρ est p)) (sym s)
+            (ap (λ (y : Handler). handler_line position y.name (within y.guard.bits ρ) (sets (code ws) est (L p) 0) (permissions_at (code ws) ρ est p)) (sym s)
             ∙ sym (node-line ρ position est k)
-            ∙ ap (handlerLines (code ws) ρ est position) (sym one)) w;
+            ∙ ap (handler_lines (code ws) ρ est position) (sym one)) w;
         counted = omega (arith, ap length one);
         most = omega (arith, ap length one);
       }
@@ -166,10 +166,10 @@ module _ (ws : List ℕ) (e : reading ws ≡ accepted) (p : ℕ) (h : p < length
 -- ---- the loop over the words
 
 onward-step : (ws : List ℕ) → reading ws ≡ accepted → (p : ℕ) → p < length ws → onward ws p ≡ here ws p ++ onward ws (suc p)
-unfolding onward here taskAt blocks_from
+unfolding onward here task_at blocks_from
 onward-step ws e p h =
     let l : p < length (tasks ws) = subst (λ (n : ℕ). p < n) (sym (tasks-length ws e)) h in
-    ap (λ (ts : List Task). blocks_from ts p) (drop-cons (tasks ws) p (head 0) l) ∙ split (taskAt ws p) (drop (suc p) (tasks ws))
+    ap (λ (ts : List Task). blocks_from ts p) (drop-cons (tasks ws) p (head 0) l) ∙ split (task_at ws p) (drop (suc p) (tasks ws))
   where
     split : (t : Task) (ts : List Task) → blocks_from (t ∷ ts) p ≡ blocks_from (t ∷ []) p ++ blocks_from ts (suc p)
     split (head n) ts = refl
@@ -180,19 +180,19 @@ onward-step ws e p h =
 
 -- the lines of one list of handlers after another's
 lines-append : (c : Code) (ρ : ℕ) (est : List ℕ) (position : ℕ) (xs ys : List ℕ)
-    → handlerLines c ρ est position (xs ++ ys) ≡ handlerLines c ρ est position xs ++ handlerLines c ρ est (position + length xs) ys
-unfolding handlerLines
-lines-append c ρ est position [] ys = ap (λ (n : ℕ). handlerLines c ρ est n ys) (sym (add-zero position))
+    → handler_lines c ρ est position (xs ++ ys) ≡ handler_lines c ρ est position xs ++ handler_lines c ρ est (position + length xs) ys
+unfolding handler_lines
+lines-append c ρ est position [] ys = ap (λ (n : ℕ). handler_lines c ρ est n ys) (sym (add-zero position))
 lines-append c ρ est position (x ∷ xs) ys =
-    let l = handlerLine position (name_of (c.node x)) (guarded (c.node x) ρ) (sets c est (L x) 0) (permissionsAt c ρ est x) in
+    let l = handler_line position (name_of (c.node x)) (guarded (c.node x) ρ) (sets c est (L x) 0) (permissions_at c ρ est x) in
     let more : suc position + length xs ≡ position + suc (length xs) = omega arith in
     ap (λ (r : List ℕ). l ++ r) (lines-append c ρ est (suc position) xs ys)
-    ∙ sym (append_assoc l (handlerLines c ρ est (suc position) xs) (handlerLines c ρ est (suc position + length xs) ys))
-    ∙ ap (λ (n : ℕ). (l ++ handlerLines c ρ est (suc position) xs) ++ handlerLines c ρ est n ys) more
+    ∙ sym (append_assoc l (handler_lines c ρ est (suc position) xs) (handler_lines c ρ est (suc position + length xs) ys))
+    ∙ ap (λ (n : ℕ). (l ++ handler_lines c ρ est (suc position) xs) ++ handler_lines c ρ est n ys) more
 
 module _ (ws : List ℕ) (e : reading ws ≡ accepted) (ρ : ℕ) (est out : List ℕ) (start : ℕ) where
   abbrev lines : ℕ → List ℕ → List ℕ
-  lines position bs = handlerLines (code ws) ρ est position bs
+  lines position bs = handler_lines (code ws) ρ est position bs
 
   pub listed_start : start ≤ length out → Listed ws ρ est out start 0 out start 0
   unfolding onward code
@@ -204,7 +204,7 @@ module _ (ws : List ℕ) (e : reading ws ≡ accepted) (ρ : ℕ) (est out : Lis
     listed-length = wrote-length l.wrote
 
     pub listed-end : length ws ≤ p → p ≤ length ws → Wrote out start (lines 0 (code ws).blocks) out' at
-    unfolding onward handlerLines
+    unfolding onward handler_lines
     listed-end h k =
         let z : p ≡ length ws = omega arith in
         let none : onward ws p ≡ [] = ap (onward ws) z ∙ blocks_end ws e in

@@ -1,26 +1,26 @@
 -- The lines of the handlers, written a word of the table at a time.
 use Rattle.std.specs.Prelude.{ℕ, ◌+◌, ◌*◌, ◌≤◌, ◌≡◌, List, [], ◌∷◌, ◌++◌, length, drop}
 use Rattle.table.specs.Scan.{accepted, reading}
-use Rattle.table.specs.Code.{code, tasks, taskAt, blocks_from}
-use Rattle.calculus.specs.Layout.{estimateWords}
+use Rattle.table.specs.Code.{code, tasks, task_at, blocks_from}
+use Rattle.calculus.specs.Layout.{estimate_words}
 use Rattle.text.specs.Writing.{Wrote}
-use Rattle.printout.specs.Program.{handlerLines}
+use Rattle.printout.specs.Program.{handler_lines}
 
 -- an accepted table, of either width, and the words of an estimate of it
 pub record Printable (ws est : List ℕ) : Type 0 where
   pub readable : reading ws ≡ accepted
-  pub long : length est ≡ estimateWords (code ws)
+  pub long : length est ≡ estimate_words (code ws)
 
 -- the block that starts at the place p, if one does, and those from there on
 unfoldable pub here : List ℕ → ℕ → List ℕ
-here ws p = blocks_from (taskAt ws p ∷ []) p
+here ws p = blocks_from (task_at ws p ∷ []) p
 
 unfoldable pub onward : List ℕ → ℕ → List ℕ
 onward ws p = blocks_from (drop p (tasks ws)) p
 
 -- the word at p is done: its handler's line, if it has one, stands at the place `at`, and `position` handlers came before it
 pub record Stepped (ws : List ℕ) (ρ : ℕ) (est out : List ℕ) (p at position : ℕ) (out' : List ℕ) (at' position' : ℕ) : Type 0 where
-  pub wrote : Wrote out at (handlerLines (code ws) ρ est position (here ws p)) out' at'
+  pub wrote : Wrote out at (handler_lines (code ws) ρ est position (here ws p)) out' at'
   pub counted : position' ≡ position + length (here ws p)
   pub most : at' ≤ at + 96 * length (here ws p)
 
@@ -28,6 +28,6 @@ pub record Stepped (ws : List ℕ) (ρ : ℕ) (est out : List ℕ) (p at positio
 pub record Listed (ws : List ℕ) (ρ : ℕ) (est out : List ℕ) (start p : ℕ) (out' : List ℕ) (at position : ℕ) : Type 0 where
   pub done : List ℕ
   pub wrote : Wrote out start done out' at
-  pub rest : done ++ handlerLines (code ws) ρ est position (onward ws p) ≡ handlerLines (code ws) ρ est 0 (code ws).blocks
+  pub rest : done ++ handler_lines (code ws) ρ est position (onward ws p) ≡ handler_lines (code ws) ρ est 0 (code ws).blocks
   pub few : position + length (onward ws p) ≤ 64
   pub most : at ≤ start + 96 * position

@@ -4,10 +4,10 @@ ghost use Rattle.permset.specs.Sets.{within};
 ghost use Rattle.table.specs.Code.{code};
 ghost use Rattle.calculus.specs.Constraint.{L};
 ghost use Rattle.calculus.specs.Layout.{sets};
-ghost use Rattle.calculus.specs.Estimate.{permissionsAt};
+ghost use Rattle.calculus.specs.Estimate.{permissions_at};
 ghost use Rattle.text.specs.Writing.{Wrote};
-ghost use Rattle.report.specs.Lines.{handlerLine};
-ghost use Rattle.printout.specs.Program.{handlerLines};
+ghost use Rattle.report.specs.Lines.{handler_line};
+ghost use Rattle.printout.specs.Program.{handler_lines};
 ghost use Rattle.printout.specs.Handlers.{Printable, here, Stepped};
 
 use permset::PermSet;
@@ -34,8 +34,8 @@ fn block_line(
     h: Handler,
 ) -> usize
     requires { Printable words.now est.now × (p < length words.now) × (c.at + 96 ≤ length out.old) }
-    ensures wrote { Wrote out.old c.at (handlerLine c.position h.name (within h.guard.bits rho)
-        (sets (code words.now) est.now (L p) 0) (permissionsAt (code words.now) rho est.now p))
+    ensures wrote { Wrote out.old c.at (handler_line c.position h.name (within h.guard.bits rho)
+        (sets (code words.now) est.now (L p) 0) (permissions_at (code words.now) rho est.now p))
         out.new result }
     ensures upper_bound { result ≤ c.at + 96 }
 {
@@ -69,7 +69,7 @@ fn handler_at(words: &[u32], rho: u32, est: &[u32], out: &mut [u8], p: usize, c:
 // The lines of all handlers, from the place `start` on.
 pub fn handler_lines(words: &[u32], rho: u32, est: &[u32], out: &mut [u8], start: usize) -> usize
     requires { Printable words.now est.now × (start + 6144 ≤ length out.old) }
-    ensures { Wrote out.old start (handlerLines (code words.now) rho est.now 0
+    ensures { Wrote out.old start (handler_lines (code words.now) rho est.now 0
         (code words.now).blocks) out.new result }
 {
     let mut c = Cursor {

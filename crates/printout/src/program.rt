@@ -2,7 +2,7 @@
 ghost use Rattle.std.specs.Prelude.{◌≡◌, ◌≤◌, length, get_or, drop};
 ghost use Rattle.table.specs.Scan.{first_of};
 ghost use Rattle.text.specs.Writing.{Wrote};
-ghost use Rattle.printout.specs.Program.{feederTests, systemText, printed, room, textAfter, textSize};
+ghost use Rattle.printout.specs.Program.{feeder_tests, system_text, printed, room, text_after, text_size};
 
 use crate::system::tell;
 use little_endian::words_of;
@@ -10,7 +10,7 @@ use report::refusal_line;
 
 // The number that refuses an input of this many bytes, and 0 where none does.
 fn feeder_fault(size: usize) -> u32
-    ensures { result ≡ first_of (feederTests size) }
+    ensures { result ≡ first_of (feeder_tests size) }
 {
     if 1032 < size {
         return 31;
@@ -31,7 +31,7 @@ fn sized_text(
     out: &mut [u8],
 ) -> usize
     requires { (length words.now ≤ 256) × (length est.old ≡ 5888) × (length work.old ≡ 1024) × (room ≤ length out.old) }
-    ensures { Wrote out.old 0 (systemText rho bound words.now) out.new result }
+    ensures { Wrote out.old 0 (system_text rho bound words.now) out.new result }
 {
     tell(words, rho, bound, est, work, out)
 }
@@ -39,7 +39,7 @@ fn sized_text(
 // The same over slices of its own.
 fn own_text(words: &[u32], rho: u32, bound: u32, out: &mut [u8]) -> usize
     requires { (length words.now ≤ 256) × (room ≤ length out.old) }
-    ensures { Wrote out.old 0 (systemText rho bound words.now) out.new result }
+    ensures { Wrote out.old 0 (system_text rho bound words.now) out.new result }
 {
     let mut est = [0u32; 5888];
     let mut work = [0u32; 1024];
@@ -49,7 +49,7 @@ fn own_text(words: &[u32], rho: u32, bound: u32, out: &mut [u8]) -> usize
 // The text of words that are ρ, the bound and the system.
 fn words_text(words: &[u32], out: &mut [u8]) -> usize
     requires { (2 ≤ length words.now) × (length words.now ≤ 258) × (room ≤ length out.old) }
-    ensures { Wrote out.old 0 (systemText (get_or words.now 0 0) (get_or words.now 1 0)
+    ensures { Wrote out.old 0 (system_text (get_or words.now 0 0) (get_or words.now 1 0)
         (drop 2 words.now)) out.new result }
 {
     own_text(&words[2..], words[0], words[1], out)
@@ -57,7 +57,7 @@ fn words_text(words: &[u32], out: &mut [u8]) -> usize
 
 // The text of an input, over words that are lent.
 fn lent_text(input: &[u8], out: &mut [u8], words: &mut [u32]) -> usize
-    requires { (first_of (feederTests (length input.now)) ≡ 0) × (length words.old ≡ 258) × (room ≤ length out.old) }
+    requires { (first_of (feeder_tests (length input.now)) ≡ 0) × (length words.old ≡ 258) × (room ≤ length out.old) }
     ensures { Wrote out.old 0 (printed input.now) out.new result }
 {
     let n = words_of(input, words);
@@ -80,8 +80,8 @@ fn input_text(input: &[u8], out: &mut [u8]) -> usize
 // What the program prints for the bytes of its standard input, at the start of `out`, and how long it is. A slice of less than 6,240 bytes gets
 // nothing.
 pub fn print(input: &[u8], out: &mut [u8]) -> usize
-    ensures size { result ≡ textSize (printed input.now) (length out.old) }
-    ensures text { out.new ≡ textAfter (printed input.now) out.old }
+    ensures size { result ≡ text_size (printed input.now) (length out.old) }
+    ensures text { out.new ≡ text_after (printed input.now) out.old }
     ensures fits { result ≤ length out.old }
 {
     if out.len() < 6240 {

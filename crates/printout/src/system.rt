@@ -4,8 +4,8 @@ ghost use Rattle.table.specs.Code.{code};
 ghost use Rattle.calculus.specs.Estimate.{estimate};
 ghost use Rattle.comparison.specs.Values.{answer_of};
 ghost use Rattle.text.specs.Writing.{Wrote};
-ghost use Rattle.report.specs.Lines.{verdictLine};
-ghost use Rattle.printout.specs.Program.{handlerLines, firstLine, answerText, room};
+ghost use Rattle.report.specs.Lines.{verdict_line};
+ghost use Rattle.printout.specs.Program.{handler_lines, first_line, answer_text, room};
 ghost use Rattle.printout.specs.Answers.{Held, HeldFor, Told, ToldEither};
 
 use crate::handlers::handler_lines;
@@ -18,7 +18,7 @@ use verdict::judge::verdict;
 
 fn report_line(r: Report, over: bool, first: u32, out: &mut [u8], at: usize) -> usize
     requires { at + 96 ≤ length out.old }
-    ensures wrote { Wrote out.old at (verdictLine (record {
+    ensures wrote { Wrote out.old at (verdict_line (record {
       leak = r.leak.bits;
       bound = r.bound.bits;
       over = over;
@@ -35,7 +35,7 @@ fn report_line(r: Report, over: bool, first: u32, out: &mut [u8], at: usize) -> 
 // The first line of an answer.
 pub fn answer_line(v: Verdict, out: &mut [u8], at: usize) -> usize
     requires { at + 96 ≤ length out.old }
-    ensures wrote { Wrote out.old at (firstLine (answer_of v)) out.new result }
+    ensures wrote { Wrote out.old at (first_line (answer_of v)) out.new result }
     ensures upper_bound { result ≤ at + 96 }
 {
     match v {
@@ -48,7 +48,7 @@ pub fn answer_line(v: Verdict, out: &mut [u8], at: usize) -> usize
 // The lines of the handlers, by the estimate in the first words of a slice.
 fn handlers_of(words: &[u32], rho: u32, est: &[u32], out: &mut [u8], at: usize) -> usize
     requires { Held words.now rho est.now × (at + 6144 ≤ length out.old) }
-    ensures { Wrote out.old at (handlerLines (code words.now) rho (estimate (code words.now) rho) 0
+    ensures { Wrote out.old at (handler_lines (code words.now) rho (estimate (code words.now) rho) 0
         (code words.now).blocks) out.new result }
 {
     let need = words_needed(words);
@@ -58,7 +58,7 @@ fn handlers_of(words: &[u32], rho: u32, est: &[u32], out: &mut [u8], at: usize) 
 // All lines of an answer.
 pub fn answer_text(v: Verdict, words: &[u32], rho: u32, est: &[u32], out: &mut [u8]) -> usize
     requires { HeldFor words.now rho est.now (answer_of v) × (room ≤ length out.old) }
-    ensures { Wrote out.old 0 (answerText rho words.now (answer_of v)) out.new result }
+    ensures { Wrote out.old 0 (answer_text rho words.now (answer_of v)) out.new result }
 {
     let at = answer_line(v, out, 0);
     match v {

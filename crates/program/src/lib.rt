@@ -4,7 +4,7 @@ pub mod reports;
 
 ghost use Rattle.std.specs.Prelude.{◌≡◌, ◌+◌, ◌≤◌, length};
 ghost use Rattle.text.specs.Writing.{Wrote};
-ghost use Rattle.program.specs.Printed.{or_zero, over as Printed·over, tooLong, fullText, commandText, planText, room, printed, printedSize, outAfter};
+ghost use Rattle.program.specs.Printed.{or_zero, over as Printed·over, too_long, full_text, command_text, plan_text, room, printed, printed_size, out_after};
 
 use crate::checks::check;
 use crate::reports::{Report, put_report};
@@ -39,7 +39,7 @@ fn over(most: usize, number: u32, size: usize) -> u32
 
 // The number that refuses an input of so many bytes before it is looked at, 0 where none does.
 fn too_long(c: Command, size: usize) -> u32
-    ensures { result ≡ tooLong c size }
+    ensures { result ≡ too_long c size }
 {
     match c {
         Command::Leak => 0,
@@ -65,7 +65,7 @@ fn too_long(c: Command, size: usize) -> u32
 // The text of a command.
 fn full_text(c: Command, a: u32, b: u32, v: Value, input: &[u8], out: &mut [u8]) -> usize
     requires { room + length input.now ≤ length out.old }
-    ensures { Wrote out.old 0 (fullText c a b v input.now) out.new result }
+    ensures { Wrote out.old 0 (full_text c a b v input.now) out.new result }
 {
     match c {
         Command::Leak => put_report(Report::Leak(a, b, v), input, out),
@@ -91,7 +91,7 @@ fn full_text(c: Command, a: u32, b: u32, v: Value, input: &[u8], out: &mut [u8])
 // The text of a command, or the refusal of an input that is too long.
 fn command_text(c: Command, a: u32, b: u32, v: Value, input: &[u8], out: &mut [u8]) -> usize
     requires { room + length input.now ≤ length out.old }
-    ensures { Wrote out.old 0 (commandText c a b v input.now) out.new result }
+    ensures { Wrote out.old 0 (command_text c a b v input.now) out.new result }
 {
     let refused = too_long(c, input.len());
     if refused != 0 {
@@ -103,7 +103,7 @@ fn command_text(c: Command, a: u32, b: u32, v: Value, input: &[u8], out: &mut [u
 // The text of a command with its values.
 fn call_text(c: Call, input: &[u8], out: &mut [u8]) -> usize
     requires { room + length input.now ≤ length out.old }
-    ensures { Wrote out.old 0 (commandText c.command (or_zero c.first) (or_zero c.second) c.third input.now)
+    ensures { Wrote out.old 0 (command_text c.command (or_zero c.first) (or_zero c.second) c.third input.now)
         out.new result }
 {
     let first = c.first;
@@ -118,7 +118,7 @@ fn call_text(c: Call, input: &[u8], out: &mut [u8]) -> usize
 // The text of a plan.
 fn plan_text(p: Plan, input: &[u8], out: &mut [u8]) -> usize
     requires { room + length input.now ≤ length out.old }
-    ensures { Wrote out.old 0 (planText p input.now) out.new result }
+    ensures { Wrote out.old 0 (plan_text p input.now) out.new result }
 {
     match p {
         Plan::Help => help(out),
@@ -132,8 +132,8 @@ fn plan_text(p: Plan, input: &[u8], out: &mut [u8]) -> usize
 // The text for the arguments, each followed by a zero byte, and an input, at the start of the output, and how many bytes it has. Nothing is written
 // where the output has not 1,048,576 bytes more than the input, which is room for every text.
 pub fn run(arguments: &[u8], input: &[u8], out: &mut [u8]) -> usize
-    ensures size { result ≡ printedSize (printed arguments.now input.now) (length input.now) (length out.old) }
-    ensures out { out.new ≡ outAfter (printed arguments.now input.now) (length input.now) out.old }
+    ensures size { result ≡ printed_size (printed arguments.now input.now) (length input.now) (length out.old) }
+    ensures out { out.new ≡ out_after (printed arguments.now input.now) (length input.now) out.old }
     ensures fits { result ≤ length out.old }
 {
     if out.len() < 1048576 {

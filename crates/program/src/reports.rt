@@ -1,7 +1,7 @@
 // The reports on a system, which is a listing or words.
 ghost use Rattle.std.specs.Prelude.{◌+◌, ◌≤◌, length};
 ghost use Rattle.text.specs.Writing.{Wrote};
-ghost use Rattle.program.specs.Printed.{reportText, reported, room};
+ghost use Rattle.program.specs.Printed.{report_text, reported, room};
 
 use arguments::values::Value;
 use report::refusal_line;
@@ -22,7 +22,7 @@ pub enum Report {
 // The text of a report on words.
 fn report_on(r: Report, words: &[u32], out: &mut [u8]) -> usize
     requires { (length words.now ≤ 1024) × (room ≤ length out.old) }
-    ensures { Wrote out.old 0 (reportText r words.now) out.new result }
+    ensures { Wrote out.old 0 (report_text r words.now) out.new result }
 {
     match r {
         Report::Leak(rho, bound, ceiling) => leaks::leak(words, rho, bound, ceiling, out),

@@ -10,15 +10,15 @@ use lib.ListN.{length, get_or, take}
 use lib.Seq.{length-take-le, get_or-take}
 use Rattle.listing.specs.Listing.{refusal}
 use Rattle.listing.proofs.Answers.{read-long}
-use Rattle.report.specs.Lines.{refusalLine}
-use Rattle.systems.specs.System.{Reading, areWords, systemOf, told}
+use Rattle.report.specs.Lines.{refusal_line}
+use Rattle.systems.specs.System.{Reading, are_words, system_of, told}
 use Rattle.systems.proofs.Theorems.{long-system}
-use Rattle.diagnosis.specs.Diagnosis.{refusedText, checkedText, checkText as listingText}
+use Rattle.diagnosis.specs.Diagnosis.{refused_text, checked_text, check_text as listing_text}
 use Rattle.commands.proofs.Texts.{words-refused}
-use Rattle.manifest.specs.Manifest.{isObject, judged}
+use Rattle.manifest.specs.Manifest.{is_object, judged}
 use Rattle.manifest.specs.Manifest as manifest
 use Rattle.commands.specs.Printed as texts
-use Rattle.system_texts.specs.Audit.{auditText}
+use Rattle.system_texts.specs.Audit.{audit_text}
 use Rattle.system_texts.proofs.Laws.{audit-long}
 use Rattle.arguments.specs.Plan.{plan_of}
 use Rattle.arguments.specs.declared.Command.{Command}
@@ -28,17 +28,17 @@ use Rattle.arguments.specs.declared.plan.Plan.{Plan}
 use Rattle.arguments.specs.declared.plan.Plan.TheVariants as plans
 use Rattle.program.specs.declared.reports.Report.{Report}
 use Rattle.program.specs.declared.reports.Report.TheVariants as reports
-use Rattle.program.specs.Printed.{reportText, checkedWords, checkText, over, tooLong, reported, fullText, commandText, planText, printed}
+use Rattle.program.specs.Printed.{report_text, checked_words, check_text, over, too_long, reported, full_text, command_text, plan_text, printed}
 
 -- ---- one command at a time, by the first test of its definition
 
 long-object : (l : List ℕ) → 16384 < length l → judged l ≡ manifest.refused 43 0
-unfolding judged isObject
-long-object l h = rw (judged, isObject, lt-leb (length l) 16384 h)
+unfolding judged is_object
+long-object l h = rw (judged, is_object, lt-leb (length l) 16384 h)
 
-long-check : (l : List ℕ) → 65536 < length l → listingText l ≡ checkedText (refusal 41 0) []
-unfolding listingText checkedText refusedText
-long-check l h = rw (listingText, read-long l 1024 h)
+long-check : (l : List ℕ) → 65536 < length l → listing_text l ≡ checked_text (refusal 41 0) []
+unfolding listing_text checked_text refused_text
+long-check l h = rw (listing_text, read-long l 1024 h)
 
 module _ (k : ℕ) (input : List ℕ) (h : 294916 < k) (l : k ≤ length input) where
   abbrev kept : List ℕ
@@ -47,43 +47,43 @@ module _ (k : ℕ) (input : List ℕ) (h : 294916 < k) (l : k ≤ length input) 
   many : length kept ≡ k
   many = length-take-le k input l
 
-  fourth : areWords kept ≡ areWords input
-  unfolding areWords
+  fourth : are_words kept ≡ are_words input
+  unfolding are_words
   fourth = ap (λ (b : ℕ). eqb b 1 || eqb b 5) (get_or-take k input 3 0 (omega arith))
 
-  same-system : systemOf kept ≡ systemOf input
+  same-system : system_of kept ≡ system_of input
   same-system = long-system k input (omega arith) l
 
   same-report : (r : Report) → reported r kept ≡ reported r input
-  same-report r = ap (λ (x : Reading). told x (reportText r)) same-system
+  same-report r = ap (λ (x : Reading). told x (report_text r)) same-system
 
-  same_check : checkText kept ≡ checkText input
-  unfolding checkText
+  same_check : check_text kept ≡ check_text input
+  unfolding check_text
   same_check =
-      ap₂ (λ (x : Reading) (y : List ℕ). elim (areWords kept) [ true ↦ checkedWords x | false ↦ y ]) same-system
+      ap₂ (λ (x : Reading) (y : List ℕ). elim (are_words kept) [ true ↦ checked_words x | false ↦ y ]) same-system
       (long-check kept (omega (arith, many)) ∙ sym (long-check input (omega arith)))
-      ∙ ap (λ (t : Bool). elim t [ true ↦ checkedWords (systemOf input) | false ↦ listingText input ]) fourth
+      ∙ ap (λ (t : Bool). elim t [ true ↦ checked_words (system_of input) | false ↦ listing_text input ]) fourth
 
-  same-words : texts.wordsText kept ≡ texts.wordsText input
+  same-words : texts.words_text kept ≡ texts.words_text input
   same-words = sym (words-refused kept 41 0 (read-long kept 1024 (omega (arith, many)))) ∙ words-refused input 41 0 (read-long input 1024 (omega arith))
 
-  same-manifest : texts.manifestText kept ≡ texts.manifestText input
-  same-manifest = ap texts.outcomeText (long-object kept (omega (arith, many)) ∙ sym (long-object input (omega arith)))
+  same-manifest : texts.manifest_text kept ≡ texts.manifest_text input
+  same-manifest = ap texts.outcome_text (long-object kept (omega (arith, many)) ∙ sym (long-object input (omega arith)))
 
-  same-audit : (ρ : ℕ) → auditText ρ kept ≡ auditText ρ input
+  same-audit : (ρ : ℕ) → audit_text ρ kept ≡ audit_text ρ input
   same-audit ρ = sym (audit-long ρ kept (omega (arith, many))) ∙ audit-long ρ input (omega arith)
 
   -- a command whose input is too long in any case
-  module _ (c : Command) (a b : ℕ) (v : Value) (most number : ℕ) (e : (size : ℕ) → tooLong c size ≡ over most (suc number) size) (m : most ≤ 131072) where
-    refused-long : (x : List ℕ) → 131072 < length x → commandText c a b v x ≡ refusalLine (suc number) 0
-    unfolding commandText over
-    refused-long x n = rw (commandText, e (length x), over, lt-ltb most (length x) (omega arith))
+  module _ (c : Command) (a b : ℕ) (v : Value) (most number : ℕ) (e : (size : ℕ) → too_long c size ≡ over most (suc number) size) (m : most ≤ 131072) where
+    refused-long : (x : List ℕ) → 131072 < length x → command_text c a b v x ≡ refusal_line (suc number) 0
+    unfolding command_text over
+    refused-long x n = rw (command_text, e (length x), over, lt-ltb most (length x) (omega arith))
 
-    same-long : commandText c a b v kept ≡ commandText c a b v input
+    same-long : command_text c a b v kept ≡ command_text c a b v input
     same-long = refused-long kept (omega (arith, many)) ∙ sym (refused-long input (omega arith))
 
-  same-command : (c : Command) (a b : ℕ) (v : Value) → commandText c a b v kept ≡ commandText c a b v input
-  unfolding commandText tooLong fullText
+  same-command : (c : Command) (a b : ℕ) (v : Value) → command_text c a b v kept ≡ command_text c a b v input
+  unfolding command_text too_long full_text
   same-command commands.Leak a b v = same-report (reports.Leak a b v)
   same-command commands.Within a b v = same-report (reports.Within a b)
   same-command commands.Check a b v = same_check
@@ -102,8 +102,8 @@ module _ (k : ℕ) (input : List ℕ) (h : 294916 < k) (l : k ≤ length input) 
   same-command commands.Manifest a b v = same-manifest
   same-command commands.Explain a b v = refl
 
-  same-plan : (p : Plan) → planText p kept ≡ planText p input
-  unfolding planText
+  same-plan : (p : Plan) → plan_text p kept ≡ plan_text p input
+  unfolding plan_text
   same-plan plans.Help = refl
   same-plan plans.Version = refl
   same-plan plans.Unknown = refl

@@ -9,7 +9,7 @@ use Rattle.table.specs.Code.{code, Linked}
 use Rattle.table.proofs.Linked.{linked as code-linked}
 use Rattle.table.proofs.Blocks.{head-word}
 use Rattle.table.proofs.Widths.{names-most}
-use Rattle.calculus.specs.Layout.{rowWords, estimateWords, WellFormed}
+use Rattle.calculus.specs.Layout.{row_words, estimate_words, WellFormed}
 use Rattle.rows.specs.declared.layout.Layout.{Layout}
 use Rattle.rows.specs.Laid.{Sized}
 use Rattle.queries.specs.Ready.{Ready}
@@ -24,7 +24,7 @@ module _ {ws links masks : List ℕ} {l : Layout} (y : Ready ws links masks l) w
   size_is = y.laid.size
 
   pub sized : {est : List ℕ} → WellFormed (code ws) est → Sized l est
-  unfolding estimateWords rowWords code
+  unfolding estimate_words row_words code
   sized {est} w =
       let small : length ws ≤ 1024 = (head-word ws y.readable).sized in
       let long : length est ≡ 2 * l.size * l.row + l.size = rw (y.laid.row, y.laid.size) at w.long in

@@ -5,8 +5,8 @@ use native.Mathlib.Omega.{arith}
 use mathlib.Core.List.{List}
 use Rattle.table.specs.declared.Item.TheVariants as items
 use Rattle.table.specs.declared.Term.{Term}
-use Rattle.table.specs.Item.{item_at, itemPerms}
-use Rattle.table.specs.Links.{linkAt}
+use Rattle.table.specs.Item.{item_at, item_perms}
+use Rattle.table.specs.Links.{link_at}
 use Rattle.table.specs.Code.{code}
 use Rattle.table.proofs.Linked.{linked}
 use Rattle.table.proofs.Nodes.{home-link, home-block}
@@ -16,11 +16,11 @@ use Rattle.calculus.proofs.Permissions.{permissions-are}
 use Rattle.queries.specs.Ready.{Ready}
 
 pub sender : {ws links masks : List ℕ} {l : Layout} (y : Ready ws links masks l) (x : ℕ) (t : Term) → item_at ws x ≡ items.Term t → (own : ℕ)
-    → own ≡ itemPerms (item_at ws (linkAt links x).home) → own ≡ permissions (code ws) x
+    → own ≡ item_perms (item_at ws (link_at links x).home) → own ≡ permissions (code ws) x
 sender {ws} y x t h own e = rw y.from at e ∙ permissions-are ws y.readable y.slice y.room x t h
 
 module _ {ws links masks : List ℕ} {l : Layout} (y : Ready ws links masks l) (x : ℕ) (t : Term) (h : item_at ws x ≡ items.Term t) (home : ℕ)
-    (e : home ≡ (linkAt links x).home) where
+    (e : home ≡ (link_at links x).home) where
   pub sender-home : home ≡ (code ws).home x
   sender-home = rw y.from at e ∙ sym (home-link ws y.readable y.slice y.room x t h)
 

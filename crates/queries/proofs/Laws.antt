@@ -10,7 +10,7 @@ use lib.Dec.{eqb}
 use lib.ListN.{length, get_or, take, drop}
 use Rattle.permset.specs.Sets.{member}
 use Rattle.table.specs.Code.{Code}
-use Rattle.calculus.specs.Elements.{elements, isString}
+use Rattle.calculus.specs.Elements.{elements, is_string}
 use Rattle.calculus.specs.Constraint.{C, L}
 use Rattle.calculus.specs.Layout.{base, sets, WellFormed}
 use Rattle.calculus.proofs.Folds.{found}
@@ -55,7 +55,7 @@ module _ (c : Code) (l : Layout) (o : LaidOut c l) (est : List ℕ) where
       rw (word, base-row, o.row)
 
   module _ (w : WellFormed c est) (r : ℕ) (h : r < 2 * l.size) where
-    pub text-is : not (eqb (bit_and (get_or est (r * l.row) 0) 4294967040) 0) ≡ found c est (row_at r) isString
+    pub text-is : not (eqb (bit_and (get_or est (r * l.row) 0) 4294967040) 0) ≡ found c est (row_at r) is_string
     text-is = rw (found-string c est w (row_at r) (value_row c r (omega arith)), base-row, o.row)
 
     pub some_is : (q : ℕ → Bool) (mask : List ℕ) → Mask c q mask → meets mask (take l.row (drop (r * l.row) est)) ≡ found c est (row_at r) q

@@ -14,7 +14,7 @@ use Rattle.permset.specs.Sets.{member, lowest}
 use Rattle.permset.proofs.Laws.{member-empty, lowest-member, lowest-below, lowest-lt}
 use Rattle.calculus.proofs.Digits.{T_true}
 use Rattle.rows.specs.Rows.{NextCommon}
-use Rattle.rows.proofs.Laws.{getD-row, length_part}
+use Rattle.rows.proofs.Laws.{get_or-row, length_part}
 use Rattle.queries.specs.Things.{common, both, Next}
 
 -- the digits of a word from digit k on
@@ -60,7 +60,7 @@ module _ (est masks : List ℕ) (lead at to from row k : ℕ) (z : common est ma
     (next : NextCommon (take (at + row - at) (drop at est)) (take (to + row - to) (drop to masks)) (lead + from / 32 + 1) k) where
   part-word : (i : ℕ) → i < row
       → bit_and (get_or (take (at + row - at) (drop at est)) i 0) (get_or (take (to + row - to) (drop to masks)) i 0) ≡ common est masks at to i
-  part-word i h = ap₂ bit_and (getD-row est at (at + row - at) i (omega arith)) (getD-row masks to (to + row - to) i (omega arith))
+  part-word i h = ap₂ bit_and (get_or-row est at (at + row - at) i (omega arith)) (get_or-row masks to (to + row - to) i (omega arith))
 
   passed : (g : ℕ) → from ≤ g → lead + g / 32 < k → lead + g / 32 < row → both est masks lead at to g ≡ false
   passed g h l m = go (dec_lt g ((from / 32 + 1) * 32))

@@ -2,14 +2,14 @@
 ghost use Rattle.std.specs.Prelude.{◌≡◌, ◌+◌, ◌*◌, ◌/◌, ◌%◌, ◌^◌, ◌<◌, ◌≤◌, length, get_or};
 ghost use Rattle.table.specs.Words.{argument};
 ghost use Rattle.table.specs.Code.{Code};
-ghost use Rattle.calculus.specs.Elements.{isString};
+ghost use Rattle.calculus.specs.Elements.{is_string};
 ghost use Rattle.calculus.specs.Constraint.{L};
 ghost use Rattle.calculus.specs.Layout.{sets, WellFormed};
 ghost use Rattle.calculus.specs.Estimate.{found};
 ghost use Rattle.rows.specs.Laid.{LaidOut, Sized};
 ghost use Rattle.rows.specs.Numbered.{row_at};
 ghost use Rattle.queries.specs.Passes.{FoundBy, PassedBy, Looks};
-ghost use Rattle.queries.specs.Starts.{startsAt};
+ghost use Rattle.queries.specs.Starts.{starts_at};
 ghost use Rattle.queries.specs.Things.{Searched, common, both, Next};
 
 use clauses::{Guard, Test};
@@ -44,7 +44,7 @@ pub fn has(est: &[u32], l: Layout, r: usize, v: usize) -> bool
 // Whether the row r has a string.
 pub fn has_text(est: &[u32], l: Layout, r: usize) -> bool
     requires { Sized l est.now × (r < 2 * l.size) }
-    ensures { (c : Code) → LaidOut c l → WellFormed c est.now → result ≡ found c est.now (row_at r) isString }
+    ensures { (c : Code) → LaidOut c l → WellFormed c est.now → result ≡ found c est.now (row_at r) is_string }
 {
     let at = r * l.row;
     est[at] & STRINGS != 0
@@ -147,7 +147,7 @@ pub fn starts(
     b: usize,
 ) -> bool
     requires { (b < length words.now) × Sized l est.now × (x + 1 < l.size) × (32 + argument (get_or words.now b 0) < 32 * l.lead) }
-    ensures { (c : Code) → LaidOut c l → result ≡ startsAt c words.now est.now x required.bits sender.bits b }
+    ensures { (c : Code) → LaidOut c l → result ≡ starts_at c words.now est.now x required.bits sender.bits b }
 {
     // Its name first: most blocks have another.
     let name = handler_at(words, b).name;

@@ -10,13 +10,13 @@ use lib.ListN.{length, get_or}
 use Rattle.permset.specs.Sets.{width, union}
 use Rattle.permset.proofs.Laws.{within-refl, within-trans, within-antisym, within-union-left, within-union-right, union-within, union-mono}
 use Rattle.table.specs.Scan.{name, accepted, reading}
-use Rattle.table.specs.Code.{Code, code, taskAt, end_of}
+use Rattle.table.specs.Code.{Code, code, task_at, end_of}
 use Rattle.table.proofs.Blocks.{Follows, blocks-first, blocks-next, blocks_end}
 use Rattle.calculus.specs.Constraint.{P}
 use Rattle.calculus.specs.Rules.{guarded}
 use Rattle.calculus.specs.Layout.{base, content}
-use Rattle.calculus.specs.Estimate.{permissionsAt, leakAmong, leak}
-use Rattle.table.proofs.BlockLoop.{blocksOn}
+use Rattle.calculus.specs.Estimate.{permissions_at, leak_among, leak}
+use Rattle.table.proofs.BlockLoop.{blocks_on}
 
 -- ---- the leak
 
@@ -31,46 +31,46 @@ union_assoc a b c =
     (union-mono b (union a b) c c (within-union-right a b) (within-refl c)))
 
 module _ (c : Code) (ρ : ℕ) (est : List ℕ) where
-  among-cons : (b : ℕ) (bs : List ℕ) → leakAmong c ρ est (b ∷ bs) ≡ union (leakAmong c ρ est (b ∷ [])) (leakAmong c ρ est bs)
-  unfolding leakAmong union
+  among-cons : (b : ℕ) (bs : List ℕ) → leak_among c ρ est (b ∷ bs) ≡ union (leak_among c ρ est (b ∷ [])) (leak_among c ρ est bs)
+  unfolding leak_among union
   among-cons b bs = go (guarded (c.node b) ρ)
     where
       go : (u : Bool)
-          → elim u [ true ↦ union (permissionsAt c ρ est b) (leakAmong c ρ est bs) | false ↦ leakAmong c ρ est bs ]
-          ≡ union (elim u [ true ↦ union (permissionsAt c ρ est b) 0 | false ↦ 0 ]) (leakAmong c ρ est bs)
-      go true = ap (λ (x : ℕ). bit_or x (leakAmong c ρ est bs)) (sym (or_zero_r (permissionsAt c ρ est b)))
-      go false = sym (or_zero_l (leakAmong c ρ est bs))
+          → elim u [ true ↦ union (permissions_at c ρ est b) (leak_among c ρ est bs) | false ↦ leak_among c ρ est bs ]
+          ≡ union (elim u [ true ↦ union (permissions_at c ρ est b) 0 | false ↦ 0 ]) (leak_among c ρ est bs)
+      go true = ap (λ (x : ℕ). bit_or x (leak_among c ρ est bs)) (sym (or_zero_r (permissions_at c ρ est b)))
+      go false = sym (or_zero_l (leak_among c ρ est bs))
 
-  pub among-closed : (b : ℕ) → guarded (c.node b) ρ ≡ false → leakAmong c ρ est (b ∷ []) ≡ 0
-  unfolding leakAmong
-  among-closed b g = ap (λ (u : Bool). elim u [ true ↦ union (permissionsAt c ρ est b) 0 | false ↦ 0 ]) g
+  pub among-closed : (b : ℕ) → guarded (c.node b) ρ ≡ false → leak_among c ρ est (b ∷ []) ≡ 0
+  unfolding leak_among
+  among-closed b g = ap (λ (u : Bool). elim u [ true ↦ union (permissions_at c ρ est b) 0 | false ↦ 0 ]) g
 
-  pub among-open : (b : ℕ) → guarded (c.node b) ρ ≡ true → leakAmong c ρ est (b ∷ []) ≡ get_or est (base c (P b)) 0 % 2 ^ width
-  unfolding leakAmong permissionsAt content union
+  pub among-open : (b : ℕ) → guarded (c.node b) ρ ≡ true → leak_among c ρ est (b ∷ []) ≡ get_or est (base c (P b)) 0 % 2 ^ width
+  unfolding leak_among permissions_at content union
   among-open b g =
-      ap (λ (u : Bool). elim u [ true ↦ union (permissionsAt c ρ est b) 0 | false ↦ 0 ]) g
-      ∙ or_zero_r (permissionsAt c ρ est b)
+      ap (λ (u : Bool). elim u [ true ↦ union (permissions_at c ρ est b) 0 | false ↦ 0 ]) g
+      ∙ or_zero_r (permissions_at c ρ est b)
 
 -- the loop over the blocks: what is found so far, and what the blocks from b on leak
 module _ (ws : List ℕ) (e : reading ws ≡ accepted) (ρ : ℕ) (est : List ℕ) where
-  abbrev pub leakOn : ℕ → ℕ
-  leakOn b = leakAmong (code ws) ρ est (blocksOn ws b)
+  abbrev pub leak_on : ℕ → ℕ
+  leak_on b = leak_among (code ws) ρ est (blocks_on ws b)
 
-  pub leak-start : bit_or 0 (leakOn 1) ≡ leak (code ws) ρ est
+  pub leak-start : bit_or 0 (leak_on 1) ≡ leak (code ws) ρ est
   unfolding leak code
-  leak-start = or_zero_l (leakOn 1) ∙ ap (leakAmong (code ws) ρ est) (sym (blocks-first ws e))
+  leak-start = or_zero_l (leak_on 1) ∙ ap (leak_among (code ws) ρ est) (sym (blocks-first ws e))
 
-  pub leak-step : (b : ℕ) → b < length ws → taskAt ws b ≡ name → (found : ℕ)
-      → bit_or (bit_or found (leakAmong (code ws) ρ est (b ∷ []))) (leakOn (end_of ws (b + 3))) ≡ bit_or found (leakOn b)
+  pub leak-step : (b : ℕ) → b < length ws → task_at ws b ≡ name → (found : ℕ)
+      → bit_or (bit_or found (leak_among (code ws) ρ est (b ∷ []))) (leak_on (end_of ws (b + 3))) ≡ bit_or found (leak_on b)
   unfolding union
   leak-step b i t found =
-      union_assoc found (leakAmong (code ws) ρ est (b ∷ [])) (leakOn (end_of ws (b + 3)))
+      union_assoc found (leak_among (code ws) ρ est (b ∷ [])) (leak_on (end_of ws (b + 3)))
       ∙ ap (bit_or found)
-      (sym (among-cons (code ws) ρ est b (blocksOn ws (end_of ws (b + 3)))) ∙ ap (leakAmong (code ws) ρ est) (sym (blocks-next ws e b i t)))
+      (sym (among-cons (code ws) ρ est b (blocks_on ws (end_of ws (b + 3)))) ∙ ap (leak_among (code ws) ρ est) (sym (blocks-next ws e b i t)))
 
-  pub leak-end : (b : ℕ) → Follows ws b → length ws ≤ b → (found : ℕ) → bit_or found (leakOn b) ≡ found
-  unfolding leakAmong
+  pub leak-end : (b : ℕ) → Follows ws b → length ws ≤ b → (found : ℕ) → bit_or found (leak_on b) ≡ found
+  unfolding leak_among
   leak-end b f n found =
       let z : b ≡ length ws = ⊎_elim (λ x. x) (λ x. absurd (omega (arith, x.0))) f in
-      ap (λ (x : ℕ). bit_or found (leakOn x)) z ∙ ap (λ (bs : List ℕ). bit_or found (leakAmong (code ws) ρ est bs)) (blocks_end ws e)
+      ap (λ (x : ℕ). bit_or found (leak_on x)) z ∙ ap (λ (bs : List ℕ). bit_or found (leak_among (code ws) ρ est bs)) (blocks_end ws e)
       ∙ or_zero_r found

@@ -3,7 +3,7 @@ use Rattle.std.specs.Prelude.{◌≡◌, List, ℕ, length}
 use Rattle.table.specs.Scan.{accepted, reading}
 use Rattle.table.specs.Code.{code}
 use Rattle.table.specs.Links.{LinksOf}
-use Rattle.calculus.specs.Layout.{estimateWords}
+use Rattle.calculus.specs.Layout.{estimate_words}
 use Rattle.rows.specs.declared.layout.Layout.{Layout}
 use Rattle.rows.specs.Laid.{LaidOut}
 
@@ -11,4 +11,4 @@ pub record Readable (ws links est : List ℕ) (l : Layout) : Type 0 where
   pub readable : reading ws ≡ accepted
   pub laid : LaidOut (code ws) l
   pub linked : LinksOf ws links
-  pub long : length est ≡ estimateWords (code ws)
+  pub long : length est ≡ estimate_words (code ws)

@@ -1,8 +1,8 @@
 // The leak, read from an estimate.
 ghost use Rattle.std.specs.Prelude.{◌≡◌, [], ◌∷◌, ◌<◌, length};
 ghost use Rattle.table.specs.Scan.{name};
-ghost use Rattle.table.specs.Code.{code, taskAt};
-ghost use Rattle.calculus.specs.Estimate.{leakAmong, leak as estimateLeak};
+ghost use Rattle.table.specs.Code.{code, task_at};
+ghost use Rattle.calculus.specs.Estimate.{leak_among, leak as estimateLeak};
 ghost use Rattle.readers.specs.Reading.{Readable};
 
 use permset::PermSet;
@@ -11,8 +11,8 @@ use table_links::{next_block, opens};
 
 // What the block at b adds to the leak.
 fn leak_at(words: &[u32], links: &[u32], est: &[u32], l: Layout, rho: PermSet, b: usize) -> PermSet
-    requires { Readable words.now links.now est.now l × (b < length words.now) × (taskAt words.now b ≡ name) }
-    ensures { result.bits ≡ leakAmong (code words.now) rho.bits est.now (b ∷ []) }
+    requires { Readable words.now links.now est.now l × (b < length words.now) × (task_at words.now b ≡ name) }
+    ensures { result.bits ≡ leak_among (code words.now) rho.bits est.now (b ∷ []) }
 {
     if !opens(words, rho, b) {
         return PermSet::empty();

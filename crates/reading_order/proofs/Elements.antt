@@ -13,15 +13,15 @@ use Rattle.table.proofs.Widths.{names-most}
 use Rattle.table.proofs.Linked.{linked}
 use Rattle.calculus.specs.Elements.{made}
 use Rattle.calculus.specs.Constraint.{C}
-use Rattle.calculus.specs.Layout.{sets, rowWords, estimateWords}
+use Rattle.calculus.specs.Layout.{sets, row_words, estimate_words}
 use Rattle.rows.specs.declared.layout.Layout.{Layout}
 use Rattle.rows.specs.Laid.{LaidOut, Sized}
 use Rattle.rows.specs.Numbered.{row_at}
 use Rattle.rows.proofs.Numbered.{row-C}
 use Rattle.graph.specs.declared.Arrangement.{Arrangement}
-use Rattle.graph.specs.Answer.{written, startingWith, Means}
+use Rattle.graph.specs.Answer.{written, starting_with, Means}
 use Rattle.graph.specs.Answer as graph
-use Rattle.reading_order.specs.Relation.{sendersTo, liveAmong, senderRows, liveBlocks}
+use Rattle.reading_order.specs.Relation.{senders_to, live_among, sender_rows, live_blocks}
 use Rattle.reading_order.specs.Parts.{Firsts, ArrangedBy}
 
 -- an element past the plain ones in C(b) is that of a sender
@@ -39,8 +39,8 @@ pub blocks-few : (ws : List ℕ) → reading ws ≡ accepted → length (code ws
 blocks-few ws e = omega (arith, blocks-le ws e, names-most (get_or ws 0 0))
 
 module _ (ws : List ℕ) (e : reading ws ≡ accepted) (l : Layout) (o : LaidOut (code ws) l) where
-  pub sized : (est : List ℕ) → length est ≡ estimateWords (code ws) → Sized l est
-  unfolding estimateWords rowWords code
+  pub sized : (est : List ℕ) → length est ≡ estimate_words (code ws) → Sized l est
+  unfolding estimate_words row_words code
   sized est long =
       let n : l.size ≤ 1024 = omega (arith, size-le ws e, o.size) in
       let wide : l.row ≤ 36 = omega (arith, o.size, o.row, names-most (get_or ws 0 0)) in
@@ -66,21 +66,21 @@ module _ (ws : List ℕ) (e : reading ws ≡ accepted) (l : Layout) (o : LaidOut
 -- ---- what is handed to `arrange`
 
 module _ (c : Code) (est bs : List ℕ) (q : bs ≡ c.blocks) where
-  pub rows_are : map (sendersTo c est bs) bs ≡ senderRows c est
-  unfolding senderRows
-  rows_are = ap (λ (x : List ℕ). map (sendersTo c est x) x) q
+  pub rows_are : map (senders_to c est bs) bs ≡ sender_rows c est
+  unfolding sender_rows
+  rows_are = ap (λ (x : List ℕ). map (senders_to c est x) x) q
 
-  pub live-are : liveAmong c est bs ≡ liveBlocks c est
-  unfolding liveBlocks
-  live-are = ap (liveAmong c est) q
+  pub live-are : live_among c est bs ≡ live_blocks c est
+  unfolding live_blocks
+  live-are = ap (live_among c est) q
 
 -- its answer, where it is handed the relation of an estimate
-pub arranged-by : (c : Code) (est old new rows : List ℕ) (live : ℕ) (r : Arrangement) → rows ≡ senderRows c est → live ≡ liveBlocks c est
-    → (r ≡ graph.answer rows live (length old)) × ((new ≡ startingWith (written rows live r) old) × Means rows live r new)
+pub arranged-by : (c : Code) (est old new rows : List ℕ) (live : ℕ) (r : Arrangement) → rows ≡ sender_rows c est → live ≡ live_blocks c est
+    → (r ≡ graph.answer rows live (length old)) × ((new ≡ starting_with (written rows live r) old) × Means rows live r new)
     → ArrangedBy c est old new r
 arranged-by c est old new rows live r e f t =
     record {
       says = t.0 ∙ ap₂ (λ (x : List ℕ) (y : ℕ). graph.answer x y (length old)) e f;
-      writes = t.1.0 ∙ ap₂ (λ (x : List ℕ) (y : ℕ). startingWith (written x y r) old) e f;
-      means = subst (λ (x : List ℕ). Means x (liveBlocks c est) r new) e (subst (λ (y : ℕ). Means rows y r new) f t.1.1);
+      writes = t.1.0 ∙ ap₂ (λ (x : List ℕ) (y : ℕ). starting_with (written x y r) old) e f;
+      means = subst (λ (x : List ℕ). Means x (live_blocks c est) r new) e (subst (λ (y : ℕ). Means rows y r new) f t.1.1);
     }

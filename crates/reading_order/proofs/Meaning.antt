@@ -22,16 +22,16 @@ use Rattle.graph.specs.Order.{Order, OrderBy}
 use Rattle.graph.specs.Loop.{Loop, Shortest, ShortestBy}
 use Rattle.graph.proofs.Theorem.{order-or-loop}
 use Rattle.graph.proofs.Same.{order_same, shortest-same}
-use Rattle.reading_order.specs.Relation.{block_at, LiveAt, MaySend, placesWith, sendersTo, liveAmong, senderRows, liveBlocks}
+use Rattle.reading_order.specs.Relation.{block_at, LiveAt, MaySend, places_with, senders_to, live_among, sender_rows, live_blocks}
 use Rattle.reading_order.proofs.Places.{places-member}
 use Rattle.reading_order.proofs.Elements.{listed_at}
 
 -- a place of a list whose number passes
 module _ (q : ℕ → Bool) (bs : List ℕ) (i : ℕ) where
-  member-at : i < length bs → T (member (placesWith q bs) i) → T (q (get_or bs i 0))
+  member-at : i < length bs → T (member (places_with q bs) i) → T (q (get_or bs i 0))
   member-at h m = T-snd (ltb i (length bs)) (q (get_or bs i 0)) (subst T (places-member q bs i) m)
 
-  at-member : i < length bs → T (q (get_or bs i 0)) → T (member (placesWith q bs) i)
+  at-member : i < length bs → T (q (get_or bs i 0)) → T (member (places_with q bs) i)
   at-member h t = subst T (sym (places-member q bs i)) (T_and (ltb i (length bs)) (q (get_or bs i 0)) (subst T (sym (lt-ltb i (length bs) h)) tt) t)
 
 row_at : (f : ℕ → ℕ) (bs : List ℕ) (t : ℕ) → t < length bs → get_or (map f bs) t 0 ≡ f (get_or bs t 0)
@@ -40,23 +40,23 @@ row_at f (b ∷ bs) zero h = refl
 row_at f (b ∷ bs) (suc t) h = row_at f bs t (omega arith)
 
 module _ (c : Code) (est : List ℕ) where
-  as_many : length (senderRows c est) ≡ length c.blocks
-  unfolding senderRows
-  as_many = length-map c.blocks (sendersTo c est c.blocks)
+  as_many : length (sender_rows c est) ≡ length c.blocks
+  unfolding sender_rows
+  as_many = length-map c.blocks (senders_to c est c.blocks)
 
-  pub live-means : (p : ℕ) → Live (senderRows c est) (liveBlocks c est) p ↔ LiveAt c (sets c est) p
-  unfolding liveBlocks liveAmong
+  pub live-means : (p : ℕ) → Live (sender_rows c est) (live_blocks c est) p ↔ LiveAt c (sets c est) p
+  unfolding live_blocks live_among
   live-means p = (
     λ l. let h = l.0 in let k : p < length c.blocks = omega (arith, as_many) in (k, member-at (λ b. sets c est (L b) 0) c.blocks p k l.1),
     λ l. let h = l.0 in (omega (arith, as_many), at-member (λ b. sets c est (L b) 0) c.blocks p h l.1),
   )
 
-  row_is : (t : ℕ) → t < length c.blocks → get_or (senderRows c est) t 0 ≡ placesWith (λ s. sets c est (C (block_at c t)) (made c s)) c.blocks
-  unfolding senderRows sendersTo
-  row_is t h = row_at (sendersTo c est c.blocks) c.blocks t h
+  row_is : (t : ℕ) → t < length c.blocks → get_or (sender_rows c est) t 0 ≡ places_with (λ s. sets c est (C (block_at c t)) (made c s)) c.blocks
+  unfolding sender_rows senders_to
+  row_is t h = row_at (senders_to c est c.blocks) c.blocks t h
 
   -- where both are live
-  sends-live : (s t : ℕ) → Sends (senderRows c est) (liveBlocks c est) s t ↔ (LiveAt c (sets c est) s × LiveAt c (sets c est) t × MaySend c (sets c est) s t)
+  sends-live : (s t : ℕ) → Sends (sender_rows c est) (live_blocks c est) s t ↔ (LiveAt c (sets c est) s × LiveAt c (sets c est) t × MaySend c (sets c est) s t)
   sends-live s t = (
     λ m. let from = (live-means s).0 m.sender in let to = (live-means t).0 m.receiver in (
       from,
@@ -85,10 +85,10 @@ module _ (c : Code) (k : Linked c) (ρ : ℕ) where
   least = sets c (estimate c ρ)
 
   abbrev rows : List ℕ
-  rows = senderRows c (estimate c ρ)
+  rows = sender_rows c (estimate c ρ)
 
   abbrev live : ℕ
-  live = liveBlocks c (estimate c ρ)
+  live = live_blocks c (estimate c ρ)
 
   -- "may send" with nothing left out: both are live
   pub both-live : (s t : ℕ) → MaySend c least s t → LiveAt c least s × LiveAt c least t

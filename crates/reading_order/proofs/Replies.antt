@@ -12,28 +12,28 @@ use Rattle.table.specs.Scan.{accepted, reading}
 use Rattle.table.specs.Code.{code}
 use Rattle.reading_order.proofs.Elements.{blocks-few}
 use Rattle.table.proofs.Linked.{linked}
-use Rattle.calculus.specs.Layout.{estimateWords}
+use Rattle.calculus.specs.Layout.{estimate_words}
 use Rattle.calculus.specs.Estimate.{estimate, facts}
-use Rattle.calculus.specs.Answer.{Answer, verdict, standingBound, judge, answer, workAfter}
+use Rattle.calculus.specs.Answer.{Answer, verdict, standing_bound, judge, answer, work_after}
 use Rattle.calculus.specs.Answer as answers
 use Rattle.calculus.proofs.Least.{estimate-well}
 use Rattle.calls.specs.declared.Fault.{Fault}
-use Rattle.calls.specs.Faults.{faultNumber, faultPlace}
+use Rattle.calls.specs.Faults.{fault_number, fault_place}
 use Rattle.calls.specs.Calls.{Fits}
 use Rattle.calls.proofs.Answers.{after-solved, after-refused}
 use Rattle.comparison.specs.declared.Findings.{Findings}
-use Rattle.solver.specs.Ceiling.{under, answerWithin, estimateWithin, SolvedIn}
+use Rattle.solver.specs.Ceiling.{under, answer_within, estimate_within, SolvedIn}
 use Rattle.solver.proofs.Least.{words-whole}
 use Rattle.solver.proofs.Bound.{words_are, words-kept}
 use Rattle.graph.specs.declared.Arrangement.{Arrangement}
 use Rattle.graph.specs.declared.Arrangement.TheVariants as arrangements
-use Rattle.graph.specs.Answer.{places, written, startingWith, Means}
+use Rattle.graph.specs.Answer.{places, written, starting_with, Means}
 use Rattle.graph.specs.Answer as graph
 use Rattle.graph.proofs.Answers.{answer-short}
 use Rattle.reading_order.specs.declared.Ordering.{Ordering}
 use Rattle.reading_order.specs.declared.Ordering.TheVariants as orderings
-use Rattle.reading_order.specs.Relation.{sendersTo, senderRows}
-use Rattle.reading_order.specs.Reply.{Reply, refused, replyOf, arranged, rows, live, replyWithin, reply, estimateAfterOrder, workAfterOrder, positionsAfter, ReplyMeans}
+use Rattle.reading_order.specs.Relation.{senders_to, sender_rows}
+use Rattle.reading_order.specs.Reply.{Reply, refused, reply_of, arranged, rows, live, reply_within, reply, estimate_after_order, work_after_order, positions_after, ReplyMeans}
 use Rattle.reading_order.specs.Parts.{ArrangedBy, OrderedIn}
 use Rattle.reading_order.proofs.Meaning.{order-means, loop-means}
 
@@ -45,11 +45,11 @@ means-reply ws e ρ arrangements.Short new m = tt
 means-reply ws e ρ (arrangements.Ordered count) new m = order-means (code ws) (linked ws e) ρ (take count new) m
 means-reply ws e ρ (arrangements.Looped count) new m = loop-means (code ws) (linked ws e) ρ (take count new) m
 
-module _ (ws : List ℕ) (ρ n : ℕ) (est work positions : List ℕ) (f : Fits ws ρ standingBound (length est) (length work)) where
+module _ (ws : List ℕ) (ρ n : ℕ) (est work positions : List ℕ) (f : Fits ws ρ standing_bound (length est) (length work)) where
   abbrev v : answers.Verdict
-  v = judge (code ws) ρ standingBound (estimate (code ws) ρ)
+  v = judge (code ws) ρ standing_bound (estimate (code ws) ρ)
 
-  e : answer ws ρ standingBound (length est) (length work) ≡ verdict v
+  e : answer ws ρ standing_bound (length est) (length work) ≡ verdict v
   e = f.judged
 
   -- what the ceiling lets through
@@ -60,15 +60,15 @@ module _ (ws : List ℕ) (ρ n : ℕ) (est work positions : List ℕ) (f : Fits 
   -- ---- 51
 
   rows-length : length (rows ws ρ) ≡ length (code ws).blocks
-  unfolding senderRows
-  rows-length = length-map (code ws).blocks (sendersTo (code ws) (estimate (code ws) ρ) (code ws).blocks)
+  unfolding sender_rows
+  rows-length = length-map (code ws).blocks (senders_to (code ws) (estimate (code ws) ρ) (code ws).blocks)
 
   -- the positions where an answer lets them be written
   abbrev written_by : Answer → List ℕ
   written_by a =
       elim a [
         | answers.refused number place ↦ positions
-        | verdict w ↦ startingWith (written (rows ws ρ) (live ws ρ) (graph.answer (rows ws ρ) (live ws ρ) (length positions))) positions
+        | verdict w ↦ starting_with (written (rows ws ρ) (live ws ρ) (graph.answer (rows ws ρ) (live ws ρ) (length positions))) positions
       ]
 
   untouched : length positions < places (rows ws ρ) → (a : Answer) → written_by a ≡ positions
@@ -77,15 +77,15 @@ module _ (ws : List ℕ) (ρ n : ℕ) (est work positions : List ℕ) (f : Fits 
   untouched few (verdict w) = rw (answer-short (rows ws ρ) (live ws ρ) (length positions) few, written)
 
   pub short-in : length positions < length (code ws).blocks → OrderedIn ws ρ n est work positions est work positions orderings.Short
-  unfolding replyOf reply estimateAfterOrder workAfterOrder positionsAfter
+  unfolding reply_of reply estimate_after_order work_after_order positions_after
   short-in h =
       let t : ltb (length positions) (length (code ws).blocks) ≡ true = lt-ltb (length positions) (length (code ws).blocks) h in
       record {
         replies = sym (rw (e, t, reply));
-        estimates = sym (rw (t, estimateAfterOrder));
-        works = sym (rw (t, workAfterOrder));
+        estimates = sym (rw (t, estimate_after_order));
+        works = sym (rw (t, work_after_order));
         writes =
-            sym (untouched (omega (arith, rows-length, blocks-few ws f.fit.readable, h)) (answerWithin ws ρ n (length est) (length work)));
+            sym (untouched (omega (arith, rows-length, blocks-few ws f.fit.readable, h)) (answer_within ws ρ n (length est) (length work)));
         means = tt;
       }
 
@@ -95,23 +95,23 @@ module _ (ws : List ℕ) (ρ n : ℕ) (est work positions : List ℕ) (f : Fits 
     t : ltb (length positions) (length (code ws).blocks) ≡ false
     t = le-ltb (length positions) (length (code ws).blocks) room
 
-    est-is : est' ≡ estimateAfterOrder ws ρ n est work positions
-    unfolding estimateAfterOrder
-    est-is = d.estimates ∙ words_are ws ρ n est work e ∙ sym (rw (t, estimateAfterOrder))
+    est-is : est' ≡ estimate_after_order ws ρ n est work positions
+    unfolding estimate_after_order
+    est-is = d.estimates ∙ words_are ws ρ n est work e ∙ sym (rw (t, estimate_after_order))
 
-    work-is : work' ≡ workAfterOrder ws ρ est work positions
-    unfolding workAfterOrder
-    work-is = d.works ∙ (after-solved ws ρ standingBound est work v e).1 ∙ sym (rw (t, workAfterOrder))
+    work-is : work' ≡ work_after_order ws ρ est work positions
+    unfolding work_after_order
+    work-is = d.works ∙ (after-solved ws ρ standing_bound est work v e).1 ∙ sym (rw (t, work_after_order))
 
     -- the reply and the positions by what the ceiling lets through
     by-ceiling : (a : Answer) → under n (verdict v) ≡ a
-        → (reply ws ρ n (length est) (length work) (length positions) ≡ replyWithin ws ρ (length positions) a)
-        × (positionsAfter ws ρ n est work positions ≡ written_by a)
-    unfolding reply positionsAfter answerWithin
-    by-ceiling a q = (rw (e, t, reply) (ap (replyWithin ws ρ (length positions)) q), ap (λ (x : Answer). written_by (under n x)) e ∙ ap written_by q)
+        → (reply ws ρ n (length est) (length work) (length positions) ≡ reply_within ws ρ (length positions) a)
+        × (positions_after ws ρ n est work positions ≡ written_by a)
+    unfolding reply positions_after answer_within
+    by-ceiling a q = (rw (e, t, reply) (ap (reply_within ws ρ (length positions)) q), ap (λ (x : Answer). written_by (under n x)) e ∙ ap written_by q)
 
     pub over-in : n < s.facts → OrderedIn ws ρ n est work positions est' work' positions (orderings.Over n)
-    unfolding replyOf replyWithin
+    unfolding reply_of reply_within
     over-in h =
         let k = by-ceiling (answers.refused 23 n) (under-by true (lt-ltb n (facts (estimate (code ws) ρ)) (d.over h))) in
         record {
@@ -126,15 +126,15 @@ module _ (ws : List ℕ) (ρ n : ℕ) (est work positions : List ℕ) (f : Fits 
       u : ltb n (facts (estimate (code ws) ρ)) ≡ false
       u = let k = d.within h in le-ltb n (facts (estimate (code ws) ρ)) (omega arith)
 
-      pub estimate-there : take (estimateWords (code ws)) est' ≡ estimate (code ws) ρ
+      pub estimate-there : take (estimate_words (code ws)) est' ≡ estimate (code ws) ρ
       estimate-there =
-          ap (take (estimateWords (code ws))) (d.estimates ∙ ap (λ (xs : List ℕ). xs ++ drop (estimateWords (code ws)) est) (words-whole (code ws) ρ n u))
-          ∙ take_at (estimate (code ws) ρ) (drop (estimateWords (code ws)) est) (estimateWords (code ws))
+          ap (take (estimate_words (code ws))) (d.estimates ∙ ap (λ (xs : List ℕ). xs ++ drop (estimate_words (code ws)) est) (words-whole (code ws) ρ n u))
+          ∙ take_at (estimate (code ws) ρ) (drop (estimate_words (code ws)) est) (estimate_words (code ws))
           (estimate-well (code ws) (linked ws f.fit.readable) ρ).long
 
-      pub arranged-in : (positions' : List ℕ) (a : Arrangement) (r : Ordering) → ArrangedBy (code ws) (take (estimateWords (code ws)) est') positions positions' a
-          → replyOf r ≡ arranged a → OrderedIn ws ρ n est work positions est' work' positions' r
-      unfolding replyWithin
+      pub arranged-in : (positions' : List ℕ) (a : Arrangement) (r : Ordering) → ArrangedBy (code ws) (take (estimate_words (code ws)) est') positions positions' a
+          → reply_of r ≡ arranged a → OrderedIn ws ρ n est work positions est' work' positions' r
+      unfolding reply_within
       arranged-in positions' a r k q =
           let w = by-ceiling (verdict v) (under-by false u) in
           let b : ArrangedBy (code ws) (estimate (code ws) ρ) positions positions' a = subst (λ (xs : List ℕ). ArrangedBy (code ws) xs positions positions' a) estimate-there k in
@@ -142,7 +142,7 @@ module _ (ws : List ℕ) (ρ n : ℕ) (est work positions : List ℕ) (f : Fits 
             replies = q ∙ ap arranged b.says ∙ sym w.0;
             estimates = est-is;
             works = work-is;
-            writes = b.writes ∙ ap (λ (x : Arrangement). startingWith (written (rows ws ρ) (live ws ρ) x) positions) b.says ∙ sym w.1;
+            writes = b.writes ∙ ap (λ (x : Arrangement). starting_with (written (rows ws ρ) (live ws ρ) x) positions) b.says ∙ sym w.1;
             means = subst (λ (x : Reply). ReplyMeans ws ρ x positions') (sym q) (means-reply ws f.fit.readable ρ a positions' b.means);
           }
 
@@ -153,17 +153,17 @@ same-either true x y q = refl
 same-either false x y q = q
 
 pub refused-in : (ws : List ℕ) (ρ n : ℕ) (est work positions : List ℕ) (f : Fault)
-    → answer ws ρ standingBound (length est) (length work) ≡ answers.refused (faultNumber f) (faultPlace f)
+    → answer ws ρ standing_bound (length est) (length work) ≡ answers.refused (fault_number f) (fault_place f)
     → OrderedIn ws ρ n est work positions est work positions (orderings.Refused f)
-unfolding replyOf reply estimateAfterOrder workAfterOrder positionsAfter answerWithin under
+unfolding reply_of reply estimate_after_order work_after_order positions_after answer_within under
 refused-in ws ρ n est work positions f e =
     let short = ltb (length positions) (length (code ws).blocks) in
     record {
       replies = sym (rw (e, reply));
-      estimates = same-either short est (estimateWithin ws ρ n est work) (words-kept ws ρ n est work (faultNumber f) (faultPlace f) e);
+      estimates = same-either short est (estimate_within ws ρ n est work) (words-kept ws ρ n est work (fault_number f) (fault_place f) e);
       works =
-          same-either short work (workAfter ws ρ standingBound est work)
-          (after-refused ws ρ standingBound est work (faultNumber f) (faultPlace f) e).1;
-      writes = sym (rw (e, positionsAfter));
+          same-either short work (work_after ws ρ standing_bound est work)
+          (after-refused ws ρ standing_bound est work (fault_number f) (fault_place f) e).1;
+      writes = sym (rw (e, positions_after));
       means = tt;
     }

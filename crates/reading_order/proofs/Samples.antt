@@ -3,28 +3,28 @@ use Prim.Native.Nat.{ℕ, ◌+◌}
 use mathlib.Core.Path.{◌≡◌, refl}
 use mathlib.Core.List.{List, [], ◌∷◌, ◌++◌}
 use Rattle.permset.specs.Sets.{within, member, union, difference, lowest}
-use Rattle.table.specs.Words.{partsByKind, limitsByKind, parts, arity, limit, constantNumber, constant_of, operationOf, termsByKind, termOf, names_of}
+use Rattle.table.specs.Words.{parts_by_kind, limits_by_kind, parts, arity, limit, constant_number, constant_of, operation_of, terms_by_kind, term_of, names_of}
 use Rattle.table.specs.Scan.{under, next}
-use Rattle.table.specs.Code.{code, skip, part, trace, tasks, taskAt, termNode, nodeFor, scopeFor, homeFor, blocks_from}
+use Rattle.table.specs.Code.{code, skip, part, trace, tasks, task_at, term_node, node_for, scope_for, home_for, blocks_from}
 use Rattle.delivery.specs.Delivery.{judged, delivered}
-use Rattle.calculus.specs.Elements.{constantElement, leafMakes, oneMakes, makes, isFunction, isRecord, isCell, making, sendable}
+use Rattle.calculus.specs.Elements.{constant_element, leaf_makes, one_makes, makes, is_function, is_record, is_cell, making, sendable}
 use Rattle.calculus.specs.Constraint.{range}
-use Rattle.calculus.specs.Rules.{name_of, permsOf, guarded, isBlock, permissions, deliveryTo, leafRule, oneRule, twoRule, flow, entry}
-use Rattle.calculus.specs.Rules.{twoSender, sender as senderRule, senders as sendersRule, rule}
-use Rattle.calculus.specs.Layout.{rowWords, estimateWords, sets}
+use Rattle.calculus.specs.Rules.{name_of, perms_of, guarded, is_block, permissions, delivery_to, leaf_rule, one_rule, two_rule, flow, entry}
+use Rattle.calculus.specs.Rules.{two_sender, sender as sender_rule, senders as senders_rule, rule}
+use Rattle.calculus.specs.Layout.{row_words, estimate_words, sets}
 use Rattle.calculus.specs.Estimate.{whole, estimate}
 use Rattle.calculus.specs.Samples.{single, relay, twins}
 use Rattle.graph.specs.Answer.{written}
 use Rattle.graph.specs.Answer as graph
 use Rattle.reading_order.specs.Reply.{Reply, ordered, looped, arranged}
-use Rattle.reading_order.specs.Relation.{digit, senderRows, liveBlocks}
+use Rattle.reading_order.specs.Relation.{digit, sender_rows, live_blocks}
 
 -- what an arrangement says, and the positions that it counts
 abbrev said : List ℕ → ℕ → Reply × List ℕ
 said rows live = (arranged (graph.answer rows live 64), written rows live (graph.answer rows live 64))
 
 abbrev told : ℕ → List ℕ → Reply × List ℕ
-told ρ ws = whole (estimate (code ws) ρ) (λ est. whole (senderRows (code ws) est) (λ rows. said rows (liveBlocks (code ws) est)))
+told ρ ws = whole (estimate (code ws) ρ) (λ est. whole (sender_rows (code ws) est) (λ rows. said rows (live_blocks (code ws) est)))
 
 -- two handlers of the name 0 that send to it; the second's guard lets the first in alone
 abbrev talkers : List ℕ
@@ -56,8 +56,8 @@ pub replies :
     ∷ (ordered 3, 0 ∷ 2 ∷ 1 ∷ [])
     ∷ (looped 2, 0 ∷ 1 ∷ [])
     ∷ []
-unfolding partsByKind limitsByKind parts arity limit constantNumber constant_of operationOf termsByKind termOf names_of under next code skip part trace tasks
-    taskAt termNode nodeFor scopeFor homeFor blocks_from within member union difference lowest constantElement leafMakes oneMakes makes isFunction
-    isRecord isCell making sendable range name_of permsOf guarded isBlock permissions deliveryTo judged delivered leafRule oneRule twoRule flow entry
-    twoSender senderRule sendersRule rule rowWords estimateWords sets estimate whole digit senderRows liveBlocks arranged written graph.answer
+unfolding parts_by_kind limits_by_kind parts arity limit constant_number constant_of operation_of terms_by_kind term_of names_of under next code skip part trace tasks
+    task_at term_node node_for scope_for home_for blocks_from within member union difference lowest constant_element leaf_makes one_makes makes is_function
+    is_record is_cell making sendable range name_of perms_of guarded is_block permissions delivery_to judged delivered leaf_rule one_rule two_rule flow entry
+    two_sender sender_rule senders_rule rule row_words estimate_words sets estimate whole digit sender_rows live_blocks arranged written graph.answer
 replies = refl

@@ -29,27 +29,27 @@ digit true = 1
 digit false = 0
 
 -- the set of the places in a list whose numbers have the property q
-unfoldable pub placesWith : (q : ℕ → Bool) → List ℕ → ℕ
+unfoldable pub places_with : (q : ℕ → Bool) → List ℕ → ℕ
 unfolding digit
-placesWith q [] = 0
-placesWith q (b ∷ bs) = digit (q b) + 2 * placesWith q bs
+places_with q [] = 0
+places_with q (b ∷ bs) = digit (q b) + 2 * places_with q bs
 
 module _ (c : Code) (est : List ℕ) where
   -- of the blocks bs, by their places, those that may have sent to the block at b
-  unfoldable pub sendersTo : (bs : List ℕ) (b : ℕ) → ℕ
-  unfolding placesWith sets
-  sendersTo bs b = placesWith (λ s. sets c est (C b) (made c s)) bs
+  unfoldable pub senders_to : (bs : List ℕ) (b : ℕ) → ℕ
+  unfolding places_with sets
+  senders_to bs b = places_with (λ s. sets c est (C b) (made c s)) bs
 
   -- those that are live
-  unfoldable pub liveAmong : (bs : List ℕ) → ℕ
-  unfolding placesWith sets
-  liveAmong bs = placesWith (λ b. sets c est (L b) 0) bs
+  unfoldable pub live_among : (bs : List ℕ) → ℕ
+  unfolding places_with sets
+  live_among bs = places_with (λ b. sets c est (L b) 0) bs
 
   -- the relation, a row for each block in turn, and the live blocks
-  unfoldable pub senderRows : List ℕ
-  unfolding sendersTo
-  senderRows = map (sendersTo c.blocks) c.blocks
+  unfoldable pub sender_rows : List ℕ
+  unfolding senders_to
+  sender_rows = map (senders_to c.blocks) c.blocks
 
-  unfoldable pub liveBlocks : ℕ
-  unfolding liveAmong
-  liveBlocks = liveAmong c.blocks
+  unfoldable pub live_blocks : ℕ
+  unfolding live_among
+  live_blocks = live_among c.blocks

@@ -5,19 +5,19 @@ use Rattle.table.specs.Code.{code}
 use Rattle.calculus.specs.Constraint.{Sets}
 use Rattle.calculus.specs.Layout.{sets}
 use Rattle.calculus.specs.Estimate.{estimate}
-use Rattle.calculus.specs.Answer.{Answer, verdict, standingBound, answer, workAfter}
+use Rattle.calculus.specs.Answer.{Answer, verdict, standing_bound, answer, work_after}
 use Rattle.calculus.specs.Answer as answers
-use Rattle.calls.specs.Faults.{faultNumber, faultPlace}
-use Rattle.solver.specs.Ceiling.{under, answerWithin, estimateWithin}
+use Rattle.calls.specs.Faults.{fault_number, fault_place}
+use Rattle.solver.specs.Ceiling.{under, answer_within, estimate_within}
 use Rattle.graph.specs.declared.Arrangement.{Arrangement}
 use Rattle.graph.specs.declared.Arrangement.TheVariants as arrangements
-use Rattle.graph.specs.Answer.{written, startingWith}
+use Rattle.graph.specs.Answer.{written, starting_with}
 use Rattle.graph.specs.Answer as graph
 use Rattle.graph.specs.Order.{OrderBy}
 use Rattle.graph.specs.Loop.{ShortestBy}
 use Rattle.reading_order.specs.declared.Ordering.{Ordering}
 use Rattle.reading_order.specs.declared.Ordering.TheVariants as orderings
-use Rattle.reading_order.specs.Relation.{LiveAt, MaySend, senderRows, liveBlocks}
+use Rattle.reading_order.specs.Relation.{LiveAt, MaySend, sender_rows, live_blocks}
 
 -- a refusal's number and place; or that there is an order, or else a loop, of so many positions
 pub data Reply : Type 0 where
@@ -25,13 +25,13 @@ pub data Reply : Type 0 where
   ordered looped : (count : ℕ) → Reply
 
 -- the number and place of each refusal, and what the others say
-unfoldable pub replyOf : Ordering → Reply
-unfolding faultNumber faultPlace
-replyOf (orderings.Refused f) = refused (faultNumber f) (faultPlace f)
-replyOf orderings.Short = refused 51 0
-replyOf (orderings.Over n) = refused 23 n
-replyOf (orderings.Ordered count) = ordered count
-replyOf (orderings.Looped count) = looped count
+unfoldable pub reply_of : Ordering → Reply
+unfolding fault_number fault_place
+reply_of (orderings.Refused f) = refused (fault_number f) (fault_place f)
+reply_of orderings.Short = refused 51 0
+reply_of (orderings.Over n) = refused 23 n
+reply_of (orderings.Ordered count) = ordered count
+reply_of (orderings.Looped count) = looped count
 
 unfoldable pub arranged : Arrangement → Reply
 arranged arrangements.Short = refused 51 0
@@ -41,10 +41,10 @@ arranged (arrangements.Looped count) = looped count
 module _ (ws : List ℕ) (ρ : ℕ) where
   -- the relation of the least estimate, and the blocks that are live in it
   abbrev pub rows : List ℕ
-  rows = senderRows (code ws) (estimate (code ws) ρ)
+  rows = sender_rows (code ws) (estimate (code ws) ρ)
 
   abbrev pub live : ℕ
-  live = liveBlocks (code ws) (estimate (code ws) ρ)
+  live = live_blocks (code ws) (estimate (code ws) ρ)
 
   -- a slice of so many positions is shorter than the number of blocks
   abbrev pub short : ℕ → Bool
@@ -53,38 +53,38 @@ module _ (ws : List ℕ) (ρ : ℕ) where
   -- ---- the reply
 
   -- where no number before 23 refuses the call
-  unfoldable pub replyWithin : (room : ℕ) → Answer → Reply
+  unfoldable pub reply_within : (room : ℕ) → Answer → Reply
   unfolding arranged graph.answer
-  replyWithin room (answers.refused number place) = refused number place
-  replyWithin room (verdict v) = arranged (graph.answer rows live room)
+  reply_within room (answers.refused number place) = refused number place
+  reply_within room (verdict v) = arranged (graph.answer rows live room)
 
   -- document 01's numbers to 22, then 51, then 23 at the ceiling n
   unfoldable pub reply : (n est work room : ℕ) → Reply
-  unfolding answer under replyWithin
+  unfolding answer under reply_within
   reply n est work room =
-      elim (answer ws ρ standingBound est work) [
+      elim (answer ws ρ standing_bound est work) [
         | answers.refused number place ↦ refused number place
-        | verdict v ↦ elim (short room) [ true ↦ refused 51 0 | false ↦ replyWithin room (under n (verdict v)) ]
+        | verdict v ↦ elim (short room) [ true ↦ refused 51 0 | false ↦ reply_within room (under n (verdict v)) ]
       ]
 
   -- ---- the slices after the call, from those before it
 
   -- 51 leaves the estimate and the work slice as they were; else they are as an analysis under the ceiling leaves them
-  unfoldable pub estimateAfterOrder : (n : ℕ) (est work positions : List ℕ) → List ℕ
-  unfolding estimateWithin
-  estimateAfterOrder n est work positions = elim (short (length positions)) [ true ↦ est | false ↦ estimateWithin ws ρ n est work ]
+  unfoldable pub estimate_after_order : (n : ℕ) (est work positions : List ℕ) → List ℕ
+  unfolding estimate_within
+  estimate_after_order n est work positions = elim (short (length positions)) [ true ↦ est | false ↦ estimate_within ws ρ n est work ]
 
-  unfoldable pub workAfterOrder : (est work positions : List ℕ) → List ℕ
-  unfolding workAfter
-  workAfterOrder est work positions = elim (short (length positions)) [ true ↦ work | false ↦ workAfter ws ρ standingBound est work ]
+  unfoldable pub work_after_order : (est work positions : List ℕ) → List ℕ
+  unfolding work_after
+  work_after_order est work positions = elim (short (length positions)) [ true ↦ work | false ↦ work_after ws ρ standing_bound est work ]
 
   -- the order or the loop in the first positions, and the rest untouched; a refusal leaves all
-  unfoldable pub positionsAfter : (n : ℕ) (est work positions : List ℕ) → List ℕ
-  unfolding answerWithin written graph.answer
-  positionsAfter n est work positions =
-      elim (answerWithin ws ρ n (length est) (length work)) [
+  unfoldable pub positions_after : (n : ℕ) (est work positions : List ℕ) → List ℕ
+  unfolding answer_within written graph.answer
+  positions_after n est work positions =
+      elim (answer_within ws ρ n (length est) (length work)) [
         | answers.refused number place ↦ positions
-        | verdict v ↦ startingWith (written rows live (graph.answer rows live (length positions))) positions
+        | verdict v ↦ starting_with (written rows live (graph.answer rows live (length positions))) positions
       ]
 
   -- ---- the meaning

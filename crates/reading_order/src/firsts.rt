@@ -3,7 +3,7 @@ ghost use Rattle.std.specs.Prelude.{◌≡◌, ◌≤◌, length};
 ghost use Rattle.table.specs.Scan.{accepted, reading};
 ghost use Rattle.table.specs.Code.{code};
 ghost use Rattle.table.specs.Links.{LinksOf};
-ghost use Rattle.graph.specs.Answer.{startingWith};
+ghost use Rattle.graph.specs.Answer.{starting_with};
 
 use table_links::{link, link_at};
 
@@ -11,7 +11,7 @@ use table_links::{link, link_at};
 fn list_linked(words: &[u32], links: &[u32], firsts: &mut [u32]) -> usize
     requires { (reading words.now ≡ accepted) × LinksOf words.now links.now × (length (code words.now).blocks ≤ length firsts.old) }
     ensures { (result ≡ length (code words.now).blocks)
-        × (firsts.new ≡ startingWith (code words.now).blocks firsts.old) }
+        × (firsts.new ≡ starting_with (code words.now).blocks firsts.old) }
 {
     let mut n = 0;
     let mut b = 1;
@@ -27,7 +27,7 @@ fn list_linked(words: &[u32], links: &[u32], firsts: &mut [u32]) -> usize
 pub fn list_firsts(words: &[u32], firsts: &mut [u32]) -> usize
     requires { (reading words.now ≡ accepted) × (length (code words.now).blocks ≤ length firsts.old) }
     ensures { (result ≡ length (code words.now).blocks)
-        × (firsts.new ≡ startingWith (code words.now).blocks firsts.old) }
+        × (firsts.new ≡ starting_with (code words.now).blocks firsts.old) }
 {
     let mut links = [0u32; 1024];
     link(words, &mut links);

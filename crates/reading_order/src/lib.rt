@@ -6,11 +6,11 @@ pub mod unlimited;
 ghost use Rattle.std.specs.Prelude.{◌≡◌, ◌≤◌, length, take};
 ghost use Rattle.table.specs.Scan.{accepted, reading};
 ghost use Rattle.table.specs.Code.{code};
-ghost use Rattle.calculus.specs.Layout.{estimateWords};
-ghost use Rattle.calculus.specs.Answer.{standingBound};
+ghost use Rattle.calculus.specs.Layout.{estimate_words};
+ghost use Rattle.calculus.specs.Answer.{standing_bound};
 ghost use Rattle.calls.specs.Calls.{Fits};
-ghost use Rattle.reading_order.specs.Reply.{replyOf, arranged as Reply·arranged, reply, ReplyMeans};
-ghost use Rattle.reading_order.specs.Reply.{estimateAfterOrder, workAfterOrder, positionsAfter};
+ghost use Rattle.reading_order.specs.Reply.{reply_of, arranged as Reply·arranged, reply, ReplyMeans};
+ghost use Rattle.reading_order.specs.Reply.{estimate_after_order, work_after_order, positions_after};
 ghost use Rattle.reading_order.specs.Parts.{ArrangedBy, OrderedIn};
 
 use calls::Fault;
@@ -20,7 +20,7 @@ use permset::PermSet;
 use rows::layout::Layout;
 use solver::analyse::solve_in;
 
-// The answer to a call: refused, with too few positions, over the ceiling, or an order or else a loop of so many positions. `replyOf` of
+// The answer to a call: refused, with too few positions, over the ceiling, or an order or else a loop of so many positions. `reply_of` of
 // specs/Reply.antt gives each its number and place.
 #[derive(Drop)]
 pub enum Ordering {
@@ -33,7 +33,7 @@ pub enum Ordering {
 
 // The order or loop of the blocks with these first words, by the words of an estimate.
 fn arranged(words: &[u32], est: &[u32], blocks: &[u32], positions: &mut [u32]) -> Arrangement
-    requires { (reading words.now ≡ accepted) × (length est.now ≡ estimateWords (code words.now)) × (blocks.now ≡ (code words.now).blocks) }
+    requires { (reading words.now ≡ accepted) × (length est.now ≡ estimate_words (code words.now)) × (blocks.now ≡ (code words.now).blocks) }
     ensures { ArrangedBy (code words.now) est.now positions.old positions.new result }
 {
     let l = Layout::of(words);
@@ -46,7 +46,7 @@ fn arranged(words: &[u32], est: &[u32], blocks: &[u32], positions: &mut [u32]) -
 
 // The same as an answer to a call.
 fn answered(a: Arrangement) -> Ordering
-    ensures { replyOf result ≡ Reply·arranged a }
+    ensures { reply_of result ≡ Reply·arranged a }
 {
     match a {
         Arrangement::Short => Ordering::Short,
@@ -57,8 +57,8 @@ fn answered(a: Arrangement) -> Ordering
 
 // The order or loop by the estimate in the first words of a slice.
 fn arranged_in(words: &[u32], est: &[u32], blocks: &[u32], positions: &mut [u32]) -> Arrangement
-    requires { (reading words.now ≡ accepted) × (estimateWords (code words.now) ≤ length est.now) × (blocks.now ≡ (code words.now).blocks) }
-    ensures { ArrangedBy (code words.now) (take (estimateWords (code words.now)) est.now)
+    requires { (reading words.now ≡ accepted) × (estimate_words (code words.now) ≤ length est.now) × (blocks.now ≡ (code words.now).blocks) }
+    ensures { ArrangedBy (code words.now) (take (estimate_words (code words.now)) est.now)
         positions.old positions.new result }
 {
     let need = words_needed(words);
@@ -75,7 +75,7 @@ fn solved(
     blocks: &[u32],
     positions: &mut [u32],
 ) -> Ordering
-    requires fits { Fits words.now rho standingBound (length est.old) (length work.old) }
+    requires fits { Fits words.now rho standing_bound (length est.old) (length work.old) }
     requires blocks_value { (blocks.now ≡ (code words.now).blocks) × (length blocks.now ≤ length positions.old) }
     ensures { OrderedIn words.now rho ceiling est.old work.old positions.old
         est.new work.new positions.new result }
@@ -96,7 +96,7 @@ fn checked(
     work: &mut [u32],
     positions: &mut [u32],
 ) -> Ordering
-    requires { Fits words.now rho standingBound (length est.old) (length work.old) }
+    requires { Fits words.now rho standing_bound (length est.old) (length work.old) }
     ensures { OrderedIn words.now rho ceiling est.old work.old positions.old
         est.new work.new positions.new result }
 {
@@ -118,15 +118,15 @@ pub fn order(
     work: &mut [u32],
     positions: &mut [u32],
 ) -> Ordering
-    ensures answer { replyOf result
+    ensures answer { reply_of result
         ≡ reply words.now rho ceiling (length est.old) (length work.old) (length positions.old) }
     ensures estimate { est.new
-        ≡ estimateAfterOrder words.now rho ceiling est.old work.old positions.old }
+        ≡ estimate_after_order words.now rho ceiling est.old work.old positions.old }
     ensures work { work.new
-        ≡ workAfterOrder words.now rho est.old work.old positions.old }
+        ≡ work_after_order words.now rho est.old work.old positions.old }
     ensures positions { positions.new
-        ≡ positionsAfter words.now rho ceiling est.old work.old positions.old }
-    ensures meaning { ReplyMeans words.now rho (replyOf result) positions.new }
+        ≡ positions_after words.now rho ceiling est.old work.old positions.old }
+    ensures meaning { ReplyMeans words.now rho (reply_of result) positions.new }
 {
     match check(words, rho, 0x80000000, est.len(), work.len()) {
         Checked::Wrong(f) => Ordering::Refused(f),

@@ -2,8 +2,8 @@
 ghost use Rattle.std.specs.Prelude.{◌≡◌, map, ◌+◌, ◌*◌, ◌^◌, ◌≤◌, ◌<◌, length};
 ghost use Rattle.table.specs.Code.{Code};
 ghost use Rattle.rows.specs.Laid.{LaidOut, Sized};
-ghost use Rattle.graph.specs.Answer.{startingWith};
-ghost use Rattle.reading_order.specs.Relation.{digit, sendersTo, liveAmong};
+ghost use Rattle.graph.specs.Answer.{starting_with};
+ghost use Rattle.reading_order.specs.Relation.{digit, senders_to, live_among};
 ghost use Rattle.reading_order.specs.Parts.{Firsts};
 
 use queries::{has, is_live};
@@ -20,7 +20,7 @@ fn shifted(set: u64, first: bool) -> u64
 // Those that may have sent to the block at b.
 fn senders_to(est: &[u32], l: Layout, blocks: &[u32], b: usize) -> u64
     requires { Sized l est.now × Firsts l blocks.now × (b < l.size) }
-    ensures { (c : Code) → LaidOut c l → result ≡ sendersTo c est.now blocks.now b }
+    ensures { (c : Code) → LaidOut c l → result ≡ senders_to c est.now blocks.now b }
 {
     let mut set = 0;
     let mut i = blocks.len();
@@ -34,7 +34,7 @@ fn senders_to(est: &[u32], l: Layout, blocks: &[u32], b: usize) -> u64
 // Those that are live.
 pub fn live_among(est: &[u32], l: Layout, blocks: &[u32]) -> u64
     requires { Sized l est.now × Firsts l blocks.now }
-    ensures { (c : Code) → LaidOut c l → result ≡ liveAmong c est.now blocks.now }
+    ensures { (c : Code) → LaidOut c l → result ≡ live_among c est.now blocks.now }
 {
     let mut set = 0;
     let mut i = blocks.len();
@@ -49,7 +49,7 @@ pub fn live_among(est: &[u32], l: Layout, blocks: &[u32]) -> u64
 pub fn fill_rows(est: &[u32], l: Layout, blocks: &[u32], rows: &mut [u64])
     requires { Sized l est.now × Firsts l blocks.now × (length blocks.now ≤ length rows.old) }
     ensures { (c : Code) → LaidOut c l → rows.new
-        ≡ startingWith (map (sendersTo c est.now blocks.now) blocks.now) rows.old }
+        ≡ starting_with (map (senders_to c est.now blocks.now) blocks.now) rows.old }
 {
     let mut t = 0;
     while t < blocks.len() {

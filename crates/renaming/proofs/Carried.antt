@@ -11,15 +11,15 @@ use Rattle.table.specs.declared.Operation.{Operation}
 use Rattle.table.specs.Code.{Code, Node, Leaf, One, Two, gap, block, leaf, one, two, bind, while, branch, update, Linked, LeafLinked, NodeLinked}
 use Rattle.table.specs.Code.{constant, number, literal, named, variable, function, empty, exercise, cell, read}
 use Rattle.table.specs.Code.{apply, sequence, get, delete, assign, operation, send}
-use Rattle.calculus.specs.Elements.{constantElement, literalElement, nameElement, undefined, unit, truth, falsehood, opponentRecord}
-use Rattle.calculus.specs.Elements.{plain, made, sign, isString, isFunction, isRecord, isCell, makes, leafMakes, oneMakes, sendable, anyRecord, results}
+use Rattle.calculus.specs.Elements.{constant_element, literal_element, name_element, undefined, unit, truth, falsehood, opponent_record}
+use Rattle.calculus.specs.Elements.{plain, made, sign, is_string, is_function, is_record, is_cell, makes, leaf_makes, one_makes, sendable, any_record, results}
 use Rattle.calculus.specs.Constraint.{C, B, P, L, Sets, Rule, put, sub, only, each, every, given, ◌and◌}
-use Rattle.calculus.specs.Rules.{name_of, permsOf, guarded, isBlock, permissions, deliveryTo, live, pass, delivering, part}
-use Rattle.calculus.specs.Rules.{leafRule, oneRule, twoRule, flow, entry, twoSender, sender, senders, rule, Estimate}
+use Rattle.calculus.specs.Rules.{name_of, perms_of, guarded, is_block, permissions, delivery_to, live, pass, delivering, part}
+use Rattle.calculus.specs.Rules.{leaf_rule, one_rule, two_rule, flow, entry, two_sender, sender, senders, rule, Estimate}
 use Rattle.calculus.proofs.Ranges.{below_in, in-below}
 use Rattle.calculus.proofs.Fitting.{constant-lt, sign-lt, results-lt}
-use Rattle.calculus.proofs.Makers.{is_block}
-use Rattle.renaming.specs.Renaming.{Renamed, renameNode, renameRow, carried}
+use Rattle.calculus.proofs.Makers.{is_block_lem}
+use Rattle.renaming.specs.Renaming.{Renamed, rename_node, rename_row, carried}
 use Rattle.renaming.proofs.Nodes.{renamed-alike}
 use Rattle.renaming.proofs.Origins.{has-origin, origin-plain, strings-kept, sendable-kept, records-kept}
 use Rattle.renaming.proofs.Results.{results-given}
@@ -32,8 +32,8 @@ get_d_map σ (x ∷ xs) zero h = refl
 get_d_map σ (x ∷ xs) (suc n) h = get_d_map σ xs n (omega arith)
 
 -- a block has one of the names
-name-lt : (d : Code) (b : ℕ) (n : Node) → NodeLinked d b n → T (isBlock n) → name_of n < d.names
-unfolding name_of isBlock
+name-lt : (d : Code) (b : ℕ) (n : Node) → NodeLinked d b n → T (is_block n) → name_of n < d.names
+unfolding name_of is_block
 name-lt d b gap i t = absurd t
 name-lt d b (block n s g) i t = i.0
 name-lt d b (leaf x) i t = absurd t
@@ -49,11 +49,11 @@ module _ (σ : ℕ → ℕ) (d c : Code) (m : Renamed σ d c) (k : Linked d) (g 
   By j l = Carries σ d c e j l
 
   -- a function's body is renamed with it
-  body_of : (f : ℕ) → T (isFunction (makes (d.node f))) → σ (suc f) ≡ suc (σ f)
-  unfolding makes isFunction leafMakes oneMakes
+  body_of : (f : ℕ) → T (is_function (makes (d.node f))) → σ (suc f) ≡ suc (σ f)
+  unfolding makes is_function leaf_makes one_makes
   body_of f t = go (d.node f) refl t
     where
-      leafs : (x : Leaf) → d.node f ≡ leaf x → T (isFunction (makes (leaf x))) → σ (suc f) ≡ suc (σ f)
+      leafs : (x : Leaf) → d.node f ≡ leaf x → T (is_function (makes (leaf x))) → σ (suc f) ≡ suc (σ f)
       leafs (constant j) h u = absurd u
       leafs (number j) h u = absurd u
       leafs (literal j) h u = absurd u
@@ -63,11 +63,11 @@ module _ (σ : ℕ → ℕ) (d c : Code) (m : Renamed σ d c) (k : Linked d) (g 
       leafs empty h u = absurd u
       leafs (exercise j) h u = absurd u
 
-      ones : (o : One) (a : ℕ) → T (isFunction (makes (one o a))) → ⊥
+      ones : (o : One) (a : ℕ) → T (is_function (makes (one o a))) → ⊥
       ones cell a u = u
       ones read a u = u
 
-      go : (n : Node) → d.node f ≡ n → T (isFunction (makes n)) → σ (suc f) ≡ suc (σ f)
+      go : (n : Node) → d.node f ≡ n → T (is_function (makes n)) → σ (suc f) ≡ suc (σ f)
       go gap h u = absurd u
       go (block n s g) h u = absurd u
       go (leaf x) h u = leafs x h u
@@ -82,32 +82,32 @@ module _ (σ : ℕ → ℕ) (d c : Code) (m : Renamed σ d c) (k : Linked d) (g 
     perms-of : permissions c (σ p) ≡ permissions d p
     unfolding permissions
     perms-of =
-        ap (λ (x : ℕ). permsOf (c.node x)) (m.home p l) ∙ ap permsOf (m.node (d.home p)) ∙ (renamed-alike σ (d.node (d.home p))).perms
+        ap (λ (x : ℕ). perms_of (c.node x)) (m.home p l) ∙ ap perms_of (m.node (d.home p)) ∙ (renamed-alike σ (d.node (d.home p))).perms
 
     -- a send at p to the block h
-    deliverings : (r a h : ℕ) {j i : Rule} → h < d.size → T (isBlock (d.node h)) → By j i
+    deliverings : (r a h : ℕ) {j i : Rule} → h < d.size → T (is_block (d.node h)) → By j i
         → By (delivering c (σ p) r (σ a) (σ h) j) (delivering d p r a h i)
-    unfolding renameRow
+    unfolding rename_row
     deliverings r a h {j} {i} n t f =
         let s = renamed-alike σ (d.node h) in
         let named : name_of (c.node (σ h)) ≡ name_of (d.node h) = ap name_of (m.node h) ∙ s.names in
-        let same : deliveryTo (name_of (c.node (σ h))) r (permissions c (σ p)) (c.node (σ h)) ≡ deliveryTo (name_of (d.node h)) r (permissions d p) (d.node h) =
-        ap₂ (λ (x y : ℕ). deliveryTo x r y (c.node (σ h))) named perms-of
-        ∙ ap (deliveryTo (name_of (d.node h)) r (permissions d p)) (m.node h)
+        let same : delivery_to (name_of (c.node (σ h))) r (permissions c (σ p)) (c.node (σ h)) ≡ delivery_to (name_of (d.node h)) r (permissions d p) (d.node h) =
+        ap₂ (λ (x y : ℕ). delivery_to x r y (c.node (σ h))) named perms-of
+        ∙ ap (delivery_to (name_of (d.node h)) r (permissions d p)) (m.node h)
         ∙ s.deliveries (name_of (d.node h)) r (permissions d p) in
         let own : name_of (d.node h) < d.names = name-lt d h (d.node h) (k.nodes h n) t in
         let other : name_of (c.node (σ h)) < c.names =
-        name-lt c (σ h) (c.node (σ h)) (g.nodes (σ h) (m.inside h n)) (subst T (sym (ap isBlock (m.node h) ∙ s.heads)) t) in
+        name-lt c (σ h) (c.node (σ h)) (g.nodes (σ h) (m.inside h n)) (subst T (sym (ap is_block (m.node h) ∙ s.heads)) t) in
         onlys _ _ (ap delivered same)
-        (λ u. subst (λ (x : ℕ). By (given (C (σ a)) (nameElement x) j) (given (C a) (nameElement (name_of (d.node h))) i)) (sym named)
-        (givens (C a) (nameElement (name_of (d.node h))) (omega arith) (omega arith) f))
+        (λ u. subst (λ (x : ℕ). By (given (C (σ a)) (name_element x) j) (given (C a) (name_element (name_of (d.node h))) i)) (sym named)
+        (givens (C a) (name_element (name_of (d.node h))) (omega arith) (omega arith) f))
 
-    leaf-carried : (x : Leaf) → LeafLinked d p x → LeafLinked c (σ p) x → By (leafRule c (σ p) x) (leafRule d p x)
-    unfolding leafRule renameRow
-    leaf-carried (constant j) i n = puts_low (C p) (constantElement j) (omega (arith, constant-lt j))
+    leaf-carried : (x : Leaf) → LeafLinked d p x → LeafLinked c (σ p) x → By (leaf_rule c (σ p) x) (leaf_rule d p x)
+    unfolding leaf_rule rename_row
+    leaf-carried (constant j) i n = puts_low (C p) (constant_element j) (omega (arith, constant-lt j))
     leaf-carried (number x) i n = puts_low (C p) (sign x) (omega (arith, sign-lt x))
-    leaf-carried (literal x) i n = puts_low (C p) (literalElement x) (omega arith)
-    leaf-carried (named x) i n = puts (C p) (nameElement x) (omega arith) (omega arith)
+    leaf-carried (literal x) i n = puts_low (C p) (literal_element x) (omega arith)
+    leaf-carried (named x) i n = puts (C p) (name_element x) (omega arith) (omega arith)
     leaf-carried (variable n) i h =
         subst (λ (x : ℕ). By (sub (B x) (C (σ p))) (sub (B (get_or (d.scope p) n 0)) (C p)))
         (sym (ap (λ (xs : List ℕ). get_or xs n 0) (m.scope p l) ∙ get_d_map σ (d.scope p) n i))
@@ -121,13 +121,13 @@ module _ (σ : ℕ → ℕ) (d c : Code) (m : Renamed σ d c) (k : Linked d) (g 
         (λ x n. (n, onlys (member r x) (member r x) refl (λ t. puts_low (P p) x (omega arith)))))
         (puts_low (C p) unit (omega arith)))
 
-    one-carried : (o : One) (a : ℕ) → By (oneRule c (σ p) o (σ a)) (oneRule d p o a)
-    unfolding oneRule renameRow
+    one-carried : (o : One) (a : ℕ) → By (one_rule c (σ p) o (σ a)) (one_rule d p o a)
+    unfolding one_rule rename_row
     one-carried cell a = both (puts-made (C p) p) (subs (C a) (B p))
-    one-carried read a = mades m isCell (C a) (λ q. sub (B q) (C (σ p))) (λ q. sub (B q) (C p)) (λ q t. subs (B q) (C p))
+    one-carried read a = mades m is_cell (C a) (λ q. sub (B q) (C (σ p))) (λ q. sub (B q) (C p)) (λ q t. subs (B q) (C p))
 
-    operates : (a b : ℕ) (o : Operation) → By (twoRule c (σ p) (operation o) (σ a) (σ b)) (twoRule d p (operation o) a b)
-    unfolding twoRule renameRow
+    operates : (a b : ℕ) (o : Operation) → By (two_rule c (σ p) (operation o) (σ a) (σ b)) (two_rule d p (operation o) a b)
+    unfolding two_rule rename_row
     operates a b o =
         record {
           go = λ j x mx tx y my ty z mz.
@@ -138,10 +138,10 @@ module _ (σ : ℕ → ℕ) (d c : Code) (m : Renamed σ d c) (k : Linked d) (g 
               r.right (below_in (origin-plain σ d c (in-below my) r.of_right)) (has-origin σ d c e (C b) r.of_right ty) z r.gives);
         }
 
-    two-carried : (t : Two) (a b : ℕ) → By (twoRule c (σ p) t (σ a) (σ b)) (twoRule d p t a b)
-    unfolding twoRule renameRow
+    two-carried : (t : Two) (a b : ℕ) → By (two_rule c (σ p) t (σ a) (σ b)) (two_rule d p t a b)
+    unfolding two_rule rename_row
     two-carried apply a b =
-        mades m isFunction (C a) _ _
+        mades m is_function (C a) _ _
         (λ f t. subst (λ (s : ℕ). By (live s and sub (C (σ b)) (B (σ f)) and sub (C s) (C (σ p)) and sub (P s) (P (σ p)))
         (live (suc f) and sub (C b) (B f) and sub (C (suc f)) (C p) and sub (P (suc f)) (P p))) (body_of f t)
         (both (puts_low (L (suc f)) 0 (omega arith))
@@ -149,13 +149,13 @@ module _ (σ : ℕ → ℕ) (d c : Code) (m : Renamed σ d c) (k : Linked d) (g 
         (both (subs (C (suc f)) (C p)) (subs (P (suc f)) (P p))))))
     two-carried sequence a b = subs (C b) (C p)
     two-carried get a b =
-        somes (C b) isString isString (strings-kept σ d c)
+        somes (C b) is_string is_string (strings-kept σ d c)
         (both
-        (mades m isRecord (C a) _ _ (λ q t. both (subs (B q) (C p)) (puts_low (C p) undefined (omega arith))))
-        (givens-low (C a) opponentRecord (omega arith) (fills (C p))))
+        (mades m is_record (C a) _ _ (λ q t. both (subs (B q) (C p)) (puts_low (C p) undefined (omega arith))))
+        (givens-low (C a) opponent_record (omega arith) (fills (C p))))
     two-carried delete a b =
-        somes (C b) isString isString (strings-kept σ d c) (passes m (C a) (C p) (anyRecord c) (anyRecord d) (records-kept σ d c m))
-    two-carried assign a b = mades m isCell (C a) _ _ (λ q t. both (subs (C b) (C p)) (subs (C b) (B q)))
+        somes (C b) is_string is_string (strings-kept σ d c) (passes m (C a) (C p) (any_record c) (any_record d) (records-kept σ d c m))
+    two-carried assign a b = mades m is_cell (C a) _ _ (λ q t. both (subs (C b) (C p)) (subs (C b) (B q)))
     two-carried (operation o) a b = operates a b o
     two-carried (send r) a b =
         both (puts_low (C p) unit (omega arith))
@@ -168,12 +168,12 @@ module _ (σ : ℕ → ℕ) (d c : Code) (m : Renamed σ d c) (k : Linked d) (g 
             (delivering d p r a h (live h and pass d (C b) (sendable d) (B h) and sub (P h) (P p)))
         sent h w =
             let i = k.listed h w in
-            deliverings r a h i.0 (is_block (d.node h) i.1)
+            deliverings r a h i.0 (is_block_lem (d.node h) i.1)
             (both (puts_low (L h) 0 (omega arith))
             (both (passes m (C b) (B h) (sendable c) (sendable d) (sendable-kept σ d c m)) (subs (P h) (P p))))
 
-    flow-carried : (n : Node) → NodeLinked d p n → NodeLinked c (σ p) (renameNode σ n) → d.node p ≡ n → By (flow c (σ p) (renameNode σ n)) (flow d p n)
-    unfolding flow renameNode renameRow
+    flow-carried : (n : Node) → NodeLinked d p n → NodeLinked c (σ p) (rename_node σ n) → d.node p ≡ n → By (flow c (σ p) (rename_node σ n)) (flow d p n)
+    unfolding flow rename_node rename_row
     flow-carried gap i j h = nothing
     flow-carried (block n s g) i j h =
         subst (λ (x : ℕ). By (part (σ p) x) (part p (p + 3))) (m.starts p n s g h) (parts p (p + 3))
@@ -199,24 +199,24 @@ module _ (σ : ℕ → ℕ) (d c : Code) (m : Renamed σ d c) (k : Linked d) (g 
         both (parts p a)
         (both (parts p b)
         (both (parts p x)
-        (somes (C b) isString isString (strings-kept σ d c)
+        (somes (C b) is_string is_string (strings-kept σ d c)
         (both
-        (somes (C a) (anyRecord c) (anyRecord d) (records-kept σ d c m) (both (puts-made (C p) p) (subs (C x) (B p))))
-        (both (mades m isRecord (C a) _ _ (λ q t. subs (B q) (B p)))
-        (givens-low (C a) opponentRecord (omega arith) (fills (B p))))))))
+        (somes (C a) (any_record c) (any_record d) (records-kept σ d c m) (both (puts-made (C p) p) (subs (C x) (B p))))
+        (both (mades m is_record (C a) _ _ (λ q t. subs (B q) (B p)))
+        (givens-low (C a) opponent_record (omega arith) (fills (B p))))))))
 
     entry-carried : (ρ : ℕ) → By (entry c ρ (σ p)) (entry d ρ p)
-    unfolding entry renameRow
+    unfolding entry rename_row
     entry-carried ρ =
         onlys (guarded (c.node (σ p)) ρ) (guarded (d.node p) ρ)
         (ap (λ (n : Node). guarded n ρ) (m.node p) ∙ (renamed-alike σ (d.node p)).guards ρ)
         (λ t. both (puts_low (L p) 0 (omega arith))
-        (both (fills (B p)) (puts_low (C p) opponentRecord (omega arith))))
+        (both (fills (B p)) (puts_low (C p) opponent_record (omega arith))))
 
   -- what the send at p asks of the block b
-  module _ (b : ℕ) (h : b < d.size) (t : T (isBlock (d.node b))) (p : ℕ) (l : p < d.size) where
-    two-sender : (o : Two) (a x : ℕ) → By (twoSender c (σ b) (σ p) o (σ a) (σ x)) (twoSender d b p o a x)
-    unfolding twoSender renameRow
+  module _ (b : ℕ) (h : b < d.size) (t : T (is_block (d.node b))) (p : ℕ) (l : p < d.size) where
+    two-sender : (o : Two) (a x : ℕ) → By (two_sender c (σ b) (σ p) o (σ a) (σ x)) (two_sender d b p o a x)
+    unfolding two_sender rename_row
     two-sender apply a x = nothing
     two-sender sequence a x = nothing
     two-sender get a x = nothing
@@ -229,8 +229,8 @@ module _ (σ : ℕ → ℕ) (d c : Code) (m : Renamed σ d c) (k : Linked d) (g 
         (deliverings p l r a b h t
         (subst (λ (y : ℕ). By (put (C (σ b)) (made c y)) (put (C b) (made d (d.home p)))) (sym (m.home p l)) (puts-made (C b) (d.home p)))))
 
-    sender-carried : (n : Node) → By (sender c (σ b) (σ p) (renameNode σ n)) (sender d b p n)
-    unfolding sender renameNode
+    sender-carried : (n : Node) → By (sender c (σ b) (σ p) (rename_node σ n)) (sender d b p n)
+    unfolding sender rename_node
     sender-carried gap = nothing
     sender-carried (block n s g) = nothing
     sender-carried (leaf x) = nothing
@@ -244,7 +244,7 @@ module _ (σ : ℕ → ℕ) (d c : Code) (m : Renamed σ d c) (k : Linked d) (g 
   senders-carried : (b : ℕ) → b < d.size → By (senders c (σ b)) (senders d b)
   unfolding senders
   senders-carried b h =
-      onlys (isBlock (c.node (σ b))) (isBlock (d.node b)) (ap isBlock (m.node b) ∙ (renamed-alike σ (d.node b)).heads)
+      onlys (is_block (c.node (σ b))) (is_block (d.node b)) (ap is_block (m.node b) ∙ (renamed-alike σ (d.node b)).heads)
       (λ t. each_below c.size d.size (λ p. sender c (σ b) p (c.node p)) (λ p. sender d b p (d.node p)) σ
       (λ p l. (
         m.inside p l,
@@ -252,9 +252,9 @@ module _ (σ : ℕ → ℕ) (d c : Code) (m : Renamed σ d c) (k : Linked d) (g 
       )))
 
   rule-carried : (ρ p : ℕ) → p < d.size → By (rule c ρ (σ p)) (rule d ρ p)
-  unfolding rule renameRow
+  unfolding rule rename_row
   rule-carried ρ p l =
-      let there : NodeLinked c (σ p) (renameNode σ (d.node p)) = subst (NodeLinked c (σ p)) (m.node p) (g.nodes (σ p) (m.inside p l)) in
+      let there : NodeLinked c (σ p) (rename_node σ (d.node p)) = subst (NodeLinked c (σ p)) (m.node p) (g.nodes (σ p) (m.inside p l)) in
       both (both (entry-carried p l ρ) (senders-carried p l))
       (givens-low (L p) 0 (omega arith)
       (subst (λ (n : Node). By (flow c (σ p) n) (flow d p (d.node p))) (sym (m.node p)) (flow-carried p l (d.node p) (k.nodes p l) there refl)))

@@ -6,14 +6,14 @@ use lib.Dec.{T}
 use Rattle.permset.specs.Sets.{width, member}
 use Rattle.table.specs.Code.{Code, Node, Linked}
 use Rattle.calculus.specs.Constraint.{Row, P}
-use Rattle.calculus.specs.Rules.{guarded, leakOf}
+use Rattle.calculus.specs.Rules.{guarded, leak_of}
 use Rattle.calculus.specs.Layout.{sets, span, LiesIn}
 use Rattle.calculus.specs.Estimate.{estimate, leak}
 use Rattle.calculus.proofs.Places.{span-lt}
 use Rattle.calculus.proofs.Rows.{sets-allowed}
 use Rattle.calculus.proofs.Least.{estimate-well, estimate-obeys, estimate-least}
 use Rattle.calculus.proofs.Leak.{leak-has, leak-only}
-use Rattle.renaming.specs.Renaming.{Renamed, renameRow, renameElement, carried}
+use Rattle.renaming.specs.Renaming.{Renamed, rename_row, rename_element, carried}
 use Rattle.renaming.proofs.Nodes.{renamed-alike}
 use Rattle.renaming.proofs.Origins.{single, has-origin}
 use Rattle.renaming.proofs.Elements.{el-origin}
@@ -27,13 +27,13 @@ module _ (σ : ℕ → ℕ) (d c : Code) (m : Renamed σ d c) (k : Linked d) (l 
 
   -- where c has as many names, element by element
   pub estimate-renamed : c.names ≡ d.names → (r : Row) (v : ℕ) → T (sets d (estimate d ρ) r v)
-      → T (sets c (estimate c ρ) (renameRow σ r) (renameElement σ d c v))
+      → T (sets c (estimate c ρ) (rename_row σ r) (rename_element σ d c v))
   estimate-renamed n r v t = has-origin σ d c (sets c (estimate c ρ)) r (el-origin σ d c n v) (estimate-inside r v t)
 
   -- a permission of the leak of d is one of the leak of c
-  pub leakOf-inside : (x : ℕ) → leakOf d ρ (sets d (estimate d ρ)) x → leakOf c ρ (sets c (estimate c ρ)) x
-  unfolding renameRow span
-  leakOf-inside x (b, h, g, t) =
+  pub leak_of-inside : (x : ℕ) → leak_of d ρ (sets d (estimate d ρ)) x → leak_of c ρ (sets c (estimate c ρ)) x
+  unfolding rename_row span
+  leak_of-inside x (b, h, g, t) =
       let e = sets c (estimate c ρ) in
       let n : x < width = span-lt d (P b) x (sets-allowed d (estimate d ρ) (P b) x t) in (
         σ b,
@@ -45,4 +45,4 @@ module _ (σ : ℕ → ℕ) (d c : Code) (m : Renamed σ d c) (k : Linked d) (l 
   pub leak-inside : (x : ℕ) → T (member (leak d ρ (estimate d ρ)) x) → T (member (leak c ρ (estimate c ρ)) x)
   leak-inside x t =
       leak-has c ρ (estimate c ρ) (estimate-well c l ρ) x
-      (leakOf-inside x (leak-only d ρ (estimate d ρ) (estimate-well d k ρ) k x t))
+      (leak_of-inside x (leak-only d ρ (estimate d ρ) (estimate-well d k ρ) k x t))

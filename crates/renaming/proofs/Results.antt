@@ -12,21 +12,21 @@ use lib.ListN.{get_or}
 use Rattle.table.specs.declared.Operation.{Operation}
 use Rattle.table.specs.declared.Operation.TheVariants as operations
 use Rattle.table.specs.Code.{Code}
-use Rattle.calculus.specs.Elements.{plain, isSign, signPlace, bySigns, sumSigns, lessSigns, comparable, isMany}
-use Rattle.calculus.specs.Elements.{truth, falsehood, equalResults, results}
+use Rattle.calculus.specs.Elements.{plain, is_sign, sign_place, by_signs, sum_signs, less_signs, comparable, is_many}
+use Rattle.calculus.specs.Elements.{truth, falsehood, equal_results, results}
 use Rattle.permset.proofs.Digits.{T-fst, T-snd}
 use Rattle.renaming.proofs.Origins.{Origin, shared, new, Sort, both, one, word, sort}
 
-sign_low : (x : ℕ) → T (isSign x) → x < 7
-unfolding isSign
+sign_low : (x : ℕ) → T (is_sign x) → x < 7
+unfolding is_sign
 sign_low x t = let l : x ≤ 6 = leb→le x 6 (T-snd (leb 4 x) (leb x 6) t) in omega arith
 
 -- operations on signs give nothing elsewhere
-by-signs-low : (t : List (List ℕ)) (x y z : ℕ) → Memᴰ z (bySigns t x y) → (x < 7) × (y < 7)
-unfolding bySigns
-by-signs-low t x y z = go (isSign x && isSign y) (T-fst (isSign x) (isSign y)) (T-snd (isSign x) (isSign y))
+by-signs-low : (t : List (List ℕ)) (x y z : ℕ) → Memᴰ z (by_signs t x y) → (x < 7) × (y < 7)
+unfolding by_signs
+by-signs-low t x y z = go (is_sign x && is_sign y) (T-fst (is_sign x) (is_sign y)) (T-snd (is_sign x) (is_sign y))
   where
-    go : (b : Bool) → (T b → T (isSign x)) → (T b → T (isSign y)) → Memᴰ z (elim b [ true ↦ get_or t (signPlace x y) [] | false ↦ [] ])
+    go : (b : Bool) → (T b → T (is_sign x)) → (T b → T (is_sign y)) → Memᴰ z (elim b [ true ↦ get_or t (sign_place x y) [] | false ↦ [] ])
         → (x < 7) × (y < 7)
     go true f g m = (sign_low x (f tt), sign_low y (g tt))
     go false f g m = absurd (Memᴰ.not-nil m)
@@ -38,10 +38,10 @@ abbrev tested : (a b e k : Bool) → List ℕ
 tested a b e k =
     elim (a && b) [ true ↦ elim e [ true ↦ elim k [ true ↦ truth ∷ falsehood ∷ [] | false ↦ truth ∷ [] ] | false ↦ falsehood ∷ [] ] | false ↦ [] ]
 
-many-low : (v : ℕ) → isMany v ≡ true → 32 ≤ v → ⊥
-unfolding isMany
+many-low : (v : ℕ) → is_many v ≡ true → 32 ≤ v → ⊥
+unfolding is_many
 many-low v e h =
-    let f : isMany v ≡ false = rw (ne_eqb v 4 (λ i. omega arith), ne_eqb v 6 (λ i. omega arith), ne_eqb v 8 (λ i. omega arith)) refl in
+    let f : is_many v ≡ false = rw (ne_eqb v 4 (λ i. omega arith), ne_eqb v 6 (λ i. omega arith), ne_eqb v 8 (λ i. omega arith)) refl in
     subst T (sym e ∙ f) tt
 
 module _ (c : Code) where
@@ -49,19 +49,19 @@ module _ (c : Code) where
   unfolding comparable
   comparable-low v l = rw (lt-ltb v (plain c) (omega arith), ne_eqb v 7 (λ e. omega arith)) tt
 
-  equal-different : {x y : ℕ} → T (comparable c x) → T (comparable c y) → (x ≡ y → ⊥) → Memᴰ falsehood (equalResults c x y)
-  unfolding equalResults
+  equal-different : {x y : ℕ} → T (comparable c x) → T (comparable c y) → (x ≡ y → ⊥) → Memᴰ falsehood (equal_results c x y)
+  unfolding equal_results
   equal-different {x} {y} s t n = go (comparable c x) (comparable c y) (eqb x y) s t (ne_eqb x y n)
     where
-      go : (a b e : Bool) → T a → T b → e ≡ false → Memᴰ falsehood (tested a b e (isMany x))
+      go : (a b e : Bool) → T a → T b → e ≡ false → Memᴰ falsehood (tested a b e (is_many x))
       go true true true s t h = absurd (subst T h tt)
       go true true false s t h = Memᴰ.head refl
       go true false e s t h = absurd t
       go false b e s t h = absurd s
 
-  equal-alike : Memᴰ truth (equalResults c 0 0)
-  unfolding equalResults comparable isMany
-  equal-alike = rw (lt-ltb 0 (plain c) (omega arith), equalResults, comparable) (Memᴰ.head refl)
+  equal-alike : Memᴰ truth (equal_results c 0 0)
+  unfolding equal_results comparable is_many
+  equal-alike = rw (lt-ltb 0 (plain c) (omega arith), equal_results, comparable) (Memᴰ.head refl)
 
   -- what a result says of the elements
   record Result (x y z : ℕ) : Type 0 where
@@ -70,9 +70,9 @@ module _ (c : Code) where
     different : (x ≡ y → ⊥) → z ≡ falsehood
     alike : x ≡ y → 32 ≤ x → z ≡ truth
 
-  result : (x y z : ℕ) → Memᴰ z (equalResults c x y) → Result x y z
-  unfolding equalResults
-  result x y z m = go (comparable c x) (comparable c y) (eqb x y) (isMany x) refl refl (eqb-true x y) (eqb-false x y) (many-low x) m
+  result : (x y z : ℕ) → Memᴰ z (equal_results c x y) → Result x y z
+  unfolding equal_results
+  result x y z m = go (comparable c x) (comparable c y) (eqb x y) (is_many x) refl refl (eqb-true x y) (eqb-false x y) (many-low x) m
     where
       go : (a b e k : Bool) → comparable c x ≡ a → comparable c y ≡ b → (e ≡ true → x ≡ y) → (e ≡ false → x ≡ y → ⊥)
           → (k ≡ true → 32 ≤ x → ⊥) → Memᴰ z (tested a b e k) → Result x y z
@@ -110,9 +110,9 @@ module _ (σ : ℕ → ℕ) (d c : Code) where
   unfolding comparable
   comparable-shared v h k = rw (lt-ltb v (plain c) h, lt-ltb v (plain d) k) refl
 
-  equal-shared : (x y : ℕ) → x < plain c → x < plain d → y < plain c → y < plain d → equalResults d x y ≡ equalResults c x y
-  unfolding equalResults
-  equal-shared x y h k i l = ap₂ (λ (a b : Bool). tested a b (eqb x y) (isMany x)) (comparable-shared x h k) (comparable-shared y i l)
+  equal-shared : (x y : ℕ) → x < plain c → x < plain d → y < plain c → y < plain d → equal_results d x y ≡ equal_results c x y
+  unfolding equal_results
+  equal-shared x y h k i l = ap₂ (λ (a b : Bool). tested a b (eqb x y) (is_many x)) (comparable-shared x h k) (comparable-shared y i l)
 
   -- an element below 2 other than x
   other : ℕ → ℕ
@@ -139,10 +139,10 @@ module _ (σ : ℕ → ℕ) (d c : Code) where
         right = w;
         of_left = i;
         of_right = j;
-        gives = subst (λ (u : ℕ). Memᴰ u (equalResults c v w)) (sym (r.different h)) (equal-different c s t m);
+        gives = subst (λ (u : ℕ). Memᴰ u (equal_results c v w)) (sym (r.different h)) (equal-different c s t m);
       }
 
-  equal-given : (x y z : ℕ) → Memᴰ z (equalResults d x y) → Result d x y z → Sort σ d c x → Sort σ d c y → x < plain d → y < plain d
+  equal-given : (x y z : ℕ) → Memᴰ z (equal_results d x y) → Result d x y z → Sort σ d c x → Sort σ d c y → x < plain d → y < plain d
       → Given operations.Equal x y z
   unfolding results
   equal-given x y z m r (both h k) (both i l) p q =
@@ -172,7 +172,7 @@ module _ (σ : ℕ → ℕ) (d c : Code) where
             right = 0;
             of_left = new h k (omega arith);
             of_right = new i l (omega arith);
-            gives = subst (λ (w : ℕ). Memᴰ w (equalResults c 0 0)) (sym (r.alike e (omega arith))) (equal-alike c);
+            gives = subst (λ (w : ℕ). Memᴰ w (equal_results c 0 0)) (sym (r.alike e (omega arith))) (equal-alike c);
           }
       go (no e) =
           differing 0 1 r e (new h k (omega arith)) (new i l (omega arith)) (comparable-low c 0 (omega arith))
@@ -181,7 +181,7 @@ module _ (σ : ℕ → ℕ) (d c : Code) where
   equal-given x y z m r (both h k) (word i e) p q = absurd (omega arith)
   equal-given x y z m r (one h k) (word i e) p q = absurd (omega arith)
 
-  signs-given : (o : Operation) (t : List (List ℕ)) (x y z : ℕ) → ((x y : ℕ) → results c o x y ≡ bySigns t x y) → Memᴰ z (bySigns t x y) → Given o x y z
+  signs-given : (o : Operation) (t : List (List ℕ)) (x y z : ℕ) → ((x y : ℕ) → results c o x y ≡ by_signs t x y) → Memᴰ z (by_signs t x y) → Given o x y z
   signs-given o t x y z e m =
       let l = by-signs-low t x y z m in
       let h : x < 7 = l.0 in
@@ -196,6 +196,6 @@ module _ (σ : ℕ → ℕ) (d c : Code) where
 
   pub results-given : (o : Operation) (x y z : ℕ) → x < plain d → y < plain d → Memᴰ z (results d o x y) → Given o x y z
   unfolding results
-  results-given operations.Add x y z h l m = signs-given operations.Add sumSigns x y z (λ x y. refl) m
-  results-given operations.Less x y z h l m = signs-given operations.Less lessSigns x y z (λ x y. refl) m
+  results-given operations.Add x y z h l m = signs-given operations.Add sum_signs x y z (λ x y. refl) m
+  results-given operations.Less x y z h l m = signs-given operations.Less less_signs x y z (λ x y. refl) m
   results-given operations.Equal x y z h l m = equal-given x y z m (result d x y z m) (sort σ d c x) (sort σ d c y) h l

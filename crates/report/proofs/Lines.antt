@@ -4,14 +4,14 @@ use mathlib.Core.Path.{◌≡◌, refl}
 use mathlib.Core.List.{List, [], ◌∷◌}
 use Prim.Native.Nat.{ℕ}
 use Rattle.text.specs.Text.{bytes, decimal, set}
-use Rattle.report.specs.Lines.{refusalLine, verdictLine, handlerLine}
+use Rattle.report.specs.Lines.{refusal_line, verdict_line, handler_line}
 
 abbrev lines : List (List ℕ)
 lines =
-    verdictLine (record { leak = 2; bound = 0; over = true; first = 1; facts = 205 })
-    ∷ verdictLine (record { leak = 0x80000a; bound = 0xffffff; over = false; first = 32; facts = 0 })
-    ∷ handlerLine 1 1 false true 2
-    ∷ refusalLine 10 4
+    verdict_line (record { leak = 2; bound = 0; over = true; first = 1; facts = 205 })
+    ∷ verdict_line (record { leak = 0x80000a; bound = 0xffffff; over = false; first = 32; facts = 0 })
+    ∷ handler_line 1 1 false true 2
+    ∷ refusal_line 10 4
     ∷ []
 
 pub lines-as-printed :
@@ -21,5 +21,5 @@ pub lines-as-printed :
     ∷ bytes "handler 1 name 1 entry no live yes set 000002\n"
     ∷ bytes "refused 10 at 4\n"
     ∷ []
-unfolding refusalLine verdictLine handlerLine decimal set
+unfolding refusal_line verdict_line handler_line decimal set
 lines-as-printed = refl

@@ -2,13 +2,13 @@
 ghost use Rattle.std.specs.Prelude.{◌++◌, ◌+◌, ◌≤◌, length};
 ghost use Rattle.text.specs.Text.{bytes};
 ghost use Rattle.text.specs.Writing.{Wrote};
-ghost use Rattle.report.specs.Lines.{firstOutside, refusalLine, verdictLine, handlerLine};
+ghost use Rattle.report.specs.Lines.{first_outside, refusal_line, verdict_line, handler_line};
 
 use text::{number_field, put, set_field, word_field};
 
 fn first_field(out: &mut [u8], at: usize, over: bool, first: u32) -> usize
     requires { at + 27 ≤ length out.old }
-    ensures wrote { Wrote out.old at (bytes " first " ++ firstOutside over first) out.new result }
+    ensures wrote { Wrote out.old at (bytes " first " ++ first_outside over first) out.new result }
     ensures upper_bound { result ≤ at + 27 }
 {
     if over {
@@ -21,7 +21,7 @@ fn first_field(out: &mut [u8], at: usize, over: bool, first: u32) -> usize
 // The line of a refusal.
 pub fn refusal_line(out: &mut [u8], at: usize, number: u32, place: usize) -> usize
     requires { at + 96 ≤ length out.old }
-    ensures wrote { Wrote out.old at (refusalLine number place) out.new result }
+    ensures wrote { Wrote out.old at (refusal_line number place) out.new result }
     ensures upper_bound { result ≤ at + 96 }
 {
     let a = number_field(out, at, b"refused ", number as u64);
@@ -40,7 +40,7 @@ pub fn verdict_line(
     facts: usize,
 ) -> usize
     requires { at + 96 ≤ length out.old }
-    ensures wrote { Wrote out.old at (verdictLine (record { leak = leak; bound = bound; over = over; first = first; facts = facts }))
+    ensures wrote { Wrote out.old at (verdict_line (record { leak = leak; bound = bound; over = over; first = first; facts = facts }))
         out.new result }
     ensures upper_bound { result ≤ at + 96 }
 {
@@ -63,7 +63,7 @@ pub fn handler_line(
     permissions: u32,
 ) -> usize
     requires { at + 96 ≤ length out.old }
-    ensures wrote { Wrote out.old at (handlerLine position name entry live permissions) out.new result }
+    ensures wrote { Wrote out.old at (handler_line position name entry live permissions) out.new result }
     ensures upper_bound { result ≤ at + 96 }
 {
     let a = number_field(out, at, b"handler ", position as u64);

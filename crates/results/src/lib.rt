@@ -2,8 +2,8 @@
 ghost use Rattle.std.specs.Prelude.{◌≡◌, ◌∷◌, ◌+◌, ◌^◌, ◌<◌, ◌≤◌, length, get_or, take, drop};
 ghost use Rattle.permset.specs.Sets.{member};
 ghost use Rattle.calculus.specs.Estimate.{same, facts};
-ghost use Rattle.calculus.specs.ResultWords.{signEntry, signsBelow, nonzero, sameMask, apart, apartMask, equalMask, operationMask};
-ghost use Rattle.results.specs.Signs.{signTable};
+ghost use Rattle.calculus.specs.ResultWords.{sign_entry, signs_below, nonzero, same_mask, apart, apart_mask, equal_mask, operation_mask};
+ghost use Rattle.results.specs.Signs.{sign_table};
 
 use rows::elements;
 use rows::row::{any, some};
@@ -46,7 +46,7 @@ pub fn digit(i: u32) -> u32
 // What pair i of signs gives: the first is i / 3, the second i % 3.
 fn sign_result(sum: bool, i: usize) -> u32
     requires { i < 9 }
-    ensures { result ≡ get_or (signTable sum) i 0 }
+    ensures { result ≡ get_or (sign_table sum) i 0 }
 {
     // negative 0, zero 1, positive 2
     let x = i / 3;
@@ -71,7 +71,7 @@ fn sign_result(sum: bool, i: usize) -> u32
 // The entry of pair i if both rows have its signs.
 fn sign_entry(sum: bool, x: u32, y: u32, i: usize) -> u32
     requires { i < 9 }
-    ensures { result ≡ signEntry (signTable sum) x y i }
+    ensures { result ≡ sign_entry (sign_table sum) x y i }
 {
     if !has_digit(x, (elements::NEGATIVE + i / 3) as u32) {
         return 0;
@@ -83,7 +83,7 @@ fn sign_entry(sum: bool, x: u32, y: u32, i: usize) -> u32
 }
 
 fn signs(sum: bool, x: u32, y: u32) -> u32
-    ensures { result ≡ signsBelow (signTable sum) x y 9 }
+    ensures { result ≡ signs_below (sign_table sum) x y 9 }
 {
     let mut r = 0u32;
     let mut i = 0;
@@ -134,7 +134,7 @@ fn any_element(x: u32, a: &[u32]) -> bool
 
 fn same_bits(x: u32, y: u32, a: &[u32], d: &[u32]) -> u32
     requires { length a.now ≡ length d.now }
-    ensures { result ≡ sameMask (x ∷ a.now) (y ∷ d.now) }
+    ensures { result ≡ same_mask (x ∷ a.now) (y ∷ d.now) }
 {
     if x & y != 0 {
         return TRUE;
@@ -161,7 +161,7 @@ fn differ(x: u32, y: u32, a: &[u32], d: &[u32]) -> bool
 
 fn differ_bits(x: u32, y: u32, a: &[u32], d: &[u32]) -> u32
     requires { (length a.now ≡ length d.now) × (length a.now ≤ 36) }
-    ensures { result ≡ apartMask (x ∷ a.now) (y ∷ d.now) }
+    ensures { result ≡ apart_mask (x ∷ a.now) (y ∷ d.now) }
 {
     if differ(x, y, a, d) { FALSE } else { 0 }
 }
@@ -169,7 +169,7 @@ fn differ_bits(x: u32, y: u32, a: &[u32], d: &[u32]) -> u32
 // Equal, where 7 is left out: same gives true, different gives false.
 fn compare(x: u32, y: u32, a: &[u32], d: &[u32]) -> u32
     requires { (length a.now ≡ length d.now) × (length a.now ≤ 36) }
-    ensures { result ≡ equalMask (x ∷ a.now) (y ∷ d.now) }
+    ensures { result ≡ equal_mask (x ∷ a.now) (y ∷ d.now) }
 {
     if !any_element(x, a) {
         return 0;
@@ -183,7 +183,7 @@ fn compare(x: u32, y: u32, a: &[u32], d: &[u32]) -> u32
 // The results of an operation on two sides; 7 is not compared.
 fn operate(o: Operation, x: u32, y: u32, a: &[u32], d: &[u32]) -> u32
     requires { (length a.now ≡ length d.now) × (length a.now ≤ 36) }
-    ensures { result ≡ operationMask o (x ∷ a.now) (y ∷ d.now) }
+    ensures { result ≡ operation_mask o (x ∷ a.now) (y ∷ d.now) }
 {
     match o {
         Operation::Add => signs(true, x, y),
@@ -195,7 +195,7 @@ fn operate(o: Operation, x: u32, y: u32, a: &[u32], d: &[u32]) -> u32
 // The results of an operation on the sides of `lead` words that start at the words x and y.
 pub fn operate_at(est: &[u32], lead: usize, o: Operation, x: usize, y: usize) -> u32
     requires { (x + lead ≤ length est.now) × (y + lead ≤ length est.now) × (1 ≤ lead) × (lead ≤ 36) }
-    ensures { result ≡ operationMask o (take lead (drop x est.now)) (take lead (drop y est.now)) }
+    ensures { result ≡ operation_mask o (take lead (drop x est.now)) (take lead (drop y est.now)) }
 {
     let a = x + 1;
     let b = x + lead;

@@ -9,20 +9,20 @@ use Rattle.table.specs.Code.{Code, code}
 use Rattle.table.proofs.Limits.{size-le}
 use Rattle.table.proofs.Widths.{names-most}
 use Rattle.calculus.specs.Constraint.{P}
-use Rattle.calculus.specs.Layout.{rowWords, estimateWords, base}
+use Rattle.calculus.specs.Layout.{row_words, estimate_words, base}
 use Rattle.rows.specs.declared.layout.Layout.{Layout}
 use Rattle.rows.specs.Laid.{LaidOut}
 use Rattle.rows.proofs.Sizes.{rows_fit}
 
 module _ (ws : List ℕ) where
   module _ (e : reading ws ≡ accepted) where
-    pub row-bound : rowWords (code ws) ≤ 36
-    unfolding code rowWords
+    pub row-bound : row_words (code ws) ≤ 36
+    unfolding code row_words
     row-bound = omega (arith, size-le ws e, names-most (get_or ws 0 0))
 
-    pub words-bound : estimateWords (code ws) ≤ 132096
-    unfolding code estimateWords
-    words-bound = omega (arith, size-le ws e, rows_fit (length ws) (rowWords (code ws)) (size-le ws e) (omega (arith, row-bound)))
+    pub words-bound : estimate_words (code ws) ≤ 132096
+    unfolding code estimate_words
+    words-bound = omega (arith, size-le ws e, rows_fit (length ws) (row_words (code ws)) (size-le ws e) (omega (arith, row-bound)))
 
     module _ (l : Layout) (o : LaidOut (code ws) l) where
       pub size_small : l.size ≤ 1024
@@ -33,11 +33,11 @@ module _ (ws : List ℕ) where
       row_small = omega (arith, row-bound, o.row)
 
       pub lead-small : l.lead ≤ 36
-      unfolding rowWords
+      unfolding row_words
       lead-small = omega (arith, row-bound, o.lead)
 
-      pub words_are : estimateWords (code ws) ≡ 2 * l.size * l.row + l.size
-      unfolding estimateWords
+      pub words_are : estimate_words (code ws) ≡ 2 * l.size * l.row + l.size
+      unfolding estimate_words
       words_are = ap₂ (λ (n r : ℕ). 2 * n * r + n) o.size o.row
 
 -- the word of P(b)

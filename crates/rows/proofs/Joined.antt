@@ -10,10 +10,10 @@ use lib.Count.{ones, ones-le}
 use lib.ListN.{length, length-set, get_or, set, take, drop}
 use lib.Seq.{length-take-le, take_all, get_or-set_other}
 use Rattle.calculus.specs.Layout.{pour, masked}
-use Rattle.calculus.proofs.Masks.{getD-masked}
-use Rattle.calculus.proofs.Slices.{getD-pour-before}
+use Rattle.calculus.proofs.Masks.{get_or-masked}
+use Rattle.calculus.proofs.Slices.{get_or-pour-before}
 use Rattle.rows.specs.Rows.{Poured}
-use Rattle.rows.proofs.Laws.{drop-next, pour-then, poured-next, nothing-new, different-bits, put_back, length-poured, poured-few, length_part, length-row, getD-row, length-masked-row}
+use Rattle.rows.proofs.Laws.{drop-next, pour-then, poured-next, nothing-new, different-bits, put_back, length-poured, poured-few, length_part, length-row, get_or-row, length-masked-row}
 
 -- ---- four words
 
@@ -87,22 +87,22 @@ module _ (ws : List ℕ) (k a b c d : ℕ) where
 
 -- ---- a row of an estimate
 
-getD-pour-after : (ws : List ℕ) (at : ℕ) (xs : List ℕ) (k : ℕ) → at + length xs ≤ k → get_or (pour ws at xs) k 0 ≡ get_or ws k 0
+get_or-pour-after : (ws : List ℕ) (at : ℕ) (xs : List ℕ) (k : ℕ) → at + length xs ≤ k → get_or (pour ws at xs) k 0 ≡ get_or ws k 0
 unfolding pour
-getD-pour-after [] at xs k h = refl
-getD-pour-after (w ∷ ws) zero [] k h = refl
-getD-pour-after (w ∷ ws) zero (x ∷ xs) zero h = absurd (omega arith)
-getD-pour-after (w ∷ ws) zero (x ∷ xs) (suc k) h = getD-pour-after ws zero xs k (omega arith)
-getD-pour-after (w ∷ ws) (suc at) xs zero h = absurd (omega arith)
-getD-pour-after (w ∷ ws) (suc at) xs (suc k) h = getD-pour-after ws at xs k (omega arith)
+get_or-pour-after [] at xs k h = refl
+get_or-pour-after (w ∷ ws) zero [] k h = refl
+get_or-pour-after (w ∷ ws) zero (x ∷ xs) zero h = absurd (omega arith)
+get_or-pour-after (w ∷ ws) zero (x ∷ xs) (suc k) h = get_or-pour-after ws zero xs k (omega arith)
+get_or-pour-after (w ∷ ws) (suc at) xs zero h = absurd (omega arith)
+get_or-pour-after (w ∷ ws) (suc at) xs (suc k) h = get_or-pour-after ws at xs k (omega arith)
 
 -- where the first words of the row b were written, the row a is as it was behind as many
 unread : (ws : List ℕ) (row a b : ℕ) (xs : List ℕ) (k : ℕ) → length xs ≤ k → k < row → get_or (pour ws (b * row) xs) (a * row + k) 0 ≡ get_or ws (a * row + k) 0
 unread ws row a b xs k h l = go (dec_lt a b)
   where
     go : Dec (a < b) → get_or (pour ws (b * row) xs) (a * row + k) 0 ≡ get_or ws (a * row + k) 0
-    go (yes m) = getD-pour-before ws (b * row) xs (a * row + k) (omega (arith, suc-mul a row, mul-le-mul_right row m))
-    go (no m) = let n : b ≤ a = omega arith in getD-pour-after ws (b * row) xs (a * row + k) (omega (arith, mul-le-mul_right row n))
+    go (yes m) = get_or-pour-before ws (b * row) xs (a * row + k) (omega (arith, suc-mul a row, mul-le-mul_right row m))
+    go (no m) = let n : b ≤ a = omega arith in get_or-pour-after ws (b * row) xs (a * row + k) (omega (arith, mul-le-mul_right row n))
 
 -- What is or-ed in, as a list that an estimate gives: its word k comes from the word k of the row a.
 pub record Source (row a : ℕ) (of : List ℕ → List ℕ) (f : ℕ → ℕ → ℕ) : Type 0 where
@@ -110,14 +110,14 @@ pub record Source (row a : ℕ) (of : List ℕ → List ℕ) (f : ℕ → ℕ �
   pub word : (ws : List ℕ) (k : ℕ) → k < row → get_or (of ws) k 0 ≡ f k (get_or ws (a * row + k) 0)
 
 pub whole_row : (row a : ℕ) → Source row a (λ ws. take row (drop (a * row) ws)) (λ k w. w)
-whole_row row a = record { long = λ ws h. length-row ws (a * row) row h; word = λ ws k h. getD-row ws (a * row) row k h }
+whole_row row a = record { long = λ ws h. length-row ws (a * row) row h; word = λ ws k h. get_or-row ws (a * row) row k h }
 
 pub masked_row : (row a : ℕ) (mask : List ℕ) → length mask ≡ row
     → Source row a (λ ws. masked mask (take row (drop (a * row) ws))) (λ k w. bit_and (get_or mask k 0) w)
 masked_row row a mask e =
     record {
       long = λ ws h. length-masked-row mask ws (a * row) row e h;
-      word = λ ws k h. getD-masked mask (take row (drop (a * row) ws)) k ∙ ap (bit_and (get_or mask k 0)) (getD-row ws (a * row) row k h);
+      word = λ ws k h. get_or-masked mask (take row (drop (a * row) ws)) k ∙ ap (bit_and (get_or mask k 0)) (get_or-row ws (a * row) row k h);
     }
 
 take-one : (xs : List ℕ) (i : ℕ) → i < length xs → take 1 (drop i xs) ≡ get_or xs i 0 ∷ []

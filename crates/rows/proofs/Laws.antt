@@ -31,10 +31,10 @@ unfolding ones_in ones
 ones-in zero n h = ap ones (sym (lt-one h))
 ones-in (suc k) n h = ap (λ (x : ℕ). n % 2 + x) (ones-in k (n / 2) (omega (arith, pow-suc 2 k))) ∙ sym (ones_step n)
 
-onesIn-le : (k n : ℕ) → ones_in k n ≤ k
+ones_in-le : (k n : ℕ) → ones_in k n ≤ k
 unfolding ones_in
-onesIn-le zero n = omega arith
-onesIn-le (suc k) n = omega (arith, onesIn-le k (n / 2))
+ones_in-le zero n = omega arith
+ones_in-le (suc k) n = omega (arith, ones_in-le k (n / 2))
 
 -- what another word adds to a word is where the two differ
 one-digit : (p q : ℕ) → p < 2 → q < 2 → bit_xor (bit_or p q) p + p ≡ bit_or p q
@@ -191,7 +191,7 @@ module _ (ws : List ℕ) (k x : ℕ) where
 pub facts-most : (ws : List ℕ) → facts ws ≤ 32 * length ws
 unfolding facts
 facts-most [] = omega arith
-facts-most (w ∷ ws) = omega (arith, onesIn-le 32 w, facts-most ws)
+facts-most (w ∷ ws) = omega (arith, ones_in-le 32 w, facts-most ws)
 
 -- so few are added to a row
 pub poured-few : (old new : List ℕ) (at : ℕ) (xs : List ℕ) (n : ℕ) → Poured old new at xs n → length old < 4096 → n < 131072
@@ -291,8 +291,8 @@ module _ (ws : List ℕ) (at row : ℕ) where
   pub length-row : at + row ≤ length ws → length (take row (drop at ws)) ≡ row
   length-row h = length-take-le row (drop at ws) (simp length-drop (omega arith))
 
-  pub getD-row : (i : ℕ) → i < row → get_or (take row (drop at ws)) i 0 ≡ get_or ws (at + i) 0
-  getD-row i h = get_or-take row (drop at ws) i 0 h ∙ get_or-drop at ws i 0
+  pub get_or-row : (i : ℕ) → i < row → get_or (take row (drop at ws)) i 0 ≡ get_or ws (at + i) 0
+  get_or-row i h = get_or-take row (drop at ws) i 0 h ∙ get_or-drop at ws i 0
 
   pub length_part : at + row ≤ length ws → length (take (at + row - at) (drop at ws)) ≡ row
   length_part h = ap length same-part ∙ length-row h

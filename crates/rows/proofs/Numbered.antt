@@ -9,7 +9,7 @@ use borrow.Author.Tests.{eq-eqb, ne_eqb}
 use lib.ListN.{take, drop}
 use Rattle.table.specs.Code.{Code}
 use Rattle.calculus.specs.Constraint.{Row, C, B}
-use Rattle.calculus.specs.Layout.{rowWords, base, content}
+use Rattle.calculus.specs.Layout.{row_words, base, content}
 use Rattle.calculus.proofs.RowRules.{ValueRow, C-row, B-row}
 use Rattle.rows.specs.Numbered.{row_at}
 
@@ -47,13 +47,13 @@ by_number q n f g = go (numbered n)
     go (in-B {i} e) = g i e
 
 module _ (c : Code) where
-  pub base-row : (n : ℕ) → base c (row_at n) ≡ n * rowWords c
+  pub base-row : (n : ℕ) → base c (row_at n) ≡ n * row_words c
   unfolding base
-  base-row n = by_number (λ r. base c r ≡ n * rowWords c) n (λ i e. rw e) (λ i e. omega (arith, ap (λ (x : ℕ). x * rowWords c) e))
+  base-row n = by_number (λ r. base c r ≡ n * row_words c) n (λ i e. rw e) (λ i e. omega (arith, ap (λ (x : ℕ). x * row_words c) e))
 
-  pub content-row : (ws : List ℕ) (n : ℕ) → content c ws (row_at n) ≡ take (rowWords c) (drop (n * rowWords c) ws)
+  pub content-row : (ws : List ℕ) (n : ℕ) → content c ws (row_at n) ≡ take (row_words c) (drop (n * row_words c) ws)
   unfolding content
-  content-row ws n = rw (← base-row n) (by_number (λ r. content c ws r ≡ take (rowWords c) (drop (base c r) ws)) n (λ i e. refl) (λ i e. refl))
+  content-row ws n = rw (← base-row n) (by_number (λ r. content c ws r ≡ take (row_words c) (drop (base c r) ws)) n (λ i e. refl) (λ i e. refl))
 
   pub value_row : (n : ℕ) → n < 2 * c.size → ValueRow c (row_at n)
   value_row n h = by_number (ValueRow c) n (λ i e. C-row c i (omega arith)) (λ i e. B-row c i (omega arith))

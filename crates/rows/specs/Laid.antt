@@ -2,13 +2,13 @@
 use Rattle.std.specs.Prelude.{ℕ, ◌+◌, ◌*◌, ◌≤◌, ◌≡◌, List, length}
 use Rattle.table.specs.Code.{Code}
 use Rattle.calculus.specs.Elements.{plain}
-use Rattle.calculus.specs.Layout.{rowWords}
+use Rattle.calculus.specs.Layout.{row_words}
 use Rattle.rows.specs.declared.layout.Layout.{Layout}
 
 -- l is the layout of the code c
 pub record LaidOut (c : Code) (l : Layout) : Type 0 where
   pub size : c.size ≡ l.size
-  pub row : rowWords c ≡ l.row
+  pub row : row_words c ≡ l.row
   pub lead : plain c ≡ 32 * l.lead
 
 -- the words of an estimate of this layout

@@ -1,9 +1,9 @@
 -- Rows and masks by their numbers: the code hands rows of value sets and held sets, and masks, on as numbers.
 use Rattle.std.specs.Prelude.{ℕ, zero, suc, ◌+◌, ◌*◌, ◌/◌, ◌%◌, Bool, true, false, eqb}
 use Rattle.table.specs.Code.{Code}
-use Rattle.calculus.specs.Elements.{Making, isFunction, isRecord, isCell, sendable, anyRecord}
+use Rattle.calculus.specs.Elements.{Making, is_function, is_record, is_cell, sendable, any_record}
 use Rattle.calculus.specs.Constraint.{Row, C, B}
-use Rattle.rows.specs.Mask.{madeAs}
+use Rattle.rows.specs.Mask.{made_as}
 
 -- the rows of a word
 abbrev pub value : ℕ → ℕ
@@ -30,14 +30,14 @@ abbrev pub messages : ℕ
 messages = 3
 
 -- the elements of a mask, by its number: functions, records and 7, cells, what may be sent
-unfoldable pub sortAt : ℕ → Code → ℕ → Bool
-sortAt zero c v = madeAs c isFunction v
-sortAt (suc zero) c v = anyRecord c v
-sortAt (suc (suc zero)) c v = madeAs c isCell v
-sortAt (suc (suc (suc n))) c v = sendable c v
+unfoldable pub sort_at : ℕ → Code → ℕ → Bool
+sort_at zero c v = made_as c is_function v
+sort_at (suc zero) c v = any_record c v
+sort_at (suc (suc zero)) c v = made_as c is_cell v
+sort_at (suc (suc (suc n))) c v = sendable c v
 
 -- the things of a mask, by its number
-unfoldable pub thingAt : ℕ → Making → Bool
-thingAt zero m = isFunction m
-thingAt (suc zero) m = isRecord m
-thingAt (suc (suc n)) m = isCell m
+unfoldable pub thing_at : ℕ → Making → Bool
+thing_at zero m = is_function m
+thing_at (suc zero) m = is_record m
+thing_at (suc (suc n)) m = is_cell m

@@ -1,6 +1,6 @@
 // The elements of value sets and held sets, by their numbers.
 ghost use Rattle.std.specs.Prelude.{◌≡◌};
-ghost use Rattle.calculus.specs.Elements.{constantElement, sign};
+ghost use Rattle.calculus.specs.Elements.{constant_element, sign};
 
 use table::Constant;
 use table::sizes::NEGATIVES;
@@ -30,7 +30,7 @@ pub const LITERALS: usize = 9;
 pub const NAMES: usize = 32;
 
 pub fn constant_element(c: Constant) -> usize
-    ensures { result ≡ constantElement c }
+    ensures { result ≡ constant_element c }
 {
     match c {
         Constant::Undefined => UNDEFINED,

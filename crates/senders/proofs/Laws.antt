@@ -10,15 +10,15 @@ use Rattle.permset.specs.Sets.{member}
 use Rattle.table.specs.Words.{kind}
 use Rattle.table.specs.Code.{code}
 use Rattle.table.proofs.Widths.{names-most}
-use Rattle.calculus.specs.Elements.{made, elements, opponentRecord}
-use Rattle.calculus.specs.Layout.{rowWords, base}
+use Rattle.calculus.specs.Elements.{made, elements, opponent_record}
+use Rattle.calculus.specs.Layout.{row_words, base}
 use Rattle.calculus.proofs.RowOperations.{sets-C}
 use Rattle.rows.specs.declared.layout.Layout.{Layout}
 use Rattle.rows.specs.Laid.{LaidOut}
 use Rattle.text.specs.Text.{bytes, decimal, choice}
 use Rattle.text.specs.Added.{Added}
 use Rattle.text.proofs.Adding.{added_then, added-as}
-use Rattle.senders.specs.Text.{orNobody, handlerLine, holds, sender, opponent, senders, block_line}
+use Rattle.senders.specs.Text.{or_nobody, handler_line, holds, sender, opponent, senders, block_line}
 
 -- the layout of a short table, accepted or not: it has as many words, and a row has less than 64
 pub laid-size : (ws : List ℕ) → length ws ≤ 1024 → (l : Layout) → LaidOut (code ws) l → l.size ≤ 1024
@@ -26,7 +26,7 @@ unfolding code
 laid-size ws h l o = omega (arith, o.size)
 
 pub row-few : (ws : List ℕ) → length ws ≤ 1024 → (l : Layout) → LaidOut (code ws) l → l.row < 64
-unfolding code rowWords
+unfolding code row_words
 row-few ws h l o = omega (arith, o.row, names-most (get_or ws 0 0))
 
 pub lead-few : (ws : List ℕ) (l : Layout) → LaidOut (code ws) l → l.lead ≤ 3
@@ -34,7 +34,7 @@ unfolding code
 lead-few ws l o = omega (arith, o.lead, names-most (get_or ws 0 0))
 
 module _ (ws est : List ℕ) where
-  pub holds-is : (b v row w : ℕ) → b < length ws → v < elements (code ws) → rowWords (code ws) ≡ row → w ≡ get_or est (2 * b * row + v / 32) 0
+  pub holds-is : (b v row w : ℕ) → b < length ws → v < elements (code ws) → row_words (code ws) ≡ row → w ≡ get_or est (2 * b * row + v / 32) 0
       → member w (v % 32) ≡ holds ws est b v
   unfolding base code
   holds-is b v row w h k r e =
@@ -59,7 +59,7 @@ module _ (ws est : List ℕ) where
       pub sender-here : x ≡ true → sender ws est b s position (get_or ws s 0) ≡ bytes " " ++ decimal position
       sender-here t = sender-by ∙ ap (λ (y : Bool). choice y (bytes " " ++ decimal position) []) t
 
-  module _ (b : ℕ) (x : Bool) (e : x ≡ holds ws est b opponentRecord) where
+  module _ (b : ℕ) (x : Bool) (e : x ≡ holds ws est b opponent_record) where
     opponent-by : opponent ws est b ≡ choice x (bytes " opponent") []
     unfolding opponent
     opponent-by = ap (λ (y : Bool). choice y (bytes " opponent") []) (sym e)
@@ -76,26 +76,26 @@ module _ (ws est : List ℕ) where
     block_none k = rw (ne_eqb (kind (get_or ws b 0)) 2 k, block_line)
 
     pub block_here : kind (get_or ws b 0) ≡ 2
-        → block_line ws est b position (get_or ws b 0) ≡ handlerLine ws est b position
+        → block_line ws est b position (get_or ws b 0) ≡ handler_line ws est b position
     unfolding block_line
     block_here k = rw (eq-eqb (kind (get_or ws b 0)) 2 k, block_line)
 
 -- ---- nobody or somebody, by whether a place moved
 
-nobody : (l : List ℕ) → length l ≡ 0 → orNobody l ≡ l ++ bytes " -"
-unfolding orNobody
+nobody : (l : List ℕ) → length l ≡ 0 → or_nobody l ≡ l ++ bytes " -"
+unfolding or_nobody
 nobody [] h = refl
 nobody (x ∷ xs) h = absurd (omega arith)
 
-somebody : (l : List ℕ) → (length l ≡ 0 → ⊥) → orNobody l ≡ l
-unfolding orNobody
+somebody : (l : List ℕ) → (length l ≡ 0 → ⊥) → or_nobody l ≡ l
+unfolding or_nobody
 somebody [] h = absurd (h refl)
 somebody (x ∷ xs) h = refl
 
 module _ {before l mid : List ℕ} {at end : ℕ} (a : Added before at l mid end) where
-  pub added-nobody : end ≡ at → {after : List ℕ} {next : ℕ} → Added mid at (bytes " -") after next → Added before at (orNobody l) after next
+  pub added-nobody : end ≡ at → {after : List ℕ} {next : ℕ} → Added mid at (bytes " -") after next → Added before at (or_nobody l) after next
   added-nobody e r =
       added-as (sym (nobody l (omega (arith, a.ends)))) (added_then (subst (λ (n : ℕ). Added before at l mid n) e a) r)
 
-  pub added-somebody : (end ≡ at → ⊥) → Added before at (orNobody l) mid end
+  pub added-somebody : (end ≡ at → ⊥) → Added before at (or_nobody l) mid end
   added-somebody f = added-as (sym (somebody l (λ z. f (omega (arith, a.ends))))) a

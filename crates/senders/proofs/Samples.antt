@@ -3,15 +3,15 @@ use Prim.Native.Nat.{ℕ}
 use mathlib.Core.Path.{◌≡◌, refl}
 use mathlib.Core.List.{List, [], ◌∷◌, ◌++◌}
 use Rattle.permset.specs.Sets.{within, member, union, difference, lowest}
-use Rattle.table.specs.Words.{partsByKind, limitsByKind, parts, arity, limit, constantNumber, constant_of, operationOf, termsByKind, termOf, names_of}
+use Rattle.table.specs.Words.{parts_by_kind, limits_by_kind, parts, arity, limit, constant_number, constant_of, operation_of, terms_by_kind, term_of, names_of}
 use Rattle.table.specs.Scan.{under, next}
-use Rattle.table.specs.Code.{code, skip, part, trace, tasks, taskAt, termNode, nodeFor, scopeFor, homeFor, blocks_from}
+use Rattle.table.specs.Code.{code, skip, part, trace, tasks, task_at, term_node, node_for, scope_for, home_for, blocks_from}
 use Rattle.delivery.specs.Delivery.{judged, delivered}
-use Rattle.calculus.specs.Elements.{constantElement, leafMakes, oneMakes, makes, isFunction, isRecord, isCell, making, sendable}
+use Rattle.calculus.specs.Elements.{constant_element, leaf_makes, one_makes, makes, is_function, is_record, is_cell, making, sendable}
 use Rattle.calculus.specs.Constraint.{range}
-use Rattle.calculus.specs.Rules.{name_of, permsOf, guarded, isBlock, permissions, deliveryTo, leafRule, oneRule, twoRule, flow, entry}
-use Rattle.calculus.specs.Rules.{twoSender, sender as senderRule, senders as sendersRule, rule}
-use Rattle.calculus.specs.Layout.{rowWords, estimateWords, sets}
+use Rattle.calculus.specs.Rules.{name_of, perms_of, guarded, is_block, permissions, delivery_to, leaf_rule, one_rule, two_rule, flow, entry}
+use Rattle.calculus.specs.Rules.{two_sender, sender as sender_rule, senders as senders_rule, rule}
+use Rattle.calculus.specs.Layout.{row_words, estimate_words, sets}
 use Rattle.calculus.specs.Estimate.{whole, estimate}
 use Rattle.calculus.specs.Samples.{single, relay, twins}
 use Rattle.text.specs.Text.{bytes, decimal, set}
@@ -42,8 +42,8 @@ pub texts :
     ∷ (bytes "handler 0 name 0 from 0 1 opponent  line 2 permissions 000001\n" ++ bytes "handler 1 name 0 from 0  line 8 permissions 000002\n")
     ∷ (bytes "handler 0 name 0 from -  line 2 permissions 000008\n" ++ bytes "handler 1 name 1 from -  line 8 permissions 000002\n")
     ∷ []
-unfolding partsByKind limitsByKind parts arity limit constantNumber constant_of operationOf termsByKind termOf names_of under next code skip part trace tasks
-    taskAt termNode nodeFor scopeFor homeFor blocks_from within member union difference lowest constantElement leafMakes oneMakes makes isFunction
-    isRecord isCell making sendable range name_of permsOf guarded isBlock permissions deliveryTo judged delivered leafRule oneRule twoRule flow entry
-    twoSender senderRule sendersRule rule rowWords estimateWords sets estimate whole decimal set text
+unfolding parts_by_kind limits_by_kind parts arity limit constant_number constant_of operation_of terms_by_kind term_of names_of under next code skip part trace tasks
+    task_at term_node node_for scope_for home_for blocks_from within member union difference lowest constant_element leaf_makes one_makes makes is_function
+    is_record is_cell making sendable range name_of perms_of guarded is_block permissions delivery_to judged delivered leaf_rule one_rule two_rule flow entry
+    two_sender sender_rule senders_rule rule row_words estimate_words sets estimate whole decimal set text
 texts = refl

@@ -4,29 +4,29 @@ use mathlib.Core.List.{List, [], ◌∷◌, ◌++◌}
 use Rattle.table.specs.Words.{kind}
 use Rattle.table.specs.Scan.{reading}
 use Rattle.table.specs.Code.{code}
-use Rattle.calculus.specs.Elements.{made, opponentRecord}
+use Rattle.calculus.specs.Elements.{made, opponent_record}
 use Rattle.calculus.specs.Constraint.{C}
 use Rattle.calculus.specs.Layout.{sets}
 use Rattle.text.specs.Text.{bytes, decimal, choice}
 use Rattle.listing.specs.Listing.{Answered}
-use Rattle.handler_lines.specs.Parts.{head, tail, headAt, tail_at}
-use Rattle.deliveries.specs.Positions.{eachWord}
-use Rattle.deliveries.specs.Answers.{answerFor, bytesAfter}
+use Rattle.handler_lines.specs.Parts.{head, tail, head_at, tail_at}
+use Rattle.deliveries.specs.Positions.{each_word}
+use Rattle.deliveries.specs.Answers.{answer_for, bytes_after}
 
 -- ---- one line
 
 -- those who may have sent, `-` where there is nobody
-unfoldable pub orNobody : List ℕ → List ℕ
-orNobody [] = bytes " -"
-orNobody (x ∷ xs) = x ∷ xs
+unfoldable pub or_nobody : List ℕ → List ℕ
+or_nobody [] = bytes " -"
+or_nobody (x ∷ xs) = x ∷ xs
 
 unfoldable pub line : (head senders tail : List ℕ) → List ℕ
-unfolding orNobody
-line head senders tail = head ++ bytes " from" ++ orNobody senders ++ tail
+unfolding or_nobody
+line head senders tail = head ++ bytes " from" ++ or_nobody senders ++ tail
 
 -- room for the text of any accepted table: 64 lines of at most 261 bytes
-abbrev pub textRoom : ℕ
-textRoom = 16704
+abbrev pub text_room : ℕ
+text_room = 16704
 
 -- ---- of the table ws and the words est of an estimate; words past their end count as zero
 
@@ -40,45 +40,45 @@ module _ (ws est : List ℕ) where
   unfolding sets
   sender b s position v = choice (eqb (kind v) 2 && holds b (made (code ws) s)) (bytes " " ++ decimal position) []
 
-  abbrev pub senderAt : (b : ℕ) → (s position : ℕ) → List ℕ
-  senderAt b s position = sender b s position (get_or ws s 0)
+  abbrev pub sender_at : (b : ℕ) → (s position : ℕ) → List ℕ
+  sender_at b s position = sender b s position (get_or ws s 0)
 
   unfoldable pub opponent : (b : ℕ) → List ℕ
   unfolding sets
-  opponent b = choice (holds b opponentRecord) (bytes " opponent") []
+  opponent b = choice (holds b opponent_record) (bytes " opponent") []
 
   -- all blocks that may have sent to the block at b
   abbrev pub blocks : (b : ℕ) → List ℕ
-  blocks b = eachWord (sender b) 0 0 ws
+  blocks b = each_word (sender b) 0 0 ws
 
   -- all who may have sent to it, the opponent last
   unfoldable pub senders : (b : ℕ) → List ℕ
-  unfolding sender eachWord opponent
+  unfolding sender each_word opponent
   senders b = blocks b ++ opponent b
 
   -- the line of the block at b, which has this position
-  abbrev pub handlerLine : (b position : ℕ) → List ℕ
-  handlerLine b position = line (headAt ws b position) (senders b) (tail_at ws b)
+  abbrev pub handler_line : (b position : ℕ) → List ℕ
+  handler_line b position = line (head_at ws b position) (senders b) (tail_at ws b)
 
   -- the line of the word w at b, if a block starts there
   unfoldable pub block_line : (b position w : ℕ) → List ℕ
   unfolding line senders head tail
-  block_line b position w = choice (eqb (kind w) 2) (handlerLine b position) []
+  block_line b position w = choice (eqb (kind w) 2) (handler_line b position) []
 
   abbrev pub line_at : (b position : ℕ) → List ℕ
   line_at b position = block_line b position (get_or ws b 0)
 
   -- of an accepted table
   unfoldable pub text : List ℕ
-  unfolding block_line eachWord
-  text = eachWord block_line 0 0 ws
+  unfolding block_line each_word
+  text = each_word block_line 0 0 ws
 
   -- ---- the call
 
   unfoldable pub written : ℕ → Answered
-  unfolding text answerFor
-  written room = answerFor (reading ws) text room
+  unfolding text answer_for
+  written room = answer_for (reading ws) text room
 
   -- the bytes of the output slice after the call, from those before it
-  abbrev pub textAfter : List ℕ → List ℕ
-  textAfter out = bytesAfter (reading ws) text out
+  abbrev pub text_after : List ℕ → List ℕ
+  text_after out = bytes_after (reading ws) text out

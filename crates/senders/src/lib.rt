@@ -5,7 +5,7 @@ ghost use Rattle.table.specs.Code.{code};
 ghost use Rattle.calculus.specs.Elements.{elements};
 ghost use Rattle.listing.specs.Answer.{answered};
 ghost use Rattle.text.specs.Added.{Added};
-ghost use Rattle.senders.specs.Text.{orNobody, senderAt, opponent, blocks, senders, handlerLine, line_at, written, textAfter};
+ghost use Rattle.senders.specs.Text.{or_nobody, sender_at, opponent, blocks, senders, handler_line, line_at, written, text_after};
 ghost use Rattle.senders.specs.Text.{holds as Text·holds};
 ghost use Rattle.senders.specs.Text.{text as Text·text};
 
@@ -37,7 +37,7 @@ fn put_sender(
     at: usize,
 ) -> usize
     requires { (length words.now ≤ 1024) × (b < length words.now) × (s < length words.now) × (at ≤ 1000000000) }
-    ensures added { Added out.old at (senderAt words.now est.now b s position) out.new result }
+    ensures added { Added out.old at (sender_at words.now est.now b s position) out.new result }
     ensures upper_bound { result ≤ at + 64 }
 {
     if kind_of(words[s]) != 2 {
@@ -84,7 +84,7 @@ fn put_opponent(words: &[u32], est: &[u32], b: usize, out: &mut [u8], at: usize)
 // All who may have sent to b, or a dash.
 fn put_all(words: &[u32], est: &[u32], b: usize, out: &mut [u8], at: usize) -> usize
     requires { (length words.now ≤ 1024) × (b < length words.now) × (at ≤ 200000000) }
-    ensures added { Added out.old at (orNobody (senders words.now est.now b)) out.new result }
+    ensures added { Added out.old at (or_nobody (senders words.now est.now b)) out.new result }
     ensures upper_bound { result ≤ at + 65600 }
 {
     let next = put_senders(words, est, b, out, at);
@@ -106,7 +106,7 @@ fn put_line(
     at: usize,
 ) -> usize
     requires { (length words.now ≤ 1024) × (b < length words.now) × (at ≤ 100000000) }
-    ensures added { Added out.old at (handlerLine words.now est.now b position) out.new result }
+    ensures added { Added out.old at (handler_line words.now est.now b position) out.new result }
     ensures upper_bound { result ≤ at + 66000 }
 {
     let a = put_head(words, b, position, out, at);
@@ -155,7 +155,7 @@ fn put_blocks(words: &[u32], est: &[u32], out: &mut [u8]) -> usize
 fn write_accepted(words: &[u32], est: &[u32], out: &mut [u8]) -> Answer
     requires { reading words.now ≡ accepted }
     ensures answer { answered result ≡ written words.now est.now (length out.old) }
-    ensures text { out.new ≡ textAfter words.now est.now out.old }
+    ensures text { out.new ≡ text_after words.now est.now out.old }
 {
     let n = put_blocks(words, est, &mut out[..0]);
     if out.len() < n {
@@ -169,7 +169,7 @@ fn write_accepted(words: &[u32], est: &[u32], out: &mut [u8]) -> Answer
 // estimate that are missing count as zero.
 pub fn write(words: &[u32], est: &[u32], out: &mut [u8]) -> Answer
     ensures answer { answered result ≡ written words.now est.now (length out.old) }
-    ensures text { out.new ≡ textAfter words.now est.now out.old }
+    ensures text { out.new ≡ text_after words.now est.now out.old }
 {
     if let Reading::Refused(r) = table::read::read(words) {
         return Answer::Refused(Refusal::Table(r));

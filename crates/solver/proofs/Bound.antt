@@ -10,16 +10,16 @@ use lib.ListN.{length, drop}
 use Rattle.table.specs.Scan.{accepted, reading}
 use Rattle.table.specs.Code.{code}
 use Rattle.table.proofs.Linked.{linked}
-use Rattle.calculus.specs.Layout.{estimateWords}
-use Rattle.calculus.specs.Estimate.{estimate, leak, facts, mostFacts}
-use Rattle.calculus.specs.Answer.{Answer, verdict, standingBound, judge, answer}
+use Rattle.calculus.specs.Layout.{estimate_words}
+use Rattle.calculus.specs.Estimate.{estimate, leak, facts, most_facts}
+use Rattle.calculus.specs.Answer.{Answer, verdict, standing_bound, judge, answer}
 use Rattle.calculus.specs.Answer as answers
 use Rattle.calculus.proofs.Least.{estimate-well, facts-bound}
 use Rattle.calls.proofs.Answers.{after-solved}
 use Rattle.comparison.specs.declared.Findings.{Findings}
 use Rattle.solver.specs.declared.Bounded.TheVariants as bounded
 use Rattle.solver.specs.Analysis.{Outcome, refused, solved, outcome, Sound}
-use Rattle.solver.specs.Ceiling.{under, answerWithin, wordsWithin, estimateWithin, outcomeOf, SolvedIn, BoundedIn}
+use Rattle.solver.specs.Ceiling.{under, answer_within, words_within, estimate_within, outcome_of, SolvedIn, BoundedIn}
 use Rattle.solver.proofs.Least.{words-whole}
 use Rattle.solver.proofs.Sound.{sound}
 
@@ -31,7 +31,7 @@ saying ws ρ n b = elim b [ true ↦ refused 23 n | false ↦ solved (leak (code
 
 module _ (ws : List ℕ) (ρ n : ℕ) (est work est' work' : List ℕ) (s : Findings) (d : SolvedIn ws ρ n est work est' work' s) where
   pub is-over : n < s.facts → BoundedIn ws ρ n est work est' work' (bounded.Over n)
-  unfolding outcomeOf
+  unfolding outcome_of
   is-over h =
       record {
         estimates = d.estimates;
@@ -40,7 +40,7 @@ module _ (ws : List ℕ) (ρ n : ℕ) (est work est' work' : List ℕ) (s : Find
       }
 
   pub is_within : s.facts ≤ n → BoundedIn ws ρ n est work est' work' (bounded.Solved s)
-  unfolding outcomeOf
+  unfolding outcome_of
   is_within h =
       let k : s.facts ≡ facts (estimate (code ws) ρ) = d.within h in
       let t : ltb n (facts (estimate (code ws) ρ)) ≡ false = le-ltb n (facts (estimate (code ws) ρ)) (omega arith) in
@@ -54,47 +54,47 @@ module _ (ws : List ℕ) (ρ n : ℕ) (est work est' work' : List ℕ) (s : Find
 
 module _ (ws : List ℕ) (ρ n : ℕ) (est work : List ℕ) where
   abbrev said : Answer
-  said = answer ws ρ standingBound (length est) (length work)
+  said = answer ws ρ standing_bound (length est) (length work)
 
-  module _ (e : said ≡ verdict (judge (code ws) ρ standingBound (estimate (code ws) ρ))) where
-    pub within-is : outcome (answerWithin ws ρ n (length est) (length work))
+  module _ (e : said ≡ verdict (judge (code ws) ρ standing_bound (estimate (code ws) ρ))) where
+    pub within-is : outcome (answer_within ws ρ n (length est) (length work))
         ≡ elim (ltb n (facts (estimate (code ws) ρ))) [ true ↦ refused 23 n | false ↦ solved (leak (code ws) ρ (estimate (code ws) ρ)) (facts (estimate (code ws) ρ)) ]
-    unfolding answerWithin under judge outcome
+    unfolding answer_within under judge outcome
     within-is = ap (λ (a : Answer). outcome (under n a)) e ∙ go (ltb n (facts (estimate (code ws) ρ)))
       where
         v : Answer
-        v = verdict (judge (code ws) ρ standingBound (estimate (code ws) ρ))
+        v = verdict (judge (code ws) ρ standing_bound (estimate (code ws) ρ))
 
         go : (b : Bool) → outcome (elim b [ true ↦ answers.refused 23 n | false ↦ v ])
             ≡ elim b [ true ↦ refused 23 n | false ↦ solved (leak (code ws) ρ (estimate (code ws) ρ)) (facts (estimate (code ws) ρ)) ]
         go true = refl
         go false = refl
 
-    pub words_are : wordsWithin (code ws) ρ n ++ drop (estimateWords (code ws)) est ≡ estimateWithin ws ρ n est work
-    unfolding estimateWithin
+    pub words_are : words_within (code ws) ρ n ++ drop (estimate_words (code ws)) est ≡ estimate_within ws ρ n est work
+    unfolding estimate_within
     words_are = sym (ap left e)
       where
         left : Answer → List ℕ
         left (answers.refused k at) = est
-        left (verdict v) = wordsWithin (code ws) ρ n ++ drop (estimateWords (code ws)) est
+        left (verdict v) = words_within (code ws) ρ n ++ drop (estimate_words (code ws)) est
 
   module _ (k at : ℕ) (e : said ≡ answers.refused k at) where
-    pub refused-is : outcome (answerWithin ws ρ n (length est) (length work)) ≡ refused k at
-    unfolding answerWithin under outcome
+    pub refused-is : outcome (answer_within ws ρ n (length est) (length work)) ≡ refused k at
+    unfolding answer_within under outcome
     refused-is = ap (λ (a : Answer). outcome (under n a)) e
 
-    pub words-kept : est ≡ estimateWithin ws ρ n est work
-    unfolding estimateWithin
-    words-kept = sym (rw (e, estimateWithin))
+    pub words-kept : est ≡ estimate_within ws ρ n est work
+    unfolding estimate_within
+    words-kept = sym (rw (e, estimate_within))
 
 -- ---- demands 2 and 3
 
 module _ (ws : List ℕ) (ρ n : ℕ) (est work us : List ℕ) where
   abbrev found : Answer
-  found = verdict (judge (code ws) ρ standingBound (estimate (code ws) ρ))
+  found = verdict (judge (code ws) ρ standing_bound (estimate (code ws) ρ))
 
-  pub sound-fine : answer ws ρ standingBound (length est) (length work) ≡ found
-      → us ≡ wordsWithin (code ws) ρ n ++ drop (estimateWords (code ws)) est
+  pub sound-fine : answer ws ρ standing_bound (length est) (length work) ≡ found
+      → us ≡ words_within (code ws) ρ n ++ drop (estimate_words (code ws)) est
       → (o : Outcome) → o ≡ saying ws ρ n (ltb n (facts (estimate (code ws) ρ))) → Sound ws ρ us o
   unfolding Sound outcome judge
   sound-fine e u o q = subst (Sound ws ρ us) (sym q) (go (ltb n (facts (estimate (code ws) ρ))) refl)
@@ -103,8 +103,8 @@ module _ (ws : List ℕ) (ρ n : ℕ) (est work us : List ℕ) where
       go true t = tt
       go false t =
           sound ws ρ est work us (saying ws ρ n false) (ap outcome (sym e))
-          (u ∙ ap (λ (xs : List ℕ). xs ++ drop (estimateWords (code ws)) est) (words-whole (code ws) ρ n t)
-          ∙ (after-solved ws ρ standingBound est work (judge (code ws) ρ standingBound (estimate (code ws) ρ)) e).0)
+          (u ∙ ap (λ (xs : List ℕ). xs ++ drop (estimate_words (code ws)) est) (words-whole (code ws) ρ n t)
+          ∙ (after-solved ws ρ standing_bound est work (judge (code ws) ρ standing_bound (estimate (code ws) ρ)) e).0)
 
   pub sound-refused : (k at : ℕ) (o : Outcome) → o ≡ refused k at → Sound ws ρ us o
   unfolding Sound
@@ -114,17 +114,17 @@ module _ (ws : List ℕ) (ρ n : ℕ) (est work us : List ℕ) where
 
 -- a larger ceiling gives the same estimate
 pub more_room : (ws : List ℕ) (ρ n m : ℕ) (est work : List ℕ) → facts (estimate (code ws) ρ) ≤ n → n ≤ m
-    → estimateWithin ws ρ n est work ≡ estimateWithin ws ρ m est work
-unfolding estimateWithin
-more_room ws ρ n m est work h i = go (answer ws ρ standingBound (length est) (length work))
+    → estimate_within ws ρ n est work ≡ estimate_within ws ρ m est work
+unfolding estimate_within
+more_room ws ρ n m est work h i = go (answer ws ρ standing_bound (length est) (length work))
   where
-    same : wordsWithin (code ws) ρ n ≡ wordsWithin (code ws) ρ m
+    same : words_within (code ws) ρ n ≡ words_within (code ws) ρ m
     same =
         words-whole (code ws) ρ n (le-ltb n (facts (estimate (code ws) ρ)) h)
         ∙ sym (words-whole (code ws) ρ m (le-ltb m (facts (estimate (code ws) ρ)) (omega arith)))
 
     go : (a : Answer)
-        → ◌≡◌ {A = List ℕ} (elim a [ answers.refused k at ↦ est | verdict v ↦ wordsWithin (code ws) ρ n ++ drop (estimateWords (code ws)) est ])
-        (elim a [ answers.refused k at ↦ est | verdict v ↦ wordsWithin (code ws) ρ m ++ drop (estimateWords (code ws)) est ])
+        → ◌≡◌ {A = List ℕ} (elim a [ answers.refused k at ↦ est | verdict v ↦ words_within (code ws) ρ n ++ drop (estimate_words (code ws)) est ])
+        (elim a [ answers.refused k at ↦ est | verdict v ↦ words_within (code ws) ρ m ++ drop (estimate_words (code ws)) est ])
     go (answers.refused k at) = refl
-    go (verdict v) = ap (λ (xs : List ℕ). xs ++ drop (estimateWords (code ws)) est) same
+    go (verdict v) = ap (λ (xs : List ℕ). xs ++ drop (estimate_words (code ws)) est) same

@@ -3,7 +3,7 @@ use Prim.Native.Nat.{ℕ}
 use mathlib.Core.Path.{◌≡◌, refl, sym, subst}
 use mathlib.Core.List.{List}
 use lib.ListN.{length}
-use Rattle.calculus.specs.Answer.{Answer, verdict, standingBound, answer, estimateAfter}
+use Rattle.calculus.specs.Answer.{Answer, verdict, standing_bound, answer, estimate_after}
 use Rattle.calculus.specs.Answer as answers
 use Rattle.calculus.specs.Correct.{Correct, Guaranteed}
 use Rattle.calculus.proofs.Correct.{call-correct}
@@ -15,10 +15,10 @@ unfolding Correct Guaranteed Sound outcome
 of-answer ws ρ bound us (answers.refused number place) d g = tt
 of-answer ws ρ bound us (verdict v) d g = (d.0, g, d.2)
 
-pub sound : (ws : List ℕ) (ρ : ℕ) (est work us : List ℕ) (o : Outcome) → o ≡ outcome (answer ws ρ standingBound (length est) (length work))
-    → us ≡ estimateAfter ws ρ standingBound est work → Sound ws ρ us o
+pub sound : (ws : List ℕ) (ρ : ℕ) (est work us : List ℕ) (o : Outcome) → o ≡ outcome (answer ws ρ standing_bound (length est) (length work))
+    → us ≡ estimate_after ws ρ standing_bound est work → Sound ws ρ us o
 sound ws ρ est work us o e u =
-    let a = answer ws ρ standingBound (length est) (length work) in
+    let a = answer ws ρ standing_bound (length est) (length work) in
     subst (Sound ws ρ us) (sym e)
-    (of-answer ws ρ standingBound us a (call-correct ws ρ standingBound est work us a refl u)
-    (answer-guaranteed ws ρ standingBound (length est) (length work) a refl))
+    (of-answer ws ρ standing_bound us a (call-correct ws ρ standing_bound est work us a refl u)
+    (answer-guaranteed ws ρ standing_bound (length est) (length work) a refl))

@@ -1,13 +1,13 @@
 -- What an analysis says, for all inputs, and what it leaves in the slices.
 use Rattle.std.specs.Prelude.{ℕ, ◌≡◌, List, ◌++◌, length, take, drop, replicate}
 use Rattle.table.specs.Code.{code}
-use Rattle.calculus.specs.Layout.{estimateWords}
+use Rattle.calculus.specs.Layout.{estimate_words}
 use Rattle.calculus.specs.Estimate.{estimate, leak, facts}
-use Rattle.calculus.specs.Answer.{Answer, verdict, workWords}
+use Rattle.calculus.specs.Answer.{Answer, verdict, work_words}
 use Rattle.calculus.specs.Answer as answers
 use Rattle.calculus.specs.Guarantee.{Covers}
 use Rattle.calculus.specs.Correct.{Least}
-use Rattle.calls.specs.Faults.{faultNumber, faultPlace}
+use Rattle.calls.specs.Faults.{fault_number, fault_place}
 use Rattle.comparison.specs.declared.Findings.{Findings}
 use Rattle.solver.specs.declared.Analysis.{Analysis}
 use Rattle.solver.specs.declared.Analysis.TheVariants as analyses
@@ -23,8 +23,8 @@ outcome (answers.refused n at) = refused n at
 outcome (verdict v) = solved v.leak v.facts
 
 unfoldable pub said : Analysis → Outcome
-unfolding faultNumber faultPlace
-said (analyses.Refused f) = refused (faultNumber f) (faultPlace f)
+unfolding fault_number fault_place
+said (analyses.Refused f) = refused (fault_number f) (fault_place f)
 said (analyses.Solved s) = solved s.leak.bits s.facts
 
 -- Demands 2 and 3 of an analysis of the table ws, where est is the estimate slice after the call: its first words are the least estimate, the leak
@@ -32,11 +32,11 @@ said (analyses.Solved s) = solved s.leak.bits s.facts
 unfoldable pub Sound : List ℕ → ℕ → (est : List ℕ) → Outcome → Type 0
 Sound ws ρ est (refused number place) = Unit {0}
 Sound ws ρ est (solved s n) =
-    Least (code ws) ρ (take (estimateWords (code ws)) est) s × Covers (code ws) ρ s × (n ≡ facts (take (estimateWords (code ws)) est))
+    Least (code ws) ρ (take (estimate_words (code ws)) est) s × Covers (code ws) ρ s × (n ≡ facts (take (estimate_words (code ws)) est))
 
 -- the least estimate in the first words of one slice, zeros in those of the other, the leak and the facts
 pub record FoundIn (ws : List ℕ) (ρ : ℕ) (est work est' work' : List ℕ) (r : Findings) : Type 0 where
-  pub estimates : est' ≡ estimate (code ws) ρ ++ drop (estimateWords (code ws)) est
-  pub works : work' ≡ replicate (workWords (length ws)) 0 ++ drop (workWords (length ws)) work
+  pub estimates : est' ≡ estimate (code ws) ρ ++ drop (estimate_words (code ws)) est
+  pub works : work' ≡ replicate (work_words (length ws)) 0 ++ drop (work_words (length ws)) work
   pub leaks : r.leak.bits ≡ leak (code ws) ρ (estimate (code ws) ρ)
   pub counted : r.facts ≡ facts (estimate (code ws) ρ)

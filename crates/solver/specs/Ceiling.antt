@@ -1,11 +1,11 @@
 -- An analysis under a ceiling n on facts (document 02, wish 7): it is refused with 23, at n, exactly where the least estimate has more than n facts.
 use Rattle.std.specs.Prelude.{ℕ, ◌<◌, ◌≤◌, ◌≡◌, true, false, List, ◌++◌, ltb, length, drop, replicate}
 use Rattle.table.specs.Code.{Code, code}
-use Rattle.calculus.specs.Layout.{estimateWords}
+use Rattle.calculus.specs.Layout.{estimate_words}
 use Rattle.calculus.specs.Estimate.{estimate, leak, facts}
-use Rattle.calculus.specs.Answer.{Answer, verdict, standingBound, workWords, answer}
+use Rattle.calculus.specs.Answer.{Answer, verdict, standing_bound, work_words, answer}
 use Rattle.calculus.specs.Answer as answers
-use Rattle.calls.specs.Faults.{faultNumber, faultPlace}
+use Rattle.calls.specs.Faults.{fault_number, fault_place}
 use Rattle.comparison.specs.declared.Findings.{Findings}
 use Rattle.solver.specs.declared.Bounded.{Bounded}
 use Rattle.solver.specs.declared.Bounded.TheVariants as bounded
@@ -18,49 +18,49 @@ unfoldable pub under : ℕ → Answer → Answer
 under n (answers.refused k at) = answers.refused k at
 under n (verdict v) = elim (ltb n v.facts) [ true ↦ answers.refused 23 n | false ↦ verdict v ]
 
-unfoldable pub answerWithin : List ℕ → ℕ → (n est work : ℕ) → Answer
-answerWithin ws ρ n est work = under n (answer ws ρ standingBound est work)
+unfoldable pub answer_within : List ℕ → ℕ → (n est work : ℕ) → Answer
+answer_within ws ρ n est work = under n (answer ws ρ standing_bound est work)
 
 -- the words that a finished analysis leaves in the place of the estimate: zeros where it is over the ceiling
-unfoldable pub wordsWithin : Code → ℕ → ℕ → List ℕ
-wordsWithin c ρ n = elim (ltb n (facts (estimate c ρ))) [ true ↦ replicate (estimateWords c) 0 | false ↦ estimate c ρ ]
+unfoldable pub words_within : Code → ℕ → ℕ → List ℕ
+words_within c ρ n = elim (ltb n (facts (estimate c ρ))) [ true ↦ replicate (estimate_words c) 0 | false ↦ estimate c ρ ]
 
-unfoldable pub estimateWithin : List ℕ → ℕ → ℕ → (est work : List ℕ) → List ℕ
-unfolding wordsWithin
-estimateWithin ws ρ n est work =
-    elim (answer ws ρ standingBound (length est) (length work)) [
+unfoldable pub estimate_within : List ℕ → ℕ → ℕ → (est work : List ℕ) → List ℕ
+unfolding words_within
+estimate_within ws ρ n est work =
+    elim (answer ws ρ standing_bound (length est) (length work)) [
       | answers.refused k at ↦ est
-      | verdict v ↦ wordsWithin (code ws) ρ n ++ drop (estimateWords (code ws)) est
+      | verdict v ↦ words_within (code ws) ρ n ++ drop (estimate_words (code ws)) est
     ]
 
 -- ---- what a call says
 
-unfoldable pub outcomeOf : Bounded → Outcome
-unfolding faultNumber faultPlace
-outcomeOf (bounded.Refused f) = refused (faultNumber f) (faultPlace f)
-outcomeOf (bounded.Over n) = refused 23 n
-outcomeOf (bounded.Solved s) = solved s.leak.bits s.facts
+unfoldable pub outcome_of : Bounded → Outcome
+unfolding fault_number fault_place
+outcome_of (bounded.Refused f) = refused (fault_number f) (fault_place f)
+outcome_of (bounded.Over n) = refused 23 n
+outcome_of (bounded.Solved s) = solved s.leak.bits s.facts
 
 -- ---- what the parts of a call promise
 
 -- zeros where there are more facts than the ceiling
-unfoldable pub clearedOver : (facts ceiling : ℕ) → List ℕ → List ℕ
-clearedOver n m ws = elim (ltb m n) [ true ↦ replicate (length ws) 0 | false ↦ ws ]
+unfoldable pub cleared_over : (facts ceiling : ℕ) → List ℕ → List ℕ
+cleared_over n m ws = elim (ltb m n) [ true ↦ replicate (length ws) 0 | false ↦ ws ]
 
 -- r facts were counted on the way to the least estimate, which stands in est unless r is over the ceiling n
 pub record Counted (c : Code) (ρ n : ℕ) (est : List ℕ) (r : ℕ) : Type 0 where
-  pub words : est ≡ wordsWithin c ρ n
+  pub words : est ≡ words_within c ρ n
   pub within : r ≤ n → r ≡ facts (estimate c ρ)
   pub over : n < r → n < facts (estimate c ρ)
 
 pub record SolvedIn (ws : List ℕ) (ρ n : ℕ) (est work est' work' : List ℕ) (r : Findings) : Type 0 where
-  pub estimates : est' ≡ wordsWithin (code ws) ρ n ++ drop (estimateWords (code ws)) est
-  pub works : work' ≡ replicate (workWords (length ws)) 0 ++ drop (workWords (length ws)) work
-  pub leaks : r.leak.bits ≡ leak (code ws) ρ (wordsWithin (code ws) ρ n)
+  pub estimates : est' ≡ words_within (code ws) ρ n ++ drop (estimate_words (code ws)) est
+  pub works : work' ≡ replicate (work_words (length ws)) 0 ++ drop (work_words (length ws)) work
+  pub leaks : r.leak.bits ≡ leak (code ws) ρ (words_within (code ws) ρ n)
   pub within : r.facts ≤ n → r.facts ≡ facts (estimate (code ws) ρ)
   pub over : n < r.facts → n < facts (estimate (code ws) ρ)
 
 pub record BoundedIn (ws : List ℕ) (ρ n : ℕ) (est work est' work' : List ℕ) (r : Bounded) : Type 0 where
-  pub estimates : est' ≡ wordsWithin (code ws) ρ n ++ drop (estimateWords (code ws)) est
-  pub works : work' ≡ replicate (workWords (length ws)) 0 ++ drop (workWords (length ws)) work
-  pub says : outcomeOf r ≡ elim (ltb n (facts (estimate (code ws) ρ))) [ true ↦ refused 23 n | false ↦ solved (leak (code ws) ρ (estimate (code ws) ρ)) (facts (estimate (code ws) ρ)) ]
+  pub estimates : est' ≡ words_within (code ws) ρ n ++ drop (estimate_words (code ws)) est
+  pub works : work' ≡ replicate (work_words (length ws)) 0 ++ drop (work_words (length ws)) work
+  pub says : outcome_of r ≡ elim (ltb n (facts (estimate (code ws) ρ))) [ true ↦ refused 23 n | false ↦ solved (leak (code ws) ρ (estimate (code ws) ρ)) (facts (estimate (code ws) ρ)) ]

@@ -1,8 +1,8 @@
 // The analysis of any words, refused or not.
 ghost use Rattle.std.specs.Prelude.{◌≡◌, length};
-ghost use Rattle.calculus.specs.Answer.{standingBound, answer as Answer·answer, estimateAfter, workAfter};
+ghost use Rattle.calculus.specs.Answer.{standing_bound, answer as Answer·answer, estimate_after, work_after};
 ghost use Rattle.solver.specs.Analysis.{said, outcome, Sound, FoundIn};
-ghost use Rattle.solver.specs.Ceiling.{SolvedIn, outcomeOf, answerWithin, estimateWithin, BoundedIn};
+ghost use Rattle.solver.specs.Ceiling.{SolvedIn, outcome_of, answer_within, estimate_within, BoundedIn};
 ghost use Rattle.calls.specs.Calls.{Fit};
 
 use crate::figure::most_facts;
@@ -41,9 +41,9 @@ pub fn find(words: &[u32], rho: PermSet, est: &mut [u32], work: &mut [u32]) -> F
 // The least estimate of a table where the opponent holds rho. Of the slices, est gets the estimate in its first words, and the first words
 // of work are zeroed; a refusal leaves both as they were.
 pub fn analyse(words: &[u32], rho: u32, est: &mut [u32], work: &mut [u32]) -> Analysis
-    ensures answer { said result ≡ outcome (Answer·answer words.now rho standingBound (length est.old) (length work.old)) }
-    ensures estimate { est.new ≡ estimateAfter words.now rho standingBound est.old work.old }
-    ensures work { work.new ≡ workAfter words.now rho standingBound est.old work.old }
+    ensures answer { said result ≡ outcome (Answer·answer words.now rho standing_bound (length est.old) (length work.old)) }
+    ensures estimate { est.new ≡ estimate_after words.now rho standing_bound est.old work.old }
+    ensures work { work.new ≡ work_after words.now rho standing_bound est.old work.old }
     ensures sound { Sound words.now rho est.new (said result) }
 {
     match check(words, rho, 0x80000000, est.len(), work.len()) {
@@ -79,10 +79,10 @@ pub fn analyse_within(
     est: &mut [u32],
     work: &mut [u32],
 ) -> Bounded
-    ensures answer { outcomeOf result ≡ outcome (answerWithin words.now rho ceiling (length est.old) (length work.old)) }
-    ensures estimate { est.new ≡ estimateWithin words.now rho ceiling est.old work.old }
-    ensures work { work.new ≡ workAfter words.now rho standingBound est.old work.old }
-    ensures sound { Sound words.now rho est.new (outcomeOf result) }
+    ensures answer { outcome_of result ≡ outcome (answer_within words.now rho ceiling (length est.old) (length work.old)) }
+    ensures estimate { est.new ≡ estimate_within words.now rho ceiling est.old work.old }
+    ensures work { work.new ≡ work_after words.now rho standing_bound est.old work.old }
+    ensures sound { Sound words.now rho est.new (outcome_of result) }
 {
     match check(words, rho, 0x80000000, est.len(), work.len()) {
         Checked::Wrong(f) => Bounded::Refused(f),

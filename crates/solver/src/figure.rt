@@ -1,6 +1,6 @@
 // The figure that calls without a ceiling use.
 ghost use Rattle.std.specs.Prelude.{◌≡◌, ◌+◌, ◌*◌, ◌≤◌};
-ghost use Rattle.solver.specs.Figure.{mostFactsOf};
+ghost use Rattle.solver.specs.Figure.{most_facts_of};
 
 use table::read::is_wide;
 
@@ -15,7 +15,7 @@ fn figure(plain: usize, size: usize) -> usize
 
 // No estimate of a table has more facts. Of words that are more than a table may have it is 0.
 pub fn most_facts(words: &[u32]) -> usize
-    ensures { result ≡ mostFactsOf words.now }
+    ensures { result ≡ most_facts_of words.now }
 {
     let size = words.len();
     if 1024 < size {

@@ -15,7 +15,7 @@ pub enum Analysis {
     Solved(Findings),
 }
 
-// The answer to a call with a ceiling on facts: refused, over the ceiling, or the leak and the facts of the least estimate. `outcomeOf` of
+// The answer to a call with a ceiling on facts: refused, over the ceiling, or the leak and the facts of the least estimate. `outcome_of` of
 // specs/Ceiling.antt gives each its number, place and values.
 #[derive(Drop)]
 pub enum Bounded {

@@ -3,12 +3,12 @@ ghost use Rattle.std.specs.Prelude.{◌≡◌, ◌*◌, ◌≤◌, length, repli
 ghost use Rattle.table.specs.Scan.{accepted, reading};
 ghost use Rattle.table.specs.Code.{code};
 ghost use Rattle.table.specs.Links.{LinksOf};
-ghost use Rattle.calculus.specs.Layout.{estimateWords, WellFormed};
+ghost use Rattle.calculus.specs.Layout.{estimate_words, WellFormed};
 ghost use Rattle.calculus.specs.Estimate.{leak as estimateLeak};
 ghost use Rattle.rows.specs.Laid.{LaidOut};
 ghost use Rattle.readers.specs.Reading.{Readable};
 ghost use Rattle.fixpoint.specs.Grown.{Closed};
-ghost use Rattle.solver.specs.Ceiling.{clearedOver, Counted};
+ghost use Rattle.solver.specs.Ceiling.{cleared_over, Counted};
 
 use crate::memory::clear;
 use comparison::Findings;
@@ -37,7 +37,7 @@ fn fill(
 
 // Zeros, where there are more facts than the ceiling.
 fn clear_over(est: &mut [u32], facts: usize, ceiling: usize)
-    ensures { est.new ≡ clearedOver facts ceiling est.old }
+    ensures { est.new ≡ cleared_over facts ceiling est.old }
 {
     if ceiling < facts {
         let all = est.len();
@@ -55,7 +55,7 @@ fn least(
     ceiling: usize,
 ) -> usize
     requires words_value { (reading words.now ≡ accepted) × LaidOut (code words.now) l }
-    requires est_len { (length est.old ≡ estimateWords (code words.now)) × (length words.now ≤ length links.old) }
+    requires est_len { (length est.old ≡ estimate_words (code words.now)) × (length words.now ≤ length links.old) }
     ensures { Counted (code words.now) rho.bits ceiling est.new result × LinksOf words.now links.new }
 {
     let n = est.len();
@@ -76,7 +76,7 @@ pub fn solve(
     work: &mut [u32],
 ) -> Findings
     requires words_value { reading words.now ≡ accepted }
-    requires est_len { length est.old ≡ estimateWords (code words.now) }
+    requires est_len { length est.old ≡ estimate_words (code words.now) }
     requires work_len { length work.old ≡ 4 * length words.now }
     ensures counted { Counted (code words.now) rho.bits ceiling est.new result.facts }
     ensures cleared { work.new ≡ replicate (4 * length words.now) 0 }

@@ -11,10 +11,10 @@ use Rattle.table.specs.declared.Item.{Item}
 use Rattle.table.specs.declared.Item.TheVariants as items
 use Rattle.table.specs.declared.Term.{Term}
 use Rattle.table.specs.declared.Term.TheVariants as terms
-use Rattle.table.specs.Words.{kind, argument, termOf, termsByKind}
-use Rattle.table.specs.Item.{handlerAt, item_at}
-use Rattle.table.specs.Links.{linkAt}
-use Rattle.table.specs.Code.{code, NodeLinked, block, taskAt, termNode}
+use Rattle.table.specs.Words.{kind, argument, term_of, terms_by_kind}
+use Rattle.table.specs.Item.{handler_at, item_at}
+use Rattle.table.specs.Links.{link_at}
+use Rattle.table.specs.Code.{code, NodeLinked, block, task_at, term_node}
 use Rattle.table.specs.Scan.{names_at, Task, head, name, perms, guard, term, accepted, reading}
 use Rattle.table.proofs.Linked.{linked as code-linked}
 use Rattle.table.proofs.Stack.{reach}
@@ -35,16 +35,16 @@ use Rattle.checker.proofs.Placed as placed
 unfoldable pub by_kind : List ℕ → ℕ → ℕ → Item
 by_kind ws p k =
     elim (eqb k 2) [
-      | true ↦ items.Block (handlerAt ws p)
+      | true ↦ items.Block (handler_at ws p)
       | false ↦
           elim (ltb k 16) [
             | true ↦ items.Gap
-            | false ↦ items.Term (get_or (termsByKind (argument (get_or ws p 0))) (k - 16) terms.Record)
+            | false ↦ items.Term (get_or (terms_by_kind (argument (get_or ws p 0))) (k - 16) terms.Record)
           ]
     ]
 
 item_by : (ws : List ℕ) (p k : ℕ) → kind (get_or ws p 0) ≡ k → item_at ws p ≡ by_kind ws p k
-unfolding by_kind item_at termOf
+unfolding by_kind item_at term_of
 item_by ws p k e = ap (by_kind ws p) e
 
 -- none of the n kinds from 16 on
@@ -61,7 +61,7 @@ above a (suc n) j t h =
 
 -- the kinds of an accepted table
 pub kind-most : (ws : List ℕ) (r : reading ws ≡ accepted) (p : ℕ) → p < length ws → kind (get_or ws p 0) ≤ 36
-kind-most ws r p l = go (taskAt ws p) (place-stands ws r p l)
+kind-most ws r p l = go (task_at ws p) (place-stands ws r p l)
   where
     go : (t : Task) → Stands (names_at ws) (reach ws r p l).keys (get_or ws p 0) t → kind (get_or ws p 0) ≤ 36
     go (head n) s = ⊎_elim (λ z. omega arith) (λ z. omega arith) s.0
@@ -73,7 +73,7 @@ kind-most ws r p l = go (taskAt ws p) (place-stands ws r p l)
 module _ {ws : List ℕ} {l : Layout} (a : Accepted ws l) {p : ℕ} (h : p < l.size) where
   pub block-node : kind (get_or ws p 0) ≡ 2
       → (code ws).node p ≡ block (argument (get_or ws p 0)) (argument (get_or ws (p + 1) 0)) (argument (get_or ws (p + 2) 0))
-  unfolding handlerAt
+  unfolding handler_at
   block-node i = guards.block-node a p (item-block ws p i)
 
   -- only a block has a guard
@@ -92,9 +92,9 @@ module _ {ws links masks est : List ℕ} {l : Layout} {p : ℕ} (g : At ws links
     pub there : item_at ws p ≡ items.Term t
     there = item_by ws p j (sym read ∙ q) ∙ b
 
-    module _ {d n : ℕ} (z : d ≡ (linkAt links (p + 1)).end) (s : n ≡ (linkAt links (linkAt links (p + 1)).end).end) where
-      pub node-here : (code ws).node p ≡ termNode t (p + 1) d n
+    module _ {d n : ℕ} (z : d ≡ (link_at links (p + 1)).end) (s : n ≡ (link_at links (link_at links (p + 1)).end).end) where
+      pub node-here : (code ws).node p ≡ term_node t (p + 1) d n
       node-here = placed.node-here g there refl z s
 
-      pub linked-here : NodeLinked (code ws) p (termNode t (p + 1) d n)
+      pub linked-here : NodeLinked (code ws) p (term_node t (p + 1) d n)
       linked-here = placed.linked-here g there refl z s

@@ -13,7 +13,7 @@ use Rattle.calculus.specs.Estimate.{any_from}
 use Rattle.calculus.proofs.Digits.{T_and, T-fst, T-snd, T_true, member-lt}
 use Rattle.calculus.proofs.Slices.{bit_at, bit-short}
 use Rattle.calculus.proofs.Firing.{any-has, any_found}
-use Rattle.stray.specs.Stray.{proper, stray, strayFrom, firstStray}
+use Rattle.stray.specs.Stray.{proper, stray, stray_from, first_stray}
 use Rattle.stray.specs.Allowed.{clean}
 use Rattle.stray.proofs.Firsts.{all_pass, first-is, none-stray}
 use Rattle.stray.proofs.Words.{not-both, is-not, has}
@@ -23,17 +23,17 @@ abbrev pub Proper : Code → List ℕ → Type 0
 Proper c ws = (n : ℕ) → T (bit ws n) → T (proper c n)
 
 module _ (c : Code) where
-  most-from : (ws : List ℕ) (k : ℕ) → strayFrom c k ws ≤ k + length ws
-  unfolding strayFrom
+  most-from : (ws : List ℕ) (k : ℕ) → stray_from c k ws ≤ k + length ws
+  unfolding stray_from
   most-from [] k = omega arith
   most-from (w ∷ ws) k = go (stray c k w) (most-from ws (suc k))
     where
-      go : (b : Bool) → strayFrom c (suc k) ws ≤ suc k + length ws → elim b [ true ↦ k | false ↦ strayFrom c (suc k) ws ] ≤ k + suc (length ws)
+      go : (b : Bool) → stray_from c (suc k) ws ≤ suc k + length ws → elim b [ true ↦ k | false ↦ stray_from c (suc k) ws ] ≤ k + suc (length ws)
       go true h = omega arith
       go false h = omega arith
 
-  pub stray-most : (ws : List ℕ) → firstStray c ws ≤ length ws
-  unfolding firstStray
+  pub stray-most : (ws : List ℕ) → first_stray c ws ≤ length ws
+  unfolding first_stray
   stray-most ws = omega (arith, most-from ws 0)
 
   module _ (ws : List ℕ) where
@@ -47,14 +47,14 @@ module _ (c : Code) where
         not-both (any_from 32 0 (outside k)) (subst T (sym e) tt)
         (any-has 32 0 (outside k) d (omega arith) (omega arith) (T_and (member (get_or ws k 0) d) (not (proper c (32 * k + d))) t n)))
 
-    pub unstray-proper : firstStray c ws ≡ length ws → Proper c ws
+    pub unstray-proper : first_stray c ws ≡ length ws → Proper c ws
     unfolding bit
     unstray-proper e n t =
         let z : 32 * (n / 32) + n % 32 ≡ n = omega arith in
         subst (λ (m : ℕ). T (proper c m)) z
         (word-proper (n / 32) (n % 32) (omega arith) (none-stray c ws e (n / 32) (omega (arith, bit-short ws n t))) t)
 
-    pub proper-unstray : Words ws → Proper c ws → firstStray c ws ≡ length ws
+    pub proper-unstray : Words ws → Proper c ws → first_stray c ws ≡ length ws
     unfolding stray outside
     proper-unstray w f = sym (first-is c ws (length ws) (all_pass (λ k h. T_true (clean c ws k) (is-not (stray c k (get_or ws k 0)) (λ t.
         let x = any_found 32 0 (outside k) t in

@@ -7,7 +7,7 @@ use native.Mathlib.Decide.{dec_lt, ℕ_discrete}
 use native.Mathlib.Omega.{arith}
 use lib.ListN.{length, get_or}
 use Rattle.table.specs.Code.{Code}
-use Rattle.stray.specs.Stray.{stray, strayFrom, firstStray}
+use Rattle.stray.specs.Stray.{stray, stray_from, first_stray}
 use Rattle.stray.specs.First.{First}
 use Rattle.stray.specs.Allowed.{clean}
 
@@ -57,8 +57,8 @@ module _ (c : Code) where
   abbrev passes : ℕ → List ℕ → ℕ → Bool
   passes i ws k = not (stray c k (get_or ws (k - i) 0))
 
-  first-from : (ws : List ℕ) (i r : ℕ) → First (passes i ws) i (i + length ws) r → r ≡ strayFrom c i ws
-  unfolding strayFrom
+  first-from : (ws : List ℕ) (i r : ℕ) → First (passes i ws) i (i + length ws) r → r ≡ stray_from c i ws
+  unfolding stray_from
   first-from [] i r f = omega (arith, f.low, f.most)
   first-from (w ∷ ws) i r f = go (stray c i w) refl (ℕ_discrete r i) (first-from ws (suc i) r)
     where
@@ -68,8 +68,8 @@ module _ (c : Code) where
       next : (k : ℕ) → suc i ≤ k → passes i (w ∷ ws) k ≡ passes (suc i) ws k
       next k h = let z : k - i ≡ suc (k - suc i) = omega arith in ap (λ (j : ℕ). not (stray c k (get_or (w ∷ ws) j 0))) z
 
-      go : (b : Bool) → stray c i w ≡ b → Dec (r ≡ i) → (First (passes (suc i) ws) (suc i) (suc i + length ws) r → r ≡ strayFrom c (suc i) ws)
-          → r ≡ elim b [ true ↦ i | false ↦ strayFrom c (suc i) ws ]
+      go : (b : Bool) → stray c i w ≡ b → Dec (r ≡ i) → (First (passes (suc i) ws) (suc i) (suc i + length ws) r → r ≡ stray_from c (suc i) ws)
+          → r ≡ elim b [ true ↦ i | false ↦ stray_from c (suc i) ws ]
       go true e (yes s) g = s
       go true e (no s) g =
           absurd (true≢false (sym (f.before i (omega arith) (omega (arith, f.low))) ∙ here ∙ ap not e))
@@ -83,8 +83,8 @@ module _ (c : Code) where
             fails = λ h. sym (next r (omega (arith, f.low))) ∙ f.fails (omega arith);
           })
 
-  pub first-is : (ws : List ℕ) (r : ℕ) → First (clean c ws) 0 (length ws) r → r ≡ firstStray c ws
-  unfolding firstStray
+  pub first-is : (ws : List ℕ) (r : ℕ) → First (clean c ws) 0 (length ws) r → r ≡ first_stray c ws
+  unfolding first_stray
   first-is ws r f =
       first-from ws 0 r
       (record {
@@ -98,13 +98,13 @@ module _ (c : Code) where
       same k = let z : k - 0 ≡ k = omega arith in ap (λ (j : ℕ). not (stray c k (get_or ws j 0))) z
 
   -- where no word is found, none has a stray digit
-  none_from : (ws : List ℕ) (i : ℕ) → strayFrom c i ws ≡ i + length ws → (k : ℕ) → i ≤ k → k < i + length ws → passes i ws k ≡ true
-  unfolding strayFrom
+  none_from : (ws : List ℕ) (i : ℕ) → stray_from c i ws ≡ i + length ws → (k : ℕ) → i ≤ k → k < i + length ws → passes i ws k ≡ true
+  unfolding stray_from
   none_from [] i e k h j = absurd (omega arith)
   none_from (w ∷ ws) i e k h j = go (stray c i w) refl e (ℕ_discrete k i) (λ z l. none_from ws (suc i) z k l)
     where
-      go : (b : Bool) → stray c i w ≡ b → elim b as (λ z. ℕ) [ true ↦ i | false ↦ strayFrom c (suc i) ws ] ≡ i + suc (length ws) → Dec (k ≡ i)
-          → (strayFrom c (suc i) ws ≡ suc i + length ws → suc i ≤ k → k < suc i + length ws → passes (suc i) ws k ≡ true) → passes i (w ∷ ws) k ≡ true
+      go : (b : Bool) → stray c i w ≡ b → elim b as (λ z. ℕ) [ true ↦ i | false ↦ stray_from c (suc i) ws ] ≡ i + suc (length ws) → Dec (k ≡ i)
+          → (stray_from c (suc i) ws ≡ suc i + length ws → suc i ≤ k → k < suc i + length ws → passes (suc i) ws k ≡ true) → passes i (w ∷ ws) k ≡ true
       go true f z d g = absurd (omega arith)
       go false f z (yes s) g =
           let m : k - i ≡ 0 = omega arith in
@@ -113,8 +113,8 @@ module _ (c : Code) where
           let m : k - i ≡ suc (k - suc i) = omega arith in
           ap (λ (j : ℕ). not (stray c k (get_or (w ∷ ws) j 0))) m ∙ g (omega arith) (omega arith) (omega arith)
 
-  pub none-stray : (ws : List ℕ) → firstStray c ws ≡ length ws → (k : ℕ) → k < length ws → clean c ws k ≡ true
-  unfolding firstStray
+  pub none-stray : (ws : List ℕ) → first_stray c ws ≡ length ws → (k : ℕ) → k < length ws → clean c ws k ≡ true
+  unfolding first_stray
   none-stray ws e k h =
       let z : k ≡ k - 0 = omega arith in
       ap (λ (j : ℕ). not (stray c k (get_or ws j 0))) z ∙ none_from ws 0 (omega arith) k (omega arith) (omega arith)

@@ -19,25 +19,25 @@ use Rattle.table.proofs.Faults.{Stands}
 use Rattle.table.proofs.Stack.{reach}
 use Rattle.table.proofs.Parts.{place-stands}
 use Rattle.table.proofs.Items.{item-block}
-use Rattle.table.proofs.Nodes.{itemNode, nodeAt, node-item}
+use Rattle.table.proofs.Nodes.{item_node, node_at, node-item}
 use Rattle.table.proofs.Blocks.{listed-block}
-use Rattle.calculus.specs.Elements.{plain, Making, nothing, aFunction, aRecord, aCell, isFunction, isRecord, isCell, makes}
-use Rattle.calculus.specs.Rules.{isBlock}
+use Rattle.calculus.specs.Elements.{plain, Making, nothing, a_function, a_record, a_cell, is_function, is_record, is_cell, makes}
+use Rattle.calculus.specs.Rules.{is_block}
 use Rattle.calculus.specs.Layout.{bit}
 use Rattle.calculus.proofs.Masks.{T_false, agree, agree-below}
 use Rattle.rows.specs.declared.layout.Layout.{Layout}
 use Rattle.rows.specs.Laid.{LaidOut}
-use Rattle.masks.specs.Masks.{makingNumber, markIf}
+use Rattle.masks.specs.Masks.{making_number, mark_if}
 use Rattle.masks.proofs.Sorts.{word-making, and_yes, and_no, if-at, if-other, if-words, if-length}
 use Rattle.stray.specs.declared.Holding.{Holding}
 use Rattle.stray.specs.declared.Holding.TheVariants as holdings
 use Rattle.stray.specs.Stray.{names, holds}
-use Rattle.stray.specs.Allowed.{wordNamed, Leading, Allowed}
+use Rattle.stray.specs.Allowed.{word_named, Leading, Allowed}
 
 -- ---- by the kind of a word
 
-listed : (c : Code) (b : ℕ) (n : Node) → NodeLinked c b n → T (isBlock n) → Memᴰ b c.blocks
-unfolding isBlock
+listed : (c : Code) (b : ℕ) (n : Node) → NodeLinked c b n → T (is_block n) → Memᴰ b c.blocks
+unfolding is_block
 listed c b gap l t = absurd t
 listed c b (block n s g) l t = l.4
 listed c b (leaf m) l t = absurd t
@@ -48,32 +48,32 @@ listed c b (while a d) l t = absurd t
 listed c b (branch a d n) l t = absurd t
 listed c b (update a d n) l t = absurd t
 
-making-named : (m : Making) → not (eqb (makingNumber m) 0) ≡ isFunction m || (isRecord m || isCell m)
-unfolding makingNumber isFunction isRecord isCell
+making-named : (m : Making) → not (eqb (making_number m) 0) ≡ is_function m || (is_record m || is_cell m)
+unfolding making_number is_function is_record is_cell
 making-named nothing = refl
-making-named aFunction = refl
-making-named aRecord = refl
-making-named aCell = refl
+making-named a_function = refl
+making-named a_record = refl
+making-named a_cell = refl
 
 module _ (ws : List ℕ) (r : reading ws ≡ accepted) (p : ℕ) (h : p < length ws) where
-  block-kind : T (isBlock ((code ws).node p)) → kind (get_or ws p 0) ≡ 2
+  block-kind : T (is_block ((code ws).node p)) → kind (get_or ws p 0) ≡ 2
   unfolding code
   block-kind t =
       let x = listed-block ws r p (listed (code ws) p ((code ws).node p) ((linked ws r).nodes p h) t) in
       (subst (λ (u : Task). Stands (names_at ws) (reach ws r p x.0).keys (get_or ws p 0) u) x.1 (place-stands ws r p x.0)).0
 
-  pub kind-block : eqb (kind (get_or ws p 0)) 2 ≡ isBlock ((code ws).node p)
-  unfolding itemNode isBlock
+  pub kind-block : eqb (kind (get_or ws p 0)) 2 ≡ is_block ((code ws).node p)
+  unfolding item_node is_block
   kind-block = go (ℕ_discrete (kind (get_or ws p 0)) 2)
     where
-      go : Dec (kind (get_or ws p 0) ≡ 2) → eqb (kind (get_or ws p 0)) 2 ≡ isBlock ((code ws).node p)
+      go : Dec (kind (get_or ws p 0) ≡ 2) → eqb (kind (get_or ws p 0)) 2 ≡ is_block ((code ws).node p)
       go (yes k) =
           eq-eqb (kind (get_or ws p 0)) 2 k
-          ∙ sym (ap isBlock (node-item ws r ws (omega arith) p ∙ ap (λ (z : Item). nodeAt ws r ws (omega arith) z p) (item-block ws p k)))
-      go (no k) = ne_eqb (kind (get_or ws p 0)) 2 k ∙ sym (T_false (isBlock ((code ws).node p)) (λ t. k (block-kind t)))
+          ∙ sym (ap is_block (node-item ws r ws (omega arith) p ∙ ap (λ (z : Item). node_at ws r ws (omega arith) z p) (item-block ws p k)))
+      go (no k) = ne_eqb (kind (get_or ws p 0)) 2 k ∙ sym (T_false (is_block ((code ws).node p)) (λ t. k (block-kind t)))
 
-  pub word-named : (s : Holding) → wordNamed s (get_or ws p 0) ≡ names (code ws) s p
-  unfolding wordNamed names
+  pub word-named : (s : Holding) → word_named s (get_or ws p 0) ≡ names (code ws) s p
+  unfolding word_named names
   word-named holdings.Things = ap (λ (n : ℕ). not (eqb n 0)) (word-making ws r p) ∙ making-named (makes ((code ws).node p))
   word-named holdings.Blocks = kind-block
 
@@ -109,7 +109,7 @@ module _ (c : Code) (s : Holding) where
 
   -- one word more
   pub one_more : (p : ℕ) (m : List ℕ) → plain c + p < 32 * length m → (b : Bool) → b ≡ names c s p → Allowed c s (plain c + p) m
-      → Allowed c s (plain c + p + 1) (markIf b m (plain c + p))
+      → Allowed c s (plain c + p + 1) (mark_if b m (plain c + p))
   unfolding holds
   one_more p m h b e a =
       record {
@@ -124,9 +124,9 @@ module _ (c : Code) (s : Holding) where
           ∙ and_yes (ltb (plain c + p) (plain c + p + 1)) _ (lt-ltb (plain c + p) (plain c + p + 1) (omega arith))
 
       go : (v : ℕ) → v < 32 * length m → Dec (v ≡ plain c + p)
-          → bit (markIf b m (plain c + p)) v ≡ (ltb v (plain c + p + 1) && (ltb v (plain c) || names c s (v - plain c)))
+          → bit (mark_if b m (plain c + p)) v ≡ (ltb v (plain c + p + 1) && (ltb v (plain c) || names c s (v - plain c)))
       go v i (yes k) =
-          subst (λ (u : ℕ). bit (markIf b m (plain c + p)) u ≡ (ltb u (plain c + p + 1) && (ltb u (plain c) || names c s (u - plain c)))) (sym k)
+          subst (λ (u : ℕ). bit (mark_if b m (plain c + p)) u ≡ (ltb u (plain c + p + 1) && (ltb u (plain c) || names c s (u - plain c)))) (sym k)
           (if-at m (plain c + p) b (plain c + p) refl h
           (a.digits (plain c + p) h ∙ sym (and_no (ltb (plain c + p) (plain c + p)) _ (le-ltb (plain c + p) (plain c + p) (omega arith))))
           ∙ self)

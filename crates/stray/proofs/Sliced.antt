@@ -8,12 +8,12 @@ use native.Mathlib.Omega.{arith}
 use lib.ListN.{length, get_or}
 use Rattle.table.specs.Code.{Code, code}
 use Rattle.calculus.specs.Elements.{elements}
-use Rattle.calculus.specs.Layout.{rowWords}
+use Rattle.calculus.specs.Layout.{row_words}
 use Rattle.rows.specs.declared.layout.Layout.{Layout}
 use Rattle.rows.proofs.Bounds.{size_small, row_small, words_are, words-bound}
 use Rattle.stray.specs.declared.Holding.{Holding}
 use Rattle.stray.specs.declared.Holding.TheVariants as holdings
-use Rattle.stray.specs.Stray.{ofBlock, holding, stray}
+use Rattle.stray.specs.Stray.{of_block, holding, stray}
 use Rattle.stray.specs.First.{First}
 use Rattle.stray.specs.Allowed.{Allowed, inside, clean, Slice, Rows}
 use Rattle.stray.proofs.Firsts.{first-same}
@@ -50,20 +50,20 @@ module _ (ws est : List ℕ) (l : Layout) (s : Slice ws est l) where
       where
         agrees : (k : ℕ) → r * l.row ≤ k → k < r * l.row + l.row → inside est m (r * l.row) k ≡ clean c est k
         agrees k i j =
-            let z : r * rowWords c ≡ r * l.row = ap (λ (x : ℕ). r * x) s.laid.row in
-            let e : r * rowWords c + (k - r * l.row) ≡ k = omega arith in
+            let z : r * row_words c ≡ r * l.row = ap (λ (x : ℕ). r * x) s.laid.row in
+            let e : r * row_words c + (k - r * l.row) ≡ k = omega arith in
             sym (ap (λ (x : ℕ). not (stray c x (get_or est k 0))) (sym e)
             ∙ row-clean c r (k - r * l.row) (omega (arith, s.laid.size)) (omega (arith, s.laid.row)) (get_or est k 0) m (low k) (omega (arith, s.laid.row)) a)
 
     module _ (ts bs : List ℕ) (d : Rows c l ts bs) where
-      pub blocks-tested : ofBlock c r ≡ true → {k : ℕ} → First (inside est bs (r * l.row)) (r * l.row) (r * l.row + l.row) k
+      pub blocks-tested : of_block c r ≡ true → {k : ℕ} → First (inside est bs (r * l.row)) (r * l.row) (r * l.row + l.row) k
           → First (clean c est) (r * l.row) (r * l.row + l.row) k
       unfolding holding
       blocks-tested e f =
           row-tested bs d.wide
           (subst (λ (x : Holding). Allowed c x (elements c) bs) (ap (λ (b : Bool). elim b [ true ↦ holdings.Blocks | false ↦ holdings.Things ]) (sym e)) d.blocks) f
 
-      pub things-tested : ofBlock c r ≡ false → {k : ℕ} → First (inside est ts (r * l.row)) (r * l.row) (r * l.row + l.row) k
+      pub things-tested : of_block c r ≡ false → {k : ℕ} → First (inside est ts (r * l.row)) (r * l.row) (r * l.row + l.row) k
           → First (clean c est) (r * l.row) (r * l.row + l.row) k
       unfolding holding
       things-tested e f =
@@ -72,8 +72,8 @@ module _ (ws est : List ℕ) (l : Layout) (s : Slice ws est l) where
 
   -- a word of permissions and flags
   module _ (low : (k : ℕ) → get_or est k 0 < 2 ^ 32) (k : ℕ) (h : 2 * l.size * l.row ≤ k) where
-    past : 2 * c.size * rowWords c ≤ k
-    past = let z : 2 * c.size * rowWords c ≡ 2 * l.size * l.row = ap₂ (λ (n r : ℕ). 2 * n * r) s.laid.size s.laid.row in omega arith
+    past : 2 * c.size * row_words c ≤ k
+    past = let z : 2 * c.size * row_words c ≡ 2 * l.size * l.row = ap₂ (λ (n r : ℕ). 2 * n * r) s.laid.size s.laid.row in omega arith
 
     pub flags-pass : get_or est k 0 < 33554432 → clean c est k ≡ true
     flags-pass i = flags-clean c k past (get_or est k 0) (low k) i

@@ -13,13 +13,13 @@ use Rattle.permset.specs.Sets.{width, member, within}
 use Rattle.permset.proofs.Laws.{within-member, member-within-below, within-lt}
 use Rattle.table.specs.Code.{Code}
 use Rattle.calculus.specs.Elements.{elements}
-use Rattle.calculus.specs.Layout.{rowWords, used}
+use Rattle.calculus.specs.Layout.{row_words, used}
 use Rattle.calculus.specs.Estimate.{any_from}
 use Rattle.calculus.proofs.Digits.{T_and, T-fst, T-snd, T_true, member-lt}
 use Rattle.calculus.proofs.Slices.{bit_at}
 use Rattle.calculus.proofs.Masks.{bool-ext, T_false, agree, agree-below}
 use Rattle.calculus.proofs.Firing.{any-has, any_found}
-use Rattle.stray.specs.Stray.{holding, holds, rowDigits, proper, stray}
+use Rattle.stray.specs.Stray.{holding, holds, row_digits, proper, stray}
 use Rattle.stray.specs.Allowed.{Allowed}
 
 pub not-both : (b : Bool) → T (not b) → T b → ⊥
@@ -55,24 +55,24 @@ module _ (c : Code) where
   -- ---- the rows
 
   abbrev digits : ℕ
-  digits = 32 * rowWords c
+  digits = 32 * row_words c
 
-  module _ (r i : ℕ) (hr : r < 2 * c.size) (hi : i < rowWords c) where
-    row-proper : (d : ℕ) → d < 32 → proper c (32 * (r * rowWords c + i) + d) ≡ (ltb (32 * i + d) (elements c) && holds c (holding c r) (32 * i + d))
+  module _ (r i : ℕ) (hr : r < 2 * c.size) (hi : i < row_words c) where
+    row-proper : (d : ℕ) → d < 32 → proper c (32 * (r * row_words c + i) + d) ≡ (ltb (32 * i + d) (elements c) && holds c (holding c r) (32 * i + d))
     unfolding proper used
     row-proper d h =
-        let n = 32 * (r * rowWords c + i) + d in
+        let n = 32 * (r * row_words c + i) + d in
         let v = 32 * i + d in
         let s : v < digits = omega arith in
-        let a : 32 * (r * rowWords c) ≡ r * digits = mul_left_comm 32 r (rowWords c) in
+        let a : 32 * (r * row_words c) ≡ r * digits = mul_left_comm 32 r (row_words c) in
         let p : n ≡ r * digits + v = omega arith in
         let x : n / digits ≡ r = ap (λ (z : ℕ). z / digits) p ∙ digits_div r {m = digits} {r = v} s in
         let y : n % digits ≡ v = ap (λ (z : ℕ). z % digits) p ∙ digits_mod r {m = digits} {r = v} s in
-        let b : 2 * c.size * digits ≡ rowDigits c = sym (mul_left_comm 32 (2 * c.size) (rowWords c)) in
+        let b : 2 * c.size * digits ≡ row_digits c = sym (mul_left_comm 32 (2 * c.size) (row_words c)) in
         let z : r * digits + v < 2 * c.size * digits = digits_lt hr s in
-        let l : n < rowDigits c = omega arith in
+        let l : n < row_digits c = omega arith in
         ap₂ (λ (u w : Bool). (u && ltb (n % digits) (elements c) || w && ltb (n % 32) (suc width)) && (w || holds c (holding c (n / digits)) (n % digits)))
-        (lt-ltb n (rowDigits c) l) (lt-leb (rowDigits c) n l)
+        (lt-ltb n (row_digits c) l) (lt-leb (row_digits c) n l)
         ∙ or-false (ltb (n % digits) (elements c)) _
         ∙ ap₂ (λ (u w : ℕ). ltb w (elements c) && holds c (holding c u) w) x y
       where
@@ -81,23 +81,23 @@ module _ (c : Code) where
         or-false false w = refl
 
     -- the word i of row r has no stray digit exactly if it lies within the word i of a row of those that may be set
-    pub row-clean : (w : ℕ) (m : List ℕ) → w < 2 ^ 32 → rowWords c ≤ length m → Allowed c (holding c r) (elements c) m
-        → not (stray c (r * rowWords c + i) w) ≡ within w (get_or m i 0)
+    pub row-clean : (w : ℕ) (m : List ℕ) → w < 2 ^ 32 → row_words c ≤ length m → Allowed c (holding c r) (elements c) m
+        → not (stray c (r * row_words c + i) w) ≡ within w (get_or m i 0)
     row-clean w m h l a =
-        stray-within (r * rowWords c + i) w (get_or m i 0) h
+        stray-within (r * row_words c + i) w (get_or m i 0) h
         (λ d j. row-proper d j ∙ sym (a.digits (32 * i + d) (omega arith)) ∙ bit_at m i d j)
 
   -- ---- the words of permissions and flags
 
-  module _ (k : ℕ) (hk : 2 * c.size * rowWords c ≤ k) where
+  module _ (k : ℕ) (hk : 2 * c.size * row_words c ≤ k) where
     flags-proper : (d : ℕ) → d < 32 → proper c (32 * k + d) ≡ member 33554431 d
     unfolding proper used member agree
     flags-proper d h =
         let n = 32 * k + d in
-        let l : rowDigits c ≤ n = omega arith in
+        let l : row_digits c ≤ n = omega arith in
         let e : n % 32 ≡ d = omega arith in
         ap₂ (λ (u w : Bool). (u && ltb (n % digits) (elements c) || w && ltb (n % 32) (suc width)) && (w || holds c (holding c (n / digits)) (n % digits)))
-        (le-ltb n (rowDigits c) l) (le-leb (rowDigits c) n l)
+        (le-ltb n (row_digits c) l) (le-leb (row_digits c) n l)
         ∙ and-true (ltb (n % 32) (suc width))
         ∙ ap (λ (x : ℕ). ltb x 25) e
         ∙ agree-below 32 (λ x. ltb x 25) (member 33554431) tt d h

@@ -5,8 +5,8 @@ use Rattle.table.specs.Words.{kind}
 use Rattle.table.specs.Scan.{accepted, reading}
 use Rattle.table.specs.Code.{Code, code}
 use Rattle.calculus.specs.Elements.{elements}
-use Rattle.calculus.specs.Layout.{bit, estimateWords, Words}
-use Rattle.masks.specs.Masks.{wordMakes}
+use Rattle.calculus.specs.Layout.{bit, estimate_words, Words}
+use Rattle.masks.specs.Masks.{word_makes}
 use Rattle.rows.specs.declared.layout.Layout.{Layout}
 use Rattle.rows.specs.Laid.{LaidOut}
 use Rattle.stray.specs.declared.Holding.{Holding}
@@ -14,9 +14,9 @@ use Rattle.stray.specs.declared.Holding.TheVariants as holdings
 use Rattle.stray.specs.Stray.{holds, stray}
 
 -- whether 64+i may stand in a row, by the word i
-unfoldable pub wordNamed : Holding → ℕ → Bool
-wordNamed holdings.Things w = not (eqb (wordMakes w) 0)
-wordNamed holdings.Blocks w = eqb (kind w) 2
+unfoldable pub word_named : Holding → ℕ → Bool
+word_named holdings.Things w = not (eqb (word_makes w) 0)
+word_named holdings.Blocks w = eqb (kind w) 2
 
 -- the digits of m are the elements below n that may stand in a row
 pub record Allowed (c : Code) (h : Holding) (n : ℕ) (m : List ℕ) : Type 0 where
@@ -40,7 +40,7 @@ clean c est k = not (stray c k (get_or est k 0))
 pub record Slice (ws est : List ℕ) (l : Layout) : Type 0 where
   pub readable : reading ws ≡ accepted
   pub laid : LaidOut (code ws) l
-  pub long : length est ≡ estimateWords (code ws)
+  pub long : length est ≡ estimate_words (code ws)
 
 -- the rows of what may stand in rows that hold things and blocks, each long enough
 pub record Rows (c : Code) (l : Layout) (ts bs : List ℕ) : Type 0 where

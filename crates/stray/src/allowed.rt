@@ -4,7 +4,7 @@ ghost use Rattle.table.specs.Scan.{accepted, reading};
 ghost use Rattle.table.specs.Code.{code};
 ghost use Rattle.calculus.specs.Elements.{plain, elements};
 ghost use Rattle.rows.specs.Laid.{LaidOut};
-ghost use Rattle.stray.specs.Allowed.{wordNamed, Leading, Allowed};
+ghost use Rattle.stray.specs.Allowed.{word_named, Leading, Allowed};
 
 use crate::Holding;
 use masks::{set_if, word_makes};
@@ -14,7 +14,7 @@ use table::is_block;
 
 // Whether the element of a word may stand in a row.
 fn named(h: Holding, w: u32) -> bool
-    ensures { result ≡ wordNamed h w }
+    ensures { result ≡ word_named h w }
 {
     match h {
         Holding::Things => word_makes(w) != 0,

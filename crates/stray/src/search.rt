@@ -2,7 +2,7 @@
 ghost use Rattle.std.specs.Prelude.{◌≡◌, ◌+◌, ◌*◌, ◌<◌, ◌≤◌, length};
 ghost use Rattle.table.specs.Scan.{accepted, reading};
 ghost use Rattle.table.specs.Code.{code};
-ghost use Rattle.stray.specs.Stray.{ofBlock, firstStray};
+ghost use Rattle.stray.specs.Stray.{of_block, first_stray};
 ghost use Rattle.stray.specs.First.{First};
 ghost use Rattle.stray.specs.Allowed.{inside, clean, Slice, Rows};
 
@@ -33,7 +33,7 @@ fn outside(est: &[u32], row: &[u32], at: usize, count: usize) -> usize
 // Whether row r is the value set of a block's first word.
 fn of_block(words: &[u32], r: usize) -> bool
     requires { (reading words.now ≡ accepted) × (r < 2 * length words.now) }
-    ensures { result ≡ ofBlock (code words.now) r }
+    ensures { result ≡ of_block (code words.now) r }
 {
     r % 2 == 0 && is_block(words[r / 2])
 }
@@ -86,7 +86,7 @@ fn in_flags(words: &[u32], est: &[u32], l: Layout) -> usize
 // The first word of the slice with a stray digit, with the rows that are lent.
 fn search(words: &[u32], est: &[u32], things: &[u32], blocks: &[u32], l: Layout) -> usize
     requires { Slice words.now est.now l × Rows (code words.now) l things.now blocks.now }
-    ensures { result ≡ firstStray (code words.now) est.now }
+    ensures { result ≡ first_stray (code words.now) est.now }
 {
     let k = in_rows(words, est, things, blocks, l);
     if k < l.flags(0) {
@@ -98,7 +98,7 @@ fn search(words: &[u32], est: &[u32], things: &[u32], blocks: &[u32], l: Layout)
 // The first word of the slice with a stray digit; so many as it has where there is none.
 pub fn first_stray(words: &[u32], est: &[u32], l: Layout) -> usize
     requires { Slice words.now est.now l }
-    ensures { result ≡ firstStray (code words.now) est.now }
+    ensures { result ≡ first_stray (code words.now) est.now }
 {
     let mut things = [0u32; 36];
     allow(words, &mut things, Holding::Things, l);

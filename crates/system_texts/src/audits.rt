@@ -1,9 +1,9 @@
 // The text of `audit`: whether an estimate from elsewhere obeys every rule.
 ghost use Rattle.std.specs.Prelude.{◌≡◌, ◌≤◌, length};
 ghost use Rattle.audit.specs.Audited.{obeys, said};
-ghost use Rattle.little_endian.specs.LittleEndian.{wordsOf};
+ghost use Rattle.little_endian.specs.LittleEndian.{words_of};
 ghost use Rattle.text.specs.Writing.{Wrote};
-ghost use Rattle.system_texts.specs.Audit.{auditLine, auditWords, auditText};
+ghost use Rattle.system_texts.specs.Audit.{audit_line, audit_words, audit_text};
 
 use audit::Audit;
 use audit::numbers::{audit_number, audit_place};
@@ -13,7 +13,7 @@ use text::{put, set_field};
 
 fn obeys_line(leak: u32, out: &mut [u8]) -> usize
     requires { 96 ≤ length out.old }
-    ensures { Wrote out.old 0 (auditLine (obeys leak)) out.new result }
+    ensures { Wrote out.old 0 (audit_line (obeys leak)) out.new result }
 {
     let a = set_field(out, 0, b"obeys leak ", leak);
     put(out, a, b"\n")
@@ -22,7 +22,7 @@ fn obeys_line(leak: u32, out: &mut [u8]) -> usize
 // The line of an answer.
 fn put_audit(a: Audit, out: &mut [u8]) -> usize
     requires { 96 ≤ length out.old }
-    ensures { Wrote out.old 0 (auditLine (said a)) out.new result }
+    ensures { Wrote out.old 0 (audit_line (said a)) out.new result }
 {
     match a {
         Audit::Obeys(s) => obeys_line(s.bits, out),
@@ -43,7 +43,7 @@ fn size_of(w: u32) -> usize
 // The first word says how many the system has; the others are the system and the estimate.
 fn audit_words(words: &[u32], rho: u32, out: &mut [u8]) -> usize
     requires { 96 ≤ length out.old }
-    ensures { Wrote out.old 0 (auditWords rho words.now) out.new result }
+    ensures { Wrote out.old 0 (audit_words rho words.now) out.new result }
 {
     if words.len() == 0 {
         return refusal_line(out, 0, 30, 0);
@@ -59,7 +59,7 @@ fn audit_words(words: &[u32], rho: u32, out: &mut [u8]) -> usize
 // The words of the input, over words that are lent.
 fn audit_lent(input: &[u8], rho: u32, words: &mut [u32], out: &mut [u8]) -> usize
     requires { (length input.now ≤ 294916) × (length words.old ≡ 73729) × (96 ≤ length out.old) }
-    ensures { Wrote out.old 0 (auditWords rho (wordsOf input.now)) out.new result }
+    ensures { Wrote out.old 0 (audit_words rho (words_of input.now)) out.new result }
 {
     let n = words_of(input, words);
     audit_words(&words[..n], rho, out)
@@ -68,7 +68,7 @@ fn audit_lent(input: &[u8], rho: u32, words: &mut [u32], out: &mut [u8]) -> usiz
 // What is said of an estimate.
 pub fn audit(input: &[u8], rho: u32, out: &mut [u8]) -> usize
     requires { 96 ≤ length out.old }
-    ensures { Wrote out.old 0 (auditText rho input.now) out.new result }
+    ensures { Wrote out.old 0 (audit_text rho input.now) out.new result }
 {
     if 294916 < input.len() {
         return refusal_line(out, 0, 31, 0);

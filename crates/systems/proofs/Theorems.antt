@@ -10,92 +10,92 @@ use borrow.Author.Tests.{lt-ltb}
 use lib.Dec.{eqb, ltb}
 use lib.ListN.{length, get_or, take, drop, replicate}
 use lib.Seq.{length-take-le, get_or-take}
-use Rattle.little_endian.specs.LittleEndian.{wordsOf}
+use Rattle.little_endian.specs.LittleEndian.{words_of}
 use Rattle.table.specs.Words.{kind, argument}
-use Rattle.table.specs.Scan.{Outcome, accepted, refused, names_at, reading, narrowReading}
+use Rattle.table.specs.Scan.{Outcome, accepted, refused, names_at, reading, narrow_reading}
 use Rattle.table.proofs.Faults.{Stands}
 use Rattle.table.proofs.Stack.{reach}
 use Rattle.table.proofs.Parts.{place-stands}
 use Rattle.table.proofs.Blocks.{head-word}
 use Rattle.table.proofs.Widths.{narrow-accepted, narrow-kind, no-wide-word}
 use Rattle.listing.specs.Keywords.{entries, entry_of}
-use Rattle.listing.specs.Spelling.{space, spelled, line_of, spelledArgument}
-use Rattle.listing.specs.Listing.{Answered, done, depths, lines, listing, readAs}
-use Rattle.listing.specs.Listing.{refusal as unread, wordsOf as lineWords}
+use Rattle.listing.specs.Spelling.{space, spelled, line_of, spelled_argument}
+use Rattle.listing.specs.Listing.{Answered, done, depths, lines, listing, read_as}
+use Rattle.listing.specs.Listing.{refusal as unread, words_of as line_words}
 use Rattle.listing.proofs.Answers.{read-long}
 use Rattle.listing.proofs.Depths.{depths-length, waits_start, waits-step}
 use Rattle.listing.proofs.Theorems.{read-accepted, read-written}
 use Rattle.systems.proofs.Laws.{words_long, listing-refused}
-use Rattle.systems.specs.System.{Reading, system, refusal, areWords, mostBytes, tableOf, ofWords, ofListing, systemOf}
+use Rattle.systems.specs.System.{Reading, system, refusal, are_words, most_bytes, table_of, of_words, of_listing, system_of}
 
 -- ---- the words of an input are an accepted table
 
 not-system : {A : Type 0} {n p : ℕ} {ws : List ℕ} → refusal n p ≡ system ws → A
 not-system q = let z : ◌≡◌ {A = ℕ} 0 1 = cc in absurd (omega arith)
 
-table-reads : (vs ws : List ℕ) → tableOf vs ≡ system ws → reading ws ≡ accepted
-unfolding tableOf
+table-reads : (vs ws : List ℕ) → table_of vs ≡ system ws → reading ws ≡ accepted
+unfolding table_of
 table-reads vs ws = go (reading vs) refl
   where
     go : (o : Outcome) → reading vs ≡ o → ◌≡◌ {A = Reading} (elim o [ refused n p ↦ refusal n p | accepted ↦ system vs ]) (system ws) → reading ws ≡ accepted
     go (refused n p) e q = not-system q
     go accepted e q = let s : vs ≡ ws = cc in subst (λ (l : List ℕ). reading l ≡ accepted) s e
 
-words-reads : (input ws : List ℕ) → ofWords input ≡ system ws → reading ws ≡ accepted
-unfolding ofWords
-words-reads input ws = go (ltb mostBytes (length input)) (length input % 4)
+words-reads : (input ws : List ℕ) → of_words input ≡ system ws → reading ws ≡ accepted
+unfolding of_words
+words-reads input ws = go (ltb most_bytes (length input)) (length input % 4)
   where
     go : (t : Bool) (k : ℕ)
         → ◌≡◌ {A = Reading} (elim t [
           | true ↦ refusal 31 0
-          | false ↦ elim k [ zero ↦ tableOf (wordsOf input) | suc n ↦ refusal 30 0 ]
+          | false ↦ elim k [ zero ↦ table_of (words_of input) | suc n ↦ refusal 30 0 ]
         ]) (system ws) → reading ws ≡ accepted
     go true k q = not-system q
-    go false zero q = table-reads (wordsOf input) ws q
+    go false zero q = table-reads (words_of input) ws q
     go false (suc k) q = not-system q
 
-listing-reads : (input ws : List ℕ) → ofListing input ≡ system ws → reading ws ≡ accepted
-unfolding ofListing
-listing-reads input ws = go (readAs input 1024) refl
+listing-reads : (input ws : List ℕ) → of_listing input ≡ system ws → reading ws ≡ accepted
+unfolding of_listing
+listing-reads input ws = go (read_as input 1024) refl
   where
-    go : (a : Answered) → readAs input 1024 ≡ a
-        → ◌≡◌ {A = Reading} (elim a [ done n ↦ system (lineWords input) | unread n p ↦ refusal n p ]) (system ws) → reading ws ≡ accepted
+    go : (a : Answered) → read_as input 1024 ≡ a
+        → ◌≡◌ {A = Reading} (elim a [ done n ↦ system (line_words input) | unread n p ↦ refusal n p ]) (system ws) → reading ws ≡ accepted
     go (done n) e q =
-        let s : lineWords input ≡ ws = cc in
-        subst (λ (l : List ℕ). reading l ≡ accepted) s (narrow-accepted (lineWords input) (read-accepted input 1024 n e)).0
+        let s : line_words input ≡ ws = cc in
+        subst (λ (l : List ℕ). reading l ≡ accepted) s (narrow-accepted (line_words input) (read-accepted input 1024 n e)).0
     go (unread n p) e q = not-system q
 
-pub system-reads : (input ws : List ℕ) → systemOf input ≡ system ws → reading ws ≡ accepted
-unfolding systemOf
-system-reads input ws = go (areWords input)
+pub system-reads : (input ws : List ℕ) → system_of input ≡ system ws → reading ws ≡ accepted
+unfolding system_of
+system-reads input ws = go (are_words input)
   where
-    go : (t : Bool) → ◌≡◌ {A = Reading} (elim t [ true ↦ ofWords input | false ↦ ofListing input ]) (system ws) → reading ws ≡ accepted
+    go : (t : Bool) → ◌≡◌ {A = Reading} (elim t [ true ↦ of_words input | false ↦ of_listing input ]) (system ws) → reading ws ≡ accepted
     go true q = words-reads input ws q
     go false q = listing-reads input ws q
 
 -- ---- of an input of more than 65,536 bytes the first 65,537 decide
 
-fourth-kept : (k : ℕ) (input : List ℕ) → 4 ≤ k → areWords (take k input) ≡ areWords input
-unfolding areWords
+fourth-kept : (k : ℕ) (input : List ℕ) → 4 ≤ k → are_words (take k input) ≡ are_words input
+unfolding are_words
 fourth-kept k input h = ap (λ (b : ℕ). eqb b 1 || eqb b 5) (get_or-take k input 3 0 (omega arith))
 
 module _ (k : ℕ) (input : List ℕ) (h : 65536 < k) (l : k ≤ length input) where
   kept : length (take k input) ≡ k
   kept = length-take-le k input l
 
-  long-words : ofWords (take k input) ≡ ofWords input
+  long-words : of_words (take k input) ≡ of_words input
   long-words = sym (words_long (take k input) (omega (arith, kept))) ∙ words_long input (omega arith)
 
-  long-listing : ofListing (take k input) ≡ ofListing input
+  long-listing : of_listing (take k input) ≡ of_listing input
   long-listing =
       listing-refused (take k input) 41 0 (read-long (take k input) 1024 (omega (arith, kept)))
       ∙ sym (listing-refused input 41 0 (read-long input 1024 (omega arith)))
 
-  pub long-system : systemOf (take k input) ≡ systemOf input
-  unfolding systemOf
+  pub long-system : system_of (take k input) ≡ system_of input
+  unfolding system_of
   long-system =
-      ap₂ (λ (a b : Reading). elim (areWords (take k input)) [ true ↦ a | false ↦ b ]) long-words long-listing
-      ∙ ap (λ (t : Bool). elim t [ true ↦ ofWords input | false ↦ ofListing input ]) (fourth-kept k input (omega arith))
+      ap₂ (λ (a b : Reading). elim (are_words (take k input)) [ true ↦ a | false ↦ b ]) long-words long-listing
+      ∙ ap (λ (t : Bool). elim t [ true ↦ of_words input | false ↦ of_listing input ]) (fourth-kept k input (omega arith))
 
 -- ---- no accepted listing has the fourth byte of words: it starts with `system`
 
@@ -109,17 +109,17 @@ first-line (d ∷ ds) (w ∷ ws) h k e f =
     started : (a : ℕ) (rest : List ℕ) → get_or (line_of (entry_of 1) a ++ rest) 3 0 ≡ 116
     started a rest = refl
 
-head-kind : (ws : List ℕ) → narrowReading ws ≡ accepted → kind (get_or ws 0 0) ≡ 1
+head-kind : (ws : List ℕ) → narrow_reading ws ≡ accepted → kind (get_or ws 0 0) ≡ 1
 head-kind ws r =
     let a = (narrow-accepted ws r).0 in
     let h = head-word ws a in
     let s = subst (Stands (names_at ws) (reach ws a 0 h.inside).keys (get_or ws 0 0)) h.head-task (place-stands ws a 0 h.inside) in
     ⊎_elim (λ k. k) (λ k. absurd (narrow-kind ws r k)) s.0
 
-pub listing_start : (text : List ℕ) (n : ℕ) → readAs text 1024 ≡ done n → get_or text 3 0 ≡ 116
+pub listing_start : (text : List ℕ) (n : ℕ) → read_as text 1024 ≡ done n → get_or text 3 0 ≡ 116
 unfolding listing
 listing_start text n e =
-    let ws = lineWords text in
+    let ws = line_words text in
     let r = read-accepted text 1024 n e in
     let a = (narrow-accepted ws r).0 in
     let some = (head-word ws a).inside in
@@ -127,6 +127,6 @@ listing_start text n e =
     ap (λ (t : List ℕ). get_or t 3 0) (sym (read-written text 1024 n e))
     ∙ first-line (depths ws) ws (omega (arith, depths-length ws r)) some (sym w.first) (head-kind ws r)
 
-pub listing-no-words : (text : List ℕ) (n : ℕ) → readAs text 1024 ≡ done n → areWords text ≡ false
-unfolding areWords
+pub listing-no-words : (text : List ℕ) (n : ℕ) → read_as text 1024 ≡ done n → are_words text ≡ false
+unfolding are_words
 listing-no-words text n e = ap (λ (b : ℕ). eqb b 1 || eqb b 5) (listing_start text n e)

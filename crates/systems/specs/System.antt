@@ -1,10 +1,10 @@
 -- The system that an input is: a listing, or the words of a table of either width (document 02, wishes 1 and 13).
 use Rattle.std.specs.Prelude.{ℕ, zero, suc, ◌%◌, ◌≤◌, ◌≡◌, Bool, true, false, ◌||◌, List, eqb, ltb, length, get_or, take}
-use Rattle.little_endian.specs.LittleEndian.{wordsOf}
+use Rattle.little_endian.specs.LittleEndian.{words_of}
 use Rattle.table.specs.Scan.{accepted, refused, reading}
-use Rattle.listing.specs.Listing.{done, readAs}
-use Rattle.listing.specs.Listing.{refusal as unread, wordsOf as lineWords}
-use Rattle.report.specs.Lines.{refusalLine}
+use Rattle.listing.specs.Listing.{done, read_as}
+use Rattle.listing.specs.Listing.{refusal as unread, words_of as line_words}
+use Rattle.report.specs.Lines.{refusal_line}
 use Rattle.systems.specs.declared.System.{System}
 use Rattle.systems.specs.declared.System.TheVariants.{Words, Refused}
 
@@ -14,37 +14,37 @@ pub data Reading : Type 0 where
   refusal : (number place : ℕ) → Reading
 
 -- words are told by their fourth byte, which is the kind of word 0: 1 or 5. No accepted listing has such a byte there.
-unfoldable pub areWords : List ℕ → Bool
-areWords input = eqb (get_or input 3 0) 1 || eqb (get_or input 3 0) 5
+unfoldable pub are_words : List ℕ → Bool
+are_words input = eqb (get_or input 3 0) 1 || eqb (get_or input 3 0) 5
 
 -- a table has at most 1,024 words
-abbrev pub mostBytes : ℕ
-mostBytes = 4096
+abbrev pub most_bytes : ℕ
+most_bytes = 4096
 
 -- the table's numbers
-unfoldable pub tableOf : (words : List ℕ) → Reading
-tableOf ws = elim (reading ws) [ refused n p ↦ refusal n p | accepted ↦ system ws ]
+unfoldable pub table_of : (words : List ℕ) → Reading
+table_of ws = elim (reading ws) [ refused n p ↦ refusal n p | accepted ↦ system ws ]
 
 -- words: 31 more bytes than a table has, 30 no whole words, then the table's numbers
-unfoldable pub ofWords : List ℕ → Reading
-unfolding tableOf
-ofWords input =
-    elim (ltb mostBytes (length input)) [
+unfoldable pub of_words : List ℕ → Reading
+unfolding table_of
+of_words input =
+    elim (ltb most_bytes (length input)) [
       | true ↦ refusal 31 0
-      | false ↦ elim (length input % 4) [ zero ↦ tableOf (wordsOf input) | suc n ↦ refusal 30 0 ]
+      | false ↦ elim (length input % 4) [ zero ↦ table_of (words_of input) | suc n ↦ refusal 30 0 ]
     ]
 
-unfoldable pub ofListing : List ℕ → Reading
-ofListing input = elim (readAs input 1024) [ done n ↦ system (lineWords input) | unread n p ↦ refusal n p ]
+unfoldable pub of_listing : List ℕ → Reading
+of_listing input = elim (read_as input 1024) [ done n ↦ system (line_words input) | unread n p ↦ refusal n p ]
 
-unfoldable pub systemOf : List ℕ → Reading
-unfolding areWords ofWords ofListing
-systemOf input = elim (areWords input) [ true ↦ ofWords input | false ↦ ofListing input ]
+unfoldable pub system_of : List ℕ → Reading
+unfolding are_words of_words of_listing
+system_of input = elim (are_words input) [ true ↦ of_words input | false ↦ of_listing input ]
 
 -- a text of the system, or the line of the refusal
 unfoldable pub told : Reading → (text : List ℕ → List ℕ) → List ℕ
 told (system ws) text = text ws
-told (refusal number place) text = refusalLine number place
+told (refusal number place) text = refusal_line number place
 
 -- ---- what a call says
 

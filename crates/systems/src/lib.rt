@@ -1,6 +1,6 @@
 // The system that an input is: a listing, or the words of a table of either width.
 ghost use Rattle.std.specs.Prelude.{◌≡◌, ◌≤◌, length, take};
-ghost use Rattle.systems.specs.System.{areWords, tableOf, ofWords, ofListing, systemOf, Said};
+ghost use Rattle.systems.specs.System.{are_words, table_of, of_words, of_listing, system_of, Said};
 
 use listing::Answer;
 use little_endian::words_of;
@@ -15,7 +15,7 @@ pub enum System {
 
 // Whether the fourth byte is 1 or 5.
 pub fn are_words(input: &[u8]) -> bool
-    ensures { result ≡ areWords input.now }
+    ensures { result ≡ are_words input.now }
 {
     if input.len() < 4 {
         return false;
@@ -27,7 +27,7 @@ pub fn are_words(input: &[u8]) -> bool
 // The reading of the first words of a slice as a table.
 fn table_of(words: &[u32], n: usize) -> System
     requires { (n ≤ length words.now) × (n ≤ 1024) }
-    ensures { Said (tableOf (take n words.now)) words.now result }
+    ensures { Said (table_of (take n words.now)) words.now result }
 {
     match table::read::read(&words[..n]) {
         Reading::Refused(r) => System::Refused(
@@ -41,7 +41,7 @@ fn table_of(words: &[u32], n: usize) -> System
 // The words of an input.
 fn read_words(input: &[u8], words: &mut [u32]) -> System
     requires { length words.old ≡ 1024 }
-    ensures { Said (ofWords input.now) words.new result }
+    ensures { Said (of_words input.now) words.new result }
 {
     if 4096 < input.len() {
         return System::Refused(31, 0);
@@ -56,7 +56,7 @@ fn read_words(input: &[u8], words: &mut [u32]) -> System
 // The words of a listing.
 fn read_listing(input: &[u8], words: &mut [u32]) -> System
     requires { length words.old ≡ 1024 }
-    ensures { Said (ofListing input.now) words.new result }
+    ensures { Said (of_listing input.now) words.new result }
 {
     match listing::read::read(input, words) {
         Answer::Done(n) => System::Words(n),
@@ -70,7 +70,7 @@ fn read_listing(input: &[u8], words: &mut [u32]) -> System
 // The words of an input at the start of a slice of 1,024, and how many they are, or why it is refused.
 pub fn read_system(input: &[u8], words: &mut [u32]) -> System
     requires { length words.old ≡ 1024 }
-    ensures { Said (systemOf input.now) words.new result }
+    ensures { Said (system_of input.now) words.new result }
 {
     if are_words(input) {
         return read_words(input, words);

@@ -10,7 +10,7 @@ use lib.ListN.{length, get_or, drop, replicate, drop_of_length-le}
 use lib.Seq.{drop-cons, drop-drop}
 use Rattle.table.specs.Words.{argument, arity, size}
 use Rattle.table.specs.Scan.{Task, head, name, perms, guard, term, accepted, keep, next, names_at, reading}
-use Rattle.table.specs.Code.{skip, part, end_of, trace, tasks, taskAt, blocks_from}
+use Rattle.table.specs.Code.{skip, part, end_of, trace, tasks, task_at, blocks_from}
 use Rattle.table.proofs.Faults.{stands}
 use Rattle.table.proofs.Stack.{At, at-step, at-end, at-start, reach, Names, Layered, Terms, none, also, length-next, terms-next}
 use Rattle.table.proofs.Stack.{term-next, length-term-next}
@@ -20,7 +20,7 @@ use Rattle.table.proofs.Parts.{at-term-end, tasks-length}
 
 -- at p the table ends or a block starts
 abbrev pub Follows : List ℕ → ℕ → Type 0
-Follows ws p = (p ≡ length ws) ⊎ ((p < length ws) × (taskAt ws p ≡ name))
+Follows ws p = (p ≡ length ws) ⊎ ((p < length ws) × (task_at ws p ≡ name))
 
 -- where names alone wait
 next-block : (ws : List ℕ) (p : ℕ) (keys : List ℕ) (ts : List Task) → At ws p keys ts → Names ts → Follows ws p
@@ -30,9 +30,9 @@ next-block ws p keys (name ∷ ts) a n = let s = at-step ws p keys name ts a in 
 -- the words of the block at b: its name, its permission set, its guard and its body, behind which the next block starts or the table ends
 pub record Block (ws : List ℕ) (b : ℕ) : Type 0 where
   pub inside : b + 3 < length ws
-  pub perms-task : taskAt ws (b + 1) ≡ perms (argument (get_or ws b 0))
-  pub guard-task : taskAt ws (b + 2) ≡ guard
-  pub body-task : taskAt ws (b + 3) ≡ term 1 b (b ∷ [])
+  pub perms-task : task_at ws (b + 1) ≡ perms (argument (get_or ws b 0))
+  pub guard-task : task_at ws (b + 2) ≡ guard
+  pub body-task : task_at ws (b + 3) ≡ term 1 b (b ∷ [])
   pub named : argument (get_or ws b 0) < names_at ws
   pub follows : Follows ws (end_of ws (b + 3))
 
@@ -44,7 +44,7 @@ pub record Opened (ws : List ℕ) (b : ℕ) : Type 0 where
   pub there : At ws (suc b) keys (perms (argument (get_or ws b 0)) ∷ guard ∷ term 1 b (b ∷ []) ∷ below)
   pub layered : Names below
 
-pub opened : (ws : List ℕ) → reading ws ≡ accepted → (b : ℕ) → b < length ws → taskAt ws b ≡ name → Opened ws b
+pub opened : (ws : List ℕ) → reading ws ≡ accepted → (b : ℕ) → b < length ws → task_at ws b ≡ name → Opened ws b
 unfolding next keep
 opened ws e b l t =
     let r = reach ws e b l in
@@ -57,7 +57,7 @@ opened ws e b l t =
       layered = subst (λ (u : Task). Layered (u ∷ r.below)) t r.holds;
     }
 
-pub block : (ws : List ℕ) → reading ws ≡ accepted → (b : ℕ) → b < length ws → taskAt ws b ≡ name → Block ws b
+pub block : (ws : List ℕ) → reading ws ≡ accepted → (b : ℕ) → b < length ws → task_at ws b ≡ name → Block ws b
 unfolding next keep
 block ws e b l t =
     let o = opened ws e b l t in
@@ -69,9 +69,9 @@ block ws e b l t =
     let body : suc (suc (suc b)) ≡ b + 3 = omega arith in
     record {
       inside = subst (λ (q : ℕ). q < length ws) body four.inside;
-      perms-task = subst (λ (q : ℕ). taskAt ws q ≡ perms n) (let k : suc b ≡ b + 1 = omega arith in k) two.task;
-      guard-task = subst (λ (q : ℕ). taskAt ws q ≡ guard) (let k : suc (suc b) ≡ b + 2 = omega arith in k) three.task;
-      body-task = subst (λ (q : ℕ). taskAt ws q ≡ term 1 b (b ∷ [])) body four.task;
+      perms-task = subst (λ (q : ℕ). task_at ws q ≡ perms n) (let k : suc b ≡ b + 1 = omega arith in k) two.task;
+      guard-task = subst (λ (q : ℕ). task_at ws q ≡ guard) (let k : suc (suc b) ≡ b + 2 = omega arith in k) three.task;
+      body-task = subst (λ (q : ℕ). task_at ws q ≡ term 1 b (b ∷ [])) body four.task;
       named = o.named;
       follows =
           subst (λ (q : ℕ). Follows ws (end_of ws q)) body
@@ -83,7 +83,7 @@ block ws e b l t =
 
 pub record Head (ws : List ℕ) : Type 0 where
   pub inside : 0 < length ws
-  pub head-task : taskAt ws 0 ≡ head (length ws)
+  pub head-task : task_at ws 0 ≡ head (length ws)
   pub sized : length ws ≤ size
   pub handled : argument (get_or ws 0 0) ≤ names_at ws
   pub follows : Follows ws 1
@@ -161,19 +161,19 @@ listed-name (guard ∷ ts) at b m = named-later guard ts at b (listed-name ts (s
 listed-name (term d h s ∷ ts) at b m = named-later (term d h s) ts at b (listed-name ts (suc at) b m)
 
 module _ (ws : List ℕ) (e : reading ws ≡ accepted) where
-  pub block_listed : (b : ℕ) → b < length ws → taskAt ws b ≡ name → Memᴰ b (blocks_from (tasks ws) 0)
-  unfolding taskAt
+  pub block_listed : (b : ℕ) → b < length ws → task_at ws b ≡ name → Memᴰ b (blocks_from (tasks ws) 0)
+  unfolding task_at
   block_listed b l t =
       subst (λ (n : ℕ). Memᴰ n (blocks_from (tasks ws) 0)) (let k : 0 + b ≡ b = omega arith in k)
       (name-listed (tasks ws) 0 b (subst (λ (n : ℕ). b < n) (sym (tasks-length ws e)) l) t)
 
-  pub listed-block : (b : ℕ) → Memᴰ b (blocks_from (tasks ws) 0) → (b < length ws) × (taskAt ws b ≡ name)
-  unfolding taskAt
+  pub listed-block : (b : ℕ) → Memᴰ b (blocks_from (tasks ws) 0) → (b < length ws) × (task_at ws b ≡ name)
+  unfolding task_at
   listed-block b m =
       let r = listed-name (tasks ws) 0 b m in
       let k : r.place ≡ b = let c = r.counted in omega arith in (
         subst (λ (n : ℕ). n < length ws) k (subst (λ (n : ℕ). r.place < n) (tasks-length ws e) r.short),
-        subst (λ (n : ℕ). taskAt ws n ≡ name) k r.named,
+        subst (λ (n : ℕ). task_at ws n ≡ name) k r.named,
       )
 
 -- ---- the blocks in order: the first behind word 0, each behind the body of the one before
@@ -196,22 +196,22 @@ trace-blocks (w ∷ ws) at ts us (also {d} {h} {s} {ts = ts'} r) =
 
 module _ (ws : List ℕ) (e : reading ws ≡ accepted) where
   -- the blocks from the place p on
-  abbrev pub blocksAt : ℕ → List ℕ
-  blocksAt p = blocks_from (drop p (tasks ws)) p
+  abbrev pub blocks_at : ℕ → List ℕ
+  blocks_at p = blocks_from (drop p (tasks ws)) p
 
-  tasks-cons : (p : ℕ) → p < length ws → drop p (tasks ws) ≡ taskAt ws p ∷ drop (suc p) (tasks ws)
-  unfolding taskAt
+  tasks-cons : (p : ℕ) → p < length ws → drop p (tasks ws) ≡ task_at ws p ∷ drop (suc p) (tasks ws)
+  unfolding task_at
   tasks-cons p l = drop-cons (tasks ws) p (head 0) (subst (λ (n : ℕ). p < n) (sym (tasks-length ws e)) l)
 
-  blocks_step : (p : ℕ) (t : Task) → p < length ws → taskAt ws p ≡ t → blocksAt p ≡ blocks_from (t ∷ drop (suc p) (tasks ws)) p
+  blocks_step : (p : ℕ) (t : Task) → p < length ws → task_at ws p ≡ t → blocks_at p ≡ blocks_from (t ∷ drop (suc p) (tasks ws)) p
   blocks_step p t l k =
       ap (λ (ts : List Task). blocks_from ts p) (tasks-cons p l ∙ ap (λ (u : Task). u ∷ drop (suc p) (tasks ws)) k)
 
-  pub blocks-first : blocks_from (tasks ws) 0 ≡ blocksAt 1
+  pub blocks-first : blocks_from (tasks ws) 0 ≡ blocks_at 1
   unfolding blocks_from
   blocks-first = let r = head-word ws e in blocks_step 0 (head (length ws)) r.inside r.head-task
 
-  pub blocks_end : blocksAt (length ws) ≡ []
+  pub blocks_end : blocks_at (length ws) ≡ []
   unfolding blocks_from
   blocks_end =
       ap (λ (ts : List Task). blocks_from ts (length ws))
@@ -219,7 +219,7 @@ module _ (ws : List ℕ) (e : reading ws ≡ accepted) where
 
   -- no block starts within a term
   blocks-term : (p : ℕ) (keys : List ℕ) (d h : ℕ) (s : List ℕ) (us : List Task) → At ws p keys (term d h s ∷ us)
-      → blocksAt p ≡ blocksAt (end_of ws p)
+      → blocks_at p ≡ blocks_at (end_of ws p)
   unfolding blocks_from end_of part
   blocks-term p keys d h s us a =
       let w = get_or ws p 0 in
@@ -234,7 +234,7 @@ module _ (ws : List ℕ) (e : reading ws ≡ accepted) where
       ∙ ap (λ (l : List ℕ). blocks_from (trace l (suc p + n) us) (suc p + n)) (drop-drop n (suc p) ws)
       ∙ ap (λ (ts : List Task). blocks_from ts (suc p + n)) (sym (at-term-end ws p keys d h s us a).traced)
 
-  pub blocks-next : (b : ℕ) → b < length ws → taskAt ws b ≡ name → blocksAt b ≡ b ∷ blocksAt (end_of ws (b + 3))
+  pub blocks-next : (b : ℕ) → b < length ws → task_at ws b ≡ name → blocks_at b ≡ b ∷ blocks_at (end_of ws (b + 3))
   unfolding blocks_from next keep
   blocks-next b l t =
       let o = opened ws e b l t in
@@ -247,4 +247,4 @@ module _ (ws : List ℕ) (e : reading ws ≡ accepted) where
       (blocks_step (suc b) (perms n) two.inside two.task
       ∙ blocks_step (suc (suc b)) guard three.inside three.task
       ∙ blocks-term (suc (suc (suc b))) _ 1 b (b ∷ []) us three.rest
-      ∙ ap (λ (q : ℕ). blocksAt (end_of ws q)) (let k : suc (suc (suc b)) ≡ b + 3 = omega arith in k))
+      ∙ ap (λ (q : ℕ). blocks_at (end_of ws q)) (let k : suc (suc (suc b)) ≡ b + 3 = omega arith in k))

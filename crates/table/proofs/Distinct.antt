@@ -11,8 +11,8 @@ use Rattle.table.specs.declared.Term.{Term}
 use Rattle.table.specs.declared.Term.TheVariants as terms
 use Rattle.table.specs.Words.{argument}
 use Rattle.table.specs.Scan.{Task, head, name, perms, guard, term, accepted, has, key, keep, next, reading, names_at}
-use Rattle.table.specs.Code.{block as blockNode, taskAt, termNode, nodeFor, code, IsBlock}
-use Rattle.table.proofs.TermWords.{wordOf-injective}
+use Rattle.table.specs.Code.{block as block_node, task_at, term_node, node_for, code, IsBlock}
+use Rattle.table.proofs.TermWords.{word_of-injective}
 use Rattle.table.proofs.Faults.{Stands, stands}
 use Rattle.table.proofs.Stack.{At, Fact, at-step, at-end, walk, has-keep}
 use Rattle.table.proofs.Blocks.{opened, block}
@@ -24,7 +24,7 @@ key_at ws b = key (argument (get_or ws b 0)) (argument (get_or ws (b + 1) 0))
 
 -- keys are equal only where the names and the permissions are
 pub key-injective : (n n' s s' : ℕ) → s < 2 ^ 24 → s' < 2 ^ 24 → key n s ≡ key n' s' → (n ≡ n') × (s ≡ s')
-key-injective n n' s s' h h' e = wordOf-injective n n' s s' h h' e
+key-injective n n' s s' h h' e = word_of-injective n n' s s' h h' e
 
 or_left : (a b : Bool) → T a → T (a || b)
 or_left true b h = tt
@@ -39,7 +39,7 @@ HasAt k p keys ts = T (has keys k)
 
 module _ (ws : List ℕ) (e : reading ws ≡ accepted) where
   -- a key that the scan has kept is no later block's
-  not-kept : (b : ℕ) → b < length ws → taskAt ws b ≡ name → (keys : List ℕ) (ts : List Task) → At ws (b + 1) keys ts
+  not-kept : (b : ℕ) → b < length ws → task_at ws b ≡ name → (keys : List ℕ) (ts : List Task) → At ws (b + 1) keys ts
       → T (has keys (key_at ws b)) → ⊥
   not-kept b l t keys [] a h = let r = (block ws e b l t).inside in let z = at-end ws (b + 1) keys a in omega arith
   not-kept b l t keys (u ∷ ts) a h =
@@ -49,7 +49,7 @@ module _ (ws : List ℕ) (e : reading ws ≡ accepted) where
       (stands (names_at ws) keys (get_or ws (b + 1) 0) u s.faultless) in
       subst T f.1 h
 
-  not-later : (b b' : ℕ) → b < length ws → taskAt ws b ≡ name → b' < length ws → taskAt ws b' ≡ name → key_at ws b ≡ key_at ws b'
+  not-later : (b b' : ℕ) → b < length ws → task_at ws b ≡ name → b' < length ws → task_at ws b' ≡ name → key_at ws b ≡ key_at ws b'
       → b < b' → ⊥
   unfolding keep next
   not-later b b' l t l' t' k h =
@@ -66,7 +66,7 @@ module _ (ws : List ℕ) (e : reading ws ≡ accepted) where
       (subst (λ (y : ℕ). T (has r.keys y))
       (ap (λ (q : ℕ). key n (argument (get_or ws q 0))) (let z : suc b ≡ b + 1 = omega arith in z) ∙ k) r.holds)
 
-  pub distinct : (b b' : ℕ) → b < length ws → taskAt ws b ≡ name → b' < length ws → taskAt ws b' ≡ name
+  pub distinct : (b b' : ℕ) → b < length ws → task_at ws b ≡ name → b' < length ws → task_at ws b' ≡ name
       → argument (get_or ws b 0) ≡ argument (get_or ws b' 0) → argument (get_or ws (b + 1) 0) ≡ argument (get_or ws (b' + 1) 0) → b ≡ b'
   distinct b b' l t l' t' n s = go (dec_lt b b') (dec_lt b' b)
     where
@@ -80,8 +80,8 @@ module _ (ws : List ℕ) (e : reading ws ≡ accepted) where
 
 -- ---- the same of the nodes of the code
 
-term-no-block : (t : Term) (a b d : ℕ) → IsBlock (termNode t a b d) → ⊥
-unfolding termNode
+term-no-block : (t : Term) (a b d : ℕ) → IsBlock (term_node t a b d) → ⊥
+unfolding term_node
 term-no-block (terms.Constant c) a b d h = h
 term-no-block (terms.Number n) a b d h = h
 term-no-block (terms.Literal n) a b d h = h
@@ -105,8 +105,8 @@ term-no-block (terms.Send s) a b d h = h
 term-no-block (terms.Exercise s) a b d h = h
 
 -- a block's node stands where a name is the task
-pub block-task : (ws : List ℕ) (p : ℕ) (t : Task) → IsBlock (nodeFor ws p t) → t ≡ name
-unfolding nodeFor
+pub block-task : (ws : List ℕ) (p : ℕ) (t : Task) → IsBlock (node_for ws p t) → t ≡ name
+unfolding node_for
 block-task ws p (head n) h = absurd h
 block-task ws p name h = refl
 block-task ws p (perms n) h = absurd h
@@ -116,18 +116,18 @@ block-task ws p (term d k s) h = absurd (term-no-block _ _ _ _ h)
 -- a block of the code has its name and its permissions from its words
 pub record BlockAt (ws : List ℕ) (b n s : ℕ) : Type 0 where
   pub inside : b < length ws
-  pub task : taskAt ws b ≡ name
+  pub task : task_at ws b ≡ name
   pub named : argument (get_or ws b 0) ≡ n
   pub permitted : argument (get_or ws (b + 1) 0) ≡ s
 
 module _ (ws : List ℕ) (e : reading ws ≡ accepted) where
-  pub block_at : (b n s g : ℕ) → (code ws).node b ≡ blockNode n s g → BlockAt ws b n s
-  unfolding code nodeFor
+  pub block_at : (b n s g : ℕ) → (code ws).node b ≡ block_node n s g → BlockAt ws b n s
+  unfolding code node_for
   block_at b n s g h =
       let i : IsBlock ((code ws).node b) = subst IsBlock (sym h) tt in
-      let t : taskAt ws b ≡ name = block-task ws b (taskAt ws b) i in
-      let fields : blockNode (argument (get_or ws b 0)) (argument (get_or ws (b + 1) 0)) (argument (get_or ws (b + 2) 0)) ≡ blockNode n s g =
-      sym (ap (nodeFor ws b) t) ∙ h in
+      let t : task_at ws b ≡ name = block-task ws b (task_at ws b) i in
+      let fields : block_node (argument (get_or ws b 0)) (argument (get_or ws (b + 1) 0)) (argument (get_or ws (b + 2) 0)) ≡ block_node n s g =
+      sym (ap (node_for ws b) t) ∙ h in
       record {
         inside = short (dec_lt b (length ws)) i;
         task = t;
@@ -139,7 +139,7 @@ module _ (ws : List ℕ) (e : reading ws ≡ accepted) where
       short (yes l) i = l
       short (no l) i = absurd (subst IsBlock ((linked ws e).outside b (omega (arith, l))) i)
 
-  pub distinct-nodes : (b b' n s g g' : ℕ) → (code ws).node b ≡ blockNode n s g → (code ws).node b' ≡ blockNode n s g' → b ≡ b'
+  pub distinct-nodes : (b b' n s g g' : ℕ) → (code ws).node b ≡ block_node n s g → (code ws).node b' ≡ block_node n s g' → b ≡ b'
   distinct-nodes b b' n s g g' h h' =
       let r = block_at b n s g h in
       let r' = block_at b' n s g' h' in

@@ -11,10 +11,10 @@ use lib.Seq.{drop-cons}
 use Rattle.table.specs.declared.Link.{Link}
 use Rattle.table.specs.Words.{parts, arity}
 use Rattle.table.specs.Scan.{Task, head, name, perms, guard, term, accepted, under, next, reading}
-use Rattle.table.specs.Code.{part, end_of, taskAt}
-use Rattle.table.specs.Links.{linkAt, innermost, withBinder, bindParts, ends}
+use Rattle.table.specs.Code.{part, end_of, task_at}
+use Rattle.table.specs.Links.{link_at, innermost, with_binder, bind_parts, ends}
 use Rattle.table.proofs.Stack.{Names}
-use Rattle.table.proofs.Parts.{partTask, part-suc, part-inside, end_after}
+use Rattle.table.proofs.Parts.{part_task, part-suc, part-inside, end_after}
 use Rattle.table.proofs.LinkReads.{link-other, binder-other, binder-same, length-binder}
 use Rattle.table.proofs.LinkEnds.{Ended}
 
@@ -28,7 +28,7 @@ module _ (ws : List ℕ) where
   Laid l p (name ∷ ts) = Unit {0}
   Laid l p (perms n ∷ ts) = Laid l (suc p) ts
   Laid l p (guard ∷ ts) = Laid l (suc p) ts
-  Laid l p (term d h s ∷ ts) = ((linkAt l p).binder ≡ get_or s 0 0) × Laid l (end_of ws p) ts
+  Laid l p (term d h s ∷ ts) = ((link_at l p).binder ≡ get_or s 0 0) × Laid l (end_of ws p) ts
 
   -- a list that agrees from p on
   pub laid-agree : (l l' : List ℕ) (p : ℕ) (ts : List Task) → ((q : ℕ) → p ≤ q → get_or l' q 0 ≡ get_or l q 0) → Laid l p ts → Laid l' p ts
@@ -60,8 +60,8 @@ module _ (ws : List ℕ) where
   -- only binders differ
   pub record Same (l l' : List ℕ) : Type 0 where
     pub long : length l' ≡ length l
-    pub ends : (q : ℕ) → (linkAt l' q).end ≡ (linkAt l q).end
-    pub homes : (q : ℕ) → (linkAt l' q).home ≡ (linkAt l q).home
+    pub ends : (q : ℕ) → (link_at l' q).end ≡ (link_at l q).end
+    pub homes : (q : ℕ) → (link_at l' q).home ≡ (link_at l q).home
 
   pub same_refl : (l : List ℕ) → Same l l
   same_refl l = record { long = refl; ends = λ q. refl; homes = λ q. refl }
@@ -70,7 +70,7 @@ module _ (ws : List ℕ) where
   same-trans l m n a b =
       record { long = b.long ∙ a.long; ends = λ q. b.ends q ∙ a.ends q; homes = λ q. b.homes q ∙ a.homes q }
 
-  pub same-binder : (l : List ℕ) (p b : ℕ) → p < length l → b < 2 ^ 10 → Same l (withBinder l p b)
+  pub same-binder : (l : List ℕ) (p b : ℕ) → p < length l → b < 2 ^ 10 → Same l (with_binder l p b)
   same-binder l p b h k =
       record {
         long = length-binder l p b;
@@ -78,10 +78,10 @@ module _ (ws : List ℕ) where
         homes = λ q. go (λ x. x.home) refl q (ℕ_discrete q p);
       }
     where
-      go : (f : Link → ℕ) → f (record { end = (linkAt l p).end; binder = b; home = (linkAt l p).home }) ≡ f (linkAt l p)
-          → (q : ℕ) → Dec (q ≡ p) → f (linkAt (withBinder l p b) q) ≡ f (linkAt l q)
-      go f z q (yes e) = subst (λ (n : ℕ). f (linkAt (withBinder l p b) n) ≡ f (linkAt l n)) (sym e) (ap f (binder-same l p b h k) ∙ z)
-      go f z q (no n) = ap f (link-other l (withBinder l p b) q (binder-other l p b q n))
+      go : (f : Link → ℕ) → f (record { end = (link_at l p).end; binder = b; home = (link_at l p).home }) ≡ f (link_at l p)
+          → (q : ℕ) → Dec (q ≡ p) → f (link_at (with_binder l p b) q) ≡ f (link_at l q)
+      go f z q (yes e) = subst (λ (n : ℕ). f (link_at (with_binder l p b) n) ≡ f (link_at l n)) (sym e) (ap f (binder-same l p b h k) ∙ z)
+      go f z q (no n) = ap f (link-other l (with_binder l p b) q (binder-other l p b q n))
 
   -- the binders of parts from q to r, below which us waits
   pub record Bound (l l' : List ℕ) (q r : ℕ) (ts us : List Task) : Type 0 where
@@ -102,8 +102,8 @@ module _ (ws : List ℕ) where
 module _ (ws : List ℕ) (e : reading ws ≡ accepted) where
   module _ (p d h : ℕ) (s : List ℕ) (small : length ws ≤ 2 ^ 10) (i : p < length ws) where
     pub bind-parts : (ms : List Bool) (l : List ℕ) (q r : ℕ) (us : List Task) → length ws ≤ length l → Ended ws e l 0 → get_or s 0 0 < 2 ^ 10
-        → Spans ws q ms r → Laid ws l r us → Bound ws l (bindParts l p (get_or s 0 0) ms q) q r (map (partTask p d h s) ms) us
-    unfolding bindParts
+        → Spans ws q ms r → Laid ws l r us → Bound ws l (bind_parts l p (get_or s 0 0) ms q) q r (map (part_task p d h s) ms) us
+    unfolding bind_parts
     bind-parts [] l q r us long ended b z a =
         record {
           same = same_refl ws l;
@@ -114,15 +114,15 @@ module _ (ws : List ℕ) (e : reading ws ≡ accepted) where
     bind-parts (m ∷ ms) l q r us long ended b z a =
         let v = innermost m p (get_or s 0 0) in
         let k : v < 2 ^ 10 = innermost-lt ws m p (get_or s 0 0) (2 ^ 10) (lt_of_lt_of_le i small) b in
-        let l₁ = withBinder l q v in
-        let next : (linkAt l q).end ≡ end_of ws q = ended q (omega arith) z.0 in
+        let l₁ = with_binder l q v in
+        let next : (link_at l q).end ≡ end_of ws q = ended q (omega arith) z.0 in
         let one = same-binder ws l q v (lt_of_lt_of_le z.0 long) k in
         let past : q < r = lt_of_lt_of_le (end_after ws q) (spans-le ws (end_of ws q) ms r z.1) in
         let rest =
         bind-parts ms l₁ (end_of ws q) r us (subst (λ (n : ℕ). length ws ≤ n) (sym one.long) long)
         (λ x y t. one.ends x ∙ ended x y t) b z.1
         (laid-agree ws l l₁ r us (λ x y. binder-other l q v x (λ t. let c : ⊥ = omega arith in c)) a) in
-        subst (λ (n : ℕ). Bound ws l (bindParts l₁ p (get_or s 0 0) ms n) q r (map (partTask p d h s) (m ∷ ms)) us) (sym next)
+        subst (λ (n : ℕ). Bound ws l (bind_parts l₁ p (get_or s 0 0) ms n) q r (map (part_task p d h s) (m ∷ ms)) us) (sym next)
         (record {
           same = same-trans ws l l₁ _ one rest.same;
           before = λ x y. rest.before x (omega (arith, end_after ws q)) ∙ binder-other l q v x (λ t. let c : ⊥ = omega arith in c);
@@ -136,7 +136,7 @@ module _ (ws : List ℕ) (e : reading ws ≡ accepted) where
         })
 
     -- the parts of a term span the words up to its end
-    pub spans-parts : taskAt ws p ≡ term d h s → (ms : List Bool) (j : ℕ) → j ≤ arity (get_or ws p 0) → drop j (parts (get_or ws p 0)) ≡ ms
+    pub spans-parts : task_at ws p ≡ term d h s → (ms : List Bool) (j : ℕ) → j ≤ arity (get_or ws p 0) → drop j (parts (get_or ws p 0)) ≡ ms
         → Spans ws (part ws p j) ms (end_of ws p)
     unfolding arity end_of
     spans-parts t [] j b z =

@@ -9,10 +9,10 @@ use native.Mathlib.Omega.{arith}
 use lib.ListN.{length, get_or, set, length-set}
 use lib.Seq.{get_or-set_other}
 use Rattle.table.specs.declared.Link.{Link}
-use Rattle.table.specs.Words.{kind, arity, parts, partsByKind, firstKind}
+use Rattle.table.specs.Words.{kind, arity, parts, parts_by_kind, first_kind}
 use Rattle.table.specs.Scan.{Task, head, name, perms, guard, term, accepted, reading, names_at}
-use Rattle.table.specs.Code.{part, end_of, taskAt}
-use Rattle.table.specs.Links.{pack, linkAt, iterate, hops, ends}
+use Rattle.table.specs.Code.{part, end_of, task_at}
+use Rattle.table.specs.Links.{pack, link_at, iterate, hops, ends}
 use Rattle.table.proofs.Faults.{Stands}
 use Rattle.table.proofs.Stack.{reach}
 use Rattle.table.proofs.Parts.{part-zero, part-after, part-suc, part-inside, end-le, place-stands}
@@ -21,19 +21,19 @@ use Rattle.table.proofs.LinkReads.{Packs, link_set, link-other}
 
 -- a word of a block's kinds, or of a table's, has no parts
 pub parts_low : (w : ℕ) → kind w < 16 → parts w ≡ []
-unfolding parts partsByKind
-parts_low w h = let z : kind w - firstKind ≡ 0 = omega arith in ap (λ (n : ℕ). get_or partsByKind n []) z
+unfolding parts parts_by_kind
+parts_low w h = let z : kind w - first_kind ≡ 0 = omega arith in ap (λ (n : ℕ). get_or parts_by_kind n []) z
 
 module _ (ws : List ℕ) (e : reading ws ≡ accepted) where
   -- every part of every word is a word of the table
   pub parts-inside : (p k : ℕ) → p < length ws → k < arity (get_or ws p 0) → part ws p k < length ws
   unfolding arity
-  parts-inside p k l h = go (taskAt ws p) refl (place-stands ws e p l)
+  parts-inside p k l h = go (task_at ws p) refl (place-stands ws e p l)
     where
       low : kind (get_or ws p 0) < 16 → part ws p k < length ws
       low i = let z = ap length (parts_low (get_or ws p 0) i) in let c : ⊥ = omega arith in absurd c
 
-      go : (t : Task) → taskAt ws p ≡ t → Stands (names_at ws) (reach ws e p l).keys (get_or ws p 0) t → part ws p k < length ws
+      go : (t : Task) → task_at ws p ≡ t → Stands (names_at ws) (reach ws e p l).keys (get_or ws p 0) t → part ws p k < length ws
       go (head n) t f = low (⊎_elim (λ z. omega arith) (λ z. omega arith) f.0)
       go name t f = low (omega (arith, f.0))
       go (perms n) t f = low (omega (arith, f.0))
@@ -42,7 +42,7 @@ module _ (ws : List ℕ) (e : reading ws ≡ accepted) where
 
   -- the ends from the place n on are written
   abbrev pub Ended : List ℕ → ℕ → Type 0
-  Ended l n = (q : ℕ) → n ≤ q → q < length ws → (linkAt l q).end ≡ end_of ws q
+  Ended l n = (q : ℕ) → n ≤ q → q < length ws → (link_at l q).end ≡ end_of ws q
 
   -- from part j of the term at p, k terms on
   hops-part : (l : List ℕ) (p : ℕ) → p < length ws → Ended l (suc p) → (k j : ℕ) → j + k ≤ arity (get_or ws p 0)
@@ -76,9 +76,9 @@ module _ (ws : List ℕ) (e : reading ws ≡ accepted) where
       packs : Packs x
       packs = let a = end-le ws p i in let b = size-le ws e in (omega (arith, right), omega arith, omega arith)
 
-      go : Dec (q ≡ p) → (linkAt (set l p (pack x)) q).end ≡ end_of ws q
+      go : Dec (q ≡ p) → (link_at (set l p (pack x)) q).end ≡ end_of ws q
       go (yes z) =
-          subst (λ (n : ℕ). (linkAt (set l p (pack x)) n).end ≡ end_of ws n) (sym z)
+          subst (λ (n : ℕ). (link_at (set l p (pack x)) n).end ≡ end_of ws n) (sym z)
           (ap (λ (y : Link). y.end) (link_set l p x (omega arith) packs) ∙ right)
       go (no z) =
           ap (λ (y : Link). y.end) (link-other l (set l p (pack x)) q (get_or-set_other l p q (pack x) 0 z))

@@ -7,7 +7,7 @@ use lib.ListN.{length, get_or, set, length-set}
 use lib.Seq.{get_or-set_same, get_or-set_other}
 use mathlib.Core.Logic.{◌≢◌}
 use Rattle.table.specs.declared.Link.{Link}
-use Rattle.table.specs.Links.{pack, unpack, linkAt, withBinder, withHome}
+use Rattle.table.specs.Links.{pack, unpack, link_at, with_binder, with_home}
 
 -- a link fits its word
 abbrev pub Packs : Link → Type 0
@@ -41,42 +41,42 @@ unpack-pack x h =
     ap (λ (n : ℕ). n / 2 ^ 21 % 2 ^ 10) e ∙ digits-home x.end x.binder x.home h.0 h.1 h.2 in
     λ i. record { end = a i; binder = b i; home = c i }
 
-pub link-packs : (l : List ℕ) (p : ℕ) → Packs (linkAt l p)
-unfolding linkAt unpack
+pub link-packs : (l : List ℕ) (p : ℕ) → Packs (link_at l p)
+unfolding link_at unpack
 link-packs l p = (omega arith, omega arith, omega arith)
 
 -- what is read where a link was written, and elsewhere
-pub link_set : (l : List ℕ) (p : ℕ) (x : Link) → p < length l → Packs x → linkAt (set l p (pack x)) p ≡ x
-unfolding linkAt
+pub link_set : (l : List ℕ) (p : ℕ) (x : Link) → p < length l → Packs x → link_at (set l p (pack x)) p ≡ x
+unfolding link_at
 link_set l p x h k = ap unpack (get_or-set_same l p (pack x) 0 h) ∙ unpack-pack x k
 
-pub link-other : (l l' : List ℕ) (q : ℕ) → get_or l' q 0 ≡ get_or l q 0 → linkAt l' q ≡ linkAt l q
-unfolding linkAt
+pub link-other : (l l' : List ℕ) (q : ℕ) → get_or l' q 0 ≡ get_or l q 0 → link_at l' q ≡ link_at l q
+unfolding link_at
 link-other l l' q e = ap unpack e
 
 module _ (l : List ℕ) (p b : ℕ) where
-  pub binder-other : (q : ℕ) → q ≢ p → get_or (withBinder l p b) q 0 ≡ get_or l q 0
-  unfolding withBinder
+  pub binder-other : (q : ℕ) → q ≢ p → get_or (with_binder l p b) q 0 ≡ get_or l q 0
+  unfolding with_binder
   binder-other q h = get_or-set_other l p q _ 0 h
 
-  pub home-other : (q : ℕ) → q ≢ p → get_or (withHome l p b) q 0 ≡ get_or l q 0
-  unfolding withHome
+  pub home-other : (q : ℕ) → q ≢ p → get_or (with_home l p b) q 0 ≡ get_or l q 0
+  unfolding with_home
   home-other q h = get_or-set_other l p q _ 0 h
 
   pub binder-same : p < length l → b < 2 ^ 10
-      → linkAt (withBinder l p b) p ≡ record { end = (linkAt l p).end; binder = b; home = (linkAt l p).home }
-  unfolding withBinder
+      → link_at (with_binder l p b) p ≡ record { end = (link_at l p).end; binder = b; home = (link_at l p).home }
+  unfolding with_binder
   binder-same h k = let r = link-packs l p in link_set l p _ h (r.0, k, r.2)
 
   pub home_same : p < length l → b < 2 ^ 10
-      → linkAt (withHome l p b) p ≡ record { end = (linkAt l p).end; binder = (linkAt l p).binder; home = b }
-  unfolding withHome
+      → link_at (with_home l p b) p ≡ record { end = (link_at l p).end; binder = (link_at l p).binder; home = b }
+  unfolding with_home
   home_same h k = let r = link-packs l p in link_set l p _ h (r.0, r.1, k)
 
-  pub length-binder : length (withBinder l p b) ≡ length l
-  unfolding withBinder
+  pub length-binder : length (with_binder l p b) ≡ length l
+  unfolding with_binder
   length-binder = simp length-set
 
-  pub length-home : length (withHome l p b) ≡ length l
-  unfolding withHome
+  pub length-home : length (with_home l p b) ≡ length l
+  unfolding with_home
   length-home = simp length-set

@@ -8,9 +8,9 @@ use lib.ListN.{length, get_or, get_or-eq_default}
 use lib.Dec.{T, ltb, ltb→lt}
 use Rattle.table.specs.declared.Term.{Term}
 use Rattle.table.specs.declared.Term.TheVariants as terms
-use Rattle.table.specs.Words.{argument, firstKind, partsByKind, limitsByKind, parts, arity, termsByKind, termOf}
+use Rattle.table.specs.Words.{argument, first_kind, parts_by_kind, limits_by_kind, parts, arity, terms_by_kind, term_of}
 use Rattle.table.specs.Scan.{Task, head, name, perms, guard, term, accepted, under, reading}
-use Rattle.table.specs.Code.{part, tasks, taskAt, blocks_from, termNode, nodeFor, scopeFor, homeFor, code, Within, Part, Bound, NodeLinked}
+use Rattle.table.specs.Code.{part, tasks, task_at, blocks_from, term_node, node_for, scope_for, home_for, code, Within, Part, Bound, NodeLinked}
 use Rattle.table.specs.Code.{IsSet24, IsBlock, IsTerm, Linked}
 use Rattle.table.proofs.TermWords.{Rows, done, ◌▸◌, by-kind, argument-lt}
 use Rattle.table.proofs.Parts.{part-zero, part-inside, part-task, tasks-length, term-stands}
@@ -26,7 +26,7 @@ module _ (ws : List ℕ) (p : ℕ) where
   RowLinked : ℕ → ℕ → Term → ℕ → List Bool → Type 0
   RowLinked a k t l bs =
       a < l → (k ≡ 20 → a < length ((code ws).scope p)) → (k ≡ 19 → a < (code ws).names) → Memᴰ ((code ws).home p) (code ws).blocks → PartsLinked bs
-      → NodeLinked (code ws) p (termNode t (part ws p 0) (part ws p 1) (part ws p 2))
+      → NodeLinked (code ws) p (term_node t (part ws p 0) (part ws p 1) (part ws p 2))
 
   -- the parts of one, two and three that run
   one-part : PartsLinked (false ∷ []) → Part (code ws) p (part ws p 0)
@@ -55,8 +55,8 @@ module _ (ws : List ℕ) (p : ℕ) where
   unfolding PartsLinked under
   body q = subst (λ (n : ℕ). Bound (code ws) p n) (part-zero ws p) (q 0 tt)
 
-  rows : (a : ℕ) → Rows (RowLinked a) firstKind (termsByKind a) limitsByKind partsByKind
-  unfolding RowLinked PartsLinked termsByKind limitsByKind partsByKind termNode under code
+  rows : (a : ℕ) → Rows (RowLinked a) first_kind (terms_by_kind a) limits_by_kind parts_by_kind
+  unfolding RowLinked PartsLinked terms_by_kind limits_by_kind parts_by_kind term_node under code
   rows a =
       (λ h v m b q. tt)  -- constant
       ▸ (λ h v m b q. h)  -- whole number
@@ -82,8 +82,8 @@ module _ (ws : List ℕ) (p : ℕ) where
       ▸ done
 
 -- a term's node is one
-is-term : (t : Term) (a b d : ℕ) → IsTerm (termNode t a b d)
-unfolding termNode
+is-term : (t : Term) (a b d : ℕ) → IsTerm (term_node t a b d)
+unfolding term_node
 is-term (terms.Constant k) a b d = tt
 is-term (terms.Number n) a b d = tt
 is-term (terms.Literal n) a b d = tt
@@ -107,48 +107,48 @@ is-term (terms.Send x) a b d = tt
 is-term (terms.Exercise x) a b d = tt
 
 module _ (ws : List ℕ) (e : reading ws ≡ accepted) where
-  term-there : (q d h : ℕ) (s : List ℕ) → taskAt ws q ≡ term d h s → IsTerm ((code ws).node q)
-  unfolding code nodeFor
+  term-there : (q d h : ℕ) (s : List ℕ) → task_at ws q ≡ term d h s → IsTerm ((code ws).node q)
+  unfolding code node_for
   term-there q d h s t =
-      subst (λ (z : Task). IsTerm (nodeFor ws q z)) (sym t) (is-term (termOf (get_or ws q 0)) (part ws q 0) (part ws q 1) (part ws q 2))
+      subst (λ (z : Task). IsTerm (node_for ws q z)) (sym t) (is-term (term_of (get_or ws q 0)) (part ws q 0) (part ws q 1) (part ws q 2))
 
   -- the block of a term is one of the blocks
-  pub home-listed : (p d h : ℕ) (s : List ℕ) → p < length ws → taskAt ws p ≡ term d h s → Memᴰ ((code ws).home p) (code ws).blocks
-  unfolding code homeFor
+  pub home-listed : (p d h : ℕ) (s : List ℕ) → p < length ws → task_at ws p ≡ term d h s → Memᴰ ((code ws).home p) (code ws).blocks
+  unfolding code home_for
   home-listed p d h s l t =
       let r = scoped ws e p d h s l t in
-      subst (λ (z : Task). Memᴰ (homeFor z p) (blocks_from (tasks ws) 0)) (sym t)
+      subst (λ (z : Task). Memᴰ (home_for z p) (blocks_from (tasks ws) 0)) (sym t)
       (block_listed ws e h (lt_trans r.home-before l) r.home-task)
 
   -- a part of a term, as the code has it
-  part-within : (p d h : ℕ) (s : List ℕ) → p < length ws → taskAt ws p ≡ term d h s → PartsLinked ws p (parts (get_or ws p 0))
-  unfolding PartsLinked code scopeFor homeFor arity
+  part-within : (p d h : ℕ) (s : List ℕ) → p < length ws → task_at ws p ≡ term d h s → PartsLinked ws p (parts (get_or ws p 0))
+  unfolding PartsLinked code scope_for home_for arity
   part-within p d h s l t k m =
       let i : k < arity (get_or ws p 0) = ltb→lt k (length (parts (get_or ws p 0))) m in
       let u = part-task ws e p d h s l t k i in
       record {
         inside = part-inside ws e p d h s l t k i;
         term = term-there (part ws p k) _ _ _ u;
-        home = ap (λ (z : Task). homeFor z (part ws p k)) u ∙ sym (ap (λ (z : Task). homeFor z p) t);
-        scope = ap scopeFor u ∙ ap (under (get_or (parts (get_or ws p 0)) k false) p) (sym (ap scopeFor t));
+        home = ap (λ (z : Task). home_for z (part ws p k)) u ∙ sym (ap (λ (z : Task). home_for z p) t);
+        scope = ap scope_for u ∙ ap (under (get_or (parts (get_or ws p 0)) k false) p) (sym (ap scope_for t));
       }
 
   body-within : (b : ℕ) → Block ws b → Within (code ws) (b + 3) b (b ∷ [])
-  unfolding code scopeFor homeFor
+  unfolding code scope_for home_for
   body-within b r =
-      record { inside = r.inside; term = term-there (b + 3) _ _ _ r.body-task; home = ap (λ (z : Task). homeFor z (b + 3)) r.body-task; scope = ap scopeFor r.body-task }
+      record { inside = r.inside; term = term-there (b + 3) _ _ _ r.body-task; home = ap (λ (z : Task). home_for z (b + 3)) r.body-task; scope = ap scope_for r.body-task }
 
-  term-linked : (p d h : ℕ) (s : List ℕ) → p < length ws → taskAt ws p ≡ term d h s
-      → NodeLinked (code ws) p (termNode (termOf (get_or ws p 0)) (part ws p 0) (part ws p 1) (part ws p 2))
-  unfolding RowLinked code scopeFor
+  term-linked : (p d h : ℕ) (s : List ℕ) → p < length ws → task_at ws p ≡ term d h s
+      → NodeLinked (code ws) p (term_node (term_of (get_or ws p 0)) (part ws p 0) (part ws p 1) (part ws p 2))
+  unfolding RowLinked code scope_for
   term-linked p d h s l t =
       let w = get_or ws p 0 in
       let f = term-stands ws e p d h s l t in
       by-kind (RowLinked ws p (argument w)) w f.0 f.1 (rows ws p (argument w)) f.2
-      (λ k. subst (λ (u : Task). argument w < length (scopeFor u)) (sym t) (f.3 k)) f.5 (home-listed p d h s l t) (part-within p d h s l t)
+      (λ k. subst (λ (u : Task). argument w < length (scope_for u)) (sym t) (f.3 k)) f.5 (home-listed p d h s l t) (part-within p d h s l t)
 
-  node-linked : (p : ℕ) → p < length ws → (t : Task) → taskAt ws p ≡ t → NodeLinked (code ws) p (nodeFor ws p t)
-  unfolding nodeFor code
+  node-linked : (p : ℕ) → p < length ws → (t : Task) → task_at ws p ≡ t → NodeLinked (code ws) p (node_for ws p t)
+  unfolding node_for code
   node-linked p l (head n) t = tt
   node-linked p l name t =
       let r = block ws e p l t in
@@ -157,8 +157,8 @@ module _ (ws : List ℕ) (e : reading ws ≡ accepted) where
   node-linked p l guard t = tt
   node-linked p l (term d h s) t = term-linked p d h s l t
 
-  binder-inside : (p n : ℕ) → p < length ws → (t : Task) → taskAt ws p ≡ t → n < length (scopeFor t) → get_or (scopeFor t) n 0 < length ws
-  unfolding scopeFor
+  binder-inside : (p n : ℕ) → p < length ws → (t : Task) → task_at ws p ≡ t → n < length (scope_for t) → get_or (scope_for t) n 0 < length ws
+  unfolding scope_for
   binder-inside p n l (head m) t i = absurd (not-suc-le-zero i)
   binder-inside p n l name t i = absurd (not-suc-le-zero i)
   binder-inside p n l (perms m) t i = absurd (not-suc-le-zero i)
@@ -167,14 +167,14 @@ module _ (ws : List ℕ) (e : reading ws ≡ accepted) where
 
 -- the promise to the layers above
 pub linked : (ws : List ℕ) → reading ws ≡ accepted → Linked (code ws)
-unfolding code nodeFor taskAt
+unfolding code node_for task_at
 linked ws e =
     record {
-      nodes = λ p l. node-linked ws e p l (taskAt ws p) refl;
-      binders = λ p n l i. binder-inside ws e p n l (taskAt ws p) refl i;
+      nodes = λ p l. node-linked ws e p l (task_at ws p) refl;
+      binders = λ p n l i. binder-inside ws e p n l (task_at ws p) refl i;
       outside = λ p l.
-          ap (nodeFor ws p) (get_or-eq_default (tasks ws) (head 0) {n = p} (le_trans (le_of_eq (tasks-length ws e)) l));
+          ap (node_for ws p) (get_or-eq_default (tasks ws) (head 0) {n = p} (le_trans (le_of_eq (tasks-length ws e)) l));
       listed = λ b m.
           let r = listed-block ws e b m in
-          (r.0, subst (λ (t : Task). IsBlock (nodeFor ws b t)) (sym r.1) tt);
+          (r.0, subst (λ (t : Task). IsBlock (node_for ws b t)) (sym r.1) tt);
     }

@@ -14,13 +14,13 @@ use Rattle.table.specs.declared.Item.{Item}
 use Rattle.table.specs.declared.Item.TheVariants as items
 use Rattle.table.specs.declared.Term.{Term}
 use Rattle.table.specs.declared.Term.TheVariants as terms
-use Rattle.table.specs.Words.{kind, argument, firstKind, parts, arity, partsByKind, limitsByKind, termsByKind, operationOf, termOf}
+use Rattle.table.specs.Words.{kind, argument, first_kind, parts, arity, parts_by_kind, limits_by_kind, terms_by_kind, operation_of, term_of}
 use Rattle.table.specs.Scan.{Task, head, name, perms, guard, term, accepted, reading, names_at}
 use Rattle.table.specs.Code.{Node, gap, block, one, two, bind, while, branch, update, cell, read, apply, sequence, get, delete}
 use Rattle.table.specs.Code.{assign, operation, send}
-use Rattle.table.specs.Code.{part, end_of, taskAt, termNode, nodeFor, scopeFor, homeFor, code}
-use Rattle.table.specs.Item.{handlerAt, item_at}
-use Rattle.table.specs.Links.{linkAt, linked}
+use Rattle.table.specs.Code.{part, end_of, task_at, term_node, node_for, scope_for, home_for, code}
+use Rattle.table.specs.Item.{handler_at, item_at}
+use Rattle.table.specs.Links.{link_at, linked}
 use Rattle.table.proofs.Items.{item-block, item-gap, item-term}
 use Rattle.table.proofs.TermWords.{Rows, done, ◌▸◌, by-kind}
 use Rattle.table.proofs.Faults.{Stands}
@@ -30,18 +30,18 @@ use Rattle.table.proofs.Linked.{linked as code-linked, home-listed}
 use Rattle.table.proofs.LinkMeaning.{link-end, link-term, counted-variable}
 
 -- the node of an item whose parts, as far as it has them, stand at a, b and d
-unfoldable pub itemNode : Item → ℕ → ℕ → ℕ → Node
-unfolding termNode
-itemNode items.Gap a b d = gap
-itemNode (items.Block h) a b d = block h.name h.perms.bits h.guard.bits
-itemNode (items.Term t) a b d = termNode t a b d
+unfoldable pub item_node : Item → ℕ → ℕ → ℕ → Node
+unfolding term_node
+item_node items.Gap a b d = gap
+item_node (items.Block h) a b d = block h.name h.perms.bits h.guard.bits
+item_node (items.Term t) a b d = term_node t a b d
 
 -- ---- a term's node looks only at the parts that it has
 
 PartsAt : ℕ → ℕ → ℕ → ℕ → ℕ → ℕ → ℕ → Term → ℕ → List Bool → Type 0
 PartsAt a b d a' b' d' k t l bs =
     (T (ltb 0 (length bs)) → a ≡ a') → (T (ltb 1 (length bs)) → b ≡ b') → (T (ltb 2 (length bs)) → d ≡ d')
-    → termNode t a b d ≡ termNode t a' b' d'
+    → term_node t a b d ≡ term_node t a' b' d'
 
 module _ (a b d a' b' d' : ℕ) where
   -- terms with one part, two and three
@@ -54,8 +54,8 @@ module _ (a b d a' b' d' : ℕ) where
   three-equal : (f : ℕ → ℕ → ℕ → Node) → (Unit {0} → a ≡ a') → (Unit {0} → b ≡ b') → (Unit {0} → d ≡ d') → f a b d ≡ f a' b' d'
   three-equal f x y z = λ i. f (x tt i) (y tt i) (z tt i)
 
-  rows : (n : ℕ) → Rows (PartsAt a b d a' b' d') firstKind (termsByKind n) limitsByKind partsByKind
-  unfolding PartsAt termsByKind limitsByKind partsByKind termNode
+  rows : (n : ℕ) → Rows (PartsAt a b d a' b' d') first_kind (terms_by_kind n) limits_by_kind parts_by_kind
+  unfolding PartsAt terms_by_kind limits_by_kind parts_by_kind term_node
   rows n =
       (λ x y z. refl)  -- constant
       ▸ (λ x y z. refl)  -- whole number
@@ -68,7 +68,7 @@ module _ (a b d a' b' d' : ℕ) where
       ▸ (λ x y z. two-equal (two sequence) x y)
       ▸ (λ x y z. three-equal branch x y z)  -- if
       ▸ (λ x y z. two-equal while x y)
-      ▸ (λ x y z. two-equal (two (operation (operationOf n))) x y)
+      ▸ (λ x y z. two-equal (two (operation (operation_of n))) x y)
       ▸ (λ x y z. refl)  -- empty record
       ▸ (λ x y z. two-equal (two get) x y)
       ▸ (λ x y z. three-equal update x y z)  -- set
@@ -81,7 +81,7 @@ module _ (a b d a' b' d' : ℕ) where
       ▸ done
 
   pub parts-alike : (w : ℕ) → 16 ≤ kind w → kind w ≤ 36 → (T (ltb 0 (length (parts w))) → a ≡ a') → (T (ltb 1 (length (parts w))) → b ≡ b')
-      → (T (ltb 2 (length (parts w))) → d ≡ d') → termNode (termOf w) a b d ≡ termNode (termOf w) a' b' d'
+      → (T (ltb 2 (length (parts w))) → d ≡ d') → term_node (term_of w) a b d ≡ term_node (term_of w) a' b' d'
   unfolding PartsAt
   parts-alike w low high = by-kind (PartsAt a b d a' b' d') w low high (rows (argument w))
 
@@ -99,31 +99,31 @@ same-term t u h = cc
 -- ---- the word of a variable
 
 -- one more than a variable's count, and 0 for every other term
-variableOf : Term → ℕ
-variableOf (terms.Constant c) = 0
-variableOf (terms.Number n) = 0
-variableOf (terms.Literal n) = 0
-variableOf (terms.Name n) = 0
-variableOf (terms.Variable n) = suc n
-variableOf terms.Function = 0
-variableOf terms.Apply = 0
-variableOf terms.Let = 0
-variableOf terms.Sequence = 0
-variableOf terms.If = 0
-variableOf terms.While = 0
-variableOf (terms.Operation o) = 0
-variableOf terms.Record = 0
-variableOf terms.Get = 0
-variableOf terms.Set = 0
-variableOf terms.Delete = 0
-variableOf terms.Cell = 0
-variableOf terms.Read = 0
-variableOf terms.Assign = 0
-variableOf (terms.Send s) = 0
-variableOf (terms.Exercise s) = 0
+variable_of : Term → ℕ
+variable_of (terms.Constant c) = 0
+variable_of (terms.Number n) = 0
+variable_of (terms.Literal n) = 0
+variable_of (terms.Name n) = 0
+variable_of (terms.Variable n) = suc n
+variable_of terms.Function = 0
+variable_of terms.Apply = 0
+variable_of terms.Let = 0
+variable_of terms.Sequence = 0
+variable_of terms.If = 0
+variable_of terms.While = 0
+variable_of (terms.Operation o) = 0
+variable_of terms.Record = 0
+variable_of terms.Get = 0
+variable_of terms.Set = 0
+variable_of terms.Delete = 0
+variable_of terms.Cell = 0
+variable_of terms.Read = 0
+variable_of terms.Assign = 0
+variable_of (terms.Send s) = 0
+variable_of (terms.Exercise s) = 0
 
 VariableAt : ℕ → ℕ → ℕ → Term → ℕ → List Bool → Type 0
-VariableAt a n k t l bs = variableOf t ≡ suc n → (k ≡ 20) × (a ≡ n)
+VariableAt a n k t l bs = variable_of t ≡ suc n → (k ≡ 20) × (a ≡ n)
 
 module _ (a n : ℕ) where
   other : {A : Type 0} → 0 ≡ suc n → A
@@ -132,8 +132,8 @@ module _ (a n : ℕ) where
   this : suc a ≡ suc n → ◌≡◌ {A = ℕ} 20 20 × (a ≡ n)
   this h = (refl, suc_inj h)
 
-  variable-rows : Rows (VariableAt a n) firstKind (termsByKind a) limitsByKind partsByKind
-  unfolding VariableAt variableOf termsByKind limitsByKind partsByKind
+  variable-rows : Rows (VariableAt a n) first_kind (terms_by_kind a) limits_by_kind parts_by_kind
+  unfolding VariableAt variable_of terms_by_kind limits_by_kind parts_by_kind
   variable-rows =
       other
       ▸ other
@@ -158,20 +158,20 @@ module _ (a n : ℕ) where
       ▸ other
       ▸ done
 
-variable-word : (w n : ℕ) → 16 ≤ kind w → kind w ≤ 36 → termOf w ≡ terms.Variable n → (kind w ≡ 20) × (argument w ≡ n)
-unfolding VariableAt variableOf
-variable-word w n low high h = by-kind (VariableAt (argument w) n) w low high (variable-rows (argument w) n) (ap variableOf h)
+variable-word : (w n : ℕ) → 16 ≤ kind w → kind w ≤ 36 → term_of w ≡ terms.Variable n → (kind w ≡ 20) × (argument w ≡ n)
+unfolding VariableAt variable_of
+variable-word w n low high h = by-kind (VariableAt (argument w) n) w low high (variable-rows (argument w) n) (ap variable_of h)
 
 -- ---- nodes, homes and binders
 
 module _ (ws : List ℕ) (e : reading ws ≡ accepted) (l : List ℕ) (room : length ws ≤ length l) where
   -- the links, and the places of the three parts that a word may have
   abbrev pub end_at : ℕ → ℕ
-  end_at p = (linkAt (linked ws l) p).end
+  end_at p = (link_at (linked ws l) p).end
 
-  term-node : (p d h : ℕ) (s : List ℕ) → p < length ws → taskAt ws p ≡ term d h s
-      → termNode (termOf (get_or ws p 0)) (part ws p 0) (part ws p 1) (part ws p 2)
-      ≡ termNode (termOf (get_or ws p 0)) (suc p) (end_at (suc p)) (end_at (end_at (suc p)))
+  term-node : (p d h : ℕ) (s : List ℕ) → p < length ws → task_at ws p ≡ term d h s
+      → term_node (term_of (get_or ws p 0)) (part ws p 0) (part ws p 1) (part ws p 2)
+      ≡ term_node (term_of (get_or ws p 0)) (suc p) (end_at (suc p)) (end_at (end_at (suc p)))
   unfolding arity
   term-node p d h s i t =
       let w = get_or ws p 0 in
@@ -193,32 +193,32 @@ module _ (ws : List ℕ) (e : reading ws ≡ accepted) (l : List ℕ) (room : le
           part-suc ws p 1 j ∙ end-of (part ws p 1) j ∙ ap end_at (second (omega arith))
 
   -- the node that an item has at p
-  abbrev pub nodeAt : Item → ℕ → Node
-  nodeAt x p = itemNode x (suc p) (end_at (suc p)) (end_at (end_at (suc p)))
+  abbrev pub node_at : Item → ℕ → Node
+  node_at x p = item_node x (suc p) (end_at (suc p)) (end_at (end_at (suc p)))
 
-  low-node : (p : ℕ) → kind (get_or ws p 0) ≢ 2 → kind (get_or ws p 0) < 16 → gap ≡ nodeAt (item_at ws p) p
-  unfolding itemNode
-  low-node p k h = sym (ap (λ (x : Item). nodeAt x p) (item-gap ws p k h))
+  low-node : (p : ℕ) → kind (get_or ws p 0) ≢ 2 → kind (get_or ws p 0) < 16 → gap ≡ node_at (item_at ws p) p
+  unfolding item_node
+  low-node p k h = sym (ap (λ (x : Item). node_at x p) (item-gap ws p k h))
 
-  task-node : (p : ℕ) → p < length ws → (t : Task) → taskAt ws p ≡ t → (k : List ℕ) → Stands (names_at ws) k (get_or ws p 0) t
-      → nodeFor ws p t ≡ nodeAt (item_at ws p) p
-  unfolding nodeFor itemNode handlerAt
+  task-node : (p : ℕ) → p < length ws → (t : Task) → task_at ws p ≡ t → (k : List ℕ) → Stands (names_at ws) k (get_or ws p 0) t
+      → node_for ws p t ≡ node_at (item_at ws p) p
+  unfolding node_for item_node handler_at
   task-node p i (head n) t k f =
       ⊎_elim (λ y. low-node p (λ z. let c : ⊥ = omega arith in c) (omega arith)) (λ y. low-node p (λ z. let c : ⊥ = omega arith in c) (omega arith)) f.0
-  task-node p i name t k f = sym (ap (λ (x : Item). nodeAt x p) (item-block ws p f.0))
+  task-node p i name t k f = sym (ap (λ (x : Item). node_at x p) (item-block ws p f.0))
   task-node p i (perms n) t k f = low-node p (λ z. let c : ⊥ = omega arith in c) (omega arith)
   task-node p i guard t k f = low-node p (λ z. let c : ⊥ = omega arith in c) (omega arith)
-  task-node p i (term d h s) t k f = term-node p d h s i t ∙ sym (ap (λ (x : Item). nodeAt x p) (item-term ws p f.0))
+  task-node p i (term d h s) t k f = term-node p d h s i t ∙ sym (ap (λ (x : Item). node_at x p) (item-term ws p f.0))
 
   past : (p : ℕ) → length ws ≤ p → get_or ws p 0 ≡ 0
   past p h = get_or-eq_default ws 0 {n = p} h
 
-  pub node-item : (p : ℕ) → (code ws).node p ≡ nodeAt (item_at ws p) p
+  pub node-item : (p : ℕ) → (code ws).node p ≡ node_at (item_at ws p) p
   unfolding code
   node-item p = go (dec_lt p (length ws))
     where
-      go : Dec (p < length ws) → nodeFor ws p (taskAt ws p) ≡ nodeAt (item_at ws p) p
-      go (yes i) = task-node p i (taskAt ws p) refl (reach ws e p i).keys (place-stands ws e p i)
+      go : Dec (p < length ws) → node_for ws p (task_at ws p) ≡ node_at (item_at ws p) p
+      go (yes i) = task-node p i (task_at ws p) refl (reach ws e p i).keys (place-stands ws e p i)
       go (no i) =
           let z = past p (omega (arith, i)) in
           (code-linked ws e).outside p (omega (arith, i)) ∙ low-node p (λ y. let c : ⊥ = omega arith in c) (omega arith)
@@ -229,8 +229,8 @@ module _ (ws : List ℕ) (e : reading ws ≡ accepted) (l : List ℕ) (room : le
     pub home : ℕ
     pub scope : List ℕ
     pub inside : p < length ws
-    pub task : taskAt ws p ≡ term depth home scope
-    pub here : termOf (get_or ws p 0) ≡ t
+    pub task : task_at ws p ≡ term depth home scope
+    pub here : term_of (get_or ws p 0) ≡ t
 
   pub term-at : (p : ℕ) (t : Term) → item_at ws p ≡ items.Term t → TermAt p t
   term-at p t h = go (dec_lt p (length ws))
@@ -238,10 +238,10 @@ module _ (ws : List ℕ) (e : reading ws ≡ accepted) (l : List ℕ) (room : le
       low : kind (get_or ws p 0) ≢ 2 → kind (get_or ws p 0) < 16 → TermAt p t
       low k m = absurd (gap-no-term t (sym (item-gap ws p k m) ∙ h))
 
-      on : (i : p < length ws) (u : Task) → taskAt ws p ≡ u → Stands (names_at ws) (reach ws e p i).keys (get_or ws p 0) u → TermAt p t
+      on : (i : p < length ws) (u : Task) → task_at ws p ≡ u → Stands (names_at ws) (reach ws e p i).keys (get_or ws p 0) u → TermAt p t
       on i (head n) z f =
           ⊎_elim (λ x. low (λ y. let c : ⊥ = omega arith in c) (omega arith)) (λ x. low (λ y. let c : ⊥ = omega arith in c) (omega arith)) f.0
-      on i name z f = absurd (block-no-term (handlerAt ws p) t (sym (item-block ws p f.0) ∙ h))
+      on i name z f = absurd (block-no-term (handler_at ws p) t (sym (item-block ws p f.0) ∙ h))
       on i (perms n) z f = low (λ y. let c : ⊥ = omega arith in c) (omega arith)
       on i guard z f = low (λ y. let c : ⊥ = omega arith in c) (omega arith)
       on i (term d k s) z f =
@@ -251,30 +251,30 @@ module _ (ws : List ℕ) (e : reading ws ≡ accepted) (l : List ℕ) (room : le
             scope = s;
             inside = i;
             task = z;
-            here = same-term (termOf (get_or ws p 0)) t (sym (item-term ws p f.0) ∙ h);
+            here = same-term (term_of (get_or ws p 0)) t (sym (item-term ws p f.0) ∙ h);
           }
 
       go : Dec (p < length ws) → TermAt p t
-      go (yes i) = on i (taskAt ws p) refl (place-stands ws e p i)
+      go (yes i) = on i (task_at ws p) refl (place-stands ws e p i)
       go (no i) = let z = past p (omega (arith, i)) in low (λ y. let c : ⊥ = omega arith in c) (omega arith)
 
-  pub home-link : (p : ℕ) (t : Term) → item_at ws p ≡ items.Term t → (code ws).home p ≡ (linkAt (linked ws l) p).home
-  unfolding code homeFor
+  pub home-link : (p : ℕ) (t : Term) → item_at ws p ≡ items.Term t → (code ws).home p ≡ (link_at (linked ws l) p).home
+  unfolding code home_for
   home-link p t h =
       let r = term-at p t h in
-      ap (λ (u : Task). homeFor u p) r.task
+      ap (λ (u : Task). home_for u p) r.task
       ∙ sym (link-term ws e l room p r.depth r.home r.scope r.inside r.task).home-right
 
   pub home-block : (p : ℕ) (t : Term) → item_at ws p ≡ items.Term t → Memᴰ ((code ws).home p) (code ws).blocks
   home-block p t h = let r = term-at p t h in home-listed ws e p r.depth r.home r.scope r.inside r.task
 
-  pub binder-link : (p n : ℕ) → item_at ws p ≡ items.Term (terms.Variable n) → get_or ((code ws).scope p) n 0 ≡ (linkAt (linked ws l) p).binder
-  unfolding code scopeFor
+  pub binder-link : (p n : ℕ) → item_at ws p ≡ items.Term (terms.Variable n) → get_or ((code ws).scope p) n 0 ≡ (link_at (linked ws l) p).binder
+  unfolding code scope_for
   binder-link p n h =
       let r = term-at p (terms.Variable n) h in
       let w = get_or ws p 0 in
       let f = term-stands ws e p r.depth r.home r.scope r.inside r.task in
       let v = variable-word w n f.0 f.1 r.here in
-      ap (λ (u : Task). get_or (scopeFor u) n 0) r.task
+      ap (λ (u : Task). get_or (scope_for u) n 0) r.task
       ∙ ap (λ (k : ℕ). get_or r.scope k 0) (sym (counted-variable w v.0 ∙ v.1))
       ∙ sym (link-term ws e l room p r.depth r.home r.scope r.inside r.task).binder-right

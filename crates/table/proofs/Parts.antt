@@ -9,7 +9,7 @@ use lib.ListN.{length, get_or, take, drop, length-map, length-drop, take-append-
 use lib.Seq.{drop-cons, drop-drop, drop-length, length-take-le}
 use Rattle.table.specs.Words.{parts, arity}
 use Rattle.table.specs.Scan.{Task, head, term, accepted, keep, under, next, scan, names_at, reading}
-use Rattle.table.specs.Code.{skip, part, end_of, trace, tasks, taskAt}
+use Rattle.table.specs.Code.{skip, part, end_of, trace, tasks, task_at}
 use Rattle.table.proofs.Faults.{Stands, stands}
 use Rattle.table.proofs.Stack.{At, Step, at-step, at-pass, reach, Reached, LayeredAt, terms-parts, scan_step, scan-more}
 use Rattle.table.proofs.Stack.{refused-not-accepted}
@@ -75,16 +75,16 @@ part-suc ws p k h =
 -- ---- the stack at the parts of a term, and at its end
 
 -- the task of a part
-abbrev pub partTask : ℕ → ℕ → ℕ → List ℕ → Bool → Task
-partTask p d h s b = term (suc d) h (under b p s)
+abbrev pub part_task : ℕ → ℕ → ℕ → List ℕ → Bool → Task
+part_task p d h s b = term (suc d) h (under b p s)
 
 module _ (ws : List ℕ) (p : ℕ) (keys : List ℕ) (d h : ℕ) (s : List ℕ) (us : List Task) (a : At ws p keys (term d h s ∷ us)) where
   pub at_part : (k : ℕ) → k ≤ arity (get_or ws p 0)
-      → At ws (part ws p k) keys (map (partTask p d h s) (drop k (parts (get_or ws p 0))) ++ us)
+      → At ws (part ws p k) keys (map (part_task p d h s) (drop k (parts (get_or ws p 0))) ++ us)
   unfolding part arity next keep
   at_part k l =
       let bs = parts (get_or ws p 0) in
-      let f = partTask p d h s in
+      let f = part_task p d h s in
       let cut : map f bs ++ us ≡ map f (take k bs) ++ (map f (drop k bs) ++ us) =
       ap (λ (l : List Bool). map f l ++ us) (sym (take-append-drop k bs))
       ∙ ap (λ (l : List Task). l ++ us) (map-append f (take k bs) (drop k bs))
@@ -98,7 +98,7 @@ module _ (ws : List ℕ) (p : ℕ) (keys : List ℕ) (d h : ℕ) (s : List ℕ) 
   unfolding end_of arity
   at-term-end =
       let bs = parts (get_or ws p 0) in
-      subst (λ (l : List Bool). At ws (end_of ws p) keys (map (partTask p d h s) l ++ us)) (drop-length bs)
+      subst (λ (l : List Bool). At ws (end_of ws p) keys (map (part_task p d h s) l ++ us)) (drop-length bs)
       (at_part (length bs) (le_refl (length bs)))
 
 -- ---- the tasks of an accepted table
@@ -116,17 +116,17 @@ module _ (ws : List ℕ) (e : reading ws ≡ accepted) where
   tasks-length = trace-length (names_at ws) ws [] 0 (head (length ws) ∷ []) e
 
   -- the word at p may stand for its task
-  pub place-stands : (p : ℕ) (l : p < length ws) → Stands (names_at ws) (reach ws e p l).keys (get_or ws p 0) (taskAt ws p)
+  pub place-stands : (p : ℕ) (l : p < length ws) → Stands (names_at ws) (reach ws e p l).keys (get_or ws p 0) (task_at ws p)
   place-stands p l =
       let r = reach ws e p l in
-      stands (names_at ws) r.keys (get_or ws p 0) (taskAt ws p) (at-step ws p r.keys (taskAt ws p) r.below r.there).faultless
+      stands (names_at ws) r.keys (get_or ws p 0) (task_at ws p) (at-step ws p r.keys (task_at ws p) r.below r.there).faultless
 
-  pub term-stands : (p d h : ℕ) (s : List ℕ) (l : p < length ws) → taskAt ws p ≡ term d h s
+  pub term-stands : (p d h : ℕ) (s : List ℕ) (l : p < length ws) → task_at ws p ≡ term d h s
       → Stands (names_at ws) (reach ws e p l).keys (get_or ws p 0) (term d h s)
   term-stands p d h s l t = subst (λ (u : Task). Stands (names_at ws) (reach ws e p l).keys (get_or ws p 0) u) t (place-stands p l)
 
   -- a term: its part k is a term one deeper in the same block, under the same binders or also under the term itself
-  module _ (p d h : ℕ) (s : List ℕ) (l : p < length ws) (t : taskAt ws p ≡ term d h s) where
+  module _ (p d h : ℕ) (s : List ℕ) (l : p < length ws) (t : task_at ws p ≡ term d h s) where
     reached : Reached ws LayeredAt p
     reached = reach ws e p l
 
@@ -134,17 +134,17 @@ module _ (ws : List ℕ) (e : reading ws ≡ accepted) where
     waits = subst (λ (u : Task). At ws p reached.keys (u ∷ reached.below)) t reached.there
 
     part_step : (k : ℕ) → k < arity (get_or ws p 0)
-        → Step ws (part ws p k) reached.keys (partTask p d h s (get_or (parts (get_or ws p 0)) k false))
-        (map (partTask p d h s) (drop (suc k) (parts (get_or ws p 0))) ++ reached.below)
+        → Step ws (part ws p k) reached.keys (part_task p d h s (get_or (parts (get_or ws p 0)) k false))
+        (map (part_task p d h s) (drop (suc k) (parts (get_or ws p 0))) ++ reached.below)
     unfolding arity
     part_step k m =
         at-step ws (part ws p k) reached.keys _ _
-        (subst (λ (l : List Bool). At ws (part ws p k) reached.keys (map (partTask p d h s) l ++ reached.below))
+        (subst (λ (l : List Bool). At ws (part ws p k) reached.keys (map (part_task p d h s) l ++ reached.below))
         (drop-cons (parts (get_or ws p 0)) k false m) (at_part ws p reached.keys d h s reached.below waits k (omega arith)))
 
     pub part-inside : (k : ℕ) → k < arity (get_or ws p 0) → part ws p k < length ws
     part-inside k m = (part_step k m).inside
 
     pub part-task : (k : ℕ) → k < arity (get_or ws p 0)
-        → taskAt ws (part ws p k) ≡ term (suc d) h (under (get_or (parts (get_or ws p 0)) k false) p s)
+        → task_at ws (part ws p k) ≡ term (suc d) h (under (get_or (parts (get_or ws p 0)) k false) p s)
     part-task k m = (part_step k m).task

@@ -7,7 +7,7 @@ use native.Mathlib.Omega.{arith}
 use lib.Dec.{eqb}
 use lib.ListN.{length, get_or}
 use Rattle.table.specs.Words.{kind}
-use Rattle.table.specs.Scan.{Task, head, name, perms, guard, term, Outcome, accepted, refused, first_of, tests, fault, missing, keep, next, scan, names_at, reading, narrowReading}
+use Rattle.table.specs.Scan.{Task, head, name, perms, guard, term, Outcome, accepted, refused, first_of, tests, fault, missing, keep, next, scan, names_at, reading, narrow_reading}
 
 -- the first of tests that holds has a number up to m if all have
 pub first_small : (b : Bool) (n m : ℕ) (ts : List (Bool × ℕ)) → n ≤ m → first_of ts ≤ m → first_of ((b, n) ∷ ts) ≤ m
@@ -68,8 +68,8 @@ module _ (ws : List ℕ) where
   unfolding reading
   reading-bounded = bounded-more (0 + length ws) (length ws) (omega arith) (reading ws) (scan-bounded (names_at ws) ws [] 0 (head (length ws) ∷ []))
 
-  pub narrow-bounded : Bounded (length ws) (narrowReading ws)
-  unfolding narrowReading
+  pub narrow-bounded : Bounded (length ws) (narrow_reading ws)
+  unfolding narrow_reading
   narrow-bounded = go (eqb (kind (get_or ws 0 0)) 5)
     where
       go : (b : Bool) → Bounded (length ws) (elim b [ true ↦ refused 1 0 | false ↦ reading ws ])

@@ -6,9 +6,9 @@ use Prim.Native.Nat.{ℕ, zero, suc, ◌-◌, ◌≤◌, ◌<◌}
 use native.Mathlib.Nat.{le_of_suc-le-suc, not-suc-le-zero, le_refl, le-suc, le_trans}
 use native.Mathlib.Omega.{arith}
 use lib.ListN.{length, get_or, replicate}
-use Rattle.table.specs.Words.{kind, argument, parts, partsByKind, arity}
+use Rattle.table.specs.Words.{kind, argument, parts, parts_by_kind, arity}
 use Rattle.table.specs.Scan.{Task, head, name, perms, guard, term, accepted, under, next, reading}
-use Rattle.table.specs.Code.{taskAt}
+use Rattle.table.specs.Code.{task_at}
 use Rattle.table.proofs.Stack.{reach-with}
 
 -- ---- a fact of each task and the places up to its own
@@ -38,8 +38,8 @@ OnTerm Q p (term d h s) = Q p d h s
 
 -- What holds of a term while it waits, of a block's body, and of the parts of a term of which it holds, holds of every term at its place.
 module _ (ws : List ℕ) (e : reading ws ≡ accepted) (Q : TermFact) (later : (p d h : ℕ) (s : List ℕ) → Q p d h s → Q (suc p) d h s)
-    (body : (b : ℕ) → taskAt ws b ≡ name → Q (suc b) 1 b (b ∷ []))
-    (part : (p d h : ℕ) (s : List ℕ) → taskAt ws p ≡ term d h s → Q p d h s → (b : Bool) → 0 < arity (get_or ws p 0)
+    (body : (b : ℕ) → task_at ws b ≡ name → Q (suc b) 1 b (b ∷ []))
+    (part : (p d h : ℕ) (s : List ℕ) → task_at ws p ≡ term d h s → Q p d h s → (b : Bool) → 0 < arity (get_or ws p 0)
     → Q (suc p) (suc d) h (under b p s)) where
   on-later : (p : ℕ) (t : Task) → OnTerm Q p t → OnTerm Q (suc p) t
   on-later p (head n) q = tt
@@ -52,12 +52,12 @@ module _ (ws : List ℕ) (e : reading ws ≡ accepted) (Q : TermFact) (later : (
   on-names p zero = tt
   on-names p (suc n) = (tt, on-names p n)
 
-  on-parts : (p d h : ℕ) (s : List ℕ) → taskAt ws p ≡ term d h s → Q p d h s → (bs : List Bool) → length bs ≤ arity (get_or ws p 0)
+  on-parts : (p d h : ℕ) (s : List ℕ) → task_at ws p ≡ term d h s → Q p d h s → (bs : List Bool) → length bs ≤ arity (get_or ws p 0)
       → All (OnTerm Q (suc p)) (map (λ b. term (suc d) h (under b p s)) bs)
   on-parts p d h s t q [] l = tt
   on-parts p d h s t q (b ∷ bs) l = (part p d h s t q b (omega arith), on-parts p d h s t q bs (omega arith))
 
-  on-next : (p : ℕ) (t : Task) → taskAt ws p ≡ t → OnTerm Q p t → All (OnTerm Q (suc p)) (next p (get_or ws p 0) t)
+  on-next : (p : ℕ) (t : Task) → task_at ws p ≡ t → OnTerm Q p t → All (OnTerm Q (suc p)) (next p (get_or ws p 0) t)
   unfolding next arity
   on-next p (head n) t q = on-names (suc p) (argument (get_or ws p 0))
   on-next p name t q = (tt, (tt, (body p t, tt)))
@@ -65,7 +65,7 @@ module _ (ws : List ℕ) (e : reading ws ≡ accepted) (Q : TermFact) (later : (
   on-next p guard t q = tt
   on-next p (term d h s) t q = on-parts p d h s t q (parts (get_or ws p 0)) (le_refl (length (parts (get_or ws p 0))))
 
-  pub every-term : (p d h : ℕ) (s : List ℕ) → p < length ws → taskAt ws p ≡ term d h s → Q p d h s
+  pub every-term : (p d h : ℕ) (s : List ℕ) → p < length ws → task_at ws p ≡ term d h s → Q p d h s
   every-term p d h s l t =
       subst (OnTerm Q p) t
       (reach-with ws (λ q keys ts. All (OnTerm Q q) ts)
@@ -78,7 +78,7 @@ module _ (ws : List ℕ) (e : reading ws ≡ accepted) (Q : TermFact) (later : (
 
 -- the term's home is a block before p, and its binders stand before p, no more of them than its depth
 pub record Scoped (ws : List ℕ) (p d h : ℕ) (s : List ℕ) : Type 0 where
-  pub home-task : taskAt ws h ≡ name
+  pub home-task : task_at ws h ≡ name
   pub home-before : h < p
   pub shallow : length s ≤ d
   pub binders-before : (k : ℕ) → k < length s → get_or s k 0 < p
@@ -114,7 +114,7 @@ scoped-under ws p d h s q false =
       binders-before = λ k l. le_trans (q.binders-before k l) (le-suc p);
     }
 
-scoped-body : (ws : List ℕ) (b : ℕ) → taskAt ws b ≡ name → Scoped ws (suc b) 1 b (b ∷ [])
+scoped-body : (ws : List ℕ) (b : ℕ) → task_at ws b ≡ name → Scoped ws (suc b) 1 b (b ∷ [])
 scoped-body ws b t =
     record { home-task = t; home-before = le_refl (suc b); shallow = le_refl 1; binders-before = bound }
   where
@@ -126,8 +126,8 @@ scoped-body ws b t =
 
 -- b binds, and stands itself under the binders s: it is a block, or a term that is no variable
 pub data Binder (ws : List ℕ) (b : ℕ) : List ℕ → Type 0 where
-  of-block : taskAt ws b ≡ name → Binder ws b []
-  of-term : {d h : ℕ} {s : List ℕ} → taskAt ws b ≡ term d h s → (kind (get_or ws b 0) ≡ 20 → ⊥) → Binder ws b s
+  of-block : task_at ws b ≡ name → Binder ws b []
+  of-term : {d h : ℕ} {s : List ℕ} → task_at ws b ≡ term d h s → (kind (get_or ws b 0) ≡ 20 → ⊥) → Binder ws b s
 
 -- each binder of a scope stands under those further out
 abbrev pub Chained : List ℕ → List ℕ → Type 0
@@ -136,20 +136,20 @@ Chained ws (b ∷ s) = Binder ws b s × Chained ws s
 
 -- a variable has no parts
 pub parts-variable : (w : ℕ) → kind w ≡ 20 → parts w ≡ []
-unfolding parts partsByKind
-parts-variable w k = ap (λ (n : ℕ). get_or partsByKind (n - 16) []) k
+unfolding parts parts_by_kind
+parts-variable w k = ap (λ (n : ℕ). get_or parts_by_kind (n - 16) []) k
 
 no-variable : (w : ℕ) → 0 < arity w → kind w ≡ 20 → ⊥
 unfolding arity
 no-variable w h k = let z = ap length (parts-variable w k) in omega arith
 
-chained-under : (ws : List ℕ) (p d h : ℕ) (s : List ℕ) → taskAt ws p ≡ term d h s → Chained ws s → (b : Bool) → 0 < arity (get_or ws p 0)
+chained-under : (ws : List ℕ) (p d h : ℕ) (s : List ℕ) → task_at ws p ≡ term d h s → Chained ws s → (b : Bool) → 0 < arity (get_or ws p 0)
     → Chained ws (under b p s)
 unfolding under
 chained-under ws p d h s t c true a = (of-term t (no-variable (get_or ws p 0) a), c)
 chained-under ws p d h s t c false a = c
 
-module _ (ws : List ℕ) (e : reading ws ≡ accepted) (p d h : ℕ) (s : List ℕ) (l : p < length ws) (t : taskAt ws p ≡ term d h s) where
+module _ (ws : List ℕ) (e : reading ws ≡ accepted) (p d h : ℕ) (s : List ℕ) (l : p < length ws) (t : task_at ws p ≡ term d h s) where
   pub scoped : Scoped ws p d h s
   scoped =
       every-term ws e (Scoped ws) (scoped-later ws) (scoped-body ws) (λ p d h s t q b a. scoped-under ws p d h s q b) p d h s l t

@@ -12,7 +12,7 @@ use lib.Dec.{T, eqb}
 use Rattle.table.specs.Words.{argument, parts, arity}
 use Rattle.table.specs.Scan.{Task, head, name, perms, guard, term, Outcome, accepted, refused, has, key, fault, missing, keep}
 use Rattle.table.specs.Scan.{under, next, scan, names_at, reading}
-use Rattle.table.specs.Code.{skip, trace, tasks, taskAt}
+use Rattle.table.specs.Code.{skip, trace, tasks, task_at}
 
 -- ---- one word
 
@@ -67,14 +67,14 @@ pub trace-step : (w : ℕ) (ws : List ℕ) (at : ℕ) (t : Task) (ts : List Task
 unfolding trace
 trace-step w ws at t ts = refl
 
-task-at : (ws : List ℕ) (p : ℕ) → taskAt ws p ≡ get_or (drop p (tasks ws)) 0 (head 0)
-unfolding taskAt
+task-at : (ws : List ℕ) (p : ℕ) → task_at ws p ≡ get_or (drop p (tasks ws)) 0 (head 0)
+unfolding task_at
 task-at ws p = ap (λ (n : ℕ). get_or (tasks ws) n (head 0)) (sym (add-zero p)) ∙ sym (get_or-drop p (tasks ws) 0 (head 0))
 
 -- one word on, where a task waits
 pub record Step (ws : List ℕ) (p : ℕ) (keys : List ℕ) (t : Task) (ts : List Task) : Type 0 where
   pub inside : p < length ws
-  pub task : taskAt ws p ≡ t
+  pub task : task_at ws p ≡ t
   pub faultless : fault (names_at ws) keys (get_or ws p 0) t ≡ 0
   pub rest : At ws (suc p) (keep keys (get_or ws p 0) t) (next p (get_or ws p 0) t ++ ts)
 
@@ -257,8 +257,8 @@ module _ (ws : List ℕ) (F : Fact) (kept : Kept ws F) where
 pub record Reached (ws : List ℕ) (F : Fact) (p : ℕ) : Type 0 where
   pub keys : List ℕ
   pub below : List Task
-  pub there : At ws p keys (taskAt ws p ∷ below)
-  pub holds : F p keys (taskAt ws p ∷ below)
+  pub there : At ws p keys (task_at ws p ∷ below)
+  pub holds : F p keys (task_at ws p ∷ below)
 
 pub reach-with : (ws : List ℕ) (F : Fact) → Kept ws F → F 0 [] (head (length ws) ∷ []) → reading ws ≡ accepted
     → (p : ℕ) → p < length ws → Reached ws F p
@@ -267,7 +267,7 @@ reach-with ws F kept f e p h = go (walk ws F kept 0 [] (head (length ws) ∷ [])
     on : (keys : List ℕ) (ts : List Task) → At ws p keys ts → F p keys ts → Reached ws F p
     on keys [] a g = let z = at-end ws p keys a in let c : ⊥ = omega arith in absurd c
     on keys (t ∷ ts) a g =
-        let k : t ≡ taskAt ws p = sym (at-step ws p keys t ts a).task in
+        let k : t ≡ task_at ws p = sym (at-step ws p keys t ts a).task in
         record {
           keys = keys;
           below = ts;

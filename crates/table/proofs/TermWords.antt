@@ -12,30 +12,30 @@ use Rattle.table.specs.declared.Operation.{Operation}
 use Rattle.table.specs.declared.Operation.TheVariants as operations
 use Rattle.table.specs.declared.Term.{Term}
 use Rattle.table.specs.declared.Term.TheVariants as terms
-use Rattle.table.specs.Words.{kind, argument, word_of, firstKind, partsByKind, limitsByKind, parts, limit, constantNumber}
-use Rattle.table.specs.Words.{operationNumber, word, constant_of, operationOf, termsByKind, termOf}
+use Rattle.table.specs.Words.{kind, argument, word_of, first_kind, parts_by_kind, limits_by_kind, parts, limit, constant_number}
+use Rattle.table.specs.Words.{operation_number, word, constant_of, operation_of, terms_by_kind, term_of}
 
 -- ---- kind and argument
 
-pub kind-wordOf : (k a : ℕ) → a < 2 ^ 24 → kind (word_of k a) ≡ k
+pub kind-word_of : (k a : ℕ) → a < 2 ^ 24 → kind (word_of k a) ≡ k
 unfolding kind
-kind-wordOf k a h = omega arith
+kind-word_of k a h = omega arith
 
-pub argument-wordOf : (k a : ℕ) → a < 2 ^ 24 → argument (word_of k a) ≡ a
+pub argument-word_of : (k a : ℕ) → a < 2 ^ 24 → argument (word_of k a) ≡ a
 unfolding argument
-argument-wordOf k a h = omega arith
+argument-word_of k a h = omega arith
 
-pub wordOf-parts : (w : ℕ) → word_of (kind w) (argument w) ≡ w
+pub word_of-parts : (w : ℕ) → word_of (kind w) (argument w) ≡ w
 unfolding kind argument
-wordOf-parts w = omega arith
+word_of-parts w = omega arith
 
 pub argument-lt : (w : ℕ) → argument w < 2 ^ 24
 unfolding argument
 argument-lt w = omega arith
 
 -- two words are equal only where kind and argument are
-pub wordOf-injective : (k l a b : ℕ) → a < 2 ^ 24 → b < 2 ^ 24 → word_of k a ≡ word_of l b → (k ≡ l) × (a ≡ b)
-wordOf-injective k l a b ha hb e = (omega arith, omega arith)
+pub word_of-injective : (k l a b : ℕ) → a < 2 ^ 24 → b < 2 ^ 24 → word_of k a ≡ word_of l b → (k ≡ l) × (a ≡ b)
+word_of-injective k l a b ha hb e = (omega arith, omega arith)
 
 -- ---- the kinds in order: a fact of the kind, its term, its limit and its parts, proved for each row of the three tables
 
@@ -54,24 +54,24 @@ row P k ts ls bs (◌▸◌ {ts = ts'} {ls = ls'} {bs = bs'} p r) (suc j) h =
     (row P (suc k) ts' ls' bs' r j (le_of_suc-le-suc h))
 
 pub by-kind : (P : ℕ → Term → ℕ → List Bool → Type 0) (w : ℕ) → 16 ≤ kind w → kind w ≤ 36
-    → Rows P firstKind (termsByKind (argument w)) limitsByKind partsByKind → P (kind w) (termOf w) (limit w) (parts w)
-unfolding termOf limit parts termsByKind
+    → Rows P first_kind (terms_by_kind (argument w)) limits_by_kind parts_by_kind → P (kind w) (term_of w) (limit w) (parts w)
+unfolding term_of limit parts terms_by_kind
 by-kind P w low high rows =
-    subst (λ (n : ℕ). P n (termOf w) (limit w) (parts w)) (let e : 16 + (kind w - 16) ≡ kind w = omega arith in e)
-    (row P firstKind (termsByKind (argument w)) limitsByKind partsByKind rows (kind w - 16) (omega arith))
+    subst (λ (n : ℕ). P n (term_of w) (limit w) (parts w)) (let e : 16 + (kind w - 16) ≡ kind w = omega arith in e)
+    (row P first_kind (terms_by_kind (argument w)) limits_by_kind parts_by_kind rows (kind w - 16) (omega arith))
 
 -- ---- from a word to its term and back
 
-pub constant_number : (a : ℕ) → a < 4 → constantNumber (constant_of a) ≡ a
-unfolding constantNumber constant_of
-constant_number zero h = refl
-constant_number (suc zero) h = refl
-constant_number (suc (suc zero)) h = refl
-constant_number (suc (suc (suc zero))) h = refl
-constant_number (suc (suc (suc (suc a)))) h = let n : ⊥ = omega arith in absurd n
+pub constant_number_lem : (a : ℕ) → a < 4 → constant_number (constant_of a) ≡ a
+unfolding constant_number constant_of
+constant_number_lem zero h = refl
+constant_number_lem (suc zero) h = refl
+constant_number_lem (suc (suc zero)) h = refl
+constant_number_lem (suc (suc (suc zero))) h = refl
+constant_number_lem (suc (suc (suc (suc a)))) h = let n : ⊥ = omega arith in absurd n
 
-pub operation-number : (a : ℕ) → a < 3 → operationNumber (operationOf a) ≡ a
-unfolding operationNumber operationOf
+pub operation-number : (a : ℕ) → a < 3 → operation_number (operation_of a) ≡ a
+unfolding operation_number operation_of
 operation-number zero h = refl
 operation-number (suc zero) h = refl
 operation-number (suc (suc zero)) h = refl
@@ -84,10 +84,10 @@ Worded a k t l b = a < l → word t ≡ word_of k a
 only_zero : (k a : ℕ) → a < 1 → word_of k 0 ≡ word_of k a
 only_zero k a h = omega arith
 
-worded : (a : ℕ) → Rows (Worded a) firstKind (termsByKind a) limitsByKind partsByKind
-unfolding Worded termsByKind limitsByKind partsByKind word
+worded : (a : ℕ) → Rows (Worded a) first_kind (terms_by_kind a) limits_by_kind parts_by_kind
+unfolding Worded terms_by_kind limits_by_kind parts_by_kind word
 worded a =
-    (λ h. ap (word_of 16) (constant_number a h))
+    (λ h. ap (word_of 16) (constant_number_lem a h))
     ▸ (λ h. refl)
     ▸ (λ h. refl)
     ▸ (λ h. refl)
@@ -110,14 +110,14 @@ worded a =
     ▸ (λ h. refl)
     ▸ done
 
-pub word-termOf : (w : ℕ) → 16 ≤ kind w → kind w ≤ 36 → argument w < limit w → word (termOf w) ≡ w
+pub word-term_of : (w : ℕ) → 16 ≤ kind w → kind w ≤ 36 → argument w < limit w → word (term_of w) ≡ w
 unfolding Worded
-word-termOf w low high h = by-kind (Worded (argument w)) w low high (worded (argument w)) h ∙ wordOf-parts w
+word-term_of w low high h = by-kind (Worded (argument w)) w low high (worded (argument w)) h ∙ word_of-parts w
 
 -- the term of a kind and an argument
-pub termOf-wordOf : (k a : ℕ) → a < 2 ^ 24 → termOf (word_of k a) ≡ get_or (termsByKind a) (k - firstKind) terms.Record
-unfolding termOf
-termOf-wordOf k a h = rw (kind-wordOf k a h, argument-wordOf k a h) refl
+pub term_of-word_of : (k a : ℕ) → a < 2 ^ 24 → term_of (word_of k a) ≡ get_or (terms_by_kind a) (k - first_kind) terms.Record
+unfolding term_of
+term_of-word_of k a h = rw (kind-word_of k a h, argument-word_of k a h) refl
 
 -- a term's argument is one of 24 bits
 abbrev pub Fits : Term → Type 0
@@ -143,31 +143,31 @@ Fits terms.Assign = Unit {0}
 Fits (terms.Send s) = s.bits < 2 ^ 24
 Fits (terms.Exercise s) = s.bits < 2 ^ 24
 
-pub termOf-word : (t : Term) → Fits t → termOf (word t) ≡ t
-unfolding word termOf kind argument termsByKind constantNumber constant_of operationNumber operationOf
-termOf-word (terms.Constant constants.Undefined) h = refl
-termOf-word (terms.Constant constants.Unit) h = refl
-termOf-word (terms.Constant constants.True) h = refl
-termOf-word (terms.Constant constants.False) h = refl
-termOf-word (terms.Number n) h = termOf-wordOf 17 n h
-termOf-word (terms.Literal n) h = termOf-wordOf 18 n h
-termOf-word (terms.Name n) h = termOf-wordOf 19 n h
-termOf-word (terms.Variable n) h = termOf-wordOf 20 n h
-termOf-word terms.Function h = refl
-termOf-word terms.Apply h = refl
-termOf-word terms.Let h = refl
-termOf-word terms.Sequence h = refl
-termOf-word terms.If h = refl
-termOf-word terms.While h = refl
-termOf-word (terms.Operation operations.Add) h = refl
-termOf-word (terms.Operation operations.Less) h = refl
-termOf-word (terms.Operation operations.Equal) h = refl
-termOf-word terms.Record h = refl
-termOf-word terms.Get h = refl
-termOf-word terms.Set h = refl
-termOf-word terms.Delete h = refl
-termOf-word terms.Cell h = refl
-termOf-word terms.Read h = refl
-termOf-word terms.Assign h = refl
-termOf-word (terms.Send s) h = termOf-wordOf 35 s.bits h
-termOf-word (terms.Exercise s) h = termOf-wordOf 36 s.bits h
+pub term_of-word : (t : Term) → Fits t → term_of (word t) ≡ t
+unfolding word term_of kind argument terms_by_kind constant_number constant_of operation_number operation_of
+term_of-word (terms.Constant constants.Undefined) h = refl
+term_of-word (terms.Constant constants.Unit) h = refl
+term_of-word (terms.Constant constants.True) h = refl
+term_of-word (terms.Constant constants.False) h = refl
+term_of-word (terms.Number n) h = term_of-word_of 17 n h
+term_of-word (terms.Literal n) h = term_of-word_of 18 n h
+term_of-word (terms.Name n) h = term_of-word_of 19 n h
+term_of-word (terms.Variable n) h = term_of-word_of 20 n h
+term_of-word terms.Function h = refl
+term_of-word terms.Apply h = refl
+term_of-word terms.Let h = refl
+term_of-word terms.Sequence h = refl
+term_of-word terms.If h = refl
+term_of-word terms.While h = refl
+term_of-word (terms.Operation operations.Add) h = refl
+term_of-word (terms.Operation operations.Less) h = refl
+term_of-word (terms.Operation operations.Equal) h = refl
+term_of-word terms.Record h = refl
+term_of-word terms.Get h = refl
+term_of-word terms.Set h = refl
+term_of-word terms.Delete h = refl
+term_of-word terms.Cell h = refl
+term_of-word terms.Read h = refl
+term_of-word terms.Assign h = refl
+term_of-word (terms.Send s) h = term_of-word_of 35 s.bits h
+term_of-word (terms.Exercise s) h = term_of-word_of 36 s.bits h

@@ -9,8 +9,8 @@ use borrow.Author.Tests.{eq-eqb, ne_eqb}
 use lib.Dec.{eqb}
 use lib.ListN.{length, get_or, replicate}
 use Rattle.table.specs.Words.{kind, argument, narrow, wide, names_of}
-use Rattle.table.specs.Scan.{Task, head, name, perms, guard, term, accepted, refused, keep, next, names_at, reading, narrowReading}
-use Rattle.table.specs.Code.{taskAt}
+use Rattle.table.specs.Scan.{Task, head, name, perms, guard, term, accepted, refused, keep, next, names_at, reading, narrow_reading}
+use Rattle.table.specs.Code.{task_at}
 use Rattle.table.proofs.Faults.{Stands, stands}
 use Rattle.table.proofs.Stack.{refused-not-accepted, terms-next, at-step, Fact, reach-with}
 use Rattle.table.proofs.Limits.{Headless, headless-terms, headless-names}
@@ -37,17 +37,17 @@ narrow-names w n = rw (ne_eqb (kind w) 5 n, names_of)
 -- ---- narrow tables alone
 
 module _ (ws : List ℕ) where
-  pub wide-refused : eqb (kind (get_or ws 0 0)) 5 ≡ true → narrowReading ws ≡ refused 1 0
-  unfolding narrowReading
-  wide-refused e = rw (e, narrowReading)
+  pub wide-refused : eqb (kind (get_or ws 0 0)) 5 ≡ true → narrow_reading ws ≡ refused 1 0
+  unfolding narrow_reading
+  wide-refused e = rw (e, narrow_reading)
 
-  pub narrow-read : eqb (kind (get_or ws 0 0)) 5 ≡ false → narrowReading ws ≡ reading ws
-  unfolding narrowReading
-  narrow-read e = rw (e, narrowReading)
+  pub narrow-read : eqb (kind (get_or ws 0 0)) 5 ≡ false → narrow_reading ws ≡ reading ws
+  unfolding narrow_reading
+  narrow-read e = rw (e, narrow_reading)
 
   -- what is accepted as a narrow table is one
-  pub narrow-accepted : narrowReading ws ≡ accepted → (reading ws ≡ accepted) × (names_of (get_or ws 0 0) ≡ 32)
-  unfolding narrowReading names_of
+  pub narrow-accepted : narrow_reading ws ≡ accepted → (reading ws ≡ accepted) × (names_of (get_or ws 0 0) ≡ 32)
+  unfolding narrow_reading names_of
   narrow-accepted = go (eqb (kind (get_or ws 0 0)) 5)
     where
       go : (b : Bool) → elim b [ true ↦ refused 1 0 | false ↦ reading ws ] ≡ accepted
@@ -84,7 +84,7 @@ first-kept p q at w keys guard ts h = headless-first q _ ts h
 first-kept p q at w keys (term d k s) ts h =
     headless-first q _ (next at w (term d k s) ++ ts) (headless-terms (next at w (term d k s)) ts (terms-next at w d k s) h)
 
-module _ (ws : List ℕ) (e : narrowReading ws ≡ accepted) where
+module _ (ws : List ℕ) (e : narrow_reading ws ≡ accepted) where
   pub narrow-kind : kind (get_or ws 0 0) ≡ 5 → ⊥
   narrow-kind h = let w = wide-names (get_or ws 0 0) h in let n = (narrow-accepted ws e).1 in omega arith
 
@@ -92,8 +92,8 @@ module _ (ws : List ℕ) (e : narrowReading ws ≡ accepted) where
   pub no-wide-word : (p : ℕ) → p < length ws → kind (get_or ws p 0) ≡ 5 → ⊥
   no-wide-word p l h =
       let r = reach-with ws First (λ q keys t ts s f. first-kept q (suc q) q (get_or ws q 0) keys t ts f) (refl, tt) (narrow-accepted ws e).0 p l in
-      go (taskAt ws p) r.below r.keys r.holds
-      (stands (names_at ws) r.keys (get_or ws p 0) (taskAt ws p) (at-step ws p r.keys (taskAt ws p) r.below r.there).faultless)
+      go (task_at ws p) r.below r.keys r.holds
+      (stands (names_at ws) r.keys (get_or ws p 0) (task_at ws p) (at-step ws p r.keys (task_at ws p) r.below r.there).faultless)
     where
       go : (t : Task) (ts : List Task) (keys : List ℕ) → First p keys (t ∷ ts) → Stands (names_at ws) keys (get_or ws p 0) t → ⊥
       go (head n) ts keys f s = narrow-kind (subst (λ (q : ℕ). kind (get_or ws q 0) ≡ 5) f.0 h)

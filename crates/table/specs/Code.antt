@@ -7,7 +7,7 @@ use Rattle.table.specs.declared.Constant.{Constant}
 use Rattle.table.specs.declared.Operation.{Operation}
 use Rattle.table.specs.declared.Term.{Term}
 use Rattle.table.specs.declared.Term.TheVariants as terms
-use Rattle.table.specs.Words.{argument, arity, termOf, literals}
+use Rattle.table.specs.Words.{argument, arity, term_of, literals}
 use Rattle.table.specs.Scan.{Task, head, name, perms, guard, term, next, names_at}
 
 -- terms with no part that runs: a variable counts its binders from the innermost, and a function's body is the next word
@@ -73,53 +73,53 @@ trace (w ∷ ws) at (t ∷ ts) = t ∷ trace ws (suc at) (next at w t ++ ts)
 unfoldable pub tasks : List ℕ → List Task
 tasks ws = trace ws 0 (head (length ws) ∷ [])
 
-unfoldable pub taskAt : List ℕ → ℕ → Task
-taskAt ws p = get_or (tasks ws) p (head 0)
+unfoldable pub task_at : List ℕ → ℕ → Task
+task_at ws p = get_or (tasks ws) p (head 0)
 
 -- the node of a term, with where its parts would stand
-unfoldable pub termNode : Term → ℕ → ℕ → ℕ → Node
-termNode (terms.Constant c) a b d = leaf (constant c)
-termNode (terms.Number n) a b d = leaf (number n)
-termNode (terms.Literal n) a b d = leaf (literal n)
-termNode (terms.Name n) a b d = leaf (named n)
-termNode (terms.Variable n) a b d = leaf (variable n)
-termNode terms.Function a b d = leaf function
-termNode terms.Apply a b d = two apply a b
-termNode terms.Let a b d = bind a b
-termNode terms.Sequence a b d = two sequence a b
-termNode terms.If a b d = branch a b d
-termNode terms.While a b d = while a b
-termNode (terms.Operation o) a b d = two (operation o) a b
-termNode terms.Record a b d = leaf empty
-termNode terms.Get a b d = two get a b
-termNode terms.Set a b d = update a b d
-termNode terms.Delete a b d = two delete a b
-termNode terms.Cell a b d = one cell a
-termNode terms.Read a b d = one read a
-termNode terms.Assign a b d = two assign a b
-termNode (terms.Send s) a b d = two (send s.bits) a b
-termNode (terms.Exercise s) a b d = leaf (exercise s.bits)
+unfoldable pub term_node : Term → ℕ → ℕ → ℕ → Node
+term_node (terms.Constant c) a b d = leaf (constant c)
+term_node (terms.Number n) a b d = leaf (number n)
+term_node (terms.Literal n) a b d = leaf (literal n)
+term_node (terms.Name n) a b d = leaf (named n)
+term_node (terms.Variable n) a b d = leaf (variable n)
+term_node terms.Function a b d = leaf function
+term_node terms.Apply a b d = two apply a b
+term_node terms.Let a b d = bind a b
+term_node terms.Sequence a b d = two sequence a b
+term_node terms.If a b d = branch a b d
+term_node terms.While a b d = while a b
+term_node (terms.Operation o) a b d = two (operation o) a b
+term_node terms.Record a b d = leaf empty
+term_node terms.Get a b d = two get a b
+term_node terms.Set a b d = update a b d
+term_node terms.Delete a b d = two delete a b
+term_node terms.Cell a b d = one cell a
+term_node terms.Read a b d = one read a
+term_node terms.Assign a b d = two assign a b
+term_node (terms.Send s) a b d = two (send s.bits) a b
+term_node (terms.Exercise s) a b d = leaf (exercise s.bits)
 
-unfoldable pub nodeFor : List ℕ → ℕ → Task → Node
-nodeFor ws p (head n) = gap
-nodeFor ws p name = block (argument (get_or ws p 0)) (argument (get_or ws (p + 1) 0)) (argument (get_or ws (p + 2) 0))
-nodeFor ws p (perms n) = gap
-nodeFor ws p guard = gap
-nodeFor ws p (term d h s) = termNode (termOf (get_or ws p 0)) (part ws p 0) (part ws p 1) (part ws p 2)
+unfoldable pub node_for : List ℕ → ℕ → Task → Node
+node_for ws p (head n) = gap
+node_for ws p name = block (argument (get_or ws p 0)) (argument (get_or ws (p + 1) 0)) (argument (get_or ws (p + 2) 0))
+node_for ws p (perms n) = gap
+node_for ws p guard = gap
+node_for ws p (term d h s) = term_node (term_of (get_or ws p 0)) (part ws p 0) (part ws p 1) (part ws p 2)
 
-unfoldable pub scopeFor : Task → List ℕ
-scopeFor (head n) = []
-scopeFor name = []
-scopeFor (perms n) = []
-scopeFor guard = []
-scopeFor (term d h s) = s
+unfoldable pub scope_for : Task → List ℕ
+scope_for (head n) = []
+scope_for name = []
+scope_for (perms n) = []
+scope_for guard = []
+scope_for (term d h s) = s
 
-unfoldable pub homeFor : Task → ℕ → ℕ
-homeFor (head n) p = p
-homeFor name p = p
-homeFor (perms n) p = p
-homeFor guard p = p
-homeFor (term d h s) p = h
+unfoldable pub home_for : Task → ℕ → ℕ
+home_for (head n) p = p
+home_for name p = p
+home_for (perms n) p = p
+home_for guard p = p
+home_for (term d h s) p = h
 
 -- the places of the tasks that are blocks' names, from the place `at` on
 unfoldable pub blocks_from : List Task → ℕ → List ℕ
@@ -136,9 +136,9 @@ code ws =
       size = length ws;
       names = names_at ws;
       blocks = blocks_from (tasks ws) 0;
-      node = λ p. nodeFor ws p (taskAt ws p);
-      scope = λ p. scopeFor (taskAt ws p);
-      home = λ p. homeFor (taskAt ws p) p;
+      node = λ p. node_for ws p (task_at ws p);
+      scope = λ p. scope_for (task_at ws p);
+      home = λ p. home_for (task_at ws p) p;
     }
 
 -- ---- what holds of the code of an accepted table

@@ -11,8 +11,8 @@ pack l = l.end % 2 ^ 11 + l.binder % 2 ^ 10 * 2 ^ 11 + l.home % 2 ^ 10 * 2 ^ 21
 unfoldable pub unpack : ℕ → Link
 unpack x = record { end = x % 2 ^ 11; binder = x / 2 ^ 11 % 2 ^ 10; home = x / 2 ^ 21 % 2 ^ 10 }
 
-unfoldable pub linkAt : List ℕ → ℕ → Link
-linkAt l p = unpack (get_or l p 0)
+unfoldable pub link_at : List ℕ → ℕ → Link
+link_at l p = unpack (get_or l p 0)
 
 -- f, n times over
 unfoldable pub iterate : (ℕ → ℕ) → ℕ → ℕ → ℕ
@@ -23,7 +23,7 @@ iterate f (suc n) p = iterate f n (f p)
 
 -- past n terms, from the place p on
 abbrev pub hops : List ℕ → ℕ → ℕ → ℕ
-hops l n p = iterate (λ q. (linkAt l q).end) n p
+hops l n p = iterate (λ q. (link_at l q).end) n p
 
 -- the ends of the first n words, where those after them have theirs
 unfoldable pub ends : List ℕ → ℕ → List ℕ → List ℕ
@@ -32,15 +32,15 @@ ends ws (suc n) l = ends ws n (set l n (pack (record { end = hops l (arity (get_
 
 -- ---- the binders and the blocks
 
-unfoldable pub withBinder : List ℕ → ℕ → ℕ → List ℕ
-withBinder l p b = set l p (pack (record { end = (linkAt l p).end; binder = b; home = (linkAt l p).home }))
+unfoldable pub with_binder : List ℕ → ℕ → ℕ → List ℕ
+with_binder l p b = set l p (pack (record { end = (link_at l p).end; binder = b; home = (link_at l p).home }))
 
-unfoldable pub withHome : List ℕ → ℕ → ℕ → List ℕ
-withHome l p h = set l p (pack (record { end = (linkAt l p).end; binder = (linkAt l p).binder; home = h }))
+unfoldable pub with_home : List ℕ → ℕ → ℕ → List ℕ
+with_home l p h = set l p (pack (record { end = (link_at l p).end; binder = (link_at l p).binder; home = h }))
 
 -- the binder that is n binders out from b
 abbrev pub outward : List ℕ → ℕ → ℕ → ℕ
-outward l n b = iterate (λ q. (linkAt l q).binder) n b
+outward l n b = iterate (λ q. (link_at l q).binder) n b
 
 -- p or b, for a part that has p as its innermost binder or not
 abbrev pub innermost : Bool → ℕ → ℕ → ℕ
@@ -48,23 +48,23 @@ innermost true p b = p
 innermost false p b = b
 
 -- the binder of each part of the term at p, whose own binder is b; the first of them stands at q
-unfoldable pub bindParts : List ℕ → ℕ → ℕ → List Bool → ℕ → List ℕ
-bindParts l p b [] q = l
-bindParts l p b (m ∷ ms) q = bindParts (withBinder l q (innermost m p b)) p b ms (linkAt l q).end
+unfoldable pub bind_parts : List ℕ → ℕ → ℕ → List Bool → ℕ → List ℕ
+bind_parts l p b [] q = l
+bind_parts l p b (m ∷ ms) q = bind_parts (with_binder l q (innermost m p b)) p b ms (link_at l q).end
 
 -- the block of the word w at p, where the word before it is in the block h
 unfoldable pub block_at : ℕ → ℕ → ℕ → ℕ
 block_at w p h = elim (eqb (kind w) 2) [ true ↦ p | false ↦ h ]
 
 -- what the word w at p says: a block binds its message in its body, a variable counts to its binder, and a term binds its parts
-unfoldable pub bindWord : ℕ → ℕ → List ℕ → List ℕ
-bindWord w p l =
+unfoldable pub bind_word : ℕ → ℕ → List ℕ → List ℕ
+bind_word w p l =
     elim (eqb (kind w) 2) [
-      | true ↦ withBinder l (p + 3) p
+      | true ↦ with_binder l (p + 3) p
       | false ↦
           elim (eqb (kind w) 20) [
-            | true ↦ withBinder l p (outward l (argument w) (linkAt l p).binder)
-            | false ↦ bindParts l p (linkAt l p).binder (parts w) (suc p)
+            | true ↦ with_binder l p (outward l (argument w) (link_at l p).binder)
+            | false ↦ bind_parts l p (link_at l p).binder (parts w) (suc p)
           ]
     ]
 
@@ -74,7 +74,7 @@ binders ws zero p h l = l
 binders ws (suc n) p h l =
     let w = get_or ws p 0 in
     let h' = block_at w p h in
-    binders ws n (suc p) h' (withHome (bindWord w p l) p h')
+    binders ws n (suc p) h' (with_home (bind_word w p l) p h')
 
 -- the slice with the links of the table in its first words; as it was where it is too short or the table too long
 unfoldable pub linked : List ℕ → List ℕ → List ℕ

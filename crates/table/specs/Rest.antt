@@ -15,9 +15,9 @@ unfoldable pub judged : ℕ → ℕ → Outcome
 judged zero at = accepted
 judged (suc n) at = refused (suc n) at
 
-unfoldable pub afterStep : Step → ℕ → List ℕ → List ℕ → List Task → Outcome
-afterStep (steps.Next p) names ws keys ts = scan names (drop p ws) keys p ts
-afterStep (steps.Refused r) names ws keys ts = refused (number r) (place r)
+unfoldable pub after_step : Step → ℕ → List ℕ → List ℕ → List Task → Outcome
+after_step (steps.Next p) names ws keys ts = scan names (drop p ws) keys p ts
+after_step (steps.Refused r) names ws keys ts = refused (number r) (place r)
 
 -- the argument of a word of a kind at a place, or that no such word is there
 abbrev pub FoundAt : List ℕ → ℕ → ℕ → Found → Type 0

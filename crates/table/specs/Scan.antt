@@ -100,6 +100,6 @@ unfoldable pub reading : List ℕ → Outcome
 reading ws = scan (names_at ws) ws [] 0 (head (length ws) ∷ [])
 
 -- a narrow table, where a wide one is none
-unfoldable pub narrowReading : List ℕ → Outcome
+unfoldable pub narrow_reading : List ℕ → Outcome
 unfolding reading
-narrowReading ws = elim (eqb (kind (get_or ws 0 0)) 5) [ true ↦ refused 1 0 | false ↦ reading ws ]
+narrow_reading ws = elim (eqb (kind (get_or ws 0 0)) 5) [ true ↦ refused 1 0 | false ↦ reading ws ]

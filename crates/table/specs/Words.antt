@@ -40,13 +40,13 @@ abbrev pub depths : ℕ
 depths = 64
 
 -- the first kind of a term, and the number of kinds
-abbrev pub firstKind : ℕ
-firstKind = 16
+abbrev pub first_kind : ℕ
+first_kind = 16
 
 -- Of kinds 16 to 36 in order: whether each part has the term itself as its innermost binder. Functions bind their argument in
 -- their body, let its first part inside its second.
-unfoldable pub partsByKind : List (List Bool)
-partsByKind =
+unfoldable pub parts_by_kind : List (List Bool)
+parts_by_kind =
     []  -- 16 constant
     ∷ []  -- 17 whole number
     ∷ []  -- 18 string literal
@@ -71,8 +71,8 @@ partsByKind =
     ∷ []
 
 -- Of kinds 16 to 36 in order: the first argument out of range. The number of names limits a name, and the number of its binders a variable.
-unfoldable pub limitsByKind : List ℕ
-limitsByKind =
+unfoldable pub limits_by_kind : List ℕ
+limits_by_kind =
     4  -- 16 constant
     ∷ 2 ^ 24  -- 17 whole number
     ∷ literals  -- 18 string literal
@@ -98,7 +98,7 @@ limitsByKind =
 
 -- the parts of a term, by its word
 unfoldable pub parts : ℕ → List Bool
-parts w = get_or partsByKind (kind w - firstKind) []
+parts w = get_or parts_by_kind (kind w - first_kind) []
 
 -- how many parts a term has
 unfoldable pub arity : ℕ → ℕ
@@ -111,22 +111,22 @@ mark false = 0
 
 -- the first argument out of range, by the word
 unfoldable pub limit : ℕ → ℕ
-limit w = get_or limitsByKind (kind w - firstKind) 0
+limit w = get_or limits_by_kind (kind w - first_kind) 0
 
 -- The word of a term: document 01's kind and argument for each case.
-unfoldable pub constantNumber : Constant → ℕ
-constantNumber constants.Undefined = 0
-constantNumber constants.Unit = 1
-constantNumber constants.True = 2
-constantNumber constants.False = 3
+unfoldable pub constant_number : Constant → ℕ
+constant_number constants.Undefined = 0
+constant_number constants.Unit = 1
+constant_number constants.True = 2
+constant_number constants.False = 3
 
-unfoldable pub operationNumber : Operation → ℕ
-operationNumber operations.Add = 0
-operationNumber operations.Less = 1
-operationNumber operations.Equal = 2
+unfoldable pub operation_number : Operation → ℕ
+operation_number operations.Add = 0
+operation_number operations.Less = 1
+operation_number operations.Equal = 2
 
 unfoldable pub word : Term → ℕ
-word (terms.Constant c) = word_of 16 (constantNumber c)
+word (terms.Constant c) = word_of 16 (constant_number c)
 word (terms.Number n) = word_of 17 n
 word (terms.Literal n) = word_of 18 n
 word (terms.Name n) = word_of 19 n
@@ -137,7 +137,7 @@ word terms.Let = word_of 23 0
 word terms.Sequence = word_of 24 0
 word terms.If = word_of 25 0
 word terms.While = word_of 26 0
-word (terms.Operation o) = word_of 27 (operationNumber o)
+word (terms.Operation o) = word_of 27 (operation_number o)
 word terms.Record = word_of 28 0
 word terms.Get = word_of 29 0
 word terms.Set = word_of 30 0
@@ -152,11 +152,11 @@ word (terms.Exercise s) = word_of 36 s.bits
 unfoldable pub constant_of : ℕ → Constant
 constant_of a = get_or (constants.Undefined ∷ constants.Unit ∷ constants.True ∷ constants.False ∷ []) a constants.Undefined
 
-unfoldable pub operationOf : ℕ → Operation
-operationOf a = get_or (operations.Add ∷ operations.Less ∷ operations.Equal ∷ []) a operations.Add
+unfoldable pub operation_of : ℕ → Operation
+operation_of a = get_or (operations.Add ∷ operations.Less ∷ operations.Equal ∷ []) a operations.Add
 
-unfoldable pub termsByKind : ℕ → List Term
-termsByKind a =
+unfoldable pub terms_by_kind : ℕ → List Term
+terms_by_kind a =
     terms.Constant (constant_of a)
     ∷ terms.Number a
     ∷ terms.Literal a
@@ -168,7 +168,7 @@ termsByKind a =
     ∷ terms.Sequence
     ∷ terms.If
     ∷ terms.While
-    ∷ terms.Operation (operationOf a)
+    ∷ terms.Operation (operation_of a)
     ∷ terms.Record
     ∷ terms.Get
     ∷ terms.Set
@@ -180,5 +180,5 @@ termsByKind a =
     ∷ terms.Exercise (record { bits = a })
     ∷ []
 
-unfoldable pub termOf : ℕ → Term
-termOf w = get_or (termsByKind (argument w)) (kind w - firstKind) terms.Record
+unfoldable pub term_of : ℕ → Term
+term_of w = get_or (terms_by_kind (argument w)) (kind w - first_kind) terms.Record

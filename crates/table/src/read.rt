@@ -1,9 +1,9 @@
 // The reading of a table: `read` answers that it is accepted, or the first refusal with its place.
 ghost use Rattle.std.specs.Prelude.{◌≡◌, ◌&&◌, ◌||◌, List, [], ◌∷◌, ℕ, ◌≤◌, eqb, leb, length, get_or, drop, replicate};
 ghost use Rattle.table.specs.Words.{kind};
-ghost use Rattle.table.specs.Scan.{Task, name, term, has, key, fault, scan, reading, narrowReading};
+ghost use Rattle.table.specs.Scan.{Task, name, term, has, key, fault, scan, reading, narrow_reading};
 ghost use Rattle.table.specs.Answer.{outcome};
-ghost use Rattle.table.specs.Rest.{judged, afterStep, FoundAt, after_block};
+ghost use Rattle.table.specs.Rest.{judged, after_step, FoundAt, after_block};
 
 use crate::sizes::{ARGUMENTS, MOST_DEPTH, MOST_HANDLERS, MOST_WORDS};
 use crate::words::{argument_of, arity_of, binds, kind_of, limit_of, names_of};
@@ -83,7 +83,7 @@ fn term_word(w: u32, at: usize, depth: usize, binders: usize, names: u32) -> Rea
 fn term(words: &[u32], at: usize, depth: usize, binders: usize, names: u32) -> Step
     requires { binders ≤ depth }
     ensures { (keys : List ℕ) (h : ℕ) (s : List ℕ) (ts : List Task) → length s ≡ binders
-        → scan names (drop at words.now) keys at (term depth h s ∷ ts) ≡ afterStep result names words.now keys ts }
+        → scan names (drop at words.now) keys at (term depth h s ∷ ts) ≡ after_step result names words.now keys ts }
 {
     if words.len() <= at {
         return Step::Refused(Refusal::NoTerm(at));
@@ -230,7 +230,7 @@ pub fn is_wide(words: &[u32]) -> bool
 
 // The whole table, where a wide one is refused.
 pub fn read_narrow(words: &[u32]) -> Reading
-    ensures { outcome result ≡ narrowReading words.now }
+    ensures { outcome result ≡ narrow_reading words.now }
 {
     if is_wide(words) {
         return Reading::Refused(Refusal::NotTable);

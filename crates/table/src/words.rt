@@ -1,6 +1,6 @@
 // What a word says by itself: its kind, its argument, its parts and its term.
 ghost use Rattle.std.specs.Prelude.{◌≡◌, false, ◌-◌, eqb, get_or};
-ghost use Rattle.table.specs.Words.{kind, argument, names_of, firstKind, parts, mark, arity, limit, termOf, constant_of, operationOf};
+ghost use Rattle.table.specs.Words.{kind, argument, names_of, first_kind, parts, mark, arity, limit, term_of, constant_of, operation_of};
 
 use crate::sizes::{ARGUMENTS, LITERALS, NARROW, WIDE};
 use crate::{Constant, Operation, Term, kinds};
@@ -56,7 +56,7 @@ pub fn names_in(words: &[u32]) -> u32
 
 // The place of a word's kind among the kinds of terms, 0 for kind 16.
 fn place_of(w: u32) -> usize
-    ensures { result ≡ kind w - firstKind }
+    ensures { result ≡ kind w - first_kind }
 {
     let kind = kind_of(w);
     if kind < kinds::FIRST {
@@ -140,7 +140,7 @@ fn constant_of(a: u32) -> Constant
 
 // The operation that an argument names; add past the last.
 pub fn operation_of(a: u32) -> Operation
-    ensures { result ≡ operationOf a }
+    ensures { result ≡ operation_of a }
 {
     match a {
         0 => Operation::Add,
@@ -152,7 +152,7 @@ pub fn operation_of(a: u32) -> Operation
 
 // The term that a word is.
 pub fn term_of(w: u32) -> Term
-    ensures { result ≡ termOf w }
+    ensures { result ≡ term_of w }
 {
     let a = argument_of(w);
     let k = place_of(w);

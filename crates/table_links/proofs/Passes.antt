@@ -9,7 +9,7 @@ use native.Mathlib.Numerals.{add-one, sub-one}
 use lib.ListN.{length, get_or, set, drop, length-set, drop_of_length-le}
 use lib.Seq.{drop-cons}
 use Rattle.table.specs.Words.{parts, arity}
-use Rattle.table.specs.Links.{pack, linkAt, hops, ends, withBinder, withHome, innermost, bindParts, block_at, bindWord, binders}
+use Rattle.table.specs.Links.{pack, link_at, hops, ends, with_binder, with_home, innermost, bind_parts, block_at, bind_word, binders}
 
 pub ends_more : (ws l : List ℕ) (n : ℕ) → 0 < n
     → ends ws n l ≡ ends ws (n - 1) (set l (n - 1) (pack (record { end = hops l (arity (get_or ws (n - 1) 0)) n; binder = 0; home = 0 })))
@@ -22,25 +22,25 @@ unfolding ends
 ends-done ws l zero h = refl
 ends-done ws l (suc n) h = absurd (not-suc-le-zero h)
 
-pub length-withBinder : (l : List ℕ) (p b : ℕ) → length (withBinder l p b) ≡ length l
-unfolding withBinder
-length-withBinder l p b = simp length-set
+pub length-with_binder : (l : List ℕ) (p b : ℕ) → length (with_binder l p b) ≡ length l
+unfolding with_binder
+length-with_binder l p b = simp length-set
 
 module _ (l : List ℕ) (p b w i q : ℕ) where
   pub parts_more : i < arity w
-      → bindParts l p b (drop i (parts w)) q
-      ≡ bindParts (withBinder l q (innermost (get_or (parts w) i false) p b)) p b (drop (i + 1) (parts w)) (linkAt l q).end
-  unfolding arity bindParts
+      → bind_parts l p b (drop i (parts w)) q
+      ≡ bind_parts (with_binder l q (innermost (get_or (parts w) i false) p b)) p b (drop (i + 1) (parts w)) (link_at l q).end
+  unfolding arity bind_parts
   parts_more h = rw (add-one, drop-cons (parts w) i false)
 
-  pub parts-done : arity w ≤ i → bindParts l p b (drop i (parts w)) q ≡ l
-  unfolding arity bindParts
+  pub parts-done : arity w ≤ i → bind_parts l p b (drop i (parts w)) q ≡ l
+  unfolding arity bind_parts
   parts-done h = rw (drop_of_length-le (parts w) h)
 
 module _ (ws l : List ℕ) (n p h : ℕ) where
   pub binders-more : (m : ℕ) → n ≡ suc m
       → binders ws n p h l
-      ≡ binders ws m (p + 1) (block_at (get_or ws p 0) p h) (withHome (bindWord (get_or ws p 0) p l) p (block_at (get_or ws p 0) p h))
+      ≡ binders ws m (p + 1) (block_at (get_or ws p 0) p h) (with_home (bind_word (get_or ws p 0) p l) p (block_at (get_or ws p 0) p h))
   unfolding binders
   binders-more m e = rw (e, add-one)
 

@@ -1,8 +1,8 @@
 // What the layers above see of an accepted table: the item at a word, and the links, which `link` writes into a lent slice.
 ghost use Rattle.std.specs.Prelude.{◌≡◌, false, suc, ◌+◌, ◌<◌, ◌≤◌, length, get_or};
 ghost use Rattle.table.specs.Words.{parts};
-ghost use Rattle.table.specs.Item.{setOf, handlerAt, item_at, itemPerms, itemGuarded};
-ghost use Rattle.table.specs.Links.{linkAt, hops, ends, withBinder, withHome, outward, innermost, bindParts, block_at, bindWord, binders, linked};
+ghost use Rattle.table.specs.Item.{set_of, handler_at, item_at, item_perms, item_guarded};
+ghost use Rattle.table.specs.Links.{link_at, hops, ends, with_binder, with_home, outward, innermost, bind_parts, block_at, bind_word, binders, linked};
 
 use permset::PermSet;
 use table::sizes::MOST_WORDS;
@@ -10,7 +10,7 @@ use table::{Handler, Item, Link, argument_of, arity_of, binds, kind_of, kinds, t
 
 // The argument of the word at a place as a set, the empty one past the end.
 fn set_at(words: &[u32], p: usize) -> PermSet
-    ensures { result ≡ setOf (get_or words.now p 0) }
+    ensures { result ≡ set_of (get_or words.now p 0) }
 {
     if p < words.len() {
         PermSet {
@@ -24,7 +24,7 @@ fn set_at(words: &[u32], p: usize) -> PermSet
 // The block whose first word is at a place.
 pub fn handler_at(words: &[u32], p: usize) -> Handler
     requires { p < length words.now }
-    ensures { result ≡ handlerAt words.now p }
+    ensures { result ≡ handler_at words.now p }
 {
     let name = argument_of(words[p]);
     let perms = set_at(words, p + 1);
@@ -52,7 +52,7 @@ pub fn item_at(words: &[u32], p: usize) -> Item
 
 // The link at a place, from a slice that holds them.
 pub fn link_at(links: &[u32], p: usize) -> Link
-    ensures { result ≡ linkAt links.now p }
+    ensures { result ≡ link_at links.now p }
 {
     if p < links.len() {
         Link::unpack(links[p])
@@ -65,7 +65,7 @@ pub fn link_at(links: &[u32], p: usize) -> Link
 
 // Whether there is a block at a place whose guard lets in who has rho.
 pub fn opens(words: &[u32], rho: PermSet, p: usize) -> bool
-    ensures { result ≡ itemGuarded (item_at words.now p) rho.bits }
+    ensures { result ≡ item_guarded (item_at words.now p) rho.bits }
 {
     match item_at(words, p) {
         Item::Gap => false,
@@ -88,7 +88,7 @@ pub fn body_of(b: usize) -> usize
 // The block after the one at a place, or the end of the table.
 pub fn next_block(links: &[u32], b: usize) -> usize
     requires { b < 2048 }
-    ensures { result ≡ (linkAt links.now (b + 3)).end }
+    ensures { result ≡ (link_at links.now (b + 3)).end }
 {
     link_at(links, body_of(b)).end
 }
@@ -96,7 +96,7 @@ pub fn next_block(links: &[u32], b: usize) -> usize
 // Where the second part of the term at a place starts, if it has one.
 pub fn second_of(links: &[u32], p: usize) -> usize
     requires { p < 2048 }
-    ensures { (result ≡ (linkAt links.now (p + 1)).end) × (result < 2048) }
+    ensures { (result ≡ (link_at links.now (p + 1)).end) × (result < 2048) }
 {
     link_at(links, p + 1).end
 }
@@ -104,21 +104,21 @@ pub fn second_of(links: &[u32], p: usize) -> usize
 // Where its third part starts, if it has one.
 pub fn third_of(links: &[u32], p: usize) -> usize
     requires { p < 2048 }
-    ensures { (result ≡ (linkAt links.now (linkAt links.now (p + 1)).end).end) × (result < 2048) }
+    ensures { (result ≡ (link_at links.now (link_at links.now (p + 1)).end).end) × (result < 2048) }
 {
     link_at(links, second_of(links, p)).end
 }
 
 // The innermost binder of the term at a place; of a variable the binder that it counts to.
 pub fn binder_of(links: &[u32], p: usize) -> usize
-    ensures { (result ≡ (linkAt links.now p).binder) × (result < 2048) }
+    ensures { (result ≡ (link_at links.now p).binder) × (result < 2048) }
 {
     link_at(links, p).binder
 }
 
 // The permissions of the block of a word.
 pub fn permissions_of(words: &[u32], links: &[u32], p: usize) -> PermSet
-    ensures { result.bits ≡ itemPerms (item_at words.now (linkAt links.now p).home) }
+    ensures { result.bits ≡ item_perms (item_at words.now (link_at links.now p).home) }
 {
     let home = link_at(links, p).home;
     match item_at(words, home) {
@@ -164,7 +164,7 @@ fn link_ends(words: &[u32], links: &mut [u32])
 
 // The binder of the word at a place.
 fn set_binder(links: &mut [u32], p: usize, binder: usize)
-    ensures { links.new ≡ withBinder links.old p binder }
+    ensures { links.new ≡ with_binder links.old p binder }
 {
     if p < links.len() {
         let l = link_at(links, p);
@@ -179,7 +179,7 @@ fn set_binder(links: &mut [u32], p: usize, binder: usize)
 
 // The block of the word at a place.
 fn set_home(links: &mut [u32], p: usize, home: usize)
-    ensures { links.new ≡ withHome links.old p home }
+    ensures { links.new ≡ with_home links.old p home }
 {
     if p < links.len() {
         let l = link_at(links, p);
@@ -215,7 +215,7 @@ fn part_binder(w: u32, i: usize, p: usize, binder: usize) -> usize
 // The binders of the parts of the term at a place.
 fn bind_parts(links: &mut [u32], w: u32, p: usize, binder: usize)
     requires { p < 1024 }
-    ensures { links.new ≡ bindParts links.old p binder (parts w) (suc p) }
+    ensures { links.new ≡ bind_parts links.old p binder (parts w) (suc p) }
 {
     let count = arity_of(w);
     let mut at = p + 1;
@@ -231,7 +231,7 @@ fn bind_parts(links: &mut [u32], w: u32, p: usize, binder: usize)
 // What the word at a place says of binders.
 fn bind_word(links: &mut [u32], w: u32, p: usize)
     requires { p < 1024 }
-    ensures { links.new ≡ bindWord w p links.old }
+    ensures { links.new ≡ bind_word w p links.old }
 {
     let kind = kind_of(w);
     if kind == kinds::HANDLER {

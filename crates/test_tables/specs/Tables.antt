@@ -13,12 +13,12 @@ unfoldable pub in_turn : ℕ → ℕ → ℕ → ℕ
 in_turn even odd n = elim (eqb (n % 2) 0) [ true ↦ even | false ↦ odd ]
 
 -- word 0 and the block words of a table of one handler
-abbrev pub headWords : List ℕ
-headWords = word_of 1 1 ∷ word_of 2 0 ∷ word_of 3 3 ∷ word_of 4 0 ∷ []
+abbrev pub head_words : List ℕ
+head_words = word_of 1 1 ∷ word_of 2 0 ∷ word_of 3 3 ∷ word_of 4 0 ∷ []
 
 -- word n of a row of blocks of so many words: name, permissions, which count from 0, guard, new cells, and last the handler's message
-unfoldable pub blockWord : ℕ → ℕ → ℕ → ℕ
-blockWord span name n =
+unfoldable pub block_word : ℕ → ℕ → ℕ → ℕ
+block_word span name n =
     elim (leb (span - 1) (n % span)) [
       | true ↦ word_of 20 0
       | false ↦ get_or (word_of 2 (name % 2 ^ 24) ∷ word_of 3 (n / span % 2 ^ 24) ∷ word_of 4 0 ∷ []) (n % span) (word_of 32 0)

@@ -2,7 +2,7 @@
 ghost use Rattle.std.specs.Prelude.{◌≡◌, ◌%◌, ◌^◌, drop, set, take};
 ghost use Rattle.std.proofs.lemmas.List.Edits.{sets};
 ghost use Rattle.table.specs.Words.{word_of};
-ghost use Rattle.test_tables.specs.Tables.{blockWord, headWords, in_turn, numbered};
+ghost use Rattle.test_tables.specs.Tables.{block_word, head_words, in_turn, numbered};
 
 use crate::show::{end, reading, text};
 
@@ -67,14 +67,14 @@ pub fn fill(words: &mut [u32], at: usize, even: u32, odd: u32)
 
 // Word 0 and the block words of a table of one handler, as document 01's samples have them.
 pub fn head(words: &mut [u32])
-    ensures { words.new ≡ sets words.old 0 headWords }
+    ensures { words.new ≡ sets words.old 0 head_words }
 {
     copy(words, 0, &[0x01000001, 0x02000000, 0x03000003, 0x04000000]);
 }
 
 // Word n of blocks of so many words, all of one name: their permissions count from 0, and new cells stand around the handler's message.
 fn block_word(span: usize, name: usize, n: usize) -> u32
-    ensures { result ≡ blockWord span name n }
+    ensures { result ≡ block_word span name n }
 {
     if span == 0 {
         return 0x14000000;
@@ -93,7 +93,7 @@ fn block_word(span: usize, name: usize, n: usize) -> u32
 
 // Fills a slice from word 1 on with blocks of so many words, all of one name.
 pub fn blocks(words: &mut [u32], span: usize, name: usize)
-    ensures { words.new ≡ numbered (blockWord span name) 0 words.old 1 }
+    ensures { words.new ≡ numbered (block_word span name) 0 words.old 1 }
 {
     let mut i = 1;
     while i < words.len() {

@@ -8,7 +8,7 @@ use native.Mathlib.Omega.{arith}
 use lib.Dec.{leb}
 use lib.ListN.{get_or}
 use borrow.Author.Tests.{eqb-true, eq-eqb, ne_eqb, le-leb}
-use Rattle.text.specs.Text.{digits, glyph, leftOut, numeral, value}
+use Rattle.text.specs.Text.{digits, glyph, left_out, numeral, value}
 
 and_first : (a b : Bool) → a && b ≡ true → a ≡ true
 and_first true b e = refl
@@ -43,12 +43,12 @@ below-snoc b [] d t h = (h, tt)
 below-snoc b (x ∷ xs) d t h = (t.0, below-snoc b xs d t.1 h)
 
 module _ (base optional : ℕ) where
-  digits-stop : (places n : ℕ) → leftOut optional places n ≡ true → digits base optional places n ≡ []
+  digits-stop : (places n : ℕ) → left_out optional places n ≡ true → digits base optional places n ≡ []
   unfolding digits
   digits-stop zero n t = refl
   digits-stop (suc p) n t = rw (t, digits)
 
-  digits_more : (places n : ℕ) → 0 < places → leftOut optional places n ≡ false
+  digits_more : (places n : ℕ) → 0 < places → left_out optional places n ≡ false
       → digits base optional places n ≡ digits base optional (places - 1) (n / base) ++ n % base ∷ []
   unfolding digits
   digits_more zero n h t = absurd (omega arith)
@@ -59,9 +59,9 @@ module _ (base optional : ℕ) where
   pub digits-below : (places n : ℕ) → 0 < base → Below base (digits base optional places n)
   unfolding digits
   digits-below zero n pos = tt
-  digits-below (suc p) n pos = go (leftOut optional (suc p) n) refl (digits-below p (n / base) pos)
+  digits-below (suc p) n pos = go (left_out optional (suc p) n) refl (digits-below p (n / base) pos)
     where
-      go : (b : Bool) → leftOut optional (suc p) n ≡ b → Below base (digits base optional p (n / base)) → Below base (digits base optional (suc p) n)
+      go : (b : Bool) → left_out optional (suc p) n ≡ b → Below base (digits base optional p (n / base)) → Below base (digits base optional (suc p) n)
       go true t rest = subst (Below base) (sym (digits-stop (suc p) n t)) tt
       go false t rest =
           subst (Below base)
@@ -73,10 +73,10 @@ module _ (base optional : ℕ) where
   unfolding digits value
   digits_value zero n pos h = omega (arith, pow-zero base)
   digits_value (suc p) n pos h =
-      go (leftOut optional (suc p) n) refl
+      go (left_out optional (suc p) n) refl
       (digits_value p (n / base) pos (quotient-below base p n pos h))
     where
-      go : (b : Bool) → leftOut optional (suc p) n ≡ b → value base 0 (digits base optional p (n / base)) ≡ n / base
+      go : (b : Bool) → left_out optional (suc p) n ≡ b → value base 0 (digits base optional p (n / base)) ≡ n / base
           → value base 0 (digits base optional (suc p) n) ≡ n
       go true t rest = ap (value base 0) (digits-stop (suc p) n t) ∙ sym (eqb-true n 0 (and_first _ _ t))
       go false t rest =
@@ -89,9 +89,9 @@ module _ (base optional : ℕ) where
   -- a number has no zero in front, where all places but one are optional
   pub no-zero-in-front : (places n : ℕ) → 0 < base → places ≤ suc optional → 0 < n → n < base ^ places
       → 0 < get_or (digits base optional places n) 0 0
-  no-zero-in-front zero n posBase most pos h = absurd (omega (arith, pow-zero base))
-  no-zero-in-front (suc p) n posBase most pos h =
-      go (n / base) refl λ above. no-zero-in-front p (n / base) posBase (omega arith) above (quotient-below base p n posBase h)
+  no-zero-in-front zero n pos_base most pos h = absurd (omega (arith, pow-zero base))
+  no-zero-in-front (suc p) n pos_base most pos h =
+      go (n / base) refl λ above. no-zero-in-front p (n / base) pos_base (omega arith) above (quotient-below base p n pos_base h)
     where
       digit : digits base optional (suc p) n ≡ digits base optional p (n / base) ++ n % base ∷ []
       digit =
@@ -111,11 +111,11 @@ module _ (base optional : ℕ) where
   unfolding numeral digits
   numeral-none n = refl
 
-  pub numeral-stop : (places n : ℕ) → leftOut optional places n ≡ true → numeral base optional places n ≡ []
+  pub numeral-stop : (places n : ℕ) → left_out optional places n ≡ true → numeral base optional places n ≡ []
   unfolding numeral
   numeral-stop places n t = ap (map glyph) (digits-stop places n t)
 
-  pub numeral-more : (places n : ℕ) → 0 < places → leftOut optional places n ≡ false
+  pub numeral-more : (places n : ℕ) → 0 < places → left_out optional places n ≡ false
       → numeral base optional places n ≡ numeral base optional (places - 1) (n / base) ++ glyph (n % base) ∷ []
   unfolding numeral
   numeral-more places n h t =

@@ -2,7 +2,7 @@
 pub mod room;
 
 ghost use Rattle.std.specs.Prelude.{◌≡◌, ◌++◌, ◌+◌, ◌<◌, ◌≤◌, max, length};
-ghost use Rattle.text.specs.Text.{leftOut, decimal, set, hexWord, choice};
+ghost use Rattle.text.specs.Text.{left_out, decimal, set, hex_word, choice};
 ghost use Rattle.text.specs.Text.{glyph as Text·glyph};
 ghost use Rattle.text.specs.Text.{numeral as Text·numeral};
 ghost use Rattle.text.specs.Writing.{Wrote};
@@ -34,7 +34,7 @@ fn glyph(d: u64) -> u8
 
 // Whether no digit stands at the places that are left.
 fn left_out(optional: usize, places: usize, n: u64) -> bool
-    ensures { result ≡ leftOut optional places n }
+    ensures { result ≡ left_out optional places n }
 {
     n == 0 && places <= optional
 }
@@ -96,7 +96,7 @@ pub fn set_field(out: &mut [u8], at: usize, label: &[u8], s: u32) -> usize
 // A label and a word in eight hexadecimal digits.
 pub fn hex_field(out: &mut [u8], at: usize, label: &[u8], w: u32) -> usize
     requires { at + length label.now + 8 ≤ length out.old }
-    ensures wrote { Wrote out.old at (label.now ++ hexWord w) out.new result }
+    ensures wrote { Wrote out.old at (label.now ++ hex_word w) out.new result }
     ensures upper_bound { result ≤ at + length label.now + 8 }
 {
     let next = put(out, at, label);

@@ -5,7 +5,7 @@ use mathlib.Core.List.{List}
 use lib.ListN.{length}
 use Rattle.table.specs.Code.{code}
 use Rattle.calculus.specs.Estimate.{estimate, leak, facts}
-use Rattle.calculus.specs.Answer.{refused, verdict, boundUsed, judge, answer, estimateAfter, workAfter}
+use Rattle.calculus.specs.Answer.{refused, verdict, bound_used, judge, answer, estimate_after, work_after}
 use Rattle.calculus.specs.Correct.{Correct, Guaranteed}
 use Rattle.calculus.proofs.Covers.{answer-guaranteed}
 use Rattle.calculus.proofs.Correct.{call-correct}
@@ -20,7 +20,7 @@ use Rattle.verdict.specs.Values.{Judged}
 -- ---- a leak compared with a bound
 
 pub compare-judge : (ws : List ℕ) (ρ bound : ℕ) (us : List ℕ)
-    → compare (leak (code ws) ρ us) (boundUsed bound) (facts us) ≡ verdict (judge (code ws) ρ bound us)
+    → compare (leak (code ws) ρ us) (bound_used bound) (facts us) ≡ verdict (judge (code ws) ρ bound us)
 unfolding compare judge
 compare-judge ws ρ bound us = refl
 
@@ -29,11 +29,11 @@ compare-judge ws ρ bound us = refl
 module _ (ws : List ℕ) (ρ bound : ℕ) (est work : List ℕ) (r : Declared-as-Verdict) where
   -- it passes its checks, s was found, and it is compared with b
   pub judged : (est' work' : List ℕ) (s : Findings) (b : ℕ) → Fits ws ρ bound (length est) (length work)
-      → FoundIn ws ρ est work est' work' s → answer_of r ≡ compare s.leak.bits b s.facts → b ≡ boundUsed bound
+      → FoundIn ws ρ est work est' work' s → answer_of r ≡ compare s.leak.bits b s.facts → b ≡ bound_used bound
       → Judged ws ρ bound est work r est' work'
   judged est' work' s b f d a e =
       let after = after-solved ws ρ bound est work (judge (code ws) ρ bound (estimate (code ws) ρ)) f.judged in
-      let same : compare s.leak.bits b s.facts ≡ compare (leak (code ws) ρ (estimate (code ws) ρ)) (boundUsed bound) (facts (estimate (code ws) ρ)) =
+      let same : compare s.leak.bits b s.facts ≡ compare (leak (code ws) ρ (estimate (code ws) ρ)) (bound_used bound) (facts (estimate (code ws) ρ)) =
       cc (d.leaks, d.counted) in
       record {
         answers = a ∙ same ∙ compare-judge ws ρ bound (estimate (code ws) ρ) ∙ sym f.judged;
@@ -52,8 +52,8 @@ module _ (ws : List ℕ) (ρ bound : ℕ) (est work : List ℕ) (r : Declared-as
 abbrev pub Promised : List ℕ → ℕ → ℕ → List ℕ → List ℕ → Declared-as-Verdict → List ℕ → List ℕ → Type 0
 Promised ws ρ bound est work r est' work' =
     (answer_of r ≡ answer ws ρ bound (length est) (length work))
-    × ((est' ≡ estimateAfter ws ρ bound est work)
-    × ((work' ≡ workAfter ws ρ bound est work) × (Correct ws ρ bound est' (answer_of r) × Guaranteed ws ρ (answer_of r))))
+    × ((est' ≡ estimate_after ws ρ bound est work)
+    × ((work' ≡ work_after ws ρ bound est work) × (Correct ws ρ bound est' (answer_of r) × Guaranteed ws ρ (answer_of r))))
 
 pub promised : (ws : List ℕ) (ρ bound : ℕ) (est work : List ℕ) (r : Declared-as-Verdict) (est' work' : List ℕ)
     → Judged ws ρ bound est work r est' work' → Promised ws ρ bound est work r est' work'

@@ -9,9 +9,9 @@ use borrow.Author.Tests.{lt-ltb, le-ltb}
 use lib.Dec.{ltb}
 use lib.ListN.{length, drop}
 use Rattle.table.specs.Code.{code}
-use Rattle.calculus.specs.Layout.{estimateWords}
+use Rattle.calculus.specs.Layout.{estimate_words}
 use Rattle.calculus.specs.Estimate.{estimate, leak, facts}
-use Rattle.calculus.specs.Answer.{Answer, Verdict, refused, verdict, boundUsed, judge, answer, estimateAfter, workAfter}
+use Rattle.calculus.specs.Answer.{Answer, Verdict, refused, verdict, bound_used, judge, answer, estimate_after, work_after}
 use Rattle.calculus.specs.Correct.{Correct, Guaranteed}
 use Rattle.calculus.proofs.Correct.{call-correct}
 use Rattle.calculus.proofs.Covers.{answer-judged, answer-guaranteed}
@@ -20,11 +20,11 @@ use Rattle.calls.proofs.Answers.{after-refused, after-solved}
 use Rattle.comparison.specs.declared.Findings.{Findings}
 use Rattle.comparison.specs.declared.Verdict.{Verdict as Declared-as-Verdict}
 use Rattle.comparison.specs.Values.{answer_of, compare}
-use Rattle.solver.specs.Ceiling.{under, wordsWithin, SolvedIn}
+use Rattle.solver.specs.Ceiling.{under, words_within, SolvedIn}
 use Rattle.solver.proofs.Least.{words-whole}
 use Rattle.verdict.specs.declared.limit.Limited.{Limited}
 use Rattle.verdict.specs.declared.limit.Limited.TheVariants.{Judged, Exceeded}
-use Rattle.verdict.specs.Limits.{limitedAnswer, answerUnder, estimateUnder, Limits}
+use Rattle.verdict.specs.Limits.{limited_answer, answer_under, estimate_under, Limits}
 use Rattle.verdict.proofs.Answers.{compare-judge}
 
 -- ---- an answer under a ceiling
@@ -49,18 +49,18 @@ judge-facts ws ρ bound = refl
 
 module _ (ws : List ℕ) (ρ bound n : ℕ) (est work : List ℕ) where
   words_left : (v : Verdict) → answer ws ρ bound (length est) (length work) ≡ verdict v
-      → wordsWithin (code ws) ρ n ++ drop (estimateWords (code ws)) est ≡ estimateUnder ws ρ bound n est work
-  unfolding estimateUnder
-  words_left v e = sym (rw (e, estimateUnder))
+      → words_within (code ws) ρ n ++ drop (estimate_words (code ws)) est ≡ estimate_under ws ρ bound n est work
+  unfolding estimate_under
+  words_left v e = sym (rw (e, estimate_under))
 
-  words-kept : (k at : ℕ) → answer ws ρ bound (length est) (length work) ≡ refused k at → est ≡ estimateUnder ws ρ bound n est work
-  unfolding estimateUnder
-  words-kept k at e = sym (rw (e, estimateUnder))
+  words-kept : (k at : ℕ) → answer ws ρ bound (length est) (length work) ≡ refused k at → est ≡ estimate_under ws ρ bound n est work
+  unfolding estimate_under
+  words-kept k at e = sym (rw (e, estimate_under))
 
   -- it is refused by its checks
   pub turned-away : (f : Declared-as-Verdict) (k at : ℕ) → answer ws ρ bound (length est) (length work) ≡ refused k at → answer_of f ≡ refused k at
       → Limits ws ρ bound n est work (Judged f) est work
-  unfolding limitedAnswer
+  unfolding limited_answer
   turned-away f k at e a =
       record {
         answers = a ∙ sym (under-refused n k at) ∙ ap (under n) (sym e);
@@ -72,12 +72,12 @@ module _ (ws : List ℕ) (ρ bound n : ℕ) (est work : List ℕ) where
     abbrev found : Verdict
     found = judge (code ws) ρ bound (estimate (code ws) ρ)
 
-    works-left : work' ≡ workAfter ws ρ bound est work
+    works-left : work' ≡ work_after ws ρ bound est work
     works-left = d.works ∙ (after-solved ws ρ bound est work found f.judged).1
 
     -- more facts than the ceiling
     pub exceeded : n < s.facts → Limits ws ρ bound n est work (Exceeded n) est' work'
-    unfolding limitedAnswer
+    unfolding limited_answer
     exceeded h =
         record {
           answers = sym (ap (under n) f.judged ∙ under-over n found (omega (arith, d.over h, judge-facts ws ρ bound)));
@@ -86,14 +86,14 @@ module _ (ws : List ℕ) (ρ bound n : ℕ) (est work : List ℕ) where
         }
 
     -- no more, and s was compared with b
-    pub allowed : (r : Declared-as-Verdict) (b : ℕ) → s.facts ≤ n → answer_of r ≡ compare s.leak.bits b s.facts → b ≡ boundUsed bound
+    pub allowed : (r : Declared-as-Verdict) (b : ℕ) → s.facts ≤ n → answer_of r ≡ compare s.leak.bits b s.facts → b ≡ bound_used bound
         → Limits ws ρ bound n est work (Judged r) est' work'
-    unfolding limitedAnswer
+    unfolding limited_answer
     allowed r b h a e =
         let us = estimate (code ws) ρ in
         let k : s.facts ≡ facts us = d.within h in
         let l : s.leak.bits ≡ leak (code ws) ρ us = d.leaks ∙ ap (leak (code ws) ρ) (words-whole (code ws) ρ n (le-ltb n (facts us) (omega arith))) in
-        let same : compare s.leak.bits b s.facts ≡ compare (leak (code ws) ρ us) (boundUsed bound) (facts us) = cc (k, l, e) in
+        let same : compare s.leak.bits b s.facts ≡ compare (leak (code ws) ρ us) (bound_used bound) (facts us) = cc (k, l, e) in
         record {
           answers =
               a ∙ same ∙ compare-judge ws ρ bound us
@@ -103,15 +103,15 @@ module _ (ws : List ℕ) (ρ bound n : ℕ) (est work : List ℕ) where
         }
 
   -- a verdict under the ceiling is the verdict, and its estimate is left
-  pub under-verdict : (v : Verdict) (us : List ℕ) → verdict v ≡ answerUnder ws ρ bound n (length est) (length work) → us ≡ estimateUnder ws ρ bound n est work
-      → (verdict v ≡ answer ws ρ bound (length est) (length work)) × (us ≡ estimateAfter ws ρ bound est work)
+  pub under-verdict : (v : Verdict) (us : List ℕ) → verdict v ≡ answer_under ws ρ bound n (length est) (length work) → us ≡ estimate_under ws ρ bound n est work
+      → (verdict v ≡ answer ws ρ bound (length est) (length work)) × (us ≡ estimate_after ws ρ bound est work)
   under-verdict v us e u = by (answer ws ρ bound (length est) (length work)) refl
     where
       not-refused : (k at : ℕ) → verdict v ≡ refused k at → ⊥
       not-refused k at q = let z : ◌≡◌ {A = ℕ} 0 1 = cc in omega arith
 
       Left : Type 0
-      Left = (verdict v ≡ answer ws ρ bound (length est) (length work)) × (us ≡ estimateAfter ws ρ bound est work)
+      Left = (verdict v ≡ answer ws ρ bound (length est) (length work)) × (us ≡ estimate_after ws ρ bound est work)
 
       within : (w : Verdict) → answer ws ρ bound (length est) (length work) ≡ verdict w → Dec (n < w.facts) → Left
       within w q (yes h) = absurd (not-refused 23 n (e ∙ ap (under n) q ∙ under-over n w h))
@@ -119,7 +119,7 @@ module _ (ws : List ℕ) (ρ bound n : ℕ) (est work : List ℕ) where
           let same : w.facts ≡ facts (estimate (code ws) ρ) = ap (λ (x : Verdict). x.facts) (sym (answer-judged ws ρ bound (length est) (length work) w q).1) ∙ judge-facts ws ρ bound in
           let few : ltb n (facts (estimate (code ws) ρ)) ≡ false = le-ltb n (facts (estimate (code ws) ρ)) (omega (arith, h, same)) in (
             e ∙ ap (under n) q ∙ under-within n w (omega (arith, h)) ∙ sym q,
-            u ∙ sym (words_left w q) ∙ ap (λ (xs : List ℕ). xs ++ drop (estimateWords (code ws)) est) (words-whole (code ws) ρ n few) ∙ (after-solved ws ρ bound est work w q).0,
+            u ∙ sym (words_left w q) ∙ ap (λ (xs : List ℕ). xs ++ drop (estimate_words (code ws)) est) (words-whole (code ws) ρ n few) ∙ (after-solved ws ρ bound est work w q).0,
           )
 
       by : (a : Answer) → answer ws ρ bound (length est) (length work) ≡ a → Left
@@ -127,7 +127,7 @@ module _ (ws : List ℕ) (ρ bound n : ℕ) (est work : List ℕ) where
       by (verdict w) q = within w q (dec_lt n w.facts)
 
   -- an answer under the ceiling is correct and guaranteed, with the slice as the call leaves it
-  under-correct : (us : List ℕ) (a : Answer) → a ≡ answerUnder ws ρ bound n (length est) (length work) → us ≡ estimateUnder ws ρ bound n est work
+  under-correct : (us : List ℕ) (a : Answer) → a ≡ answer_under ws ρ bound n (length est) (length work) → us ≡ estimate_under ws ρ bound n est work
       → Correct ws ρ bound us a × Guaranteed ws ρ a
   unfolding Correct Guaranteed
   under-correct us (refused k at) e u = (tt, tt)
@@ -138,11 +138,11 @@ module _ (ws : List ℕ) (ρ bound n : ℕ) (est work : List ℕ) where
 -- what a call promises, from what it answers and leaves
 abbrev pub PromisedUnder : List ℕ → (ρ bound n : ℕ) → (est work : List ℕ) → Limited → (est' work' : List ℕ) → Type 0
 PromisedUnder ws ρ bound n est work r est' work' =
-    (limitedAnswer r ≡ answerUnder ws ρ bound n (length est) (length work))
-    × ((est' ≡ estimateUnder ws ρ bound n est work)
-    × ((work' ≡ workAfter ws ρ bound est work) × (Correct ws ρ bound est' (limitedAnswer r) × Guaranteed ws ρ (limitedAnswer r))))
+    (limited_answer r ≡ answer_under ws ρ bound n (length est) (length work))
+    × ((est' ≡ estimate_under ws ρ bound n est work)
+    × ((work' ≡ work_after ws ρ bound est work) × (Correct ws ρ bound est' (limited_answer r) × Guaranteed ws ρ (limited_answer r))))
 
 pub promised-under : (ws : List ℕ) (ρ bound n : ℕ) (est work : List ℕ) (r : Limited) (est' work' : List ℕ)
     → Limits ws ρ bound n est work r est' work' → PromisedUnder ws ρ bound n est work r est' work'
 promised-under ws ρ bound n est work r est' work' l =
-    (l.answers, (l.estimates, (l.works, under-correct ws ρ bound n est work est' (limitedAnswer r) l.answers l.estimates)))
+    (l.answers, (l.estimates, (l.works, under-correct ws ρ bound n est work est' (limited_answer r) l.answers l.estimates)))

@@ -1,6 +1,6 @@
 // The verdict.
 ghost use Rattle.std.specs.Prelude.{◌≡◌, length};
-ghost use Rattle.calculus.specs.Answer.{answer, estimateAfter, workAfter};
+ghost use Rattle.calculus.specs.Answer.{answer, estimate_after, work_after};
 ghost use Rattle.calculus.specs.Correct.{Correct, Guaranteed};
 ghost use Rattle.calls.specs.Calls.{Fits};
 ghost use Rattle.comparison.specs.Values.{answer_of};
@@ -24,8 +24,8 @@ fn judged(words: &[u32], rho: u32, bound: u32, est: &mut [u32], work: &mut [u32]
 // least estimate in its first words, and the first words of work are zeroed; a refusal leaves both as they were.
 pub fn verdict(words: &[u32], rho: u32, bound: u32, est: &mut [u32], work: &mut [u32]) -> Verdict
     ensures answer { answer_of result ≡ answer words.now rho bound (length est.old) (length work.old) }
-    ensures estimate { est.new ≡ estimateAfter words.now rho bound est.old work.old }
-    ensures work { work.new ≡ workAfter words.now rho bound est.old work.old }
+    ensures estimate { est.new ≡ estimate_after words.now rho bound est.old work.old }
+    ensures work { work.new ≡ work_after words.now rho bound est.old work.old }
     ensures correct { Correct words.now rho bound est.new (answer_of result) }
     ensures guarantee { Guaranteed words.now rho (answer_of result) }
 {

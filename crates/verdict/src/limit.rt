@@ -1,16 +1,16 @@
 // The verdict under a ceiling on facts.
 ghost use Rattle.std.specs.Prelude.{◌≡◌, length};
-ghost use Rattle.calculus.specs.Answer.{workAfter};
+ghost use Rattle.calculus.specs.Answer.{work_after};
 ghost use Rattle.calculus.specs.Correct.{Correct, Guaranteed};
 ghost use Rattle.calls.specs.Calls.{Fits};
-ghost use Rattle.verdict.specs.Limits.{limitedAnswer, answerUnder, estimateUnder, Limits};
+ghost use Rattle.verdict.specs.Limits.{limited_answer, answer_under, estimate_under, Limits};
 
 use calls::checks::{Checked, check};
 use comparison::{Verdict, bound_used, compared};
 use permset::PermSet;
 use solver::analyse::solve_in;
 
-// A verdict, or that the least estimate has more facts than the ceiling. `limitedAnswer` of specs/Limits.antt gives each its answer.
+// A verdict, or that the least estimate has more facts than the ceiling. `limited_answer` of specs/Limits.antt gives each its answer.
 #[derive(Drop)]
 pub enum Limited {
     Judged(Verdict),
@@ -47,11 +47,11 @@ pub fn verdict_within(
     est: &mut [u32],
     work: &mut [u32],
 ) -> Limited
-    ensures answer { limitedAnswer result ≡ answerUnder words.now rho bound ceiling (length est.old) (length work.old) }
-    ensures estimate { est.new ≡ estimateUnder words.now rho bound ceiling est.old work.old }
-    ensures work { work.new ≡ workAfter words.now rho bound est.old work.old }
-    ensures correct { Correct words.now rho bound est.new (limitedAnswer result) }
-    ensures guarantee { Guaranteed words.now rho (limitedAnswer result) }
+    ensures answer { limited_answer result ≡ answer_under words.now rho bound ceiling (length est.old) (length work.old) }
+    ensures estimate { est.new ≡ estimate_under words.now rho bound ceiling est.old work.old }
+    ensures work { work.new ≡ work_after words.now rho bound est.old work.old }
+    ensures correct { Correct words.now rho bound est.new (limited_answer result) }
+    ensures guarantee { Guaranteed words.now rho (limited_answer result) }
 {
     match check(words, rho, bound, est.len(), work.len()) {
         Checked::Wrong(f) => Limited::Judged(Verdict::Refused(f)),

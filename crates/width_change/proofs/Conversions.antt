@@ -8,7 +8,7 @@ use lib.ListN.{length, get_or, drop}
 use Rattle.table.specs.Words.{argument}
 use Rattle.table.specs.Scan.{Outcome, accepted}
 use Rattle.table.specs.Code.{code}
-use Rattle.widths.specs.Converters.{rekinded, kindFor, converted, convertible, Answer, written, refusal, answer as answered, convertAnswer}
+use Rattle.widths.specs.Converters.{rekinded, kind_for, converted, convertible, Answer, written, refusal, answer as answered, convert_answer}
 use Rattle.widths.proofs.Words.{argument-kept}
 use Rattle.widths.proofs.Theorems.{narrow-table, answer-written, converted-accepted, converted-written}
 use Rattle.calculus.specs.Estimate.{estimate, leak}
@@ -48,8 +48,8 @@ kept wide ws e =
     record {
       before = a.0;
       after = a.1;
-      handlers = handlers-kept (kindFor wide) ws;
-      others = others-kept (kindFor wide) ws;
+      handlers = handlers-kept (kind_for wide) ws;
+      others = others-kept (kind_for wide) ws;
       leaks = leak-kept wide ws e;
       verdicts = λ ρ bound est work est' work' v w p q.
           subst₂ SameButFacts (answer-judged (converted wide ws) ρ bound est work v p).1 (answer-judged ws ρ bound est' work' w q).1
@@ -57,12 +57,12 @@ kept wide ws e =
     }
 
 pub converted-kept : ConvertedIsKept
-unfolding convertAnswer
+unfolding convert_answer
 converted-kept wide ws out n e =
     subst (Kept wide ws) (sym (converted-written wide ws out n e)) (kept wide ws (answer-written (convertible wide ws) (length ws) (length out) n e).0)
 
 pub every-widened : EveryNarrowIsWidened
-unfolding convertAnswer convertible answered
+unfolding convert_answer convertible answered
 every-widened ws out e h =
     ap (λ (o : Outcome). answered o (length ws) (length out)) (narrow-table ws e)
     ∙ ap (λ (b : Bool). elim b as (λ x. Answer) [ true ↦ refusal 57 0 | false ↦ written (length ws) ]) (le-ltb (length out) (length ws) h)

@@ -4,7 +4,7 @@ use mathlib.Core.Path.{◌≡◌, refl, sym}
 use mathlib.Core.List.{List, [], ◌∷◌, map}
 use Rattle.permset.proofs.Laws.{member-within, within-antisym}
 use Rattle.table.specs.Code.{Code, Linked}
-use Rattle.widths.specs.Converters.{withNames}
+use Rattle.widths.specs.Converters.{with_names}
 use Rattle.calculus.specs.Estimate.{estimate, leak}
 use Rattle.renaming.specs.Renaming.{Renamed}
 use Rattle.renaming.proofs.Nodes.{renamed-same}
@@ -14,7 +14,7 @@ map-itself : (xs : List ℕ) → xs ≡ map (λ q. q) xs
 map-itself [] = refl
 map-itself (x ∷ xs) = let e = map-itself xs in cc
 
-itself : (c : Code) (n : ℕ) → Renamed (λ q. q) (withNames n c) c
+itself : (c : Code) (n : ℕ) → Renamed (λ q. q) (with_names n c) c
 itself c n =
     record {
       inside = λ q h. h;
@@ -26,13 +26,13 @@ itself c n =
       starts = λ b m s g h. refl;
     }
 
-abbrev leakAt : Code → ℕ → ℕ
-leakAt c ρ = leak c ρ (estimate c ρ)
+abbrev leak_at : Code → ℕ → ℕ
+leak_at c ρ = leak c ρ (estimate c ρ)
 
-pub leak-same : (c : Code) (n : ℕ) → Linked c → Linked (withNames n c) → (ρ : ℕ)
-    → leak (withNames n c) ρ (estimate (withNames n c) ρ) ≡ leak c ρ (estimate c ρ)
+pub leak-same : (c : Code) (n : ℕ) → Linked c → Linked (with_names n c) → (ρ : ℕ)
+    → leak (with_names n c) ρ (estimate (with_names n c) ρ) ≡ leak c ρ (estimate c ρ)
 leak-same c n k l ρ =
-    let d = withNames n c in
-    within-antisym (leakAt d ρ) (leakAt c ρ)
-    (member-within (leakAt d ρ) (leakAt c ρ) (leak-inside (λ q. q) d c (itself c n) l k ρ))
-    (member-within (leakAt c ρ) (leakAt d ρ) (leak-inside (λ q. q) c d (itself d c.names) k l ρ))
+    let d = with_names n c in
+    within-antisym (leak_at d ρ) (leak_at c ρ)
+    (member-within (leak_at d ρ) (leak_at c ρ) (leak-inside (λ q. q) d c (itself c n) l k ρ))
+    (member-within (leak_at c ρ) (leak_at d ρ) (leak-inside (λ q. q) c d (itself d c.names) k l ρ))

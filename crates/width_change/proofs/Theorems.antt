@@ -8,17 +8,17 @@ use Rattle.table.specs.Words.{wide}
 use Rattle.table.specs.Scan.{accepted, reading}
 use Rattle.table.specs.Code.{Code, Linked, code}
 use Rattle.table.proofs.Linked.{linked}
-use Rattle.widths.specs.Converters.{widened, narrowed, readAs, narrowable}
+use Rattle.widths.specs.Converters.{widened, narrowed, read_as, narrowable}
 use Rattle.widths.proofs.Refusals.{accepted-kind}
 use Rattle.widths.proofs.Codes.{code-widened}
 use Rattle.widths.proofs.Theorems.{widened-accepted, narrowed-accepted, widened-narrowed}
 use Rattle.calculus.specs.Estimate.{estimate, leak}
-use Rattle.calculus.specs.Answer.{boundUsed, judge}
+use Rattle.calculus.specs.Answer.{bound_used, judge}
 use Rattle.width_change.specs.Verdicts.{SameButFacts}
 use Rattle.width_change.proofs.Leaks.{leak-same}
 
 -- every narrow table made wide
-pub leak-widened : (ws : List ℕ) → readAs 1 ws ≡ accepted → (ρ : ℕ)
+pub leak-widened : (ws : List ℕ) → read_as 1 ws ≡ accepted → (ρ : ℕ)
     → leak (code (widened ws)) ρ (estimate (code (widened ws)) ρ) ≡ leak (code ws) ρ (estimate (code ws) ρ)
 leak-widened ws e ρ =
     let r : reading ws ≡ accepted = (accepted-kind 1 ws e).1 in
@@ -44,11 +44,11 @@ judged-same c d ρ bound e =
     record {
       leak = e;
       bound = refl;
-      over = ap (λ (x : ℕ). not (within x (boundUsed bound))) e;
-      first = ap (λ (x : ℕ). lowest (difference x (boundUsed bound))) e;
+      over = ap (λ (x : ℕ). not (within x (bound_used bound))) e;
+      first = ap (λ (x : ℕ). lowest (difference x (bound_used bound))) e;
     }
 
-pub judged-widened : (ws : List ℕ) → readAs 1 ws ≡ accepted → (ρ bound : ℕ)
+pub judged-widened : (ws : List ℕ) → read_as 1 ws ≡ accepted → (ρ bound : ℕ)
     → SameButFacts (judge (code (widened ws)) ρ bound (estimate (code (widened ws)) ρ)) (judge (code ws) ρ bound (estimate (code ws) ρ))
 judged-widened ws e ρ bound = judged-same (code (widened ws)) (code ws) ρ bound (leak-widened ws e ρ)
 

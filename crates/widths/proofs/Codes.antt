@@ -7,10 +7,10 @@ use native.Mathlib.Numerals.{unary_clauses}
 use lib.ListN.{length, get_or, replicate}
 use Rattle.table.specs.Words.{argument, word_of, wide, narrow}
 use Rattle.table.specs.Scan.{Task, head, name, perms, guard, term, next, accepted, reading, names_at}
-use Rattle.table.specs.Code.{part, trace, tasks, taskAt, nodeFor, code}
+use Rattle.table.specs.Code.{part, trace, tasks, task_at, node_for, code}
 use Rattle.table.proofs.Widths.{wide-names, narrow-names}
 use Rattle.table.proofs.Blocks.{head-word}
-use Rattle.widths.specs.Converters.{rekinded, widened, narrowed, withNames}
+use Rattle.widths.specs.Converters.{rekinded, widened, narrowed, with_names}
 use Rattle.widths.proofs.Words.{length-kept, kind-given, argument-kept}
 
 module _ (k : ℕ) where
@@ -21,26 +21,26 @@ module _ (k : ℕ) where
   tasks-kept (w ∷ ws) =
       ap (λ (n : ℕ). head (suc (length ws)) ∷ trace ws 1 (replicate n name ++ [])) (argument-kept k w)
 
-  task-kept : (ws : List ℕ) (p : ℕ) → taskAt (rekinded k ws) p ≡ taskAt ws p
-  unfolding taskAt
+  task-kept : (ws : List ℕ) (p : ℕ) → task_at (rekinded k ws) p ≡ task_at ws p
+  unfolding task_at
   task-kept ws p = ap (λ (ts : List Task). get_or ts p (head 0)) (tasks-kept ws)
 
   -- and the words but the first are the same
-  node-later : (w : ℕ) (ws : List ℕ) (p : ℕ) (t : Task) → nodeFor (rekinded k (w ∷ ws)) (suc p) t ≡ nodeFor (w ∷ ws) (suc p) t
-  unfolding nodeFor part rekinded
+  node-later : (w : ℕ) (ws : List ℕ) (p : ℕ) (t : Task) → node_for (rekinded k (w ∷ ws)) (suc p) t ≡ node_for (w ∷ ws) (suc p) t
+  unfolding node_for part rekinded
   node-later w ws p (head n) = refl
   node-later w ws p name = simp unary_clauses
   node-later w ws p (perms n) = refl
   node-later w ws p guard = refl
   node-later w ws p (term d h s) = refl
 
-  node_kept : (ws : List ℕ) (p : ℕ) → nodeFor (rekinded k ws) p (taskAt ws p) ≡ nodeFor ws p (taskAt ws p)
-  unfolding rekinded taskAt tasks trace nodeFor
+  node_kept : (ws : List ℕ) (p : ℕ) → node_for (rekinded k ws) p (task_at ws p) ≡ node_for ws p (task_at ws p)
+  unfolding rekinded task_at tasks trace node_for
   node_kept [] p = refl
   node_kept (w ∷ ws) zero = refl
-  node_kept (w ∷ ws) (suc p) = node-later w ws p (taskAt (w ∷ ws) (suc p))
+  node_kept (w ∷ ws) (suc p) = node-later w ws p (task_at (w ∷ ws) (suc p))
 
-  pub code-rekinded : (ws : List ℕ) → code (rekinded k ws) ≡ withNames (names_at (rekinded k ws)) (code ws)
+  pub code-rekinded : (ws : List ℕ) → code (rekinded k ws) ≡ with_names (names_at (rekinded k ws)) (code ws)
   unfolding code
   code-rekinded ws = simp (length-kept k, tasks-kept, task-kept, node_kept)
 
@@ -60,5 +60,5 @@ module _ (ws : List ℕ) (e : reading ws ≡ accepted) where
   pub some_words : 0 < length ws
   some_words = (head-word ws e).inside
 
-  pub code-widened : code (widened ws) ≡ withNames wide (code ws)
+  pub code-widened : code (widened ws) ≡ with_names wide (code ws)
   code-widened = rw (code-rekinded, names-widened ws some_words)

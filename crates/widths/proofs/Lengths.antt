@@ -13,7 +13,7 @@ use Rattle.table.specs.Words.{kind, size}
 use Rattle.table.specs.Scan.{head, Outcome, refused, first_of, tests, fault, names_at, reading}
 use Rattle.table.proofs.Faults.{one_of}
 use Rattle.table.proofs.Stack.{scan-stop}
-use Rattle.widths.specs.Converters.{readAs, convertible, converted, refusal, convertAnswer, convertOut}
+use Rattle.widths.specs.Converters.{read_as, convertible, converted, refusal, convert_answer, convert_out}
 use Rattle.widths.proofs.Refusals.{of-kind, other-kind, not_wide, stopped}
 
 -- a table of more than 1,024 words is refused by its first word alone
@@ -28,13 +28,13 @@ abbrev Alike : (List ℕ → Outcome) → List ℕ → List ℕ → Type 0
 Alike f ws vs = (n : ℕ) × (f ws ≡ refused n 0) × (f vs ≡ refused n 0)
 
 module _ (ws vs : List ℕ) (h : 1024 < length ws) (l : 1024 < length vs) (e : get_or ws 0 0 ≡ get_or vs 0 0) where
-  read_alike : (k : ℕ) → (k ≡ 1) ⊎ (k ≡ 5) → Alike (readAs k) ws vs
+  read_alike : (k : ℕ) → (k ≡ 1) ⊎ (k ≡ 5) → Alike (read_as k) ws vs
   read_alike k o = go (ℕ_discrete (kind (get_or ws 0 0)) k)
     where
       starts : (w : ℕ) → kind w ≡ k → (kind w ≡ 1) ⊎ (kind w ≡ 5)
       starts w q = subst (λ (x : ℕ). (x ≡ 1) ⊎ (x ≡ 5)) (sym q) o
 
-      go : Dec (kind (get_or ws 0 0) ≡ k) → Alike (readAs k) ws vs
+      go : Dec (kind (get_or ws 0 0) ≡ k) → Alike (read_as k) ws vs
       go (yes q) =
           let r : kind (get_or vs 0 0) ≡ k = ap kind (sym e) ∙ q in
           (2, of-kind k ws q ∙ long-table ws h (starts _ q), of-kind k vs r ∙ long-table vs l (starts _ r))
@@ -56,14 +56,14 @@ module _ {A : Type 0} (wide : Bool) (f : List ℕ → A) (g : ℕ → A) (stops 
           stops (take 1025 ws) a.0 a.1 ∙ sym (stops ws a.0 a.2)
 
 module _ (wide : Bool) (ws out : List ℕ) where
-  pub answer-first : convertAnswer wide (take 1025 ws) (length out) ≡ convertAnswer wide ws (length out)
-  unfolding convertAnswer
+  pub answer-first : convert_answer wide (take 1025 ws) (length out) ≡ convert_answer wide ws (length out)
+  unfolding convert_answer
   answer-first =
-      first-same wide (λ (vs : List ℕ). convertAnswer wide vs (length out)) (λ n. refusal n 0)
+      first-same wide (λ (vs : List ℕ). convert_answer wide vs (length out)) (λ n. refusal n 0)
       (λ vs n e. (stopped (convertible wide vs) (length vs) (converted wide vs) out n 0 e).0) ws
 
-  pub out_first : convertOut wide (take 1025 ws) out ≡ convertOut wide ws out
-  unfolding convertAnswer convertOut
+  pub out_first : convert_out wide (take 1025 ws) out ≡ convert_out wide ws out
+  unfolding convert_answer convert_out
   out_first =
-      first-same wide (λ (vs : List ℕ). convertOut wide vs out) (λ n. out)
+      first-same wide (λ (vs : List ℕ). convert_out wide vs out) (λ n. out)
       (λ vs n e. (stopped (convertible wide vs) (length vs) (converted wide vs) out n 0 e).1) ws

@@ -12,21 +12,21 @@ use lib.Seq.{drop-cons}
 use Rattle.table.specs.Words.{kind, argument, narrow}
 use Rattle.table.specs.Scan.{Outcome, accepted, refused, reading, missing, scan}
 use Rattle.table.proofs.Stack.{refused-not-accepted}
-use Rattle.widths.specs.Converters.{readAs, wideName, namesFit, fitsNarrow, narrowable, Answer, written, refusal}
-use Rattle.widths.specs.Converters.{answer, outAfter}
+use Rattle.widths.specs.Converters.{read_as, wide_name, names_fit, fits_narrow, narrowable, Answer, written, refusal}
+use Rattle.widths.specs.Converters.{answer, out_after}
 
 module _ (k : ℕ) (ws : List ℕ) where
-  pub of-kind : kind (get_or ws 0 0) ≡ k → readAs k ws ≡ reading ws
-  unfolding readAs
-  of-kind h = rw (eq-eqb (kind (get_or ws 0 0)) k h, readAs)
+  pub of-kind : kind (get_or ws 0 0) ≡ k → read_as k ws ≡ reading ws
+  unfolding read_as
+  of-kind h = rw (eq-eqb (kind (get_or ws 0 0)) k h, read_as)
 
-  pub other-kind : (kind (get_or ws 0 0) ≡ k → ⊥) → readAs k ws ≡ refused 1 0
-  unfolding readAs
-  other-kind h = rw (ne_eqb (kind (get_or ws 0 0)) k h, readAs)
+  pub other-kind : (kind (get_or ws 0 0) ≡ k → ⊥) → read_as k ws ≡ refused 1 0
+  unfolding read_as
+  other-kind h = rw (ne_eqb (kind (get_or ws 0 0)) k h, read_as)
 
   -- a table that is accepted has the kind
-  pub accepted-kind : readAs k ws ≡ accepted → (kind (get_or ws 0 0) ≡ k) × (reading ws ≡ accepted)
-  unfolding readAs
+  pub accepted-kind : read_as k ws ≡ accepted → (kind (get_or ws 0 0) ≡ k) × (reading ws ≡ accepted)
+  unfolding read_as
   accepted-kind = go (eqb (kind (get_or ws 0 0)) k) (eqb-true (kind (get_or ws 0 0)) k)
     where
       go : (b : Bool) → (b ≡ true → kind (get_or ws 0 0) ≡ k) → elim b [ true ↦ reading ws | false ↦ refused 1 0 ] ≡ accepted
@@ -34,8 +34,8 @@ module _ (k : ℕ) (ws : List ℕ) where
       go true f e = (f refl, e)
       go false f e = absurd (refused-not-accepted e)
 
-pub no_word : (k : ℕ) (ws : List ℕ) → length ws ≡ 0 → readAs k ws ≡ refused 1 0
-unfolding readAs reading scan missing
+pub no_word : (k : ℕ) (ws : List ℕ) → length ws ≡ 0 → read_as k ws ≡ refused 1 0
+unfolding read_as reading scan missing
 no_word k [] e = either (eqb (kind 0) k)
   where
     either : (b : Bool) → elim b [ true ↦ refused 1 0 | false ↦ refused 1 0 ] ≡ refused 1 0
@@ -46,61 +46,61 @@ no_word k (w ∷ ws) e = let n : ⊥ = omega arith in absurd n
 -- ---- the first name that no narrow table has
 
 module _ (w : ℕ) where
-  pub low-name : argument w < narrow → wideName w ≡ false
-  unfolding wideName
+  pub low-name : argument w < narrow → wide_name w ≡ false
+  unfolding wide_name
   low-name h = rw (lt-leb narrow (argument w) h)
 
-  pub high-name : narrow ≤ argument w → wideName w ≡ (eqb (kind w) 2 || eqb (kind w) 19)
-  unfolding wideName
+  pub high-name : narrow ≤ argument w → wide_name w ≡ (eqb (kind w) 2 || eqb (kind w) 19)
+  unfolding wide_name
   high-name h = rw (le-leb narrow (argument w) h)
 
 module _ (ws : List ℕ) (i : ℕ) where
-  pub wide-here : i < length ws → wideName (get_or ws i 0) ≡ true → namesFit (drop i ws) i ≡ refused 56 i
-  unfolding namesFit
-  wide-here h e = rw (drop-cons ws i 0, e, namesFit)
+  pub wide-here : i < length ws → wide_name (get_or ws i 0) ≡ true → names_fit (drop i ws) i ≡ refused 56 i
+  unfolding names_fit
+  wide-here h e = rw (drop-cons ws i 0, e, names_fit)
 
-  pub wide-later : i < length ws → wideName (get_or ws i 0) ≡ false → namesFit (drop i ws) i ≡ namesFit (drop (i + 1) ws) (i + 1)
-  unfolding namesFit
-  wide-later h e = rw (add-one, drop-cons ws i 0, e, namesFit)
+  pub wide-later : i < length ws → wide_name (get_or ws i 0) ≡ false → names_fit (drop i ws) i ≡ names_fit (drop (i + 1) ws) (i + 1)
+  unfolding names_fit
+  wide-later h e = rw (add-one, drop-cons ws i 0, e, names_fit)
 
-  pub wide-none : length ws ≤ i → namesFit (drop i ws) i ≡ accepted
-  unfolding namesFit
+  pub wide-none : length ws ≤ i → names_fit (drop i ws) i ≡ accepted
+  unfolding names_fit
   wide-none h = rw (drop_of_length-le ws h)
 
 -- ---- a wide table that can be made narrow
 
 module _ (ws : List ℕ) where
-  pub not_wide : (n p : ℕ) → readAs 5 ws ≡ refused n p → narrowable ws ≡ refused n p
+  pub not_wide : (n p : ℕ) → read_as 5 ws ≡ refused n p → narrowable ws ≡ refused n p
   unfolding narrowable
   not_wide n p e = rw (narrowable, e)
 
-  module _ (e : readAs 5 ws ≡ accepted) where
+  module _ (e : read_as 5 ws ≡ accepted) where
     pub many-handlers : narrow < argument (get_or ws 0 0) → narrowable ws ≡ refused 55 0
-    unfolding narrowable fitsNarrow
-    many-handlers h = rw (narrowable, e, lt-ltb narrow (argument (get_or ws 0 0)) h, fitsNarrow)
+    unfolding narrowable fits_narrow
+    many-handlers h = rw (narrowable, e, lt-ltb narrow (argument (get_or ws 0 0)) h, fits_narrow)
 
-    pub few-handlers : argument (get_or ws 0 0) ≤ narrow → narrowable ws ≡ namesFit ws 0
-    unfolding narrowable fitsNarrow
-    few-handlers h = rw (narrowable, e, le-ltb narrow (argument (get_or ws 0 0)) h, fitsNarrow)
+    pub few-handlers : argument (get_or ws 0 0) ≤ narrow → narrowable ws ≡ names_fit ws 0
+    unfolding narrowable fits_narrow
+    few-handlers h = rw (narrowable, e, le-ltb narrow (argument (get_or ws 0 0)) h, fits_narrow)
 
 -- ---- the answer and the output, by the tests before and the room
 
 module _ (o : Outcome) (n : ℕ) (ws out : List ℕ) where
   -- what is answered and what stands in the output
   abbrev pub Given : Answer → List ℕ → Type 0
-  Given a after = (answer o n (length out) ≡ a) × (outAfter (answer o n (length out)) ws out ≡ after)
+  Given a after = (answer o n (length out) ≡ a) × (out_after (answer o n (length out)) ws out ≡ after)
 
-  given : (a : Answer) → answer o n (length out) ≡ a → Given a (outAfter a ws out)
-  given a e = (e, ap (λ (b : Answer). outAfter b ws out) e)
+  given : (a : Answer) → answer o n (length out) ≡ a → Given a (out_after a ws out)
+  given a e = (e, ap (λ (b : Answer). out_after b ws out) e)
 
   pub stopped : (k p : ℕ) → o ≡ refused k p → Given (refusal k p) out
-  unfolding answer outAfter
+  unfolding answer out_after
   stopped k p e = given (refusal k p) (rw (e, answer))
 
   pub no_room : o ≡ accepted → length out < n → Given (refusal 57 0) out
-  unfolding answer outAfter
+  unfolding answer out_after
   no_room e h = given (refusal 57 0) (ap (λ (x : Outcome). answer x n (length out)) e ∙ rw (lt-ltb (length out) n h, answer))
 
   pub all-written : o ≡ accepted → n ≤ length out → Given (written n) (ws ++ drop n out)
-  unfolding answer outAfter
+  unfolding answer out_after
   all-written e h = given (written n) (ap (λ (x : Outcome). answer x n (length out)) e ∙ rw (le-ltb (length out) n h, answer))

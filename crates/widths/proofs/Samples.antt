@@ -4,10 +4,10 @@ use mathlib.Core.Path.{◌≡◌, refl}
 use mathlib.Core.Bool.{true, false}
 use mathlib.Core.List.{List, [], ◌∷◌}
 use lib.ListN.{replicate}
-use Rattle.table.specs.Words.{word_of, parts, partsByKind, limit, limitsByKind, names_of}
+use Rattle.table.specs.Words.{word_of, parts, parts_by_kind, limit, limits_by_kind, names_of}
 use Rattle.table.specs.Scan.{first_of, has, tests, fault, missing, keep, under, next, scan, reading}
-use Rattle.widths.specs.Converters.{rekinded, widened, readAs, wideName, namesFit, fitsNarrow, narrowable, convertible, written, refusal}
-use Rattle.widths.specs.Converters.{answer, outAfter, convertAnswer, convertOut}
+use Rattle.widths.specs.Converters.{rekinded, widened, read_as, wide_name, names_fit, fits_narrow, narrowable, convertible, written, refusal}
+use Rattle.widths.specs.Converters.{answer, out_after, convert_answer, convert_out}
 
 -- one handler with a name, the empty sets and a body, in a table of a kind
 abbrev alone : (kind name : ℕ) → List ℕ → List ℕ
@@ -22,48 +22,48 @@ handlers name n = elim n [ zero ↦ [] | suc (m → r) ↦ word_of 2 name ∷ wo
 
 -- up, with a word to spare and without room; and down again
 pub written-words : (
-    convertOut true direct (replicate 6 7)
-    ∷ convertOut true direct (replicate 4 7)
-    ∷ convertOut false (widened direct) (replicate 6 7)
+    convert_out true direct (replicate 6 7)
+    ∷ convert_out true direct (replicate 4 7)
+    ∷ convert_out false (widened direct) (replicate 6 7)
     ∷ [])
     ≡ (alone 5 0 (word_of 36 2 ∷ 7 ∷ []) ∷ replicate 4 7 ∷ alone 1 0 (word_of 36 2 ∷ 7 ∷ []) ∷ [])
-unfolding direct convertOut outAfter convertAnswer answer convertible narrowable fitsNarrow namesFit wideName readAs rekinded reading scan fault first_of tests has missing keep next under names_of limit limitsByKind parts partsByKind
+unfolding direct convert_out out_after convert_answer answer convertible narrowable fits_narrow names_fit wide_name read_as rekinded reading scan fault first_of tests has missing keep next under names_of limit limits_by_kind parts parts_by_kind
 written-words = refl
 
 -- up: direct, without room, wide already, no word, and a table that is refused
 pub up : (
-    convertAnswer true direct 5
-    ∷ convertAnswer true direct 4
-    ∷ convertAnswer true (widened direct) 5
-    ∷ convertAnswer true [] 5
-    ∷ convertAnswer true (word_of 1 33 ∷ []) 0
+    convert_answer true direct 5
+    ∷ convert_answer true direct 4
+    ∷ convert_answer true (widened direct) 5
+    ∷ convert_answer true [] 5
+    ∷ convert_answer true (word_of 1 33 ∷ []) 0
     ∷ [])
     ≡ (written 5 ∷ refusal 57 0 ∷ refusal 1 0 ∷ refusal 1 0 ∷ refusal 3 0 ∷ [])
-unfolding direct convertAnswer answer convertible readAs rekinded reading scan fault first_of tests has missing keep next under names_of limit limitsByKind parts partsByKind
+unfolding direct convert_answer answer convertible read_as rekinded reading scan fault first_of tests has missing keep next under names_of limit limits_by_kind parts parts_by_kind
 up = refl
 
 -- down: direct made wide, without room, narrow already, and no word; then a name over 31 in a word of kind 19, and in one of kind 2
 -- before it; name 31; and a name that no wide table has
 pub down : (
-    convertAnswer false (widened direct) 5
-    ∷ convertAnswer false (widened direct) 4
-    ∷ convertAnswer false direct 5
-    ∷ convertAnswer false [] 5
-    ∷ convertAnswer false (alone 5 31 (word_of 19 32 ∷ [])) 5
-    ∷ convertAnswer false (alone 5 32 (word_of 19 32 ∷ [])) 0
-    ∷ convertAnswer false (alone 5 31 (word_of 19 31 ∷ [])) 5
-    ∷ convertAnswer false (alone 5 64 (word_of 19 32 ∷ [])) 0
+    convert_answer false (widened direct) 5
+    ∷ convert_answer false (widened direct) 4
+    ∷ convert_answer false direct 5
+    ∷ convert_answer false [] 5
+    ∷ convert_answer false (alone 5 31 (word_of 19 32 ∷ [])) 5
+    ∷ convert_answer false (alone 5 32 (word_of 19 32 ∷ [])) 0
+    ∷ convert_answer false (alone 5 31 (word_of 19 31 ∷ [])) 5
+    ∷ convert_answer false (alone 5 64 (word_of 19 32 ∷ [])) 0
     ∷ [])
     ≡ (written 5 ∷ refusal 57 0 ∷ refusal 1 0 ∷ refusal 1 0 ∷ refusal 56 4 ∷ refusal 56 1 ∷ written 5 ∷ refusal 5 1 ∷ [])
-unfolding direct convertAnswer answer convertible narrowable fitsNarrow namesFit wideName readAs rekinded reading scan fault first_of tests has missing keep next under names_of limit limitsByKind parts partsByKind
+unfolding direct convert_answer answer convertible narrowable fits_narrow names_fit wide_name read_as rekinded reading scan fault first_of tests has missing keep next under names_of limit limits_by_kind parts parts_by_kind
 down = refl
 
 -- 33 handlers, also where their name is over 31; and 32
 pub many : (
-    convertAnswer false (word_of 5 33 ∷ handlers 0 33) 0
-    ∷ convertAnswer false (word_of 5 33 ∷ handlers 32 33) 0
-    ∷ convertAnswer false (word_of 5 32 ∷ handlers 0 32) 129
+    convert_answer false (word_of 5 33 ∷ handlers 0 33) 0
+    ∷ convert_answer false (word_of 5 33 ∷ handlers 32 33) 0
+    ∷ convert_answer false (word_of 5 32 ∷ handlers 0 32) 129
     ∷ [])
     ≡ (refusal 55 0 ∷ refusal 55 0 ∷ written 129 ∷ [])
-unfolding handlers convertAnswer answer convertible narrowable fitsNarrow namesFit wideName readAs rekinded reading scan fault first_of tests has missing keep next under names_of limit limitsByKind parts partsByKind
+unfolding handlers convert_answer answer convertible narrowable fits_narrow names_fit wide_name read_as rekinded reading scan fault first_of tests has missing keep next under names_of limit limits_by_kind parts parts_by_kind
 many = refl

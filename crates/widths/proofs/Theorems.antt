@@ -10,14 +10,14 @@ use lib.Dec.{ltb}
 use lib.ListN.{length, get_or, take, drop}
 use lib.Seq.{take_at}
 use Rattle.table.specs.Words.{kind, argument, word_of, narrow, wide}
-use Rattle.table.specs.Scan.{Outcome, head, accepted, refused, names_at, reading, narrowReading}
+use Rattle.table.specs.Scan.{Outcome, head, accepted, refused, names_at, reading, narrow_reading}
 use Rattle.table.proofs.Faults.{stands}
 use Rattle.table.proofs.Stack.{refused-not-accepted, at-start, at-step}
 use Rattle.table.proofs.Widths.{narrow-names, narrow-accepted, narrow-kind}
 use Rattle.table.proofs.Blocks.{head-word}
 use Rattle.table.proofs.Limits.{size-le}
-use Rattle.widths.specs.Converters.{rekinded, widened, narrowed, readAs, namesFit, fitsNarrow, narrowable, Answer, written, refusal}
-use Rattle.widths.specs.Converters.{kindFor, converted, convertible, answer, outAfter, convertAnswer, convertOut}
+use Rattle.widths.specs.Converters.{rekinded, widened, narrowed, read_as, names_fit, fits_narrow, narrowable, Answer, written, refusal}
+use Rattle.widths.specs.Converters.{kind_for, converted, convertible, answer, out_after, convert_answer, convert_out}
 use Rattle.widths.proofs.Words.{length-kept, first_word, kind-given, argument-kept}
 use Rattle.widths.proofs.Codes.{some_words, names-widened, names-narrowed}
 use Rattle.widths.proofs.Refusals.{of-kind, accepted-kind, few-handlers}
@@ -46,14 +46,14 @@ module _ (k : ℕ) (o : (k ≡ 1) ⊎ (k ≡ 5)) (ws : List ℕ) (e : reading ws
   handlers-kept : argument (get_or (rekinded k ws) 0 0) ≡ argument (get_or ws 0 0)
   handlers-kept = ap argument first ∙ argument-kept k (get_or ws 0 0)
 
-  rekinded-accepted : (n : ℕ) → names_at (rekinded k ws) ≡ n → argument (get_or ws 0 0) ≤ n → AllNamed n ws → readAs k (rekinded k ws) ≡ accepted
+  rekinded-accepted : (n : ℕ) → names_at (rekinded k ws) ≡ n → argument (get_or ws 0 0) ≤ n → AllNamed n ws → read_as k (rekinded k ws) ≡ accepted
   rekinded-accepted n m h a =
       of-kind k (rekinded k ws) (ap kind first ∙ kind-given k (get_or ws 0 0))
       ∙ reading-kept k o ws (subst (λ (x : ℕ). argument (get_or ws 0 0) ≤ x) (sym m) h) (subst (λ (x : ℕ). AllNamed x ws) (sym m) a) e
 
 -- ---- a narrow table made wide
 
-module _ (ws : List ℕ) (e : readAs 1 ws ≡ accepted) where
+module _ (ws : List ℕ) (e : read_as 1 ws ≡ accepted) where
   abbrev readable : reading ws ≡ accepted
   readable = (accepted-kind 1 ws e).1
 
@@ -67,7 +67,7 @@ module _ (ws : List ℕ) (e : readAs 1 ws ≡ accepted) where
   all_named = subst (λ (n : ℕ). AllNamed n ws) names-are (reading-named ws readable)
 
   -- what `widen` writes is a wide table
-  pub widened-accepted : readAs 5 (widened ws) ≡ accepted
+  pub widened-accepted : read_as 5 (widened ws) ≡ accepted
   widened-accepted =
       let h = few in
       rekinded-accepted 5 (inr refl) ws readable wide (names-widened ws (some_words ws readable)) (omega arith)
@@ -87,16 +87,16 @@ module _ (ws : List ℕ) (e : readAs 1 ws ≡ accepted) where
 -- ---- a wide table made narrow
 
 record Fits (ws : List ℕ) : Type 0 where
-  read : readAs 5 ws ≡ accepted
+  read : read_as 5 ws ≡ accepted
   few : argument (get_or ws 0 0) ≤ narrow
-  named : namesFit ws 0 ≡ accepted
+  named : names_fit ws 0 ≡ accepted
 
 fits : (ws : List ℕ) → narrowable ws ≡ accepted → Fits ws
-unfolding narrowable fitsNarrow
-fits ws = go (readAs 5 ws) (ltb narrow (argument (get_or ws 0 0))) refl (ltb-false narrow (argument (get_or ws 0 0)))
+unfolding narrowable fits_narrow
+fits ws = go (read_as 5 ws) (ltb narrow (argument (get_or ws 0 0))) refl (ltb-false narrow (argument (get_or ws 0 0)))
   where
-    go : (o : Outcome) (b : Bool) → readAs 5 ws ≡ o → (b ≡ false → argument (get_or ws 0 0) ≤ narrow)
-        → elim o [ refused n p ↦ refused n p | accepted ↦ elim b [ true ↦ refused 55 0 | false ↦ namesFit ws 0 ] ] ≡ accepted → Fits ws
+    go : (o : Outcome) (b : Bool) → read_as 5 ws ≡ o → (b ≡ false → argument (get_or ws 0 0) ≤ narrow)
+        → elim o [ refused n p ↦ refused n p | accepted ↦ elim b [ true ↦ refused 55 0 | false ↦ names_fit ws 0 ] ] ≡ accepted → Fits ws
     go (refused n p) b r f e = absurd (refused-not-accepted e)
     go accepted true r f e = absurd (refused-not-accepted e)
     go accepted false r f e = record { read = r; few = f refl; named = e }
@@ -106,7 +106,7 @@ module _ (ws : List ℕ) (e : narrowable ws ≡ accepted) where
   wide-table = accepted-kind 5 ws (fits ws e).read
 
   -- what `narrow` writes is a narrow table
-  pub narrowed-accepted : readAs 1 (narrowed ws) ≡ accepted
+  pub narrowed-accepted : read_as 1 (narrowed ws) ≡ accepted
   narrowed-accepted =
       let r = wide-table.1 in
       let f = fits ws e in
@@ -119,7 +119,7 @@ module _ (ws : List ℕ) (e : narrowable ws ≡ accepted) where
 -- ---- the two calls
 
 -- every accepted narrow table is one that `widen` takes
-pub narrow-table : (ws : List ℕ) → narrowReading ws ≡ accepted → readAs 1 ws ≡ accepted
+pub narrow-table : (ws : List ℕ) → narrow_reading ws ≡ accepted → read_as 1 ws ≡ accepted
 narrow-table ws e =
     let r = (narrow-accepted ws e).0 in
     let t = head (length ws) in
@@ -127,12 +127,12 @@ narrow-table ws e =
     of-kind 1 ws (⊎_elim (λ h. h) (λ h. absurd (narrow-kind ws e h)) s.0) ∙ r
 
 -- `narrow` after `widen` is refused for its room alone, and so is `widen` after `narrow`
-pub narrow-after-widen : (ws : List ℕ) (room : ℕ) → readAs 1 ws ≡ accepted → convertAnswer false (widened ws) room ≡ answer accepted (length ws) room
-unfolding convertAnswer convertible
+pub narrow-after-widen : (ws : List ℕ) (room : ℕ) → read_as 1 ws ≡ accepted → convert_answer false (widened ws) room ≡ answer accepted (length ws) room
+unfolding convert_answer convertible
 narrow-after-widen ws room e = rw (widened-narrowable ws e, length-kept 5 ws)
 
-pub widen-after-narrow : (ws : List ℕ) (room : ℕ) → narrowable ws ≡ accepted → convertAnswer true (narrowed ws) room ≡ answer accepted (length ws) room
-unfolding convertAnswer convertible
+pub widen-after-narrow : (ws : List ℕ) (room : ℕ) → narrowable ws ≡ accepted → convert_answer true (narrowed ws) room ≡ answer accepted (length ws) room
+unfolding convert_answer convertible
 widen-after-narrow ws room e = rw (narrowed-accepted ws e, length-kept 1 ws)
 
 -- A call that is not refused had a table that could be converted; as many words were written as it has, and there was room.
@@ -148,25 +148,25 @@ answer-written accepted words room n e = go (ltb room words) (ltb-false room wor
 
 -- what can be converted was accepted as a table of the other width, and is then one of this width
 pub converted-accepted : (wide : Bool) (ws : List ℕ) → convertible wide ws ≡ accepted
-    → (reading ws ≡ accepted) × (readAs (kindFor wide) (converted wide ws) ≡ accepted)
+    → (reading ws ≡ accepted) × (read_as (kind_for wide) (converted wide ws) ≡ accepted)
 unfolding convertible
 converted-accepted true ws e = ((accepted-kind 1 ws e).1, widened-accepted ws e)
 converted-accepted false ws e = ((wide-table ws e).1, narrowed-accepted ws e)
 
-module _ (wide : Bool) (ws out : List ℕ) (n : ℕ) (e : convertAnswer wide ws (length out) ≡ written n) where
+module _ (wide : Bool) (ws out : List ℕ) (n : ℕ) (e : convert_answer wide ws (length out) ≡ written n) where
   unfoldable done : (convertible wide ws ≡ accepted) × (n ≡ length ws) × (length ws ≤ length out)
-  unfolding convertAnswer
+  unfolding convert_answer
   done = answer-written (convertible wide ws) (length ws) (length out) n e
 
   -- the output starts with the converted words
-  pub converted-written : take n (convertOut wide ws out) ≡ converted wide ws
-  unfolding convertOut outAfter
+  pub converted-written : take n (convert_out wide ws out) ≡ converted wide ws
+  unfolding convert_out out_after
   converted-written =
-      ap (λ (a : Answer). take n (outAfter a (converted wide ws) out)) e
-      ∙ take_at (converted wide ws) (drop n out) n (length-kept (kindFor wide) ws ∙ sym done.1)
+      ap (λ (a : Answer). take n (out_after a (converted wide ws) out)) e
+      ∙ take_at (converted wide ws) (drop n out) n (length-kept (kind_for wide) ws ∙ sym done.1)
 
   -- which are a table of this width
-  pub written-accepted : readAs (kindFor wide) (converted wide ws) ≡ accepted
+  pub written-accepted : read_as (kind_for wide) (converted wide ws) ≡ accepted
   written-accepted = (converted-accepted wide ws done.0).1
 
   pub written-few : n ≤ 1024

@@ -5,7 +5,7 @@ use Prim.Native.Nat.{ℕ, zero, suc, ◌<◌}
 use native.Mathlib.Omega.{arith}
 use lib.ListN.{length, get_or}
 use Rattle.table.specs.Words.{kind, argument, word_of}
-use Rattle.table.proofs.TermWords.{argument-lt, argument-wordOf, kind-wordOf}
+use Rattle.table.proofs.TermWords.{argument-lt, argument-word_of, kind-word_of}
 use Rattle.widths.specs.Converters.{rekinded}
 
 module _ (k : ℕ) where
@@ -27,7 +27,7 @@ module _ (k : ℕ) where
   later-word (w ∷ ws) (suc p) h = refl
 
   pub kind-given : (w : ℕ) → kind (word_of k (argument w)) ≡ k
-  kind-given w = kind-wordOf k (argument w) (argument-lt w)
+  kind-given w = kind-word_of k (argument w) (argument-lt w)
 
   pub argument-kept : (w : ℕ) → argument (word_of k (argument w)) ≡ argument w
-  argument-kept w = argument-wordOf k (argument w) (argument-lt w)
+  argument-kept w = argument-word_of k (argument w) (argument-lt w)

@@ -10,22 +10,22 @@ use Rattle.widths.specs.declared.Checked.{Checked}
 use Rattle.widths.specs.declared.Checked.TheVariants as checks
 use Rattle.widths.specs.Converters.{Answer, written, refusal}
 
-unfoldable pub faultNumber : Fault → ℕ
-faultNumber (faults.Table r) = number r
-faultNumber faults.TooManyHandlers = 55
-faultNumber (faults.WideName p) = 56
-faultNumber faults.ShortOutput = 57
+unfoldable pub fault_number : Fault → ℕ
+fault_number (faults.Table r) = number r
+fault_number faults.TooManyHandlers = 55
+fault_number (faults.WideName p) = 56
+fault_number faults.ShortOutput = 57
 
-unfoldable pub faultPlace : Fault → ℕ
-faultPlace (faults.Table r) = place r
-faultPlace faults.TooManyHandlers = 0
-faultPlace (faults.WideName p) = p
-faultPlace faults.ShortOutput = 0
+unfoldable pub fault_place : Fault → ℕ
+fault_place (faults.Table r) = place r
+fault_place faults.TooManyHandlers = 0
+fault_place (faults.WideName p) = p
+fault_place faults.ShortOutput = 0
 
-unfoldable pub convertedAs : Converted → Answer
-convertedAs (conversions.Words n) = written n
-convertedAs (conversions.Refused f) = refusal (faultNumber f) (faultPlace f)
+unfoldable pub converted_as : Converted → Answer
+converted_as (conversions.Words n) = written n
+converted_as (conversions.Refused f) = refusal (fault_number f) (fault_place f)
 
-unfoldable pub checkedAs : Checked → Outcome
-checkedAs checks.Accepted = accepted
-checkedAs (checks.Refused f) = refused (faultNumber f) (faultPlace f)
+unfoldable pub checked_as : Checked → Outcome
+checked_as checks.Accepted = accepted
+checked_as (checks.Refused f) = refused (fault_number f) (fault_place f)

@@ -1,7 +1,7 @@
 // The converters.
 ghost use Rattle.std.specs.Prelude.{◌≡◌, true, false, ◌++◌, ◌<◌, ◌≤◌, length, get_or, drop};
-ghost use Rattle.widths.specs.Converters.{rekinded, answer, outAfter, convertAnswer, convertOut};
-ghost use Rattle.widths.specs.Answers.{convertedAs, checkedAs};
+ghost use Rattle.widths.specs.Converters.{rekinded, answer, out_after, convert_answer, convert_out};
+ghost use Rattle.widths.specs.Answers.{converted_as, checked_as};
 
 use crate::fit::{check_narrow, read_as};
 use crate::{Checked, Converted, Fault};
@@ -35,8 +35,8 @@ fn copy_as(words: &[u32], kind: u32, out: &mut [u32])
 // The words of a checked table, of which word 0 has the kind.
 fn put(words: &[u32], checked: Checked, kind: u32, out: &mut [u32]) -> Converted
     requires { kind ≤ 255 }
-    ensures answer { convertedAs result ≡ answer (checkedAs checked) (length words.now) (length out.old) }
-    ensures out { out.new ≡ outAfter (answer (checkedAs checked) (length words.now) (length out.old))
+    ensures answer { converted_as result ≡ answer (checked_as checked) (length words.now) (length out.old) }
+    ensures out { out.new ≡ out_after (answer (checked_as checked) (length words.now) (length out.old))
         (rekinded kind words.now) out.old }
 {
     if let Checked::Refused(f) = checked {
@@ -51,8 +51,8 @@ fn put(words: &[u32], checked: Checked, kind: u32, out: &mut [u32]) -> Converted
 
 // A narrow table made wide, or a wide one made narrow.
 pub fn convert(wide: bool, words: &[u32], out: &mut [u32]) -> Converted
-    ensures answer { convertedAs result ≡ convertAnswer wide words.now (length out.old) }
-    ensures out { out.new ≡ convertOut wide words.now out.old }
+    ensures answer { converted_as result ≡ convert_answer wide words.now (length out.old) }
+    ensures out { out.new ≡ convert_out wide words.now out.old }
 {
     if wide {
         put(words, read_as(words, 1), 5, out)
@@ -63,16 +63,16 @@ pub fn convert(wide: bool, words: &[u32], out: &mut [u32]) -> Converted
 
 // A narrow table made wide.
 pub fn widen(words: &[u32], out: &mut [u32]) -> Converted
-    ensures answer { convertedAs result ≡ convertAnswer true words.now (length out.old) }
-    ensures out { out.new ≡ convertOut true words.now out.old }
+    ensures answer { converted_as result ≡ convert_answer true words.now (length out.old) }
+    ensures out { out.new ≡ convert_out true words.now out.old }
 {
     convert(true, words, out)
 }
 
 // A wide table made narrow.
 pub fn narrow(words: &[u32], out: &mut [u32]) -> Converted
-    ensures answer { convertedAs result ≡ convertAnswer false words.now (length out.old) }
-    ensures out { out.new ≡ convertOut false words.now out.old }
+    ensures answer { converted_as result ≡ convert_answer false words.now (length out.old) }
+    ensures out { out.new ≡ convert_out false words.now out.old }
 {
     convert(false, words, out)
 }

@@ -1,7 +1,7 @@
 // What a converter tests before it writes.
 ghost use Rattle.std.specs.Prelude.{◌≡◌};
-ghost use Rattle.widths.specs.Converters.{readAs, wideName, namesFit, narrowable};
-ghost use Rattle.widths.specs.Answers.{checkedAs};
+ghost use Rattle.widths.specs.Converters.{read_as, wide_name, names_fit, narrowable};
+ghost use Rattle.widths.specs.Answers.{checked_as};
 
 use crate::{Checked, Fault};
 use table::read::read;
@@ -9,7 +9,7 @@ use table::{Reading, Refusal, argument_of, kind_of};
 
 // The table, where one whose word 0 has another kind is refused.
 pub fn read_as(words: &[u32], kind: u32) -> Checked
-    ensures { checkedAs result ≡ readAs kind words.now }
+    ensures { checked_as result ≡ read_as kind words.now }
 {
     if words.len() == 0 {
         return Checked::Refused(Fault::Table(Refusal::NotTable));
@@ -25,7 +25,7 @@ pub fn read_as(words: &[u32], kind: u32) -> Checked
 
 // Whether a word has a name that no narrow table has.
 fn wide_name(w: u32) -> bool
-    ensures { result ≡ wideName w }
+    ensures { result ≡ wide_name w }
 {
     if argument_of(w) < 32 {
         return false;
@@ -36,7 +36,7 @@ fn wide_name(w: u32) -> bool
 
 // Whether a narrow table has the names of all words.
 fn names_fit(words: &[u32]) -> Checked
-    ensures { checkedAs result ≡ namesFit words.now 0 }
+    ensures { checked_as result ≡ names_fit words.now 0 }
 {
     let mut i = 0;
     while i < words.len() {
@@ -50,7 +50,7 @@ fn names_fit(words: &[u32]) -> Checked
 
 // Whether the words are a wide table that can be made narrow.
 pub fn check_narrow(words: &[u32]) -> Checked
-    ensures { checkedAs result ≡ narrowable words.now }
+    ensures { checked_as result ≡ narrowable words.now }
 {
     if let Checked::Refused(f) = read_as(words, 5) {
         return Checked::Refused(f);

@@ -6,7 +6,7 @@ pub mod numbers;
 use table::Refusal;
 
 // Why a converter refuses: the table, or a word 0 of the other kind; more handlers than a narrow table has, a name that it does not
-// have; or an output that is too short. `faultNumber` and `faultPlace` of specs/Answers.antt give each its number and place.
+// have; or an output that is too short. `fault_number` and `fault_place` of specs/Answers.antt give each its number and place.
 #[derive(Drop)]
 pub enum Fault {
     Table(Refusal),
@@ -15,7 +15,7 @@ pub enum Fault {
     ShortOutput,
 }
 
-// How many words were written, or why the table was refused. `convertedAs` of specs/Answers.antt says what each case means.
+// How many words were written, or why the table was refused. `converted_as` of specs/Answers.antt says what each case means.
 #[derive(Drop)]
 pub enum Converted {
     Words(usize),

@@ -1,4 +1,4 @@
-// What is chosen, put into a list of choices. A full list takes no more; `choiceWords` of specs/Memory.antt are enough for what an event calls for.
+// What is chosen, put into a list of choices. A full list takes no more; `choice_words` of specs/Memory.antt are enough for what an event calls for.
 ghost use Rattle.std.specs.Prelude.{◌<◌};
 
 use crate::memory::LIMIT;

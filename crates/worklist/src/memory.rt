@@ -1,4 +1,4 @@
-// Where the parts of a memory stand, which `memoryWords` of specs/Memory.antt lists, and how they are read and written.
+// Where the parts of a memory stand, which `memory_words` of specs/Memory.antt lists, and how they are read and written.
 ghost use Rattle.std.specs.Prelude.{◌≡◌, ◌+◌, ◌/◌, ◌<◌, ◌≤◌, length, get_or};
 
 use choices::word;

@@ -1,6 +1,6 @@
 // What the schedule sees of the table and the estimate.
 ghost use Rattle.std.specs.Prelude.{◌≡◌, ◌+◌, ◌<◌, max, length};
-ghost use Rattle.table.specs.Links.{linkAt};
+ghost use Rattle.table.specs.Links.{link_at};
 
 use crate::kinds;
 use crate::memory::{MOST, TURNS};
@@ -25,7 +25,7 @@ pub fn kind_within(words: &[u32], p: usize) -> u32
 
 // The binder of the word p and the word after the term at p are small, whatever the links say.
 pub fn link(links: &[u32], p: usize) -> Link
-    ensures { (result.end ≡ (linkAt links.now p).end) × (result.end < 2048) × (result.binder < 2048) }
+    ensures { (result.end ≡ (link_at links.now p).end) × (result.end < 2048) × (result.binder < 2048) }
 {
     link_at(links, p)
 }
@@ -33,7 +33,7 @@ pub fn link(links: &[u32], p: usize) -> Link
 // The word after the term at p, but later than p whatever the links say.
 pub fn past(links: &[u32], p: usize) -> usize
     requires { p < 4096 }
-    ensures { result ≡ max (p + 1) (linkAt links.now p).end }
+    ensures { result ≡ max (p + 1) (link_at links.now p).end }
 {
     let e = link(links, p).end;
     if p < e { e } else { p + 1 }

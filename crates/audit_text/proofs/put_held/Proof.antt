@@ -1,13 +1,13 @@
 -- `audit_text::put_held` meets its contract. Assumes nothing.
 use native.Mathlib.Omega.{arith}
 use Rattle.text.proofs.Adding.{added_then}
-use Rattle.audit_text.specs.Text.{lackText}
+use Rattle.audit_text.specs.Text.{lack_text}
 use borrow.Author.Rules.{rules}
 use Rattle.audit_text.proofs.put_held.Statement.{statement}
 use Rattle.audit_text.proofs.put_held.Tie as tie
 
 returns : tie.Need-returns
-unfolding lackText
+unfolding lack_text
 returns c =
     let f = c.before.before.before.before.before.before.before.before.before.before.before.before.add-number.ensures in let s = c.before.before.before.before.before.before.before.add-number2.ensures in let e = c.before.before.put-room.ensures in
     (added_then (added_then f.0 s.0) e, omega (arith, f.1, s.1, e.ends))

@@ -1,22 +1,22 @@
 -- `audit_text::put_lack` meets its contract. Assumes nothing.
 use mathlib.Core.Path.{sym, ap}
 use Rattle.text.proofs.Adding.{added-as}
-use Rattle.audit_text.specs.Text.{lackText}
+use Rattle.audit_text.specs.Text.{lack_text}
 use borrow.Author.Rules.{rules}
 use Rattle.audit_text.proofs.put_lack.Statement.{statement}
 use Rattle.audit_text.proofs.put_lack.Tie as tie
 
 returns : tie.Need-returns
-returns c = let r = c.before.before.put-value.ensures in (added-as (sym (ap lackText c.before.before.before.before.before.l.given.1)) r.0, r.1)
+returns c = let r = c.before.before.put-value.ensures in (added-as (sym (ap lack_text c.before.before.before.before.before.l.given.1)) r.0, r.1)
 
 returns-2 : tie.Need-returns-2
-returns-2 c = let r = c.before.before.put-held.ensures in (added-as (sym (ap lackText c.before.before.before.before.before.l2.given.1)) r.0, r.1)
+returns-2 c = let r = c.before.before.put-held.ensures in (added-as (sym (ap lack_text c.before.before.before.before.before.l2.given.1)) r.0, r.1)
 
 returns-3 : tie.Need-returns-3
-returns-3 c = let r = c.before.before.put-permissions.ensures in (added-as (sym (ap lackText c.before.before.before.before.before.l3.given.1)) r.0, r.1)
+returns-3 c = let r = c.before.before.put-permissions.ensures in (added-as (sym (ap lack_text c.before.before.before.before.before.l3.given.1)) r.0, r.1)
 
 returns-4 : tie.Need-returns-4
-returns-4 c = let r = c.before.before.put-live.ensures in (added-as (sym (ap lackText c.before.before.before.before.before.l4.given.1)) r.0, r.1)
+returns-4 c = let r = c.before.before.put-live.ensures in (added-as (sym (ap lack_text c.before.before.before.before.before.l4.given.1)) r.0, r.1)
 
 pub put-lack-spec : {M : Type 1} → statement M
 put-lack-spec =

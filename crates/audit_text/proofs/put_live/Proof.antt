@@ -1,13 +1,13 @@
 -- `audit_text::put_live` meets its contract. Assumes nothing.
 use native.Mathlib.Omega.{arith}
 use Rattle.text.proofs.Adding.{added_then}
-use Rattle.audit_text.specs.Text.{lackText}
+use Rattle.audit_text.specs.Text.{lack_text}
 use borrow.Author.Rules.{rules}
 use Rattle.audit_text.proofs.put_live.Statement.{statement}
 use Rattle.audit_text.proofs.put_live.Tie as tie
 
 returns : tie.Need-returns
-unfolding lackText
+unfolding lack_text
 returns c =
     let f = c.before.before.before.before.before.before.before.add-number.ensures in let e = c.before.before.put-room.ensures in
     (added_then f.0 e, omega (arith, f.1, e.ends))

@@ -1,13 +1,13 @@
 -- `audit_text::put_obeys` meets its contract. Assumes nothing.
 use native.Mathlib.Omega.{arith}
 use Rattle.text.proofs.Adding.{added_then}
-use Rattle.audit_text.specs.Text.{obeysText}
+use Rattle.audit_text.specs.Text.{obeys_text}
 use borrow.Author.Rules.{rules}
 use Rattle.audit_text.proofs.put_obeys.Statement.{statement}
 use Rattle.audit_text.proofs.put_obeys.Tie as tie
 
 returns : tie.Need-returns
-unfolding obeysText
+unfolding obeys_text
 returns c =
     let f = c.before.before.before.before.before.before.before.before.before.before.before.before.add-set.ensures in
     let s = c.before.before.before.before.before.before.before.add-set2.ensures in let e = c.before.before.put-room.ensures in

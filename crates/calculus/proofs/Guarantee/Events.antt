@@ -10,8 +10,8 @@ use Rattle.permset.specs.Sets.{member}
 use Rattle.table.specs.Code.{Code, Linked}
 use Rattle.calculus.specs.Constraint.{Sets}
 use Rattle.delivery.specs.Delivery.{delivered}
-use Rattle.calculus.specs.Rules.{Estimate, leakOf, permsOf, guarded, deliveryTo}
-use Rattle.calculus.specs.Values.{Value, plain, sentAs, datum}
+use Rattle.calculus.specs.Rules.{Estimate, leak_of, perms_of, guarded, delivery_to}
+use Rattle.calculus.specs.Values.{Value, plain, sent_as, datum}
 use Rattle.calculus.specs.Machine.{Effect, silent, exercises, sends, Move, stay, go, step}
 use Rattle.calculus.specs.Run.{Instance, running, World, world, nothing, Event, steps, starts, started, joined, sent, effect, moved, stepped, act}
 use Rattle.calculus.specs.Run.{after, run, exercised}
@@ -56,12 +56,12 @@ module _ (c : Code) (linked : Linked c) (ρ : ℕ) (e : Sets) (est : Estimate c 
       → Every is
       → GoodSets c ρ e rs
       → GoodWorld c ρ e before
-      → GoodWorld c ρ e (sent c (permsOf (c.node h)) r n v choice is rs before)
+      → GoodWorld c ρ e (sent c (perms_of (c.node h)) r n v choice is rs before)
   unfolding sent
   sent-good h r n v none is rs before k g s w = (g, s)
   sent-good h r n v (some b) is rs before k g s w =
-      starts-good (plain (sentAs v) && delivered (deliveryTo n r (permsOf (c.node h)) (c.node b))) is rs (started (permsOf (c.node b)) b (sentAs v)) before
-      (λ t. let p = both (plain (sentAs v)) (delivered (deliveryTo n r (permsOf (c.node h)) (c.node b))) t in k b p.0 p.1)
+      starts-good (plain (sent_as v) && delivered (delivery_to n r (perms_of (c.node h)) (c.node b))) is rs (started (perms_of (c.node b)) b (sent_as v)) before
+      (λ t. let p = both (plain (sent_as v)) (delivered (delivery_to n r (perms_of (c.node h)) (c.node b))) t in k b p.0 p.1)
       g
       s
       w
@@ -70,7 +70,7 @@ module _ (c : Code) (linked : Linked c) (ρ : ℕ) (e : Sets) (est : Estimate c 
       → Every is
       → GoodSets c ρ e rs
       → GoodWorld c ρ e before
-      → GoodWorld c ρ e (effect c (permsOf (c.node h)) f choice is rs before)
+      → GoodWorld c ρ e (effect c (perms_of (c.node h)) f choice is rs before)
   unfolding effect
   effect-good h silent choice is rs before k g s w = (g, s)
   effect-good h (exercises r) choice is rs before k g s w = (g, (k, s))
@@ -78,11 +78,11 @@ module _ (c : Code) (linked : Linked c) (ρ : ℕ) (e : Sets) (est : Estimate c 
 
   moved-good : (h i : ℕ) (choice : Option ℕ) (m : Move) (is : List Instance) (rs : List ℕ) → GoodMove c ρ e h m → Every is
       → GoodSets c ρ e rs
-      → GoodWorld c ρ e (moved c (permsOf (c.node h)) i choice m is rs)
+      → GoodWorld c ρ e (moved c (perms_of (c.node h)) i choice m is rs)
   unfolding moved
   moved-good h i choice stay is rs k g s = (g, s)
   moved-good h i choice (go f l fs cs) is rs k g s =
-      let x = running (permsOf (c.node h)) l fs cs in
+      let x = running (perms_of (c.node h)) l fs cs in
       effect-good h f choice (set is i x) rs (world is rs) k.0 (set-instance is i x (h, refl, k.1) g) s (g, s)
 
   stepped-good : (i : ℕ) (choice : Option ℕ) (o : Option Instance) (is : List Instance) (rs : List ℕ) → One o → Every is
@@ -93,13 +93,13 @@ module _ (c : Code) (linked : Linked c) (ρ : ℕ) (e : Sets) (est : Estimate c 
   stepped-good i choice (some (running held l fs cs)) is rs k g s =
       let h = k.0 in
       subst (λ (a : ℕ). GoodWorld c ρ e (moved c a i choice (step c a l fs cs) is rs)) (sym k.1)
-      (moved-good h i choice (step c (permsOf (c.node h)) l fs cs) is rs (step-good c linked ρ e est h l fs cs k.2) g s)
+      (moved-good h i choice (step c (perms_of (c.node h)) l fs cs) is rs (step-good c linked ρ e est h l fs cs k.2) g s)
 
   act-good : (w : World) (x : Event) → GoodWorld c ρ e w → GoodWorld c ρ e (act c ρ w x)
   unfolding act
   act-good (world is rs) (steps i choice) g = stepped-good i choice (get_elem? is i) is rs (get-instance is i g.0) g.0 g.1
   act-good (world is rs) (starts b v) g =
-      starts-good (datum v c.names && guarded (c.node b) ρ) is rs (started (permsOf (c.node b)) b v) (world is rs)
+      starts-good (datum v c.names && guarded (c.node b) ρ) is rs (started (perms_of (c.node b)) b v) (world is rs)
       (λ t. let p = both (datum v c.names) (guarded (c.node b) ρ) t in opponent-good c linked ρ e est b v p.1 p.0)
       g.0
       g.1
@@ -115,10 +115,10 @@ module _ (c : Code) (linked : Linked c) (ρ : ℕ) (e : Sets) (est : Estimate c 
   run-good es = after-good es nothing (tt, tt)
 
   -- every set that a good world has exercised is in the leak
-  listed : (rs : List ℕ) → GoodSets c ρ e rs → (r x : ℕ) → Memᴰ r rs → T (member r x) → leakOf c ρ e x
+  listed : (rs : List ℕ) → GoodSets c ρ e rs → (r x : ℕ) → Memᴰ r rs → T (member r x) → leak_of c ρ e x
   listed (q ∷ rs) g r x (Memᴰ.head k) m = g.0 x (subst (λ (y : ℕ). T (member y x)) k m)
   listed (q ∷ rs) g r x (Memᴰ.tail k) m = listed rs g.1 r x k m
 
-  pub exercised-good : (w : World) → GoodWorld c ρ e w → (r x : ℕ) → Memᴰ r (exercised w) → T (member r x) → leakOf c ρ e x
+  pub exercised-good : (w : World) → GoodWorld c ρ e w → (r x : ℕ) → Memᴰ r (exercised w) → T (member r x) → leak_of c ρ e x
   unfolding exercised
   exercised-good (world is rs) g r x k m = listed rs g.1 r x k m

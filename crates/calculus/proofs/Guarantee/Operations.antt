@@ -11,21 +11,21 @@ use lib.Signed.{lt_z}
 use Rattle.table.specs.declared.Constant.TheVariants as constants
 use Rattle.table.specs.declared.Operation.{Operation}
 use Rattle.table.specs.declared.Operation.TheVariants as operations
-use Rattle.table.specs.Words.{literals, constantNumber}
+use Rattle.table.specs.Words.{literals, constant_number}
 use Rattle.table.specs.Code.{Code}
 use Rattle.calculus.specs.Constraint.{Sets}
 use Rattle.calculus.specs.Elements as E
-use Rattle.calculus.specs.Elements.{constantElement, isSign, signPlace, sumSigns, lessSigns, bySigns, comparable, isMany}
-use Rattle.calculus.specs.Elements.{equalResults, results}
+use Rattle.calculus.specs.Elements.{constant_element, is_sign, sign_place, sum_signs, less_signs, by_signs, comparable, is_many}
+use Rattle.calculus.specs.Elements.{equal_results, results}
 use Rattle.calculus.specs.Values.{Atom, constant, number, text, named, known, truth}
-use Rattle.calculus.specs.Values.{onNumber, sameNumber, same, operate}
+use Rattle.calculus.specs.Values.{on_number, same_number, same, operate}
 use Rattle.calculus.proofs.Digits.{T_and}
-use Rattle.calculus.proofs.Guarantee.Relation.{sign_of, stringElement, textElement, element, In, Found}
+use Rattle.calculus.proofs.Guarantee.Relation.{sign_of, string_element, text_element, element, In, Found}
 use Rattle.calculus.proofs.Guarantee.Values.{below}
 
-abbrev truthElement : Bool → ℕ
-truthElement true = E.truth
-truthElement false = E.falsehood
+abbrev truth_element : Bool → ℕ
+truth_element true = E.truth
+truth_element false = E.falsehood
 
 -- ---- signs
 
@@ -34,15 +34,15 @@ any_sign (pos zero) = Memᴰ.tail (Memᴰ.head refl)
 any_sign (pos (suc n)) = Memᴰ.tail (Memᴰ.tail (Memᴰ.head refl))
 any_sign (negsuc n) = Memᴰ.head refl
 
-any-truth : (t : Bool) → Memᴰ (truthElement t) (E.truth ∷ E.falsehood ∷ [])
+any-truth : (t : Bool) → Memᴰ (truth_element t) (E.truth ∷ E.falsehood ∷ [])
 any-truth true = Memᴰ.head refl
 any-truth false = Memᴰ.tail (Memᴰ.head refl)
 
 zero-less : (n : ℕ) → ltb zero (suc n) ≡ true
 zero-less n = rw (leb-suc-suc zero n, leb-zero n)
 
-sum-sign : (y z : ℤ) → Memᴰ (sign_of (y +ℤ z)) (bySigns sumSigns (sign_of y) (sign_of z))
-unfolding bySigns sumSigns isSign signPlace
+sum-sign : (y z : ℤ) → Memᴰ (sign_of (y +ℤ z)) (by_signs sum_signs (sign_of y) (sign_of z))
+unfolding by_signs sum_signs is_sign sign_place
 sum-sign (pos zero) (pos zero) = Memᴰ.head refl
 sum-sign (pos zero) (pos (suc n)) = Memᴰ.head (ap (λ (k : ℕ). sign_of (pos k)) (zero-add (suc n)))
 sum-sign (pos zero) (negsuc n) = Memᴰ.head (ap (λ (t : Bool). sign_of (cond t (negsuc (suc n - 1)) (pos (0 - suc n)))) (zero-less n))
@@ -53,12 +53,12 @@ sum-sign (negsuc m) (pos zero) = Memᴰ.head (ap (λ (t : Bool). sign_of (cond t
 sum-sign (negsuc m) (pos (suc n)) = any_sign (sub_ℕ (suc n) (suc m))
 sum-sign (negsuc m) (negsuc n) = Memᴰ.head refl
 
-less-sign : (y z : ℤ) → Memᴰ (truthElement (lt_z y z)) (bySigns lessSigns (sign_of y) (sign_of z))
-unfolding bySigns lessSigns isSign signPlace
+less-sign : (y z : ℤ) → Memᴰ (truth_element (lt_z y z)) (by_signs less_signs (sign_of y) (sign_of z))
+unfolding by_signs less_signs is_sign sign_place
 less-sign (pos zero) (pos zero) = Memᴰ.head refl
-less-sign (pos zero) (pos (suc n)) = Memᴰ.head (ap truthElement (zero-less n))
+less-sign (pos zero) (pos (suc n)) = Memᴰ.head (ap truth_element (zero-less n))
 less-sign (pos zero) (negsuc n) = Memᴰ.head refl
-less-sign (pos (suc m)) (pos zero) = Memᴰ.head (ap truthElement (leb-suc-zero (suc m)))
+less-sign (pos (suc m)) (pos zero) = Memᴰ.head (ap truth_element (leb-suc-zero (suc m)))
 less-sign (pos (suc m)) (pos (suc n)) = any-truth (ltb (suc m) (suc n))
 less-sign (pos (suc m)) (negsuc n) = Memᴰ.head refl
 less-sign (negsuc m) (pos zero) = Memᴰ.head refl
@@ -81,7 +81,7 @@ high (text n) = 31
 high (named n) = 32 + n
 
 bounds : (a : Atom) → (low a ≤ element a) × (element a ≤ high a)
-unfolding constantElement constantNumber
+unfolding constant_element constant_number
 bounds (constant constants.Undefined) = omega arith
 bounds (constant constants.Unit) = omega arith
 bounds (constant constants.True) = omega arith
@@ -92,62 +92,62 @@ bounds (number (negsuc n)) = omega arith
 bounds (text n) = go (ltb n literals) (ltb→lt n literals)
   where
     go : (t : Bool) → (T t → n < literals)
-        → (8 ≤ stringElement t n) × (stringElement t n ≤ 31)
+        → (8 ≤ string_element t n) × (string_element t n ≤ 31)
     go true f = omega (arith, f tt)
     go false f = omega arith
 bounds (named n) = omega arith
 
-same_number : (y z : ℤ) → T (sameNumber y z) → y ≡ z
-unfolding sameNumber
-same_number (pos m) (pos n) s = ap pos (eqb→eq m n s)
-same_number (pos m) (negsuc n) s = absurd s
-same_number (negsuc m) (pos n) s = absurd s
-same_number (negsuc m) (negsuc n) s = ap negsuc (eqb→eq m n s)
+same_number_lem : (y z : ℤ) → T (same_number y z) → y ≡ z
+unfolding same_number
+same_number_lem (pos m) (pos n) s = ap pos (eqb→eq m n s)
+same_number_lem (pos m) (negsuc n) s = absurd s
+same_number_lem (negsuc m) (pos n) s = absurd s
+same_number_lem (negsuc m) (negsuc n) s = ap negsuc (eqb→eq m n s)
 
 same-element : (a b : Atom) → T (same a b) → element a ≡ element b
-unfolding same constantElement
-same-element (constant j) (constant k) s = eqb→eq (constantNumber j) (constantNumber k) s
+unfolding same constant_element
+same-element (constant j) (constant k) s = eqb→eq (constant_number j) (constant_number k) s
 same-element (constant j) (number z) s = absurd s
 same-element (constant j) (text n) s = absurd s
 same-element (constant j) (named n) s = absurd s
 same-element (number y) (constant k) s = absurd s
-same-element (number y) (number z) s = ap sign_of (same_number y z s)
+same-element (number y) (number z) s = ap sign_of (same_number_lem y z s)
 same-element (number y) (text n) s = absurd s
 same-element (number y) (named n) s = absurd s
 same-element (text m) (constant k) s = absurd s
 same-element (text m) (number z) s = absurd s
-same-element (text m) (text n) s = ap textElement (eqb→eq m n s)
+same-element (text m) (text n) s = ap text_element (eqb→eq m n s)
 same-element (text m) (named n) s = absurd s
 same-element (named m) (constant k) s = absurd s
 same-element (named m) (number z) s = absurd s
 same-element (named m) (text n) s = absurd s
-same-element (named m) (named n) s = ap E.nameElement (eqb→eq m n s)
+same-element (named m) (named n) s = ap E.name_element (eqb→eq m n s)
 
 apart : (m n : ℕ) → T (not (eqb m n)) → m ≡ n → ⊥
 apart m n d q = T_not (eqb m n) d (subst (λ (x : ℕ). T (eqb m x)) q (eqb_refl m))
 
-many-numbers : (y z : ℤ) → T (not (sameNumber y z)) → sign_of y ≡ sign_of z → T (isMany (sign_of y))
-unfolding sameNumber isMany
+many-numbers : (y z : ℤ) → T (not (same_number y z)) → sign_of y ≡ sign_of z → T (is_many (sign_of y))
+unfolding same_number is_many
 many-numbers (pos zero) (pos zero) d q = absurd d
 many-numbers (pos zero) (pos (suc n)) d q = absurd (omega arith)
 many-numbers (pos zero) (negsuc n) d q = absurd (omega arith)
 many-numbers (pos (suc m)) z d q = tt
 many-numbers (negsuc m) z d q = tt
 
-many-texts : (m n : ℕ) → T (not (eqb m n)) → textElement m ≡ textElement n → T (isMany (textElement m))
-unfolding isMany
+many-texts : (m n : ℕ) → T (not (eqb m n)) → text_element m ≡ text_element n → T (is_many (text_element m))
+unfolding is_many
 many-texts m n d = go (ltb m literals) (ltb n literals)
   where
-    go : (s t : Bool) → stringElement s m ≡ stringElement t n
-        → T (isMany (stringElement s m))
+    go : (s t : Bool) → string_element s m ≡ string_element t n
+        → T (is_many (string_element s m))
     go true true q = absurd (apart m n d (omega arith))
     go true false q = absurd (omega arith)
     go false t q = tt
 
 -- different values with one element: the element stands for many
-many : (a b : Atom) → T (not (same a b)) → element a ≡ element b → T (isMany (element a))
-unfolding same constantElement
-many (constant j) (constant k) d q = absurd (apart (constantNumber j) (constantNumber k) d q)
+many : (a b : Atom) → T (not (same a b)) → element a ≡ element b → T (is_many (element a))
+unfolding same constant_element
+many (constant j) (constant k) d q = absurd (apart (constant_number j) (constant_number k) d q)
 many (constant j) (number z) d q = absurd (omega (arith, bounds (constant j), bounds (number z)))
 many (constant j) (text n) d q = absurd (omega (arith, bounds (constant j), bounds (text n)))
 many (constant j) (named n) d q = absurd (omega (arith, bounds (constant j)))
@@ -164,7 +164,7 @@ many (named m) (number z) d q = absurd (omega (arith, bounds (number z)))
 many (named m) (text n) d q = absurd (omega (arith, bounds (text n)))
 many (named m) (named n) d q = absurd (apart m n d (omega arith))
 
-seven : (a : Atom) → element a ≡ E.opponentRecord → ⊥
+seven : (a : Atom) → element a ≡ E.opponent_record → ⊥
 seven (constant k) q = omega (arith, bounds (constant k))
 seven (number z) q = omega (arith, bounds (number z))
 seven (text n) q = omega (arith, bounds (text n))
@@ -173,20 +173,20 @@ seven (named n) q = omega arith
 compares : (c : Code) (a : Atom) → T (known a c.names) → T (comparable c (element a))
 unfolding comparable
 compares c a k =
-    T_and (ltb (element a) (E.plain c)) (not (eqb (element a) E.opponentRecord)) (lt→ltb (element a) (E.plain c) (below c a k))
-    (not_T (eqb (element a) E.opponentRecord) (λ t. seven a (eqb→eq (element a) E.opponentRecord t)))
+    T_and (ltb (element a) (E.plain c)) (not (eqb (element a) E.opponent_record)) (lt→ltb (element a) (E.plain c) (below c a k))
+    (not_T (eqb (element a) E.opponent_record) (λ t. seven a (eqb→eq (element a) E.opponent_record t)))
 
 equal-element : (c : Code) (a b : Atom) → T (known a c.names) → T (known b c.names)
-    → Memᴰ (truthElement (same a b)) (equalResults c (element a) (element b))
-unfolding equalResults
+    → Memᴰ (truth_element (same a b)) (equal_results c (element a) (element b))
+unfolding equal_results
 equal-element c a b k l =
-    go (same a b) (comparable c (element a) && comparable c (element b)) (eqb (element a) (element b)) (isMany (element a))
+    go (same a b) (comparable c (element a) && comparable c (element b)) (eqb (element a) (element b)) (is_many (element a))
     (T_and (comparable c (element a)) (comparable c (element b)) (compares c a k) (compares c b l))
     (λ s. subst (λ (x : ℕ). T (eqb (element a) x)) (same-element a b s) (eqb_refl (element a)))
     (λ d q. many a b d (eqb→eq (element a) (element b) q))
   where
     go : (s t q m : Bool) → T t → (T s → T q) → (T (not s) → T q → T m)
-        → Memᴰ (truthElement s)
+        → Memᴰ (truth_element s)
         (elim t [
           | true ↦ elim q [ true ↦ elim m [ true ↦ E.truth ∷ E.falsehood ∷ [] | false ↦ E.truth ∷ [] ] | false ↦ E.falsehood ∷ [] ]
           | false ↦ []
@@ -201,8 +201,8 @@ equal-element c a b k l =
 
 -- ---- all three
 
-truth-in : (c : Code) (e : Sets) (h : ℕ) (ty : List ℕ) (t : Bool) (S : ℕ → Bool) → T (S (truthElement t)) → In c e h ty (truth t) S
-unfolding known constantElement constantNumber
+truth-in : (c : Code) (e : Sets) (h : ℕ) (ty : List ℕ) (t : Bool) (S : ℕ → Bool) → T (S (truth_element t)) → In c e h ty (truth t) S
+unfolding known constant_element constant_number
 truth-in c e h ty true S i = (tt, i)
 truth-in c e h ty false S i = (tt, i)
 
@@ -212,7 +212,7 @@ module _ (c : Code) (e : Sets) (h : ℕ) (ty : List ℕ) (S : ℕ → Bool) wher
 
   -- where S has each element that the operation gives on those of a and b, it has the result
   pub operate-in : (o : Operation) (a b : Atom) → T (known a c.names) → T (known b c.names) → Gives o a b → Found c e h ty (operate o a b) S
-  unfolding operate results onNumber known
+  unfolding operate results on_number known
   operate-in operations.Add (constant j) b k l g = tt
   operate-in operations.Add (text m) b k l g = tt
   operate-in operations.Add (named m) b k l g = tt
@@ -226,5 +226,5 @@ module _ (c : Code) (e : Sets) (h : ℕ) (ty : List ℕ) (S : ℕ → Bool) wher
   operate-in operations.Less (number y) (constant j) k l g = tt
   operate-in operations.Less (number y) (text n) k l g = tt
   operate-in operations.Less (number y) (named n) k l g = tt
-  operate-in operations.Less (number y) (number z) k l g = truth-in c e h ty (lt_z y z) S (g (truthElement (lt_z y z)) (less-sign y z))
-  operate-in operations.Equal a b k l g = truth-in c e h ty (same a b) S (g (truthElement (same a b)) (equal-element c a b k l))
+  operate-in operations.Less (number y) (number z) k l g = truth-in c e h ty (lt_z y z) S (g (truth_element (lt_z y z)) (less-sign y z))
+  operate-in operations.Equal a b k l g = truth-in c e h ty (same a b) S (g (truth_element (same a b)) (equal-element c a b k l))

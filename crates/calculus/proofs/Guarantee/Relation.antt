@@ -12,11 +12,11 @@ use Rattle.permset.specs.Sets.{member}
 use Rattle.table.specs.Words.{literals}
 use Rattle.table.specs.Code.{Code, Node, Leaf}
 use Rattle.calculus.specs.Constraint.{C, B, P, L, Sets}
-use Rattle.calculus.specs.Elements.{constantElement, literalElement, nameElement, negative, nought, positive}
-use Rattle.calculus.specs.Elements.{otherString, opponentRecord, made, makes, isRecord, isCell}
+use Rattle.calculus.specs.Elements.{constant_element, literal_element, name_element, negative, nought, positive}
+use Rattle.calculus.specs.Elements.{other_string, opponent_record, made, makes, is_record, is_cell}
 use Rattle.delivery.specs.Delivery.{delivered}
-use Rattle.calculus.specs.Rules.{leakOf, permsOf, deliveryTo}
-use Rattle.calculus.specs.Values.{Atom, constant, number, text, named, known, dataFields, plain, sentAs}
+use Rattle.calculus.specs.Rules.{leak_of, perms_of, delivery_to}
+use Rattle.calculus.specs.Values.{Atom, constant, number, text, named, known, data_fields, plain, sent_as}
 use Rattle.calculus.specs.Values.{Value, atom, function, fields, cell, Environment, closed, bound, Fields, empty, field}
 use Rattle.calculus.specs.Machine.{Control, eval, give, stopped, Frame, first, second, third, again}
 use Rattle.calculus.specs.Machine.{Effect, silent, exercises, sends, Move, stay, go}
@@ -31,18 +31,18 @@ sign_of (pos zero) = nought
 sign_of (pos (suc n)) = positive
 sign_of (negsuc n) = negative
 
-abbrev pub stringElement : Bool → ℕ → ℕ
-stringElement true n = literalElement n
-stringElement false n = otherString
+abbrev pub string_element : Bool → ℕ → ℕ
+string_element true n = literal_element n
+string_element false n = other_string
 
-abbrev pub textElement : ℕ → ℕ
-textElement n = stringElement (ltb n literals) n
+abbrev pub text_element : ℕ → ℕ
+text_element n = string_element (ltb n literals) n
 
 abbrev pub element : Atom → ℕ
-element (constant k) = constantElement k
+element (constant k) = constant_element k
 element (number z) = sign_of z
-element (text n) = textElement n
-element (named n) = nameElement n
+element (text n) = text_element n
+element (named n) = name_element n
 
 -- The parts of a term that run, by number.
 abbrev pub part_of : Node → ℕ → ℕ
@@ -58,10 +58,10 @@ part_of (Node.update a b d) k = get_or (a ∷ b ∷ d ∷ []) k 0
 
 -- q makes the element of a record, or of a cell
 abbrev pub RecordAt : Code → ℕ → Type 0
-RecordAt c q = (q < c.size) × T (isRecord (makes (c.node q)))
+RecordAt c q = (q < c.size) × T (is_record (makes (c.node q)))
 
 abbrev pub CellAt : Code → ℕ → Type 0
-CellAt c q = (q < c.size) × T (isCell (makes (c.node q)))
+CellAt c q = (q < c.size) × T (is_cell (makes (c.node q)))
 
 -- Of an instance of the block h, whose cells were made at the words ty.
 module _ (c : Code) (e : Sets) (h : ℕ) (ty : List ℕ) where
@@ -71,7 +71,7 @@ module _ (c : Code) (e : Sets) (h : ℕ) (ty : List ℕ) where
     In (atom a) S = T (known a c.names) × T (S (element a))
     In (function f vs) S = (f < c.size) × (c.node f ≡ Node.leaf Leaf.function) × (c.home f ≡ h) × T (S (made c f)) × Bound vs (c.scope f)
     In (fields r) S =
-        (T (dataFields r c.names) × T (S opponentRecord))
+        (T (data_fields r c.names) × T (S opponent_record))
         ⊎ ((q : ℕ) × RecordAt c q × T (S (made c q)) × FieldsIn r (e (B q)))
     In (cell i) S = (q : ℕ) × CellAt c q × T (S (made c q)) × (get_elem? ty i ≡ some q)
 
@@ -100,7 +100,7 @@ module _ (c : Code) (e : Sets) (h : ℕ) (ty : List ℕ) where
 
 -- every permission of the set of word q is in the leak
 abbrev pub Leaks : Code → ℕ → Sets → ℕ → Type 0
-Leaks c ρ e q = (x : ℕ) → T (e (P q) x) → leakOf c ρ e x
+Leaks c ρ e q = (x : ℕ) → T (e (P q) x) → leak_of c ρ e x
 
 -- the word q may run: it is live, its permissions are in the leak, and its variables are bound to what their binders hold
 pub record Runs (c : Code) (ρ : ℕ) (e : Sets) (h : ℕ) (ty : List ℕ) (q : ℕ) (vs : Environment) : Type 0 where
@@ -141,17 +141,17 @@ module _ (c : Code) (ρ : ℕ) (e : Sets) (h : ℕ) where
 module _ (c : Code) (ρ : ℕ) (e : Sets) where
   -- the instance runs a handler with its permissions
   abbrev pub GoodInstance : Instance → Type 0
-  GoodInstance (running held k fs cs) = (h : ℕ) × (held ≡ permsOf (c.node h)) × Good c ρ e h k fs cs
+  GoodInstance (running held k fs cs) = (h : ℕ) × (held ≡ perms_of (c.node h)) × Good c ρ e h k fs cs
 
   abbrev pub Starts : ℕ → Value → Type 0
-  Starts b v = GoodInstance (started (permsOf (c.node b)) b v)
+  Starts b v = GoodInstance (started (perms_of (c.node b)) b v)
 
   -- what is exercised is in the leak, and any instance that a send may start is good
   abbrev pub GoodEffect : ℕ → Effect → Type 0
   GoodEffect h silent = Unit {0}
-  GoodEffect h (exercises r) = (x : ℕ) → T (member r x) → leakOf c ρ e x
+  GoodEffect h (exercises r) = (x : ℕ) → T (member r x) → leak_of c ρ e x
   GoodEffect h (sends r n v) =
-      (b : ℕ) → T (plain (sentAs v)) → T (delivered (deliveryTo n r (permsOf (c.node h)) (c.node b))) → Starts b (sentAs v)
+      (b : ℕ) → T (plain (sent_as v)) → T (delivered (delivery_to n r (perms_of (c.node h)) (c.node b))) → Starts b (sent_as v)
 
   abbrev pub GoodMove : ℕ → Move → Type 0
   GoodMove h stay = Unit {0}
@@ -163,7 +163,7 @@ module _ (c : Code) (ρ : ℕ) (e : Sets) where
 
   abbrev pub GoodSets : List ℕ → Type 0
   GoodSets [] = Unit {0}
-  GoodSets (r ∷ rs) = ((x : ℕ) → T (member r x) → leakOf c ρ e x) × GoodSets rs
+  GoodSets (r ∷ rs) = ((x : ℕ) → T (member r x) → leak_of c ρ e x) × GoodSets rs
 
   abbrev pub GoodWorld : World → Type 0
   GoodWorld (world is rs) = GoodInstances is × GoodSets rs

@@ -10,21 +10,21 @@ use lib.Dec.{T, lt→ltb}
 use Rattle.permset.specs.Sets.{width, within}
 use Rattle.table.specs.declared.Constant.TheVariants as constants
 use Rattle.table.specs.declared.Operation.{Operation}
-use Rattle.table.specs.Words.{constantNumber}
+use Rattle.table.specs.Words.{constant_number}
 use Rattle.table.specs.Code.{Code, Node, Leaf, One, Two, Within, Linked, NodeLinked, LeafLinked}
 use Rattle.calculus.specs.Constraint.{C, B, P, L, Sets, Obeys}
 use Rattle.calculus.specs.Elements as E
-use Rattle.calculus.specs.Elements.{constantElement, isFunction, isRecord, isCell, leafMakes, oneMakes, makes}
-use Rattle.calculus.specs.Rules.{Estimate, flow, permsOf, permissions, leafRule, oneRule, twoRule, part}
+use Rattle.calculus.specs.Elements.{constant_element, is_function, is_record, is_cell, leaf_makes, one_makes, makes}
+use Rattle.calculus.specs.Rules.{Estimate, flow, perms_of, permissions, leaf_rule, one_rule, two_rule, part}
 use Rattle.calculus.specs.Values.{constant, number, text, named, known}
 use Rattle.calculus.specs.Values.{Value, atom, function, fields, cell, Environment, bound, Fields, empty}
-use Rattle.calculus.specs.Values.{undefined, unit, whole, look, getField, setField, deleteField, operate}
-use Rattle.calculus.specs.Values.{onAtom, onFunction, onFields, onCell, onText, onName, onTruth}
+use Rattle.calculus.specs.Values.{undefined, unit, whole, look, get_field, set_field, delete_field, operate}
+use Rattle.calculus.specs.Values.{on_atom, on_function, on_fields, on_cell, on_text, on_name, on_truth}
 use Rattle.calculus.specs.Machine.{Control, eval, give, stopped, Frame, first, second, third, again, Effect, Move, stop, begin, yield, found}
-use Rattle.calculus.specs.Machine.{leafStep, termStep, oneStep, choose, firstStep, withField, twoStep, secondStep, frameStep, step}
+use Rattle.calculus.specs.Machine.{leaf_step, term_step, one_step, choose, first_step, with_field, two_step, second_step, frame_step, step}
 use Rattle.calculus.proofs.Digits.{member-lt}
 use Rattle.calculus.proofs.Ranges.{below_in}
-use Rattle.calculus.proofs.Guarantee.Relation.{Sub, textElement, element, part_of, In}
+use Rattle.calculus.proofs.Guarantee.Relation.{Sub, text_element, element, part_of, In}
 use Rattle.calculus.proofs.Guarantee.Relation.{Found, Cells, Runs, Wait, Good, GoodMove}
 use Rattle.calculus.proofs.Guarantee.Values.{mono, weaken, below}
 use Rattle.calculus.proofs.Guarantee.Values.{look_in, read-in, write-in, append-in, last-at, weaken-cells}
@@ -36,7 +36,7 @@ use Rattle.calculus.proofs.Guarantee.Words.{sent-good, wait-mono, part-sub, wait
 module _ (c : Code) (linked : Linked c) (ρ : ℕ) (e : Sets) (est : Estimate c ρ e) (h : ℕ) where
   -- the instance's permissions
   abbrev held : ℕ
-  held = permsOf (c.node h)
+  held = perms_of (c.node h)
 
   abbrev Fine : Move → Type 0
   Fine m = GoodMove c ρ e h m
@@ -68,7 +68,7 @@ module _ (c : Code) (linked : Linked c) (ρ : ℕ) (e : Sets) (est : Estimate c 
 
     choose-good : (v : Value) (S : ℕ → Bool) (l r : Move) → Has v S → (T (S E.truth) → Fine l) → (T (S E.falsehood) → Fine r)
         → Fine (choose v l r)
-    unfolding choose onAtom onTruth constantElement constantNumber
+    unfolding choose on_atom on_truth constant_element constant_number
     choose-good (atom (constant constants.Undefined)) S l r i f g = stop-good
     choose-good (atom (constant constants.Unit)) S l r i f g = stop-good
     choose-good (atom (constant constants.True)) S l r i f g = f i.1
@@ -81,9 +81,9 @@ module _ (c : Code) (linked : Linked c) (ρ : ℕ) (e : Sets) (est : Estimate c 
     choose-good (cell j) S l r i f g = stop-good
 
     field-good : (v w : Value) (S U : ℕ → Bool) (m : Fields → ℕ → Move) → Has v S → Has w U
-        → ((r : Fields) (k : ℕ) → Has (fields r) S → T (U (textElement k)) → Fine (m r k))
-        → Fine (withField v w m)
-    unfolding withField onFields onAtom onText
+        → ((r : Fields) (k : ℕ) → Has (fields r) S → T (U (text_element k)) → Fine (m r k))
+        → Fine (with_field v w m)
+    unfolding with_field on_fields on_atom on_text
     field-good (atom a) w S U m i j f = stop-good
     field-good (function p vs) w S U m i j f = stop-good
     field-good (cell k) w S U m i j f = stop-good
@@ -116,8 +116,8 @@ module _ (c : Code) (linked : Linked c) (ρ : ℕ) (e : Sets) (est : Estimate c 
 
       -- ---- terms with no part that runs
 
-      leaf-good : (l : Leaf) → c.node p ≡ Node.leaf l → LeafLinked c p l → Obeys e (leafRule c p l) → Fine (leafStep held p vs l fs cs)
-      unfolding leafStep leafRule known constantElement constantNumber permissions isRecord makes leafMakes
+      leaf-good : (l : Leaf) → c.node p ≡ Node.leaf l → LeafLinked c p l → Obeys e (leaf_rule c p l) → Fine (leaf_step held p vs l fs cs)
+      unfolding leaf_step leaf_rule known constant_element constant_number permissions is_record makes leaf_makes
       leaf-good (Leaf.constant k) q l o = yield-good (atom (constant k)) (e (C p)) (tt, o) waits
       leaf-good (Leaf.number n) q l o =
           yield-good (atom (number (whole n))) (e (C p)) (tt, subst (λ (x : ℕ). T (e (C p) x)) (sym (whole-sign n l)) o) waits
@@ -129,12 +129,12 @@ module _ (c : Code) (linked : Linked c) (ρ : ℕ) (e : Sets) (est : Estimate c 
       leaf-good Leaf.function q l o =
           yield-good (function p vs) (e (C p)) (runs.inside, q, runs.home, o, runs.binders) waits
       leaf-good Leaf.empty q l o =
-          yield-good (fields empty) (e (C p)) (inr (p, (runs.inside, at-node (λ n. isRecord (makes n)) (Node.leaf Leaf.empty) q tt), o, tt)) waits
+          yield-good (fields empty) (e (C p)) (inr (p, (runs.inside, at-node (λ n. is_record (makes n)) (Node.leaf Leaf.empty) q tt), o, tt)) waits
       leaf-good (Leaf.exercise r) q l o = go (within r held) refl
         where
           -- the permissions of the word's block are the instance's
           owned : within r held ≡ true → T (within r (permissions c p))
-          owned t = subst (λ (b : ℕ). T (within r (permsOf (c.node b)))) (sym runs.home) (subst T (sym t) tt)
+          owned t = subst (λ (b : ℕ). T (within r (perms_of (c.node b)))) (sym runs.home) (subst T (sym t) tt)
 
           go : (t : Bool) → within r held ≡ t → Fine (elim t [ true ↦ Move.go (Effect.exercises r) (give unit) fs cs | false ↦ stop ])
           go true t = (
@@ -156,8 +156,8 @@ module _ (c : Code) (linked : Linked c) (ρ : ℕ) (e : Sets) (est : Estimate c 
       second-begins n v q w o i =
           begin-good (part_of n 1) vs (second p vs v ∷ fs) (runs-part (part_of n 1) w o.0 o.1) (runs, part_in 0 n v q i, part_at 1 n q, waits)
 
-      term-good : (n : Node) → c.node p ≡ n → NodeLinked c p n → Obeys e (flow c p n) → Fine (termStep held p vs n fs cs)
-      unfolding termStep flow
+      term-good : (n : Node) → c.node p ≡ n → NodeLinked c p n → Obeys e (flow c p n) → Fine (term_step held p vs n fs cs)
+      unfolding term_step flow
       term-good Node.gap q l o = stop-good
       term-good (Node.block n s g) q l o = stop-good
       term-good (Node.leaf k) q l o = leaf-good k q l o
@@ -170,9 +170,9 @@ module _ (c : Code) (linked : Linked c) (ρ : ℕ) (e : Sets) (est : Estimate c 
 
       -- ---- after the first part
 
-      one-good : (k : One) (a : ℕ) (v : Value) → c.node p ≡ Node.one k a → Obeys e (oneRule c p k a) → Has v (e (C a))
-          → Fine (oneStep k v fs cs)
-      unfolding oneStep oneRule onCell isCell makes oneMakes
+      one-good : (k : One) (a : ℕ) (v : Value) → c.node p ≡ Node.one k a → Obeys e (one_rule c p k a) → Has v (e (C a))
+          → Fine (one_step k v fs cs)
+      unfolding one_step one_rule on_cell is_cell makes one_makes
       one-good One.cell a v q o i = (
         tt,
         (
@@ -182,7 +182,7 @@ module _ (c : Code) (linked : Linked c) (ρ : ℕ) (e : Sets) (est : Estimate c 
               (weaken-cells c e h ty (p ∷ []) cs ty cells),
           (
             e (C p),
-            (p, (runs.inside, at-node (λ n. isCell (makes n)) (Node.one One.cell a) q tt), o.0, last-at c e h ty cs ty p cells),
+            (p, (runs.inside, at-node (λ n. is_cell (makes n)) (Node.one One.cell a) q tt), o.0, last-at c e h ty cs ty p cells),
             wait-more c ρ e h ty p fs (e (C p)) waits,
           ),
         ),
@@ -196,8 +196,8 @@ module _ (c : Code) (linked : Linked c) (ρ : ℕ) (e : Sets) (est : Estimate c 
           waits
 
       first_good : (n : Node) (v : Value) → c.node p ≡ n → NodeLinked c p n → Obeys e (flow c p n) → Has v (e (C (part_of n 0)))
-          → Fine (firstStep p vs n v fs cs)
-      unfolding firstStep flow known constantElement constantNumber
+          → Fine (first_step p vs n v fs cs)
+      unfolding first_step flow known constant_element constant_number
       first_good Node.gap v q l o i = stop-good
       first_good (Node.block n s g) v q l o i = stop-good
       first_good (Node.leaf k) v q l o i = stop-good
@@ -221,14 +221,14 @@ module _ (c : Code) (linked : Linked c) (ρ : ℕ) (e : Sets) (est : Estimate c 
 
       -- ---- after the second part
 
-      apply-good : (a d : ℕ) (v w : Value) → Obeys e (twoRule c p Two.apply a d) → Has v (e (C a)) → Has w (e (C d))
-          → Fine (twoStep Two.apply v w fs cs)
-      unfolding twoStep twoRule onFunction isFunction makes leafMakes
+      apply-good : (a d : ℕ) (v w : Value) → Obeys e (two_rule c p Two.apply a d) → Has v (e (C a)) → Has w (e (C d))
+          → Fine (two_step Two.apply v w fs cs)
+      unfolding two_step two_rule on_function is_function makes leaf_makes
       apply-good a d (atom b) w o i j = stop-good
       apply-good a d (fields r) w o i j = stop-good
       apply-good a d (cell k) w o i j = stop-good
       apply-good a d (function f us) w o i j =
-          let g = o f (below_in i.0) (subst (λ (n : Node). T (isFunction (makes n))) (sym i.1) tt) i.3 in
+          let g = o f (below_in i.0) (subst (λ (n : Node). T (is_function (makes n))) (sym i.1) tt) i.3 in
           begin-good (suc f) (bound w us) fs
           (enter c ρ e h ty (suc f) (c.home f) (f ∷ c.scope f) (bound w us)
           (subst (λ (n : Node). NodeLinked c f n) i.1 (linked.nodes f i.0))
@@ -238,9 +238,9 @@ module _ (c : Code) (linked : Linked c) (ρ : ℕ) (e : Sets) (est : Estimate c 
           (more w (e (C d)) (e (B f)) g.1.0 j, i.4))
           (waits-for (suc f) g.1.1.0)
 
-      assign-good : (a d : ℕ) (v w : Value) → Obeys e (twoRule c p Two.assign a d) → Has v (e (C a)) → Has w (e (C d))
-          → Fine (twoStep Two.assign v w fs cs)
-      unfolding twoStep twoRule onCell
+      assign-good : (a d : ℕ) (v w : Value) → Obeys e (two_rule c p Two.assign a d) → Has v (e (C a)) → Has w (e (C d))
+          → Fine (two_step Two.assign v w fs cs)
+      unfolding two_step two_rule on_cell
       assign-good a d (atom b) w o i j = stop-good
       assign-good a d (function f us) w o i j = stop-good
       assign-good a d (fields r) w o i j = stop-good
@@ -254,10 +254,10 @@ module _ (c : Code) (linked : Linked c) (ρ : ℕ) (e : Sets) (est : Estimate c 
             ),
           )
 
-      operation-good : (f : Operation) (a d : ℕ) (v w : Value) → Obeys e (twoRule c p (Two.operation f) a d) → Has v (e (C a))
+      operation-good : (f : Operation) (a d : ℕ) (v w : Value) → Obeys e (two_rule c p (Two.operation f) a d) → Has v (e (C a))
           → Has w (e (C d))
-          → Fine (twoStep (Two.operation f) v w fs cs)
-      unfolding twoStep twoRule onAtom
+          → Fine (two_step (Two.operation f) v w fs cs)
+      unfolding two_step two_rule on_atom
       operation-good f a d (function g us) w o i j = stop-good
       operation-good f a d (fields r) w o i j = stop-good
       operation-good f a d (cell k) w o i j = stop-good
@@ -272,9 +272,9 @@ module _ (c : Code) (linked : Linked c) (ρ : ℕ) (e : Sets) (est : Estimate c 
           j.1))
           waits
 
-      send-good : (r a d : ℕ) (v w : Value) → Obeys e (twoRule c p (Two.send r) a d) → Has v (e (C a)) → Has w (e (C d))
-          → Fine (twoStep (Two.send r) v w fs cs)
-      unfolding twoStep twoRule onAtom onName known constantElement constantNumber
+      send-good : (r a d : ℕ) (v w : Value) → Obeys e (two_rule c p (Two.send r) a d) → Has v (e (C a)) → Has w (e (C d))
+          → Fine (two_step (Two.send r) v w fs cs)
+      unfolding two_step two_rule on_atom on_name known constant_element constant_number
       send-good r a d (function g us) w o i j = stop-good
       send-good r a d (fields f) w o i j = stop-good
       send-good r a d (cell k) w o i j = stop-good
@@ -284,26 +284,26 @@ module _ (c : Code) (linked : Linked c) (ρ : ℕ) (e : Sets) (est : Estimate c 
       send-good r a d (atom (named n)) w o i j =
           (λ b k t. sent-good c linked ρ e est h ty p r a d n b w runs.home runs.leaks o i.1 j k t, (ty, cells, (e (C p), (tt, o.0), waits)))
 
-      two_good : (t : Two) (a d : ℕ) (v w : Value) → Obeys e (twoRule c p t a d) → Has v (e (C a)) → Has w (e (C d))
-          → Fine (twoStep t v w fs cs)
-      unfolding twoStep twoRule
+      two_good : (t : Two) (a d : ℕ) (v w : Value) → Obeys e (two_rule c p t a d) → Has v (e (C a)) → Has w (e (C d))
+          → Fine (two_step t v w fs cs)
+      unfolding two_step two_rule
       two_good Two.apply a d v w o i j = apply-good a d v w o i j
       two_good Two.assign a d v w o i j = assign-good a d v w o i j
       two_good (Two.operation f) a d v w o i j = operation-good f a d v w o i j
       two_good (Two.send r) a d v w o i j = send-good r a d v w o i j
       two_good Two.sequence a d v w o i j = yield-good w (e (C p)) (more w (e (C d)) (e (C p)) o j) waits
       two_good Two.get a d v w o i j =
-          field-good v w (e (C a)) (e (C d)) (λ r k. yield (getField r k) fs cs) i j
-          (λ r k x t. yield-good (getField r k) (e (C p)) (get-good c e h ty p a d k r o x t) waits)
+          field-good v w (e (C a)) (e (C d)) (λ r k. yield (get_field r k) fs cs) i j
+          (λ r k x t. yield-good (get_field r k) (e (C p)) (get-good c e h ty p a d k r o x t) waits)
       two_good Two.delete a d v w o i j =
-          field-good v w (e (C a)) (e (C d)) (λ r k. yield (fields (deleteField r k)) fs cs) i j
-          (λ r k x t. yield-good (fields (deleteField r k)) (e (C p)) (delete-good c e h ty p a d k r o x t) waits)
+          field-good v w (e (C a)) (e (C d)) (λ r k. yield (fields (delete_field r k)) fs cs) i j
+          (λ r k x t. yield-good (fields (delete_field r k)) (e (C p)) (delete-good c e h ty p a d k r o x t) waits)
 
       second-good : (n : Node) (v w : Value) → c.node p ≡ n → NodeLinked c p n → Obeys e (flow c p n)
           → Has v (e (C (part_of n 0)))
           → Has w (e (C (part_of n 1)))
-          → Fine (secondStep p vs n v w fs cs)
-      unfolding secondStep flow
+          → Fine (second_step p vs n v w fs cs)
+      unfolding second_step flow
       second-good Node.gap v w q l o i j = stop-good
       second-good (Node.block n s g) v w q l o i j = stop-good
       second-good (Node.leaf k) v w q l o i j = stop-good
@@ -321,10 +321,10 @@ module _ (c : Code) (linked : Linked c) (ρ : ℕ) (e : Sets) (est : Estimate c 
           → Has v (e (C a))
           → Has w (e (C b))
           → Has u (e (C d))
-          → Fine (withField v w (λ r k. yield (fields (setField r k u)) fs cs))
+          → Fine (with_field v w (λ r k. yield (fields (set_field r k u)) fs cs))
       third-good a b d v w u q o i j m =
-          field-good v w (e (C a)) (e (C b)) (λ r k. yield (fields (setField r k u)) fs cs) i j
-          (λ r k x t. yield-good (fields (setField r k u)) (e (C p)) (set-good c e h ty p a b d k r u runs.inside q o x t m) waits)
+          field-good v w (e (C a)) (e (C b)) (λ r k. yield (fields (set_field r k u)) fs cs) i j
+          (λ r k x t. yield-good (fields (set_field r k u)) (e (C p)) (set-good c e h ty p a b d k r u runs.inside q o x t m) waits)
 
   -- ---- every step
 
@@ -335,8 +335,8 @@ module _ (c : Code) (linked : Linked c) (ρ : ℕ) (e : Sets) (est : Estimate c 
   frame-good : (ty : List ℕ) (cs : List Value) (f : Frame) (fs : List Frame) (v : Value) (S : ℕ → Bool) → Cells c e h ty cs ty
       → In c e h ty v S
       → Wait c ρ e h ty (f ∷ fs) S
-      → Fine (frameStep c f v fs cs)
-  unfolding frameStep
+      → Fine (frame_step c f v fs cs)
+  unfolding frame_step
   frame-good ty cs (first p vs) fs v S k i w =
       first_good ty cs k fs p vs w.0 w.2 (c.node p) v refl (linked.nodes p w.0.inside) (flow-at ty p vs w.0)
       (mono c e h ty v S (e (C (part_of (c.node p) 0))) w.1 i)

@@ -10,16 +10,16 @@ use lib.ListN.{length, get_or, get_elem?, set}
 use lib.Dec.{T, ltb, ltb→lt, eqb}
 use lib.IntN.{ℤ, pos, negsuc}
 use Rattle.table.specs.declared.Constant.TheVariants as constants
-use Rattle.table.specs.Words.{literals, constantNumber}
+use Rattle.table.specs.Words.{literals, constant_number}
 use Rattle.table.specs.Code.{Code}
 use Rattle.calculus.specs.Constraint.{B, Sets}
 use Rattle.calculus.specs.Elements as E
-use Rattle.calculus.specs.Elements.{constantElement}
-use Rattle.calculus.specs.Values.{Atom, constant, number, text, named, known, datum, dataFields, plain, plainFields}
+use Rattle.calculus.specs.Elements.{constant_element}
+use Rattle.calculus.specs.Values.{Atom, constant, number, text, named, known, datum, data_fields, plain, plain_fields}
 use Rattle.calculus.specs.Values.{Value, atom, function, fields, cell, Environment, closed, bound, Fields, empty, field}
-use Rattle.calculus.specs.Values.{undefined, look, getField, deleteField}
+use Rattle.calculus.specs.Values.{undefined, look, get_field, delete_field}
 use Rattle.calculus.proofs.Digits.{T_and, T-fst, T-snd}
-use Rattle.calculus.proofs.Guarantee.Relation.{Sub, sign_of, stringElement, textElement, element, In, Bound, FieldsIn, Found, Cells}
+use Rattle.calculus.proofs.Guarantee.Relation.{Sub, sign_of, string_element, text_element, element, In, Bound, FieldsIn, Found, Cells}
 
 pub both : (a b : Bool) → T (a && b) → T a × T b
 both a b h = (T-fst a b h, T-snd a b h)
@@ -75,17 +75,17 @@ module _ (c : Code) (e : Sets) (h : ℕ) (ty : List ℕ) (g : ℕ) (uy : List �
     moved (fields r) S p (inr i) = inr (i.0, i.1, i.2, moved-fields r (e (B i.0)) p i.3)
     moved (cell j) S p i = absurd p
 
-    pub moved-fields : (r : Fields) (S : ℕ → Bool) → T (plainFields r) → FieldsIn c e h ty r S → FieldsIn c e g uy r S
+    pub moved-fields : (r : Fields) (S : ℕ → Bool) → T (plain_fields r) → FieldsIn c e h ty r S → FieldsIn c e g uy r S
     moved-fields empty S p i = tt
     moved-fields (field k v r) S p i =
-        (moved v S (both (plain v) (plainFields r) p).0 i.0, moved-fields r S (both (plain v) (plainFields r) p).1 i.1)
+        (moved v S (both (plain v) (plain_fields r) p).0 i.0, moved-fields r S (both (plain v) (plain_fields r) p).1 i.1)
 
 -- ---- the opponent's data
 
-below-text : (n : ℕ) → textElement n < 32
+below-text : (n : ℕ) → text_element n < 32
 below-text n = go (ltb n literals) (ltb→lt n literals)
   where
-    go : (t : Bool) → (T t → n < literals) → stringElement t n < 32
+    go : (t : Bool) → (T t → n < literals) → string_element t n < 32
     go true f = omega (arith, f tt)
     go false f = omega arith
 
@@ -95,7 +95,7 @@ below-sign (pos (suc n)) = omega arith
 below-sign (negsuc n) = omega arith
 
 pub below : (c : Code) (a : Atom) → T (known a c.names) → element a < E.plain c
-unfolding known constantElement constantNumber
+unfolding known constant_element constant_number
 below c (constant constants.Undefined) k = omega arith
 below c (constant constants.Unit) k = omega arith
 below c (constant constants.True) k = omega arith
@@ -109,55 +109,55 @@ module _ (c : Code) (e : Sets) (h : ℕ) (ty : List ℕ) (S : ℕ → Bool) (all
   unfolding datum
   datum-in (atom a) d = (d, all (element a) (below c a d))
   datum-in (function f vs) d = absurd d
-  datum-in (fields r) d = inl (d, all E.opponentRecord (omega arith))
+  datum-in (fields r) d = inl (d, all E.opponent_record (omega arith))
   datum-in (cell i) d = absurd d
 
-  pub data-in : (r : Fields) → T (dataFields r c.names) → FieldsIn c e h ty r S
+  pub data-in : (r : Fields) → T (data_fields r c.names) → FieldsIn c e h ty r S
   unfolding datum
   data-in empty d = tt
   data-in (field k v r) d =
-      (datum-in v (both (datum v c.names) (dataFields r c.names) d).0, data-in r (both (datum v c.names) (dataFields r c.names) d).1)
+      (datum-in v (both (datum v c.names) (data_fields r c.names) d).0, data-in r (both (datum v c.names) (data_fields r c.names) d).1)
 
 -- ---- fields
 
 module _ (c : Code) (e : Sets) (h : ℕ) (ty : List ℕ) where
-  pub get_in : (r : Fields) (k : ℕ) (S U : ℕ → Bool) → Sub S U → T (U E.undefined) → FieldsIn c e h ty r S → In c e h ty (getField r k) U
-  unfolding getField known constantElement constantNumber
+  pub get_in : (r : Fields) (k : ℕ) (S U : ℕ → Bool) → Sub S U → T (U E.undefined) → FieldsIn c e h ty r S → In c e h ty (get_field r k) U
+  unfolding get_field known constant_element constant_number
   get_in empty k S U s u i = (tt, u)
   get_in (field j v r) k S U s u i = go (eqb j k) (get_in r k S U s u i.1)
     where
-      go : (t : Bool) → In c e h ty (getField r k) U → In c e h ty (elim t [ true ↦ v | false ↦ getField r k ]) U
+      go : (t : Bool) → In c e h ty (get_field r k) U → In c e h ty (elim t [ true ↦ v | false ↦ get_field r k ]) U
       go true g = mono c e h ty v S U s i.0
       go false g = g
 
-  pub delete-in : (r : Fields) (k : ℕ) (S : ℕ → Bool) → FieldsIn c e h ty r S → FieldsIn c e h ty (deleteField r k) S
-  unfolding deleteField
+  pub delete-in : (r : Fields) (k : ℕ) (S : ℕ → Bool) → FieldsIn c e h ty r S → FieldsIn c e h ty (delete_field r k) S
+  unfolding delete_field
   delete-in empty k S i = tt
   delete-in (field j v r) k S i = go (eqb j k) (delete-in r k S i.1)
     where
-      go : (t : Bool) → FieldsIn c e h ty (deleteField r k) S
-          → FieldsIn c e h ty (elim t [ true ↦ deleteField r k | false ↦ field j v (deleteField r k) ]) S
+      go : (t : Bool) → FieldsIn c e h ty (delete_field r k) S
+          → FieldsIn c e h ty (elim t [ true ↦ delete_field r k | false ↦ field j v (delete_field r k) ]) S
       go true g = g
       go false g = (i.0, g)
 
-pub get-data : (r : Fields) (k n : ℕ) → T (dataFields r n) → T (datum (getField r k) n)
-unfolding getField datum known
+pub get-data : (r : Fields) (k n : ℕ) → T (data_fields r n) → T (datum (get_field r k) n)
+unfolding get_field datum known
 get-data empty k n d = tt
-get-data (field j v r) k n d = go (eqb j k) (get-data r k n (both (datum v n) (dataFields r n) d).1)
+get-data (field j v r) k n d = go (eqb j k) (get-data r k n (both (datum v n) (data_fields r n) d).1)
   where
-    go : (t : Bool) → T (datum (getField r k) n) → T (datum (elim t [ true ↦ v | false ↦ getField r k ]) n)
-    go true g = (both (datum v n) (dataFields r n) d).0
+    go : (t : Bool) → T (datum (get_field r k) n) → T (datum (elim t [ true ↦ v | false ↦ get_field r k ]) n)
+    go true g = (both (datum v n) (data_fields r n) d).0
     go false g = g
 
-pub delete-data : (r : Fields) (k n : ℕ) → T (dataFields r n) → T (dataFields (deleteField r k) n)
-unfolding deleteField datum
+pub delete-data : (r : Fields) (k n : ℕ) → T (data_fields r n) → T (data_fields (delete_field r k) n)
+unfolding delete_field datum
 delete-data empty k n d = tt
-delete-data (field j v r) k n d = go (eqb j k) (delete-data r k n (both (datum v n) (dataFields r n) d).1)
+delete-data (field j v r) k n d = go (eqb j k) (delete-data r k n (both (datum v n) (data_fields r n) d).1)
   where
-    go : (t : Bool) → T (dataFields (deleteField r k) n)
-        → T (dataFields (elim t [ true ↦ deleteField r k | false ↦ field j v (deleteField r k) ]) n)
+    go : (t : Bool) → T (data_fields (delete_field r k) n)
+        → T (data_fields (elim t [ true ↦ delete_field r k | false ↦ field j v (delete_field r k) ]) n)
     go true g = g
-    go false g = T_and (datum v n) (dataFields (deleteField r k) n) (both (datum v n) (dataFields r n) d).0 g
+    go false g = T_and (datum v n) (data_fields (delete_field r k) n) (both (datum v n) (data_fields r n) d).0 g
 
 -- ---- variables and cells
 

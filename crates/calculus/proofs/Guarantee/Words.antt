@@ -7,9 +7,9 @@ use lib.Dec.{T, ltb, ltb→lt, nltb→le}
 use Rattle.table.specs.Code.{Code, Node, Two, Within, Linked, NodeLinked}
 use Rattle.delivery.specs.Delivery.{delivered}
 use Rattle.calculus.specs.Constraint.{C, B, P, L, Sets, Obeys}
-use Rattle.calculus.specs.Elements.{nameElement}
-use Rattle.calculus.specs.Rules.{Estimate, rule, entry, flow, twoRule, name_of, permsOf, permissions, guarded, deliveryTo}
-use Rattle.calculus.specs.Values.{Value, Environment, closed, bound, plain, sentAs, datum}
+use Rattle.calculus.specs.Elements.{name_element}
+use Rattle.calculus.specs.Rules.{Estimate, rule, entry, flow, two_rule, name_of, perms_of, permissions, guarded, delivery_to}
+use Rattle.calculus.specs.Values.{Value, Environment, closed, bound, plain, sent_as, datum}
 use Rattle.calculus.specs.Machine.{Frame, first, second, third, again}
 use Rattle.calculus.proofs.Ranges.{below_in}
 use Rattle.calculus.proofs.Deliveries.{delivered-parts}
@@ -136,23 +136,23 @@ module _ (c : Code) (linked : Linked c) (ρ : ℕ) (e : Sets) (est : Estimate c 
 
   -- A handler that the send at the word p of the block h may start is live and holds the message.
   pub sent-good : (h : ℕ) (ty : List ℕ) (p r a d n b : ℕ) (v : Value) → c.home p ≡ h → Leaks c ρ e p
-      → Obeys e (twoRule c p (Two.send r) a d)
-      → T (e (C a) (nameElement n))
+      → Obeys e (two_rule c p (Two.send r) a d)
+      → T (e (C a) (name_element n))
       → In c e h ty v (e (C d))
-      → T (plain (sentAs v))
-      → T (delivered (deliveryTo n r (permsOf (c.node h)) (c.node b)))
-      → Starts c ρ e b (sentAs v)
-  unfolding twoRule permissions
+      → T (plain (sent_as v))
+      → T (delivered (delivery_to n r (perms_of (c.node h)) (c.node b)))
+      → Starts c ρ e b (sent_as v)
+  unfolding two_rule permissions
   sent-good h ty p r a d n b v q leaks o i j k t =
-      let held = permsOf (c.node h) in
+      let held = perms_of (c.node h) in
       let f : T (guarded (c.node b) held) = (delivered-parts n r held (c.node b) t).2 in
       let name : n ≡ name_of (c.node b) = sym (delivered-parts n r held (c.node b) t).0 in
-      let s = stands c e h ty (sentAs v) (e (C d)) (sent-in c e h ty v (e (C d)) j) in
+      let s = stands c e h ty (sent_as v) (e (C d)) (sent-in c e h ty v (e (C d)) j) in
       let g =
       o.1 s.0 (s.3 k) s.2 b (block_listed b held f)
-      (subst (λ (z : ℕ). T (delivered (deliveryTo (name_of (c.node b)) r (permsOf (c.node z)) (c.node b)))) (sym q)
-      (subst (λ (z : ℕ). T (delivered (deliveryTo z r held (c.node b)))) name t))
-      (subst (λ (z : ℕ). T (e (C a) (nameElement z))) name i)
+      (subst (λ (z : ℕ). T (delivered (delivery_to (name_of (c.node b)) r (perms_of (c.node z)) (c.node b)))) (sym q)
+      (subst (λ (z : ℕ). T (delivered (delivery_to z r held (c.node b)))) name t))
+      (subst (λ (z : ℕ). T (e (C a) (name_element z))) name i)
       in
-      start-good b held (sentAs v) f g.0 (λ x u. leaks x (g.1.1 x u))
-      (moved c e h ty b [] (sentAs v) (e (B b)) k (s.4 (e (B b)) (g.1.0 s.0 (below_in s.1) (s.3 k) s.2)))
+      start-good b held (sent_as v) f g.0 (λ x u. leaks x (g.1.1 x u))
+      (moved c e h ty b [] (sent_as v) (e (B b)) k (s.4 (e (B b)) (g.1.0 s.0 (below_in s.1) (s.3 k) s.2)))

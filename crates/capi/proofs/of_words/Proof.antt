@@ -2,8 +2,8 @@
 use mathlib.Core.Path.{ap, ◌∙◌}
 use native.Mathlib.Omega.{arith}
 use Rattle.calculus.specs.Answer.{Answer}
-use Rattle.capi.specs.Interface.{estimateBytes, workBytes}
-use Rattle.interface.specs.Numbers.{answerNumber}
+use Rattle.capi.specs.Interface.{estimate_bytes, work_bytes}
+use Rattle.interface.specs.Numbers.{answer_number}
 use Rattle.capi.proofs.Refusals.{place-fits}
 use borrow.Author.Rules.{rules}
 use Rattle.capi.proofs.of_words.Statement.{statement}
@@ -19,9 +19,9 @@ returns c =
     let a = c.before.before.before.before.before.before.before.before.before.before.before.args in
     let w = c.before.before.before.before.before.with-bytes.ensures in
     record {
-      number = c.answer-number.ensures ∙ ap answerNumber w.0;
-      estimates = w.1.0 ∙ ap (λ (b : Answer). estimateBytes a.words.now a.rho b a.estimate.now) w.0;
-      works = w.1.1 ∙ ap (λ (b : Answer). workBytes a.words.now b a.work.now) w.0;
+      number = c.answer-number.ensures ∙ ap answer_number w.0;
+      estimates = w.1.0 ∙ ap (λ (b : Answer). estimate_bytes a.words.now a.rho b a.estimate.now) w.0;
+      works = w.1.1 ∙ ap (λ (b : Answer). work_bytes a.words.now b a.work.now) w.0;
     }
 
 pub of-words-spec : {M : Type 1} → statement M

@@ -3,19 +3,19 @@ use Prim.Native.Nat.{ℕ}
 use mathlib.Core.Path.{◌≡◌, refl, sym, ◌∙◌}
 use mathlib.Core.List.{List}
 use lib.ListN.{length}
-use Rattle.interface.specs.Numbers.{answerNumber}
-use Rattle.capi.specs.Interface.{bytesAnswer}
+use Rattle.interface.specs.Numbers.{answer_number}
+use Rattle.capi.specs.Interface.{bytes_answer}
 use Rattle.capi.specs.Macros.{VerdictRead}
 use Rattle.capi.proofs.Macros.{verdict-read}
-use Rattle.little_endian.specs.LittleEndian.{wordsOf}
+use Rattle.little_endian.specs.LittleEndian.{words_of}
 use Rattle.capi.proofs.Systems.{system-size, refused-before, answered-after, refused-answered, answered-as}
 use borrow.Author.Rules.{rules}
 use Rattle.capi.proofs.wiphosega_verdict.Statement.{statement}
 use Rattle.capi.proofs.wiphosega_verdict.Tie as tie
 
 -- the answer, what its macros read, and the rest
-told : {r : ℕ} {A : Type 0} (system : List ℕ) (ρ bound est work : ℕ) → (r ≡ answerNumber (bytesAnswer system ρ bound est work)) × A
-    → (r ≡ answerNumber (bytesAnswer system ρ bound est work)) × (VerdictRead (bytesAnswer system ρ bound est work) r × A)
+told : {r : ℕ} {A : Type 0} (system : List ℕ) (ρ bound est work : ℕ) → (r ≡ answer_number (bytes_answer system ρ bound est work)) × A
+    → (r ≡ answer_number (bytes_answer system ρ bound est work)) × (VerdictRead (bytes_answer system ρ bound est work) r × A)
 told system ρ bound est work d = (d.0, (verdict-read system ρ bound est work _ d.0, d.1))
 
 returns : tie.Need-returns
@@ -23,7 +23,7 @@ returns c =
     let a = c.before.before.before.before.before.args in
     told a.system.now a.rho a.bound (length a.estimate.now) (length a.work.now)
     (answered-as a.system.now a.rho a.bound a.estimate.now a.work.now _ _ _ _
-    (refused-answered (wordsOf a.system.now) a.rho c.before.system-fault.result a.estimate.now a.work.now)
+    (refused-answered (words_of a.system.now) a.rho c.before.system-fault.result a.estimate.now a.work.now)
     (sym (refused-before a.system.now a.rho a.bound _ _ c.before.system-fault.result c.before.system-fault.ensures c.if1.true)))
 
 of-system-requires : tie.Need-of-system-requires

@@ -6,7 +6,7 @@ use mathlib.Core.List.{List}
 use native.Mathlib.Omega.{arith}
 use lib.ListN.{length}
 use Rattle.leak_path.specs.Reply.{path, reply}
-use Rattle.capi_path.specs.Why.{replyNumber, leftBytes}
+use Rattle.capi_path.specs.Why.{reply_number, left_bytes}
 use Rattle.capi_path.proofs.Bytes.{read_length, system-read}
 use Rattle.capi_path.proofs.of_system.Statement.{statement}
 use Rattle.capi_path.proofs.of_system.Tie as tie
@@ -36,9 +36,9 @@ returns c =
     let w = c.before.before.before.before.before.before.before.words_of.ensures in
     let h = c.before.before.of_words.ensures in
     let e = system-read a.system.now a.words.now _ _ w.0 w.1 s.requires.1 s.requires.0 in (
-      h.0 ∙ ap (λ (ws : List ℕ). replyNumber (reply ws a.rho a.permission 5888 1024 (length a.path.now / 4))) e,
+      h.0 ∙ ap (λ (ws : List ℕ). reply_number (reply ws a.rho a.permission 5888 1024 (length a.path.now / 4))) e,
       h.1
-          ∙ ap (λ (ws : List ℕ). leftBytes (reply ws a.rho a.permission 5888 1024 (length a.path.now / 4)) (path ws a.rho a.permission) a.path.now) e,
+          ∙ ap (λ (ws : List ℕ). left_bytes (reply ws a.rho a.permission 5888 1024 (length a.path.now / 4)) (path ws a.rho a.permission) a.path.now) e,
     )
 
 pub of-system-spec : {M : Type 1} → statement M

@@ -6,7 +6,7 @@ use native.Mathlib.Omega.{arith}
 use lib.ListN.{length, take, replicate, length-replicate}
 use lib.Seq.{length-take-le}
 use Rattle.leak_path.specs.Reply.{Reply, path}
-use Rattle.capi_path.specs.Why.{replyNumber, leftBytes}
+use Rattle.capi_path.specs.Why.{reply_number, left_bytes}
 use Rattle.capi_path.proofs.Reasons.{same-room}
 use Rattle.capi_path.proofs.of_words.Statement.{statement}
 use Rattle.capi_path.proofs.of_words.Tie as tie
@@ -39,8 +39,8 @@ returns c =
     same-room a.words.now a.rho a.permission 5888 1024 (length {A = ℕ} (take r.result (replicate 256 0))) (length a.path.now / 4)
     (λ i. omega (arith, l, r.ensures.1, i)) (λ i. omega (arith, l, r.ensures.2 (length a.words.now) s.requires (omega arith)))
     in (
-      h.0 ∙ ap replyNumber e,
-      h.1 ∙ ap (λ (x : Reply). leftBytes x (path a.words.now a.rho a.permission) a.path.now) e,
+      h.0 ∙ ap reply_number e,
+      h.1 ∙ ap (λ (x : Reply). left_bytes x (path a.words.now a.rho a.permission) a.path.now) e,
     )
 
 pub of-words-spec : {M : Type 1} → statement M

@@ -2,9 +2,9 @@
 use borrow.Author.Rules.{rules}
 use mathlib.Core.Path.{refl, sym, ap, ◌∙◌}
 use lib.ListN.{length}
-use Rattle.little_endian.specs.LittleEndian.{wordsOf}
+use Rattle.little_endian.specs.LittleEndian.{words_of}
 use Rattle.leak_path.specs.Reply.{Reply, path}
-use Rattle.capi_path.specs.Why.{replyNumber, leftBytes}
+use Rattle.capi_path.specs.Why.{reply_number, left_bytes}
 use Rattle.capi_path.proofs.Bytes.{system-size}
 use Rattle.capi_path.proofs.Reasons.{why-refused, why-answered, refused-number, left-refused}
 use Rattle.capi_path.proofs.wiphosega_why.Statement.{statement}
@@ -27,7 +27,7 @@ returns c =
     let a = c.before.before.before.before.args in
     let f = c.before.system-fault in
     let e = why-refused a.system.now a.rho a.permission (length a.path.now) f.result f.ensures c.if1.true in
-    (refused-number f.result ∙ sym (ap replyNumber e), left-refused _ f.result 0 _ _ e)
+    (refused-number f.result ∙ sym (ap reply_number e), left-refused _ f.result 0 _ _ e)
 
 slice-aggregate-of-system : tie.Need-slice-aggregate-of-system
 slice-aggregate-of-system c = search rules
@@ -44,7 +44,7 @@ returns-2 c =
     let f = c.before.before.before.before.before.before.before.system-fault in
     let h = c.before.before.before.of-system.ensures in
     let e = why-answered a.system.now a.rho a.permission (length a.path.now) f.result f.ensures c.before.before.before.before.before.before.if1.false in
-    (h.0 ∙ ap replyNumber e, h.1 ∙ ap (λ (x : Reply). leftBytes x (path (wordsOf a.system.now) a.rho a.permission) a.path.now) e)
+    (h.0 ∙ ap reply_number e, h.1 ∙ ap (λ (x : Reply). left_bytes x (path (words_of a.system.now) a.rho a.permission) a.path.now) e)
 
 pub wiphosega-why-spec : {M : Type 1} → statement M
 wiphosega-why-spec =

@@ -5,7 +5,7 @@ use mathlib.Core.Path.{ap, ap₂, ◌∙◌}
 use native.Mathlib.Omega.{arith}
 use lib.ListN.{length, replicate, length-replicate}
 use Rattle.leak_path.specs.Reply.{Reply, path, reply}
-use Rattle.capi_path.specs.Why.{replyNumber, leftBytes}
+use Rattle.capi_path.specs.Why.{reply_number, left_bytes}
 use Rattle.capi_path.proofs.Reasons.{fitting, left_as}
 use Rattle.capi_path.proofs.with_own.Statement.{statement}
 use Rattle.capi_path.proofs.with_own.Tie as tie
@@ -40,10 +40,10 @@ returns c =
     let y = c.before.before.before.before.before.before.before.before.before.why in
     let h = c.before.before.hand-out.ensures in
     let e = ap₂ (λ (m n : ℕ). reply a.words.now a.rho a.permission m n (length a.own.now)) (length-replicate {A = ℕ} 5888 0) (length-replicate {A = ℕ} 1024 0) in (
-      h.0 ∙ ap replyNumber (y.ensures.0 ∙ e),
+      h.0 ∙ ap reply_number (y.ensures.0 ∙ e),
       h.1
           ∙ left_as a.words.now a.rho a.permission (replicate 5888 0) (replicate 1024 0) a.own.now _ y.auto.1.1.1.1.1.0 y.ensures.1.1.1.0 a.path.now s.requires.1 _ y.ensures.0
-          ∙ ap (λ (r : Reply). leftBytes r (path a.words.now a.rho a.permission) a.path.now) e,
+          ∙ ap (λ (r : Reply). left_bytes r (path a.words.now a.rho a.permission) a.path.now) e,
     )
 
 pub with-own-spec : {M : Type 1} → statement M

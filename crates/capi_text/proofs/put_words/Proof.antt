@@ -6,7 +6,7 @@ use native.Mathlib.Omega.{arith}
 use lib.ListN.{take, drop}
 use mathlib.Core.Path.{◌≡◌}
 use lib.Seq.{length-take-le, take_all}
-use Rattle.little_endian.specs.LittleEndian.{bytesOf}
+use Rattle.little_endian.specs.LittleEndian.{bytes_of}
 use Rattle.capi_text.proofs.Bytes.{put-short, put_whole}
 use borrow.Author.Rules.{rules}
 use Rattle.capi_text.proofs.put_words.Statement.{statement}
@@ -29,8 +29,8 @@ returns-2 c =
     let size = length-take-le s.args.count s.args.words.now s.requires.0 in
     let all : c.before.before.bytes_of.result ≡ s.args.count = omega (arith, w.0, size) in
     put_whole s.args.number s.args.words.now s.args.bytes.now s.args.count _ (omega arith)
-    (w.1 ∙ ap (λ (n : ℕ). bytesOf (take n (take s.args.count s.args.words.now)) ++ drop (4 * n) s.args.bytes.now) all
-    ∙ ap (λ (l : List ℕ). bytesOf l ++ drop (4 * s.args.count) s.args.bytes.now) (take_all s.args.count (take s.args.count s.args.words.now) (omega (arith, size))))
+    (w.1 ∙ ap (λ (n : ℕ). bytes_of (take n (take s.args.count s.args.words.now)) ++ drop (4 * n) s.args.bytes.now) all
+    ∙ ap (λ (l : List ℕ). bytes_of l ++ drop (4 * s.args.count) s.args.bytes.now) (take_all s.args.count (take s.args.count s.args.words.now) (omega (arith, size))))
 
 pub put-words-spec : {M : Type 1} → statement M
 put-words-spec =

@@ -5,12 +5,12 @@ use mathlib.Core.List.{List}
 use native.Mathlib.Omega.{arith}
 use lib.ListN.{length}
 use mathlib.Core.Path.{ap₂}
-use Rattle.little_endian.specs.LittleEndian.{bytesOf}
-use Rattle.listing.specs.Listing.{Answered, lastLine, left}
-use Rattle.listing.specs.Listing.{wordsOf as Listing·wordsOf}
+use Rattle.little_endian.specs.LittleEndian.{bytes_of}
+use Rattle.listing.specs.Listing.{Answered, last_line, left}
+use Rattle.listing.specs.Listing.{words_of as Listing·words_of}
 use Rattle.listing.specs.Answer.{answered}
 use Rattle.listing.proofs.Places.{read_small, read-few, read-words}
-use Rattle.capi_text.specs.Interface.{answerNumber}
+use Rattle.capi_text.specs.Interface.{answer_number}
 use Rattle.capi_text.proofs.Bytes.{refused-fits, read_done, read-refused}
 use Rattle.capi_text.proofs.Macros.{read-read}
 use borrow.Author.Rules.{rules}
@@ -29,7 +29,7 @@ refusal-answer-requires : tie.Need-refusal-answer-requires
 refusal-answer-requires c κs =
     let s = c.before.before.before.before.before.before.before.before in
     let r = c.before.before.before.before.read in
-    refused-fits _ _ _ lastLine c.before.r.given.1 r.ensures.0 (omega arith) (read_small s.args.text.now 1024)
+    refused-fits _ _ _ last_line c.before.r.given.1 r.ensures.0 (omega arith) (read_small s.args.text.now 1024)
 
 returns : tie.Need-returns
 unfolding answered
@@ -41,21 +41,21 @@ returns c =
     let p = c.before.before.put-words.ensures in
     let a = read_done text _ (length s.args.system.now) e in
     let ws = read-words text r.new.1.0 _ _ e r.ensures.1 in
-    let n = p.answer ∙ ap answerNumber a in (
+    let n = p.answer ∙ ap answer_number a in (
       n,
-      (read-read text (length s.args.system.now) _ n, p.bytes ∙ ap₂ (λ (q : Answered) (l : List ℕ). left q (bytesOf l) s.args.system.now) a ws),
+      (read-read text (length s.args.system.now) _ n, p.bytes ∙ ap₂ (λ (q : Answered) (l : List ℕ). left q (bytes_of l) s.args.system.now) a ws),
     )
 
 returns-2 : tie.Need-returns-2
-unfolding answered answerNumber left
+unfolding answered answer_number left
 returns-2 c =
     let s = c.before.before.before.before.before.before.before.before.before in
     let text = s.args.text.now in
     let r = c.before.before.before.before.before.read in
     let e = sym r.ensures.0 ∙ ap answered c.before.before.r.given.1 in
     let a = read-refused text _ _ (length s.args.system.now) e in
-    let n = c.refusal-answer.ensures ∙ ap answerNumber a in
-    (n, (read-read text (length s.args.system.now) _ n, ap (λ (q : Answered). left q (bytesOf (Listing·wordsOf text)) s.args.system.now) a))
+    let n = c.refusal-answer.ensures ∙ ap answer_number a in
+    (n, (read-read text (length s.args.system.now) _ n, ap (λ (q : Answered). left q (bytes_of (Listing·words_of text)) s.args.system.now) a))
 
 pub wiphosega-listing-read-spec : {M : Type 1} → statement M
 wiphosega-listing-read-spec =

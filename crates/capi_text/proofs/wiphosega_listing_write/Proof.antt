@@ -3,12 +3,12 @@ use mathlib.Core.Path.{refl, sym, ap, ◌∙◌}
 use native.Mathlib.Omega.{arith}
 use lib.ListN.{length, take}
 use lib.ListN.{replicate}
-use Rattle.little_endian.specs.LittleEndian.{wordsOf}
+use Rattle.little_endian.specs.LittleEndian.{words_of}
 use Rattle.little_endian.proofs.First.{words_size, words-few}
 use Rattle.listing.specs.Listing.{Answered, left, listing}
 use Rattle.listing.specs.Answer.{answered}
 use Rattle.listing.proofs.Places.{write-small}
-use Rattle.capi_text.specs.Interface.{answerNumber}
+use Rattle.capi_text.specs.Interface.{answer_number}
 use Rattle.capi_text.proofs.Bytes.{refused-fits, write-odd, write-answer, write-left}
 use Rattle.capi_text.proofs.Macros.{write_read}
 use borrow.Author.Rules.{rules}
@@ -16,12 +16,12 @@ use Rattle.capi_text.proofs.wiphosega_listing_write.Statement.{statement}
 use Rattle.capi_text.proofs.wiphosega_listing_write.Tie as tie
 
 returns : tie.Need-returns
-unfolding answerNumber left
+unfolding answer_number left
 returns c =
     let s = c.before.before.before in
     let e = write-odd s.args.system.now (length s.args.text.now) c.if1.true in
-    let n = sym (ap answerNumber e) in
-    (n, (write_read s.args.system.now (length s.args.text.now) _ n, sym (ap (λ (a : Answered). left a (listing (wordsOf s.args.system.now)) s.args.text.now) e)))
+    let n = sym (ap answer_number e) in
+    (n, (write_read s.args.system.now (length s.args.text.now) _ n, sym (ap (λ (a : Answered). left a (listing (words_of s.args.system.now)) s.args.text.now) e)))
 
 slice-aggregate-write : tie.Need-slice-aggregate-write
 slice-aggregate-write c =
@@ -40,7 +40,7 @@ refusal-answer-requires c κs =
     refused-fits _ _ _ (length (take o.result vs)) c.before.r.given.1 w.0 (omega arith) (write-small (take o.result vs) (length s.args.text.now))
 
 returns-2 : tie.Need-returns-2
-unfolding answered answerNumber
+unfolding answered answer_number
 returns-2 c =
     let s = c.before.before.before.before.before.before.before.before.before.before.before.before.before.before in
     let system = s.args.system.now in
@@ -48,10 +48,10 @@ returns-2 c =
     let w = c.before.before.before.before.before.write.ensures in
     let vs = o.new.1.0 in
     let a = sym (ap answered c.before.count.given.1) ∙ w.0 ∙ write-answer system (replicate 1025 0) vs o.result refl o.ensures.0 o.ensures.1 (length s.args.text.now) s.args.text.now c.before.before.before.before.before.before.before.before.before.before.before.if1.false in
-    (ap answerNumber a, (write_read system (length s.args.text.now) _ (ap answerNumber a), w.1 ∙ write-left system (replicate 1025 0) vs o.result refl o.ensures.0 o.ensures.1 (length s.args.text.now) s.args.text.now c.before.before.before.before.before.before.before.before.before.before.before.if1.false))
+    (ap answer_number a, (write_read system (length s.args.text.now) _ (ap answer_number a), w.1 ∙ write-left system (replicate 1025 0) vs o.result refl o.ensures.0 o.ensures.1 (length s.args.text.now) s.args.text.now c.before.before.before.before.before.before.before.before.before.before.before.if1.false))
 
 returns-3 : tie.Need-returns-3
-unfolding answered answerNumber
+unfolding answered answer_number
 returns-3 c =
     let s = c.before.before.before.before.before.before.before.before.before.before.before.before.before.before.before in
     let system = s.args.system.now in
@@ -59,7 +59,7 @@ returns-3 c =
     let w = c.before.before.before.before.before.before.write.ensures in
     let vs = o.new.1.0 in
     let a = sym (ap answered c.before.before.r.given.1) ∙ w.0 ∙ write-answer system (replicate 1025 0) vs o.result refl o.ensures.0 o.ensures.1 (length s.args.text.now) s.args.text.now c.before.before.before.before.before.before.before.before.before.before.before.before.if1.false in
-    let n = c.refusal-answer.ensures ∙ ap answerNumber a in
+    let n = c.refusal-answer.ensures ∙ ap answer_number a in
     (n, (write_read system (length s.args.text.now) _ n, w.1 ∙ write-left system (replicate 1025 0) vs o.result refl o.ensures.0 o.ensures.1 (length s.args.text.now) s.args.text.now c.before.before.before.before.before.before.before.before.before.before.before.before.if1.false))
 
 pub wiphosega-listing-write-spec : {M : Type 1} → statement M

@@ -2,8 +2,8 @@
 use mathlib.Core.Path.{refl}
 use native.Mathlib.Omega.{arith}
 use borrow.Author.Rules.{rules}
-use Rattle.table.specs.Code.{code, termNode}
-use Rattle.calculus.specs.Rules.{flow, leafRule}
+use Rattle.table.specs.Code.{code, term_node}
+use Rattle.calculus.specs.Rules.{flow, leaf_rule}
 use Rattle.calculus.proofs.Fitting.{constant-lt, sign-lt}
 use Rattle.queries.proofs.Home.{sender}
 use Rattle.checker.proofs.Rows.{BC}
@@ -13,7 +13,7 @@ use Rattle.checker.proofs.term.Statement.{statement}
 use Rattle.checker.proofs.term.Tie as tie
 
 pub term-spec : {M : Type 1} → statement M
-unfolding termNode flow leafRule code
+unfolding term_node flow leaf_rule code
 term-spec =
     tie.close (tie.spec (λ enum-known-t. search rules) (λ constant-element-requires κs. search rules)
     (λ c κs. let s = c.before.before.before.before.before.before.before.before in let g = s.requires.0 in (sizes g, g.inside, omega (arith, c.constant-element.ensures, constant-lt c.before.before.t.given.0.0, (sizes g).lead)))

@@ -6,7 +6,7 @@ use mathlib.Core.List.{List, [], ◌++◌, append-nil, append_assoc}
 use native.Mathlib.Omega.{arith}
 use lib.ListN.{length, get_or}
 use Rattle.text.specs.Added.{Added}
-use Rattle.deliveries.specs.Text.{lines_of, textBy, alive}
+use Rattle.deliveries.specs.Text.{lines_of, text_by, alive}
 use Rattle.text.proofs.Adding.{added-nothing, added_then, added-as}
 use Rattle.deliveries.proofs.Positions.{counted-most}
 use Rattle.deliveries.proofs.SendLines.{sent, sent-end, sent-here, block_in}
@@ -16,13 +16,13 @@ use Rattle.deliveries.proofs.put_words.Tie as tie
 abbrev invariant-loop : tie.invariant-loop
 invariant-loop words est asked out₀ next₀ home₀ count₀ p₀ out next home count p =
     (p ≤ length words) × (next ≤ 394240 * p) × (home ≤ p) × (count ≤ p)
-    × ((done : List ℕ) × Added out₀ 0 done out next × (done ++ sent words asked (alive words est asked) p home count ≡ textBy words asked (alive words est asked)))
+    × ((done : List ℕ) × Added out₀ 0 done out next × (done ++ sent words asked (alive words est asked) p home count ≡ text_by words asked (alive words est asked)))
 
 abbrev decreases-loop : tie.decreases-loop
 decreases-loop words est asked out₀ next₀ home₀ count₀ p₀ out next home count p = length words - p
 
 loop-holds : tie.Need-loop-init invariant-loop decreases-loop
-unfolding textBy
+unfolding text_by
 loop-holds c = (omega arith, omega arith, omega arith, omega arith, ([], added-nothing _ _, refl))
 
 put-word-requires : tie.Need-put-word-requires invariant-loop decreases-loop
@@ -57,7 +57,7 @@ returns : tie.Need-returns invariant-loop decreases-loop
 returns c =
     let a = c.before.before.before.before.before.args in let i = c.before.loop in let w = a.words.now in let d = i.invariant.4.0 in
     let v = alive w a.est.now a.asked in
-    let whole : d ≡ textBy w a.asked v =
+    let whole : d ≡ text_by w a.asked v =
     sym (append-nil d) ∙ ap (λ (l : List ℕ). d ++ l) (sym (sent-end w a.asked v i.p i.home i.count c.loop-test.false)) ∙ i.invariant.4.2 in
     added-as whole i.invariant.4.1
 

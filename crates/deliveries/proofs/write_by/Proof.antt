@@ -3,7 +3,7 @@ use mathlib.Core.Path.{sym, ap, ◌∙◌}
 use Rattle.table.specs.Answer.{outcome}
 use Rattle.listing.specs.Answer.{number, place, answered}
 use Rattle.table.specs.Scan.{reading}
-use Rattle.deliveries.specs.Text.{textBy, alive, written_by}
+use Rattle.deliveries.specs.Text.{text_by, alive, written_by}
 use Rattle.deliveries.proofs.Answers.{refused-table}
 use borrow.Author.Rules.{rules}
 use Rattle.deliveries.proofs.write_by.Statement.{statement}
@@ -14,7 +14,7 @@ unfolding answered number place outcome written_by
 returns c =
     let s = c.before.before.before.before.before.before.before in
     let ws = s.args.words.now in
-    refused-table (reading ws) (textBy ws s.args.asked (alive ws s.args.est.now s.args.asked)) s.args.out.now _ _ (sym c.before.before.before.read.ensures ∙ ap outcome c.before.r.given.1)
+    refused-table (reading ws) (text_by ws s.args.asked (alive ws s.args.est.now s.args.asked)) s.args.out.now _ _ (sym c.before.before.before.read.ensures ∙ ap outcome c.before.r.given.1)
 
 write-accepted-requires : tie.Need-write-accepted-requires
 unfolding outcome

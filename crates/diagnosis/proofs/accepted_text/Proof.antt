@@ -1,6 +1,6 @@
 -- `diagnosis::accepted_text` meets its contract. Assumes nothing.
 use Rattle.text.proofs.Writing.{then}
-use Rattle.diagnosis.specs.Diagnosis.{acceptedText}
+use Rattle.diagnosis.specs.Diagnosis.{accepted_text}
 use borrow.Author.Rules.{rules}
 use Rattle.diagnosis.proofs.accepted_text.Statement.{statement}
 use Rattle.diagnosis.proofs.accepted_text.Tie as tie
@@ -27,7 +27,7 @@ same_length : tie.Need-same-length
 same_length c = search rules
 
 returns : tie.Need-returns
-unfolding acceptedText
+unfolding accepted_text
 returns c =
     then (then c.before.before.before.before.before.before.before.before.before.before.before.number-field.ensures.0 c.before.before.before.before.before.before.put.ensures) c.before.before.put-notes.ensures.0
 

@@ -1,6 +1,6 @@
 -- `diagnosis::check_odd` meets its contract. Assumes nothing.
 use Rattle.text.proofs.Writing.{then}
-use Rattle.diagnosis.specs.Diagnosis.{oddText}
+use Rattle.diagnosis.specs.Diagnosis.{odd_text}
 use borrow.Author.Rules.{rules}
 use Rattle.diagnosis.proofs.check_odd.Statement.{statement}
 use Rattle.diagnosis.proofs.check_odd.Tie as tie
@@ -16,7 +16,7 @@ same_length : tie.Need-same-length
 same_length c = search rules
 
 returns : tie.Need-returns
-unfolding oddText
+unfolding odd_text
 returns c =
     then c.before.before.before.before.before.before.refusal-line.ensures.0 c.before.before.size-sentence.ensures.0
 

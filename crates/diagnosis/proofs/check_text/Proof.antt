@@ -9,7 +9,7 @@ use Rattle.text.proofs.Writing.{reworded}
 use Rattle.listing.specs.Listing.{Answered, refusal, most}
 use Rattle.listing.specs.Answer.{answered}
 use Rattle.listing.proofs.Places.{Within, read-within, read-few, read-words}
-use Rattle.diagnosis.specs.Diagnosis.{acceptedText, checkedText, checkText}
+use Rattle.diagnosis.specs.Diagnosis.{accepted_text, checked_text, check_text}
 use borrow.Author.Rules.{rules}
 use Rattle.diagnosis.proofs.check_text.Statement.{statement}
 use Rattle.diagnosis.proofs.check_text.Tie as tie
@@ -66,25 +66,25 @@ same_length : tie.Need-same-length
 same_length c = search rules
 
 returns : tie.Need-returns
-unfolding answered checkText checkedText
+unfolding answered check_text checked_text
 returns c =
     let input = c.before.before.before.before.before.before.before.before.before.before.before.before.before.args.input.now in
     let r = c.before.before.before.before.before.before.before.before.before.read in
     let n = c.before.before.before.before.before.before.n.given.0.0 in
     let e = sym r.ensures.0 ∙ ap answered c.before.before.before.before.before.before.n.given.1 in
     let w = read-words input r.new.1.0 (replicate 1024 0) n e r.ensures.1 in
-    reworded (ap (acceptedText n) w ∙ ap (λ (a : Answered). checkedText a input) (sym e)) c.before.before.accepted-text.ensures
+    reworded (ap (accepted_text n) w ∙ ap (λ (a : Answered). checked_text a input) (sym e)) c.before.before.accepted-text.ensures
 
 same-length-2 : tie.Need-same-length-2
 same-length-2 c = search rules
 
 returns-2 : tie.Need-returns-2
-unfolding answered checkText
+unfolding answered check_text
 returns-2 c =
     let input = c.before.before.before.before.before.before.before.before.before.before.before.before.before.before.args.input.now in
     let e = sym c.before.before.before.before.before.before.before.before.before.before.read.ensures.0 ∙ ap answered c.before.before.before.before.before.before.before.r.given.1 in
-    let same = ap₂ (λ (n p : ℕ). checkedText (refusal n p) input) c.before.before.before.before.before.refusal-number.ensures c.before.before.before.before.refusal-place.ensures in
-    reworded (same ∙ ap (λ (a : Answered). checkedText a input) (sym e)) c.before.before.refusal-text.ensures
+    let same = ap₂ (λ (n p : ℕ). checked_text (refusal n p) input) c.before.before.before.before.before.refusal-number.ensures c.before.before.before.before.refusal-place.ensures in
+    reworded (same ∙ ap (λ (a : Answered). checked_text a input) (sym e)) c.before.before.refusal-text.ensures
 
 pub check-text-spec : {M : Type 1} → statement M
 check-text-spec =

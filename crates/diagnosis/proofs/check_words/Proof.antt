@@ -7,7 +7,7 @@ use Rattle.table.specs.Scan.{Outcome, refused, reading}
 use Rattle.table.specs.Answer.{outcome}
 use Rattle.table.proofs.Limits.{size-le}
 use Rattle.table.proofs.Refusals.{reading-bounded, bounded-place}
-use Rattle.diagnosis.specs.Diagnosis.{outcomeText, checkWords}
+use Rattle.diagnosis.specs.Diagnosis.{outcome_text, check_words}
 use borrow.Author.Rules.{rules}
 use Rattle.diagnosis.proofs.check_words.Statement.{statement}
 use Rattle.diagnosis.proofs.check_words.Tie as tie
@@ -47,22 +47,22 @@ same_length : tie.Need-same-length
 same_length c = search rules
 
 returns : tie.Need-returns
-unfolding outcome checkWords outcomeText
+unfolding outcome check_words outcome_text
 returns c =
     let ws = c.before.before.before.before.before.before.before.before.before.args.words.now in
     let e = sym c.before.before.before.before.before.before.read.ensures ∙ ap outcome c.before.before.before.before.enum_told.given.1 in
-    reworded (ap (λ (o : Outcome). outcomeText o ws) (sym e)) c.before.before.accepted-text.ensures
+    reworded (ap (λ (o : Outcome). outcome_text o ws) (sym e)) c.before.before.accepted-text.ensures
 
 same-length-2 : tie.Need-same-length-2
 same-length-2 c = search rules
 
 returns-2 : tie.Need-returns-2
-unfolding outcome checkWords
+unfolding outcome check_words
 returns-2 c =
     let ws = c.before.before.before.before.before.before.before.before.before.before.before.before.args.words.now in
     let e = sym c.before.before.before.before.before.before.before.before.before.read.ensures ∙ ap outcome c.before.before.before.before.before.before.before.r.given.1 in
-    let same = ap₂ (λ (n p : ℕ). outcomeText (refused n p) ws) c.before.before.before.before.before.refusal-number.ensures c.before.before.before.before.refusal-place.ensures in
-    reworded (same ∙ ap (λ (o : Outcome). outcomeText o ws) (sym e)) c.before.before.refused-words.ensures
+    let same = ap₂ (λ (n p : ℕ). outcome_text (refused n p) ws) c.before.before.before.before.before.refusal-number.ensures c.before.before.before.before.refusal-place.ensures in
+    reworded (same ∙ ap (λ (o : Outcome). outcome_text o ws) (sym e)) c.before.before.refused-words.ensures
 
 pub check-words-spec : {M : Type 1} → statement M
 check-words-spec =

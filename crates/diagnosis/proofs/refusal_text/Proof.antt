@@ -1,6 +1,6 @@
 -- `diagnosis::refusal_text` meets its contract. Assumes nothing.
 use Rattle.text.proofs.Writing.{then}
-use Rattle.diagnosis.specs.Diagnosis.{checkedText}
+use Rattle.diagnosis.specs.Diagnosis.{checked_text}
 use borrow.Author.Rules.{rules}
 use Rattle.diagnosis.proofs.refusal_text.Statement.{statement}
 use Rattle.diagnosis.proofs.refusal_text.Tie as tie
@@ -16,7 +16,7 @@ same_length : tie.Need-same-length
 same_length c = search rules
 
 returns : tie.Need-returns
-unfolding checkedText
+unfolding checked_text
 returns c =
     then c.before.before.before.before.before.before.refusal-line.ensures.0 c.before.before.refused-text.ensures
 

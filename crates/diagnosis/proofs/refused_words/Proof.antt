@@ -1,6 +1,6 @@
 -- `diagnosis::refused_words` meets its contract. Assumes nothing.
 use Rattle.text.proofs.Writing.{then}
-use Rattle.diagnosis.specs.Diagnosis.{outcomeText}
+use Rattle.diagnosis.specs.Diagnosis.{outcome_text}
 use borrow.Author.Rules.{rules}
 use Rattle.diagnosis.proofs.refused_words.Statement.{statement}
 use Rattle.diagnosis.proofs.refused_words.Tie as tie
@@ -19,7 +19,7 @@ same_length : tie.Need-same-length
 same_length c = search rules
 
 returns : tie.Need-returns
-unfolding outcomeText
+unfolding outcome_text
 returns c =
     then (then c.before.before.before.before.before.before.before.before.before.before.refusal-line.ensures.0 c.before.before.before.before.before.before.word_line.ensures.0) c.before.before.table-sentence.ensures.0
 

@@ -6,21 +6,21 @@ use native.Mathlib.Numerals.{add-one}
 use lib.ListN.{length, get_or, drop, drop_of_length-le}
 use lib.Seq.{drop-cons}
 use borrow.Author.Rules.{rules}
-use Rattle.fingerprint.specs.Fnv.{basis, step, hashFrom, fnv1a}
+use Rattle.fingerprint.specs.Fnv.{basis, step, hash_from, fnv1a}
 use Rattle.fingerprint.proofs.fingerprint.Statement.{statement}
 use Rattle.fingerprint.proofs.fingerprint.Tie as tie
 
 -- one byte more, and none left
-hash-step : (bs : List ℕ) (h i : ℕ) → i < length bs → hashFrom h (drop i bs) ≡ hashFrom (step h (get_or bs i 0)) (drop (i + 1) bs)
-unfolding hashFrom
+hash-step : (bs : List ℕ) (h i : ℕ) → i < length bs → hash_from h (drop i bs) ≡ hash_from (step h (get_or bs i 0)) (drop (i + 1) bs)
+unfolding hash_from
 hash-step bs h i l = rw (drop-cons bs i 0 l, add-one i) refl
 
-hash-end : (bs : List ℕ) (h i : ℕ) → length bs ≤ i → hashFrom h (drop i bs) ≡ h
-unfolding hashFrom
+hash-end : (bs : List ℕ) (h i : ℕ) → length bs ≤ i → hash_from h (drop i bs) ≡ h
+unfolding hash_from
 hash-end bs h i l = rw (drop_of_length-le bs {i = i} l) refl
 
 abbrev invariant-loop : tie.invariant-loop
-invariant-loop bytes hash₀ i₀ hash i = (i ≤ length bytes) × (hashFrom hash (drop i bytes) ≡ hashFrom basis bytes)
+invariant-loop bytes hash₀ i₀ hash i = (i ≤ length bytes) × (hash_from hash (drop i bytes) ≡ hash_from basis bytes)
 
 abbrev decreases-loop : tie.decreases-loop
 decreases-loop bytes hash₀ i₀ hash i = length bytes - i
@@ -33,7 +33,7 @@ loop-again c =
     let l = c.before.before.before.loop in
     let bs = c.before.before.before.before.before.args.bytes.now in (
       search rules,
-      ap (λ (h : ℕ). hashFrom h (drop (l.i + 1) bs)) c.step.ensures
+      ap (λ (h : ℕ). hash_from h (drop (l.i + 1) bs)) c.step.ensures
           ∙ sym (hash-step bs l.hash l.i (search rules))
           ∙ l.invariant.1,
     )

@@ -4,7 +4,7 @@ use mathlib.Core.Path.{◌≡◌, refl, sym, ◌∙◌}
 use mathlib.Core.List.{map}
 use native.Mathlib.Omega.{arith}
 use lib.ListN.{length, drop}
-use Rattle.listing.specs.Listing.{cut, word_in, wordsOf}
+use Rattle.listing.specs.Listing.{cut, word_in, words_of}
 use Rattle.listing.specs.Listing.{misspelled as Listing·misspelled}
 use Rattle.listing.proofs.Cutting.{end_after, rest-bad, rest-good, rest-none}
 use borrow.Author.Rules.{rules}
@@ -15,14 +15,14 @@ use Rattle.listing.proofs.read.word_of_line.Reads as word-of-line-reads
 
 abbrev invariant-loop : tie.invariant-loop
 invariant-loop text n₀ at₀ n at =
-    (at ≤ length text) × (n ≤ at) × (Listing·misspelled 1 (wordsOf text) ≡ Listing·misspelled (n + 1) (map word_in (cut (drop at text))))
+    (at ≤ length text) × (n ≤ at) × (Listing·misspelled 1 (words_of text) ≡ Listing·misspelled (n + 1) (map word_in (cut (drop at text))))
 
 abbrev decreases-loop : tie.decreases-loop
 decreases-loop text n₀ at₀ n at =
     length text - at
 
 loop-holds : tie.Need-loop-init invariant-loop decreases-loop
-unfolding wordsOf
+unfolding words_of
 loop-holds c =
     (omega arith, omega arith, refl)
 

@@ -4,28 +4,28 @@ use mathlib.Core.Path.{sym, ap, subst, ◌∙◌}
 use native.Mathlib.Omega.{arith}
 use Rattle.comparison.specs.declared.Verdict.{Verdict}
 use Rattle.comparison.specs.Values.{answer_of}
-use Rattle.interface.specs.Numbers.{answerNumber}
+use Rattle.interface.specs.Numbers.{answer_number}
 use Rattle.interface.specs.Places.{PlaceFits}
 use borrow.Author.Rules.{rules}
 use Rattle.interface.proofs.answer_number.Statement.{statement}
 use Rattle.interface.proofs.answer_number.Tie as tie
 
 abbrev number : Verdict → ℕ
-number v = answerNumber (answer_of v)
+number v = answer_number (answer_of v)
 
 fault-answer-requires : tie.Need-fault-answer-requires
 fault-answer-requires c κs = subst PlaceFits c.before.v.given.1 c.before.before.before.requires
 
 returns : tie.Need-returns
-unfolding answerNumber answer_of
+unfolding answer_number answer_of
 returns c = c.fault-answer.ensures ∙ sym (ap number c.before.before.v.given.1)
 
 returns-2 : tie.Need-returns-2
-unfolding answerNumber answer_of
+unfolding answer_number answer_of
 returns-2 c = omega (arith, ap number c.before.before.before.v2.given.1)
 
 returns-3 : tie.Need-returns-3
-unfolding answerNumber answer_of
+unfolding answer_number answer_of
 returns-3 c = sym (ap number c.before.before.before.v3.given.1)
 
 pub answer-number-spec : {M : Type 1} → statement M

@@ -6,13 +6,13 @@ use mathlib.Core.List.{[], ◌∷◌}
 use lib.Dec.{eqb, ltb}
 use borrow.Author.Tests.{lt-ltb, le-ltb, eq-eqb, ne_eqb}
 use Rattle.table.specs.Scan.{first_of}
-use Rattle.interface.specs.Numbers.{systemTests}
+use Rattle.interface.specs.Numbers.{system_tests}
 use Rattle.interface.proofs.system_fault.Statement.{statement}
 use Rattle.interface.proofs.system_fault.Tie as tie
 
 by_tests : {long whole : Bool} (size : ℕ) → ltb 1024 size ≡ long → eqb (size % 4) 0 ≡ whole
-    → first_of ((long, 31) ∷ (not whole, 30) ∷ []) ≡ first_of (systemTests size)
-unfolding systemTests
+    → first_of ((long, 31) ∷ (not whole, 30) ∷ []) ≡ first_of (system_tests size)
+unfolding system_tests
 by_tests size p q = sym (λ i. first_of ((p i, 31) ∷ (not (q i), 30) ∷ []))
 
 returns : tie.Need-returns

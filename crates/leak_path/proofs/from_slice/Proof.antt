@@ -7,7 +7,7 @@ use lib.ListN.{take}
 use lib.Seq.{length-take-le}
 use Rattle.table.specs.Code.{code}
 use Rattle.calculus.specs.Layout.{sets, WellFormed}
-use Rattle.paths.specs.Search.{shortestPath}
+use Rattle.paths.specs.Search.{shortest_path}
 use Rattle.leak_path.specs.Parts.{Wrote}
 use Rattle.leak_path.proofs.from_slice.Statement.{statement}
 use Rattle.leak_path.proofs.from_slice.Tie as tie
@@ -31,7 +31,7 @@ returns : tie.Need-returns
 returns c =
     let a = c.before.before.before.before.before.before.before.before.before.args in
     let x = c.before.before.path-in in
-    subst (λ (n : ℕ). Wrote (shortestPath (code a.words.now) (sets (code a.words.now) (take n a.est.now)) a.rho.bits a.x) a.out.now x.new.1.1.0 x.result)
+    subst (λ (n : ℕ). Wrote (shortest_path (code a.words.now) (sets (code a.words.now) (take n a.est.now)) a.rho.bits a.x) a.out.now x.new.1.1.0 x.result)
     c.before.before.before.before.before.words-needed.ensures x.ensures
 
 pub from-slice-spec : {M : Type 1} → statement M

@@ -2,7 +2,7 @@
 use borrow.Author.Rules.{rules}
 use mathlib.Core.Path.{subst}
 use lib.ListN.{length}
-use Rattle.calculus.specs.Answer.{standingBound}
+use Rattle.calculus.specs.Answer.{standing_bound}
 use Rattle.calls.specs.Calls.{CheckedAs}
 use Rattle.leak_path.proofs.Replies.{refused-in}
 use Rattle.leak_path.proofs.why.Statement.{statement}
@@ -21,13 +21,13 @@ checked-requires : tie.Need-checked-requires
 checked-requires c κs =
     let g = c.before.before.before.before.before in
     let a = g.before.before.before.before.before.args in
-    subst (CheckedAs a.words.now a.rho standingBound (length a.est.now) (length a.work.now)) c.before.before.before.enum_told.given.1 g.check.ensures
+    subst (CheckedAs a.words.now a.rho standing_bound (length a.est.now) (length a.work.now)) c.before.before.before.enum_told.given.1 g.check.ensures
 
 returns : tie.Need-returns
 returns c =
     let g = c.before.before.before in
     let a = g.before.before.before.before.before.args in
-    let e = subst (CheckedAs a.words.now a.rho standingBound (length a.est.now) (length a.work.now)) c.before.f.given.1 g.check.ensures in
+    let e = subst (CheckedAs a.words.now a.rho standing_bound (length a.est.now) (length a.work.now)) c.before.f.given.1 g.check.ensures in
     let r = refused-in a.words.now a.rho a.x a.est.now a.work.now a.path.now _ e in
     (r.replies, (r.estimates, (r.works, (r.writes, r.means))))
 

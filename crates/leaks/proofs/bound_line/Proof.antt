@@ -2,27 +2,27 @@
 use mathlib.Core.Path.{sym, ap, ap₂, ◌∙◌}
 use Rattle.comparison.specs.declared.Verdict.{Verdict}
 use Rattle.comparison.specs.Values.{answer_of}
-use Rattle.report.specs.Lines.{refusalLine}
+use Rattle.report.specs.Lines.{refusal_line}
 use Rattle.text.proofs.Writing.{reworded}
-use Rattle.leaks.specs.Leak.{boundText}
+use Rattle.leaks.specs.Leak.{bound_text}
 use borrow.Author.Rules.{rules}
 use Rattle.leaks.proofs.bound_line.Statement.{statement}
 use Rattle.leaks.proofs.bound_line.Tie as tie
 
 returns : tie.Need-returns
-unfolding boundText answer_of
+unfolding bound_text answer_of
 returns c =
     reworded
-    (ap₂ refusalLine c.before.before.before.before.fault-number.ensures c.before.before.before.fault-place.ensures ∙ sym (ap (λ (v : Verdict). boundText (answer_of v)) c.before.before.before.before.before.before.before.v.given.1))
+    (ap₂ refusal_line c.before.before.before.before.fault-number.ensures c.before.before.before.fault-place.ensures ∙ sym (ap (λ (v : Verdict). bound_text (answer_of v)) c.before.before.before.before.before.before.before.v.given.1))
     c.before.before.refusal-line.ensures.0
 
 returns-2 : tie.Need-returns-2
-unfolding boundText answer_of
-returns-2 c = reworded (sym (ap (λ (v : Verdict). boundText (answer_of v)) c.before.before.before.before.before.enum_told.given.1)) c.before.before.put.ensures
+unfolding bound_text answer_of
+returns-2 c = reworded (sym (ap (λ (v : Verdict). bound_text (answer_of v)) c.before.before.before.before.before.enum_told.given.1)) c.before.before.put.ensures
 
 returns-3 : tie.Need-returns-3
-unfolding boundText answer_of
-returns-3 c = reworded (sym (ap (λ (v : Verdict). boundText (answer_of v)) c.before.before.before.before.before.v2.given.1)) c.before.before.over-line.ensures
+unfolding bound_text answer_of
+returns-3 c = reworded (sym (ap (λ (v : Verdict). bound_text (answer_of v)) c.before.before.before.before.before.v2.given.1)) c.before.before.over-line.ensures
 
 pub bound-line-spec : {M : Type 1} → statement M
 bound-line-spec =

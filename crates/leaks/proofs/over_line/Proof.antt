@@ -5,7 +5,7 @@ use native.Mathlib.Omega.{arith}
 use Rattle.permset.specs.declared.PermSet.{PermSet}
 use Rattle.text.specs.Text.{bytes, set}
 use Rattle.text.proofs.Writing.{reworded, then, wrote-length}
-use Rattle.leaks.specs.Leak.{overLine}
+use Rattle.leaks.specs.Leak.{over_line}
 use borrow.Author.Rules.{rules}
 use Rattle.leaks.proofs.over_line.Statement.{statement}
 use Rattle.leaks.proofs.over_line.Tie as tie
@@ -14,7 +14,7 @@ put-requires : tie.Need-put-requires
 put-requires c κs = omega (arith, c.before.before.before.before.before.before.before.before.before.before.requires, c.before.before.before.before.set-field.ensures.1, wrote-length c.before.before.before.before.set-field.ensures.0)
 
 returns : tie.Need-returns
-unfolding overLine
+unfolding over_line
 returns c =
     reworded (ap (λ (s : PermSet). (bytes "over " ++ set s.bits) ++ bytes "\n") c.before.before.before.before.before.before.before.before.before.before.difference.ensures) (then c.before.before.before.before.before.before.before.set-field.ensures.0 c.before.before.put.ensures)
 

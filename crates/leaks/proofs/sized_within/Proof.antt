@@ -3,7 +3,7 @@ use Prim.Native.Nat.{ℕ}
 use mathlib.Core.Path.{ap, ap₂, ◌∙◌}
 use Rattle.calculus.specs.Answer.{answer}
 use Rattle.text.proofs.Writing.{reworded}
-use Rattle.leaks.specs.Leak.{boundText}
+use Rattle.leaks.specs.Leak.{bound_text}
 use Rattle.leaks.proofs.Laws.{within-largest}
 use borrow.Author.Rules.{rules}
 use Rattle.leaks.proofs.sized_within.Statement.{statement}
@@ -13,8 +13,8 @@ returns : tie.Need-returns
 returns c =
     let a = c.before.before.before.before.before.before.before.before.before.before.before.before.before.before.before.args in
     reworded
-    (ap boundText c.before.before.before.before.before.before.before.before.verdict.ensures.0
-    ∙ ap₂ (λ (m n : ℕ). boundText (answer a.words.now a.rho a.bound m n)) c.before.before.before.before.before.before.before.before.before.before.before.before.before.before.before.requires.1 c.before.before.before.before.before.before.before.before.before.before.before.before.before.before.before.requires.2
+    (ap bound_text c.before.before.before.before.before.before.before.before.verdict.ensures.0
+    ∙ ap₂ (λ (m n : ℕ). bound_text (answer a.words.now a.rho a.bound m n)) c.before.before.before.before.before.before.before.before.before.before.before.before.before.before.before.requires.1 c.before.before.before.before.before.before.before.before.before.before.before.before.before.before.before.requires.2
     ∙ within-largest a.words.now a.rho a.bound c.before.before.before.before.before.before.before.before.before.before.before.before.before.before.before.requires.0)
     c.before.before.bound-line.ensures
 

@@ -3,14 +3,14 @@ use Prim.Native.Nat.{ℕ, ◌-◌, ◌≤◌}
 use mathlib.Core.Path.{◌≡◌, refl, sym, ap, ◌∙◌}
 use native.Mathlib.Omega.{arith}
 use lib.ListN.{length, drop}
-use Rattle.lines.specs.Lines.{fromLine}
+use Rattle.lines.specs.Lines.{from_line}
 use Rattle.lines.proofs.Laws.{from_next}
 use borrow.Author.Rules.{rules}
 use Rattle.lines.proofs.line_start.Statement.{statement}
 use Rattle.lines.proofs.line_start.Tie as tie
 
 abbrev invariant-loop : tie.invariant-loop
-invariant-loop text k at₀ left₀ at left = (at ≤ length text) × (fromLine left (drop at text) ≡ fromLine k text)
+invariant-loop text k at₀ left₀ at left = (at ≤ length text) × (from_line left (drop at text) ≡ from_line k text)
 
 abbrev decreases-loop : tie.decreases-loop
 decreases-loop text k at₀ left₀ at left = left
@@ -23,14 +23,14 @@ loop-again c =
     let l = c.before.before.loop in
     let text = c.before.before.before.before.args.text.now in
     let e = c.line-end.ensures in
-    (e.1, ap (λ (k : ℕ). fromLine (l.left - 1) (drop k text)) e.0 ∙ sym (from_next text l.at l.left (omega arith)) ∙ l.invariant.1)
+    (e.1, ap (λ (k : ℕ). from_line (l.left - 1) (drop k text)) e.0 ∙ sym (from_next text l.at l.left (omega arith)) ∙ l.invariant.1)
 
 returns : tie.Need-returns invariant-loop decreases-loop
-unfolding fromLine
+unfolding from_line
 returns c =
     let l = c.before.loop in
     let z : l.left ≡ 0 = omega arith in
-    record { rest = ap (λ (k : ℕ). fromLine k (drop l.at c.before.before.before.args.text.now)) (sym z) ∙ l.invariant.1; inside = l.invariant.0 }
+    record { rest = ap (λ (k : ℕ). from_line k (drop l.at c.before.before.before.args.text.now)) (sym z) ∙ l.invariant.1; inside = l.invariant.0 }
 
 pub line-start-spec : {M : Type 1} → statement M
 line-start-spec =

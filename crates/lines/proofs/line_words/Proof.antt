@@ -6,7 +6,7 @@ use lib.ListN.{length, take, drop, length-set}
 use lib.Seq.{take_all}
 use Rattle.text.specs.Writing.{Wrote}
 use Rattle.text.proofs.Writing.{reworded, wrote_nothing}
-use Rattle.listing.specs.Listing.{wordsOf}
+use Rattle.listing.specs.Listing.{words_of}
 use Rattle.lines.proofs.Laws.{words-behind, word-written, words-end}
 use borrow.Author.Rules.{rules}
 use Rattle.lines.proofs.line_words.Statement.{statement}
@@ -14,7 +14,7 @@ use Rattle.lines.proofs.line_words.Tie as tie
 
 abbrev invariant-loop : tie.invariant-loop
 invariant-loop text words₀ at₀ n₀ words at n =
-    (at ≤ length text) × (length words ≡ length words₀) × (drop n (wordsOf text) ≡ wordsOf (drop at text)) × Wrote words₀ 0 (take n (wordsOf text)) words n
+    (at ≤ length text) × (length words ≡ length words₀) × (drop n (words_of text) ≡ words_of (drop at text)) × Wrote words₀ 0 (take n (words_of text)) words n
 
 abbrev decreases-loop : tie.decreases-loop
 decreases-loop text words₀ at₀ n₀ words at n = length words₀ - n
@@ -27,7 +27,7 @@ returns c =
     let s = c.before.before.before.before.before in
     let l = c.before.before.loop in
     let few = words-end s.args.text.now l.n l.at c.if1.true l.invariant.2 in
-    reworded (take_all l.n (wordsOf s.args.text.now) few ∙ sym (take_all (length s.args.words.now) (wordsOf s.args.text.now) (omega (arith, few, l.invariant.3.fits)))) l.invariant.3
+    reworded (take_all l.n (words_of s.args.text.now) few ∙ sym (take_all (length s.args.words.now) (words_of s.args.text.now) (omega (arith, few, l.invariant.3.fits)))) l.invariant.3
 
 loop-again : tie.Need-loop-preserved invariant-loop decreases-loop
 loop-again c =
@@ -47,7 +47,7 @@ returns-2 c =
     let s = c.before.before.before.before in
     let l = c.before.loop in
     let e : l.n ≡ length s.args.words.now = omega (arith, l.invariant.3.fits) in
-    reworded (ap (λ (k : ℕ). take k (wordsOf s.args.text.now)) e) l.invariant.3
+    reworded (ap (λ (k : ℕ). take k (words_of s.args.text.now)) e) l.invariant.3
 
 pub line-words-spec : {M : Type 1} → statement M
 line-words-spec =

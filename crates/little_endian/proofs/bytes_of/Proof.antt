@@ -5,20 +5,20 @@ use mathlib.Core.List.{List, ◌++◌}
 use native.Mathlib.Omega.{arith}
 use lib.ListN.{length, get_or, take, drop}
 use borrow.Author.Rules.{rules}
-use Rattle.little_endian.specs.LittleEndian.{low_bytes, bytesOf}
+use Rattle.little_endian.specs.LittleEndian.{low_bytes, bytes_of}
 use Rattle.little_endian.proofs.Laws.{bytes-more}
 use Rattle.little_endian.proofs.bytes_of.Statement.{statement}
 use Rattle.little_endian.proofs.bytes_of.Tie as tie
 
 abbrev invariant-loop : tie.invariant-loop
 invariant-loop words bytes₀ n i₀ bytes i =
-    (i ≤ n) × (length bytes ≡ length bytes₀) × (bytes ≡ bytesOf (take i words) ++ drop (4 * i) bytes₀)
+    (i ≤ n) × (length bytes ≡ length bytes₀) × (bytes ≡ bytes_of (take i words) ++ drop (4 * i) bytes₀)
 
 abbrev decreases-loop : tie.decreases-loop
 decreases-loop words bytes₀ n i₀ bytes i = n - i
 
 loop-holds : tie.Need-loop-init invariant-loop decreases-loop
-unfolding bytesOf
+unfolding bytes_of
 loop-holds c = (search rules, refl, refl)
 
 loop-again : tie.Need-loop-preserved invariant-loop decreases-loop

@@ -5,14 +5,14 @@ use mathlib.Core.List.{List, ◌++◌}
 use native.Mathlib.Omega.{arith}
 use lib.ListN.{length, set, take, drop}
 use borrow.Author.Rules.{rules}
-use Rattle.little_endian.specs.LittleEndian.{wordsOf}
-use Rattle.little_endian.proofs.Laws.{length-wordsOf, wordsOf-at, copy_more}
+use Rattle.little_endian.specs.LittleEndian.{words_of}
+use Rattle.little_endian.proofs.Laws.{length-words_of, words_of-at, copy_more}
 use Rattle.little_endian.proofs.words_of.Statement.{statement}
 use Rattle.little_endian.proofs.words_of.Tie as tie
 
 abbrev invariant-loop : tie.invariant-loop
 invariant-loop bytes words₀ n i₀ words i =
-    (i ≤ n) × (length words ≡ length words₀) × (words ≡ take i (wordsOf bytes) ++ drop i words₀)
+    (i ≤ n) × (length words ≡ length words₀) × (words ≡ take i (words_of bytes) ++ drop i words₀)
 
 abbrev decreases-loop : tie.decreases-loop
 decreases-loop bytes words₀ n i₀ words i = n - i
@@ -30,9 +30,9 @@ loop-again c =
       search rules,
       search rules,
       ap (λ (ws : List ℕ). set ws l.i c.word.result) l.invariant.2
-          ∙ ap (λ (w : ℕ). set (take l.i (wordsOf bs) ++ drop l.i a.words.now) l.i w)
-          (c.word.ensures ∙ sym (wordsOf-at bs l.i whole))
-          ∙ copy_more (wordsOf bs) a.words.now l.i (omega (arith, length-wordsOf bs)) (omega arith),
+          ∙ ap (λ (w : ℕ). set (take l.i (words_of bs) ++ drop l.i a.words.now) l.i w)
+          (c.word.ensures ∙ sym (words_of-at bs l.i whole))
+          ∙ copy_more (words_of bs) a.words.now l.i (omega (arith, length-words_of bs)) (omega arith),
     )
 
 returns : tie.Need-returns invariant-loop decreases-loop

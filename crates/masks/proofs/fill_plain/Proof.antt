@@ -5,14 +5,14 @@ use mathlib.Core.List.{List}
 use Prim.Native.Nat.{ℕ, ◌+◌, ◌*◌}
 use lib.ListN.{replicate}
 use Rattle.calculus.specs.Layout.{mark, pour}
-use Rattle.masks.specs.Masks.{plainMasks}
+use Rattle.masks.specs.Masks.{plain_masks}
 use borrow.Author.Rules.{rules}
 use Rattle.masks.proofs.fill_plain.Statement.{statement}
 use Rattle.masks.proofs.fill_plain.Tie as tie
 
 in-turn : (row lead : ℕ) (ws one two : List ℕ) → one ≡ mark ws (32 * row + 7) → two ≡ pour one (3 * row) (replicate lead 4294967295)
-    → two ≡ plainMasks row lead ws
-unfolding plainMasks
+    → two ≡ plain_masks row lead ws
+unfolding plain_masks
 in-turn row lead ws one two a b = b ∙ ap (λ (x : List ℕ). pour x (3 * row) (replicate lead 4294967295)) a
 
 returns : tie.Need-returns

@@ -3,7 +3,7 @@
 use Prim.Native.Nat.{ℕ}
 use Rattle.masks.specs.declared.Sort.{Sort}
 use Rattle.masks.specs.declared.Sort.TheVariants as sorts
-use Rattle.masks.specs.Masks.{sortHas}
+use Rattle.masks.specs.Masks.{sort_has}
 use mathlib.Core.Path.{◌≡◌, sym, ap, ◌∙◌}
 use mathlib.Core.Bool.{not}
 use lib.Dec.{eqb}
@@ -12,27 +12,27 @@ use borrow.Author.Rules.{rules}
 use Rattle.masks.proofs.made_has.Statement.{statement}
 use Rattle.masks.proofs.made_has.Tie as tie
 
-arm : (m : ℕ) (s t : Sort) → s ≡ t → sortHas t m ≡ sortHas s m
-arm m s t e = ap (λ (x : Sort). sortHas x m) (sym e)
+arm : (m : ℕ) (s t : Sort) → s ≡ t → sort_has t m ≡ sort_has s m
+arm m s t e = ap (λ (x : Sort). sort_has x m) (sym e)
 
-message-other : (m : ℕ) → (m ≡ 1 → ⊥) → not (eqb m 3) ≡ sortHas sorts.Message m
-unfolding sortHas
+message-other : (m : ℕ) → (m ≡ 1 → ⊥) → not (eqb m 3) ≡ sort_has sorts.Message m
+unfolding sort_has
 message-other m n = rw (ne_eqb m 1 n)
 
-message-function : (m : ℕ) → m ≡ 1 → not (eqb m 1) ≡ sortHas sorts.Message m
-unfolding sortHas
+message-function : (m : ℕ) → m ≡ 1 → not (eqb m 1) ≡ sort_has sorts.Message m
+unfolding sort_has
 message-function m e = rw (eq-eqb m 1 e)
 
 returns : tie.Need-returns
-unfolding sortHas
+unfolding sort_has
 returns c = arm _ _ sorts.Function c.enum_told.given.1
 
 returns-2 : tie.Need-returns-2
-unfolding sortHas
+unfolding sort_has
 returns-2 c = arm _ _ sorts.Record c.enum-told2.given.1
 
 returns-3 : tie.Need-returns-3
-unfolding sortHas
+unfolding sort_has
 returns-3 c = arm _ _ sorts.Cell c.enum-told3.given.1
 
 returns-4 : tie.Need-returns-4

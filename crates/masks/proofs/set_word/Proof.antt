@@ -4,21 +4,21 @@ use mathlib.Core.Path.{◌≡◌, ap, ◌∙◌}
 use mathlib.Core.List.{List}
 use Prim.Native.Nat.{ℕ, ◌+◌, ◌*◌}
 use Rattle.masks.specs.declared.Sort.TheVariants as sorts
-use Rattle.masks.specs.Masks.{sortHas, markIf, markWord}
+use Rattle.masks.specs.Masks.{sort_has, mark_if, mark_word}
 use borrow.Author.Rules.{rules}
 use Rattle.masks.proofs.set_word.Statement.{statement}
 use Rattle.masks.proofs.set_word.Tie as tie
 
-in-turn : (row v m : ℕ) (ws one two three four : List ℕ) → one ≡ markIf (sortHas sorts.Function m) ws v
-    → two ≡ markIf (sortHas sorts.Record m) one (32 * row + v) → three ≡ markIf (sortHas sorts.Cell m) two (64 * row + v)
-    → four ≡ markIf (sortHas sorts.Message m) three (96 * row + v) → four ≡ markWord row v m ws
-unfolding markWord
+in-turn : (row v m : ℕ) (ws one two three four : List ℕ) → one ≡ mark_if (sort_has sorts.Function m) ws v
+    → two ≡ mark_if (sort_has sorts.Record m) one (32 * row + v) → three ≡ mark_if (sort_has sorts.Cell m) two (64 * row + v)
+    → four ≡ mark_if (sort_has sorts.Message m) three (96 * row + v) → four ≡ mark_word row v m ws
+unfolding mark_word
 in-turn row v m ws one two three four a b c d =
     d
-    ∙ ap (λ (x : List ℕ). markIf (sortHas sorts.Message m) x (96 * row + v))
+    ∙ ap (λ (x : List ℕ). mark_if (sort_has sorts.Message m) x (96 * row + v))
     (c
-    ∙ ap (λ (x : List ℕ). markIf (sortHas sorts.Cell m) x (64 * row + v))
-    (b ∙ ap (λ (x : List ℕ). markIf (sortHas sorts.Record m) x (32 * row + v)) a))
+    ∙ ap (λ (x : List ℕ). mark_if (sort_has sorts.Cell m) x (64 * row + v))
+    (b ∙ ap (λ (x : List ℕ). mark_if (sort_has sorts.Record m) x (32 * row + v)) a))
 
 returns : tie.Need-returns
 returns c =

@@ -8,23 +8,23 @@ use denote.Enum.Declared.{tag_of}
 use borrow.Author.Rules.{rules}
 use Rattle.table.specs.declared.Term.{Term}
 use Rattle.table.specs.declared.Term.TheVariants as terms
-use Rattle.table.specs.Words.{termOf}
-use Rattle.table.specs.Code.{termNode}
+use Rattle.table.specs.Words.{term_of}
+use Rattle.table.specs.Code.{term_node}
 use Rattle.table.specs.contracts.Term.{the_type}
-use Rattle.calculus.specs.Elements.{leafMakes, oneMakes, makes}
-use Rattle.masks.specs.Masks.{makingNumber, wordMakes}
+use Rattle.calculus.specs.Elements.{leaf_makes, one_makes, makes}
+use Rattle.masks.specs.Masks.{making_number, word_makes}
 use Rattle.masks.proofs.word_makes.Statement.{statement}
 use Rattle.masks.proofs.word_makes.Tie as tie
 
-termMakes : Term → ℕ
-termMakes t = makingNumber (makes (termNode t 0 0 0))
+term_makes : Term → ℕ
+term_makes t = making_number (makes (term_node t 0 0 0))
 
 -- the tags of the terms that make nothing
 abbrev others : List ℕ
 others = 0 ∷ 1 ∷ 2 ∷ 3 ∷ 4 ∷ 6 ∷ 7 ∷ 8 ∷ 9 ∷ 10 ∷ 11 ∷ 13 ∷ 15 ∷ 17 ∷ 18 ∷ 19 ∷ 20 ∷ []
 
-idle : (t : Term) → OneOf others (tag_of the_type t) → termMakes t ≡ 0
-unfolding termMakes makingNumber makes leafMakes oneMakes termNode
+idle : (t : Term) → OneOf others (tag_of the_type t) → term_makes t ≡ 0
+unfolding term_makes making_number makes leaf_makes one_makes term_node
 idle (terms.Constant k) h = refl
 idle (terms.Number n) h = refl
 idle (terms.Literal n) h = refl
@@ -47,13 +47,13 @@ idle terms.Assign h = refl
 idle (terms.Send s) h = refl
 idle (terms.Exercise s) h = refl
 
-module _ (w : ℕ) (t : Term) (e : t ≡ termOf w) where
-  by-term : (u : Term) → t ≡ u → termMakes u ≡ wordMakes w
-  unfolding wordMakes termMakes
-  by-term u q = ap termMakes (sym q ∙ e)
+module _ (w : ℕ) (t : Term) (e : t ≡ term_of w) where
+  by-term : (u : Term) → t ≡ u → term_makes u ≡ word_makes w
+  unfolding word_makes term_makes
+  by-term u q = ap term_makes (sym q ∙ e)
 
 pub word-makes-spec : {M : Type 1} → statement M
-unfolding termMakes makingNumber makes leafMakes oneMakes termNode
+unfolding term_makes making_number makes leaf_makes one_makes term_node
 word-makes-spec =
     tie.close (tie.spec (λ term-of-requires κs. search rules) (λ enum_told. search rules) (λ enum-told-2. search rules) (λ enum-told-3. search rules)
     (λ enum-told-4. search rules)

@@ -5,7 +5,7 @@ use native.Mathlib.Omega.{arith}
 use lib.ListN.{length, get_or}
 use Rattle.text.specs.Writing.{Wrote}
 use Rattle.text.proofs.Writing.{reworded, then, wrote_nothing, wrote-length}
-use Rattle.notes.specs.Notes.{homeBefore, notesBefore, notes}
+use Rattle.notes.specs.Notes.{home_before, notes_before, notes}
 use Rattle.notes.proofs.Laws.{home-next, notes-next, notes-start, block-most}
 use borrow.Author.Rules.{rules}
 use Rattle.notes.proofs.put_notes.Statement.{statement}
@@ -14,7 +14,7 @@ use Rattle.table_links.proofs.block_of.Reads as block-of-reads
 
 abbrev invariant-loop : tie.invariant-loop
 invariant-loop words out₀ at next₀ home₀ p₀ out next home p =
-    (p ≤ length words) × (home ≤ p) × (home ≡ homeBefore words p) × (length out ≡ length out₀) × (next ≤ at + 96 * p) × Wrote out₀ at (notesBefore words p) out next
+    (p ≤ length words) × (home ≤ p) × (home ≡ home_before words p) × (length out ≡ length out₀) × (next ≤ at + 96 * p) × Wrote out₀ at (notes_before words p) out next
 
 abbrev decreases-loop : tie.decreases-loop
 decreases-loop words out₀ at next₀ home₀ p₀ out next home p =
@@ -67,7 +67,7 @@ returns c =
     let l = c.before.loop in
     let a = c.before.before.before.before.args in
     let e : l.p ≡ length a.words.now = omega (arith, l.invariant.0) in
-    (reworded (ap (notesBefore a.words.now) e) l.invariant.5, omega (arith, l.invariant.4, l.invariant.0, c.before.before.before.before.requires.0))
+    (reworded (ap (notes_before a.words.now) e) l.invariant.5, omega (arith, l.invariant.4, l.invariant.0, c.before.before.before.before.requires.0))
 
 pub put-notes-spec : {M : Type 1} → statement M
 put-notes-spec =

@@ -2,49 +2,49 @@
 use mathlib.Core.Path.{sym, ap, ap₂, ◌∙◌}
 use borrow.Author.Rules.{rules}
 use Rattle.text.proofs.Writing.{reworded}
-use Rattle.report.specs.Lines.{refusalLine}
+use Rattle.report.specs.Lines.{refusal_line}
 use Rattle.reading_order.specs.declared.Ordering.{Ordering}
-use Rattle.reading_order.specs.Reply.{replyOf}
-use Rattle.order_text.specs.Text.{replyText}
+use Rattle.reading_order.specs.Reply.{reply_of}
+use Rattle.order_text.specs.Text.{reply_text}
 use Rattle.order_text.proofs.put_reply.Statement.{statement}
 use Rattle.order_text.proofs.put_reply.Tie as tie
 
 returns : tie.Need-returns
-unfolding replyOf replyText
+unfolding reply_of reply_text
 returns c =
     let g = c.before.before in
     let a = g.before.before.before.before.before.before.before.before.before.args in
     reworded
-    (ap₂ refusalLine g.before.before.fault-number.ensures g.before.fault-place.ensures ∙ sym (ap (λ (x : Ordering). replyText (replyOf x) a.positions.now) g.before.before.before.before.before.r.given.1))
+    (ap₂ refusal_line g.before.before.fault-number.ensures g.before.fault-place.ensures ∙ sym (ap (λ (x : Ordering). reply_text (reply_of x) a.positions.now) g.before.before.before.before.before.r.given.1))
     g.refusal-line.ensures.0
 
 returns-2 : tie.Need-returns-2
-unfolding replyOf replyText
+unfolding reply_of reply_text
 returns-2 c =
     let g = c.before.before in
     let a = g.before.before.before.before.before.before.args in
-    reworded (sym (ap (λ (x : Ordering). replyText (replyOf x) a.positions.now) g.before.before.enum_told.given.1)) g.refusal-line2.ensures.0
+    reworded (sym (ap (λ (x : Ordering). reply_text (reply_of x) a.positions.now) g.before.before.enum_told.given.1)) g.refusal-line2.ensures.0
 
 returns-3 : tie.Need-returns-3
-unfolding replyOf replyText
+unfolding reply_of reply_text
 returns-3 c =
     let g = c.before.before in
     let a = g.before.before.before.before.before.before.before.args in
-    reworded (sym (ap (λ (x : Ordering). replyText (replyOf x) a.positions.now) g.before.before.before.r2.given.1)) g.refusal-line3.ensures.0
+    reworded (sym (ap (λ (x : Ordering). reply_text (reply_of x) a.positions.now) g.before.before.before.r2.given.1)) g.refusal-line3.ensures.0
 
 returns-4 : tie.Need-returns-4
-unfolding replyOf replyText
+unfolding reply_of reply_text
 returns-4 c =
     let g = c.before.before in
     let a = g.before.before.before.before.before.before.before.before.args in
-    reworded (sym (ap (λ (x : Ordering). replyText (replyOf x) a.positions.now) g.before.before.before.before.r3.given.1)) g.put_first.ensures
+    reworded (sym (ap (λ (x : Ordering). reply_text (reply_of x) a.positions.now) g.before.before.before.before.r3.given.1)) g.put_first.ensures
 
 returns-5 : tie.Need-returns-5
-unfolding replyOf replyText
+unfolding reply_of reply_text
 returns-5 c =
     let g = c.before.before in
     let a = g.before.before.before.before.before.before.before.before.args in
-    reworded (sym (ap (λ (x : Ordering). replyText (replyOf x) a.positions.now) g.before.before.before.before.r4.given.1)) g.put-first2.ensures
+    reworded (sym (ap (λ (x : Ordering). reply_text (reply_of x) a.positions.now) g.before.before.before.before.r4.given.1)) g.put-first2.ensures
 
 pub put-reply-spec : {M : Type 1} → statement M
 put-reply-spec =

@@ -3,17 +3,17 @@
 use mathlib.Core.Path.{sym, ap, ◌∙◌}
 use borrow.Author.Rules.{rules}
 use Rattle.table.specs.Answer.{outcome}
-use Rattle.overlay.specs.Answers.{faultNumber, faultPlace, checkedAs}
+use Rattle.overlay.specs.Answers.{fault_number, fault_place, checked_as}
 use Rattle.overlay.proofs.Refusals.{base-refused, overlay-refused, both-accepted}
 use Rattle.overlay.proofs.check.Statement.{statement}
 use Rattle.overlay.proofs.check.Tie as tie
 
 returns : tie.Need-returns
-unfolding outcome checkedAs faultNumber faultPlace
+unfolding outcome checked_as fault_number fault_place
 returns c = sym (base-refused _ _ _ _ (sym c.before.before.before.read-narrow.ensures ∙ ap outcome c.before.r.given.1))
 
 returns-2 : tie.Need-returns-2
-unfolding outcome checkedAs faultNumber faultPlace
+unfolding outcome checked_as fault_number fault_place
 returns-2 c =
     sym
     (overlay-refused _ _
@@ -21,7 +21,7 @@ returns-2 c =
     (sym c.before.before.before.read-narrow2.ensures ∙ ap outcome c.before.r2.given.1))
 
 returns-3 : tie.Need-returns-3
-unfolding outcome checkedAs
+unfolding outcome checked_as
 returns-3 c =
     sym
     (both-accepted _ _

@@ -4,7 +4,7 @@ use native.Mathlib.Omega.{arith}
 use lib.ListN.{length}
 use Rattle.arguments.specs.declared.plan.Plan.{Plan}
 use Rattle.text.proofs.Writing.{reworded}
-use Rattle.program.specs.Printed.{planText, printed}
+use Rattle.program.specs.Printed.{plan_text, printed}
 use Rattle.program.proofs.Laws.{run-written, run_short}
 use borrow.Author.Rules.{rules}
 use Rattle.program.proofs.run.Statement.{statement}
@@ -26,7 +26,7 @@ returns-3 : tie.Need-returns-3
 unfolding printed
 returns-3 c =
     let a = c.before.before.before.before.before.before.before.before.before.before.args in
-    let w = reworded (ap (λ (p : Plan). planText p a.input.now) c.before.before.before.before.plan-of.ensures) c.before.before.plan-text.ensures in
+    let w = reworded (ap (λ (p : Plan). plan_text p a.input.now) c.before.before.before.before.plan-of.ensures) c.before.before.plan-text.ensures in
     let r = run-written (printed a.arguments.now a.input.now) (length a.input.now) a.out.now (omega arith) _ _ w in
     (r.0, (r.1, r.2))
 

@@ -6,18 +6,18 @@ use borrow.Author.Rules.{rules}
 use borrow.Author.Tests.{not-true, not-false}
 use Rattle.table.specs.declared.Handler.{Handler}
 use Rattle.table.specs.Words.{argument}
-use Rattle.table.specs.Item.{handlerAt}
+use Rattle.table.specs.Item.{handler_at}
 use Rattle.queries.proofs.Laws.{both_true, first-false}
 use Rattle.queries.proofs.starts.Statement.{statement}
 use Rattle.queries.proofs.starts.Tie as tie
 
 -- the name that the block's words say
 named : (c : tie.After-handler-at) → c.handler-at.result.name ≡ argument (get_or c.before.before.before.args.words.now c.before.before.before.args.b 0)
-unfolding handlerAt
+unfolding handler_at
 named c = ap (λ (h : Handler). h.name) c.handler-at.ensures
 
 pub starts-spec : {M : Type 1} → statement M
-unfolding handlerAt
+unfolding handler_at
 starts-spec =
     tie.close (tie.spec (λ handler-at-requires κs. search rules) (λ add-value. search rules) (λ value-requires κs. search rules)
     (λ cast-has. search rules) (λ add-has. search rules)

@@ -12,15 +12,15 @@ use Rattle.permset.specs.declared.PermSet.{PermSet}
 use Rattle.permset.specs.Sets.{union}
 use Rattle.table.specs.Code.{code, end_of}
 use Rattle.table.proofs.Blocks.{Follows}
-use Rattle.calculus.specs.Estimate.{leakAmong, leak}
-use Rattle.table.proofs.BlockLoop.{blocksOn, named-there, follows-first, next-is, follows_next, next-later}
+use Rattle.calculus.specs.Estimate.{leak_among, leak}
+use Rattle.table.proofs.BlockLoop.{blocks_on, named-there, follows-first, next-is, follows_next, next-later}
 use Rattle.readers.proofs.Found.{leak-start, leak-step, leak-end}
 use Rattle.readers.proofs.leak.Statement.{statement}
 use Rattle.readers.proofs.leak.Tie as tie
 
 abbrev invariant-loop : tie.invariant-loop
 invariant-loop words links est l rho found₀ b₀ found b =
-    Follows words b × (bit_or found.bits (leakAmong (code words) rho.bits est (blocksOn words b)) ≡ leak (code words) rho.bits est)
+    Follows words b × (bit_or found.bits (leak_among (code words) rho.bits est (blocks_on words b)) ≡ leak (code words) rho.bits est)
 
 abbrev decreases-loop : tie.decreases-loop
 decreases-loop words links est l rho found₀ b₀ found b = length words - b
@@ -68,7 +68,7 @@ loop-again c =
     let h = s.requires in
     let g : i.b < length a.words.now = c.before.before.before.loop-test.true in
     let t = named-there a.words.now h.readable i.b i.invariant.0 g in
-    let on : ℕ → ℕ = λ b. leakAmong (code a.words.now) a.rho.bits a.est.now (blocksOn a.words.now b) in (
+    let on : ℕ → ℕ = λ b. leak_among (code a.words.now) a.rho.bits a.est.now (blocks_on a.words.now b) in (
       subst (Follows a.words.now) (sym (end_is c)) (follows_next a.words.now h.readable i.b g t),
       ap (λ (x : PermSet). bit_or x.bits (on c.next-block.result)) c.before.union.ensures
           ∙ ap (λ (b : ℕ). bit_or (bit_or i.found.bits c.before.before.leak-at.result.bits) (on b)) (end_is c)

@@ -7,7 +7,7 @@ use lib.ListN.{length, take, length-map}
 use lib.Seq.{take_at, length-take-le}
 use Rattle.table.specs.Code.{code}
 use Rattle.rows.specs.Laid.{LaidOut}
-use Rattle.reading_order.specs.Relation.{sendersTo}
+use Rattle.reading_order.specs.Relation.{senders_to}
 use Rattle.reading_order.proofs.Elements.{sized, firsts-of, rows_are, live-are, arranged-by}
 use Rattle.reading_order.proofs.arranged.Statement.{statement}
 use Rattle.reading_order.proofs.arranged.Tie as tie
@@ -52,7 +52,7 @@ returns c =
     let bs = s.args.blocks.now in
     let est = s.args.est.now in
     arranged-by d est s.args.positions.now c.before.before.arrange.new.1.1.0 (take {A = ℕ} (length bs) f.fill-rows.new.1.1.1.0) _ c.before.before.arrange.result
-    (ap (take {A = ℕ} (length bs)) (f.fill-rows.ensures d (laid k)) ∙ take_at _ _ (length bs) (length-map bs (sendersTo d est bs)) ∙ rows_are d est bs s.requires.2)
+    (ap (take {A = ℕ} (length bs)) (f.fill-rows.ensures d (laid k)) ∙ take_at _ _ (length bs) (length-map bs (senders_to d est bs)) ∙ rows_are d est bs s.requires.2)
     (f.before.before.live-among.ensures d (laid k) ∙ live-are d est bs s.requires.2) c.before.before.arrange.ensures
 
 pub arranged-spec : {M : Type 1} → statement M

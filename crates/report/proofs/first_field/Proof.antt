@@ -5,25 +5,25 @@ use mathlib.Core.List.{◌++◌}
 use native.Mathlib.Omega.{arith}
 use borrow.Author.Rules.{rules}
 use Rattle.text.specs.Text.{bytes}
-use Rattle.report.specs.Lines.{firstOutside}
+use Rattle.report.specs.Lines.{first_outside}
 use Rattle.text.proofs.Writing.{reworded}
 use Rattle.report.proofs.first_field.Statement.{statement}
 use Rattle.report.proofs.first_field.Tie as tie
 
 returns : tie.Need-returns
-unfolding firstOutside
+unfolding first_outside
 returns c =
     let test = c.before.before.before.before.before in (
-      reworded (ap (λ (o : Bool). bytes " first " ++ firstOutside o test.before.before.args.first) (sym test.if1.true))
+      reworded (ap (λ (o : Bool). bytes " first " ++ first_outside o test.before.before.args.first) (sym test.if1.true))
           c.before.before.number-field.ensures.0,
       omega arith,
     )
 
 returns-2 : tie.Need-returns-2
-unfolding firstOutside
+unfolding first_outside
 returns-2 c =
     let test = c.before.before.before.before.before in (
-      reworded (ap (λ (o : Bool). bytes " first " ++ firstOutside o test.before.before.args.first) (sym test.if1.false))
+      reworded (ap (λ (o : Bool). bytes " first " ++ first_outside o test.before.before.args.first) (sym test.if1.false))
           c.before.before.put.ensures,
       omega (arith, c.before.before.put.ensures.ends),
     )

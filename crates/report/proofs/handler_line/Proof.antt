@@ -2,7 +2,7 @@
 use mathlib.Core.Path.{◌∙◌}
 use native.Mathlib.Omega.{arith}
 use borrow.Author.Rules.{rules}
-use Rattle.report.specs.Lines.{handlerLine}
+use Rattle.report.specs.Lines.{handler_line}
 use Rattle.text.proofs.Writing.{then, wrote-length}
 use Rattle.report.proofs.handler_line.Statement.{statement}
 use Rattle.report.proofs.handler_line.Tie as tie
@@ -17,7 +17,7 @@ put-requires c κs =
     omega (arith, at-set-field.set-field.ensures.1, at-word-field2.word-field2.ensures.1, at-word-field.word-field.ensures.1, at-number-field2.number-field2.ensures.1, at-number-field.number-field.ensures.1, at-number-field.before.before.before.before.requires)
 
 same_length : tie.Need-same-length
-unfolding handlerLine
+unfolding handler_line
 same_length c =
     let at-put = c.before.before in
     let at-set-field = at-put.before.before.before.before.before in
@@ -33,7 +33,7 @@ same_length c =
     ∙ wrote-length at-number-field.number-field.ensures.0
 
 returns : tie.Need-returns
-unfolding handlerLine
+unfolding handler_line
 returns c =
     let at-put = c.before.before in
     let at-set-field = at-put.before.before.before.before.before in

@@ -1,13 +1,13 @@
 -- `report::verdict_line` meets its contract. Assumes nothing.
 use native.Mathlib.Omega.{arith}
 use borrow.Author.Rules.{rules}
-use Rattle.report.specs.Lines.{verdictLine}
+use Rattle.report.specs.Lines.{verdict_line}
 use Rattle.text.proofs.Writing.{then}
 use Rattle.report.proofs.verdict_line.Statement.{statement}
 use Rattle.report.proofs.verdict_line.Tie as tie
 
 returns : tie.Need-returns
-unfolding verdictLine
+unfolding verdict_line
 returns c =
     let at-put = c.before.before in
     let at-number-field = at-put.before.before.before.before.before in

@@ -6,24 +6,24 @@ use mathlib.Core.List.{List}
 use Prim.Native.Nat.{ℕ}
 use borrow.Author.Tests.{not-true, not-false}
 use lib.Bits.{bit_or}
-use Rattle.calculus.proofs.EqualResults.{sameMask, apartMask, equalMask}
+use Rattle.calculus.proofs.EqualResults.{same_mask, apart_mask, equal_mask}
 use Rattle.calculus.proofs.Masks.{nonzero}
 use borrow.Author.Rules.{rules}
 use Rattle.results.proofs.compare.Statement.{statement}
 use Rattle.results.proofs.compare.Tie as tie
 
 module _ (xs ys : List ℕ) where
-  no-left : nonzero xs ≡ false → 0 ≡ equalMask xs ys
-  unfolding equalMask
-  no-left e = rw (e, equalMask)
+  no-left : nonzero xs ≡ false → 0 ≡ equal_mask xs ys
+  unfolding equal_mask
+  no-left e = rw (e, equal_mask)
 
-  no-right : nonzero xs ≡ true → nonzero ys ≡ false → 0 ≡ equalMask xs ys
-  unfolding equalMask
-  no-right e f = rw (e, f, equalMask)
+  no-right : nonzero xs ≡ true → nonzero ys ≡ false → 0 ≡ equal_mask xs ys
+  unfolding equal_mask
+  no-right e f = rw (e, f, equal_mask)
 
-  both : nonzero xs ≡ true → nonzero ys ≡ true → bit_or (sameMask xs ys) (apartMask xs ys) ≡ equalMask xs ys
-  unfolding equalMask
-  both e f = rw (e, f, equalMask)
+  both : nonzero xs ≡ true → nonzero ys ≡ true → bit_or (same_mask xs ys) (apart_mask xs ys) ≡ equal_mask xs ys
+  unfolding equal_mask
+  both e f = rw (e, f, equal_mask)
 
 returns : tie.Need-returns
 returns c = no-left _ _ (sym c.before.any-element.ensures ∙ not-true _ c.if1.true)

@@ -4,19 +4,19 @@ use mathlib.Core.Path.{◌≡◌, sym, ◌∙◌}
 use mathlib.Core.Bool.{true, false}
 use mathlib.Core.List.{List}
 use Prim.Native.Nat.{ℕ}
-use Rattle.calculus.proofs.EqualResults.{apart, apartMask}
+use Rattle.calculus.proofs.EqualResults.{apart, apart_mask}
 use borrow.Author.Rules.{rules}
 use Rattle.results.proofs.differ_bits.Statement.{statement}
 use Rattle.results.proofs.differ_bits.Tie as tie
 
 module _ (xs ys : List ℕ) where
-  yes-bits : apart xs ys ≡ true → 8 ≡ apartMask xs ys
-  unfolding apartMask
-  yes-bits e = rw (e, apartMask)
+  yes-bits : apart xs ys ≡ true → 8 ≡ apart_mask xs ys
+  unfolding apart_mask
+  yes-bits e = rw (e, apart_mask)
 
-  no_bits : apart xs ys ≡ false → 0 ≡ apartMask xs ys
-  unfolding apartMask
-  no_bits e = rw (e, apartMask)
+  no_bits : apart xs ys ≡ false → 0 ≡ apart_mask xs ys
+  unfolding apart_mask
+  no_bits e = rw (e, apart_mask)
 
 returns : tie.Need-returns
 returns c = yes-bits _ _ (sym c.before.differ.ensures ∙ c.if1.true)

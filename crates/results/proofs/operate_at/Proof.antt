@@ -3,7 +3,7 @@
 use mathlib.Core.Path.{ap₂, ◌∙◌}
 use mathlib.Core.List.{List}
 use Prim.Native.Nat.{ℕ}
-use Rattle.calculus.proofs.OperationResults.{operationMask}
+use Rattle.calculus.proofs.OperationResults.{operation_mask}
 use Rattle.results.proofs.Sides.{side_cut}
 use borrow.Author.Rules.{rules}
 use Rattle.results.proofs.operate_at.Statement.{statement}
@@ -14,7 +14,7 @@ returns c =
     let s = c.before.before.before.before.before.before in
     let a = s.args in
     c.operate.ensures
-    ∙ ap₂ (λ (xs ys : List ℕ). operationMask a.o xs ys) (side_cut a.est.now a.x a.lead s.requires.2 s.requires.0)
+    ∙ ap₂ (λ (xs ys : List ℕ). operation_mask a.o xs ys) (side_cut a.est.now a.x a.lead s.requires.2 s.requires.0)
     (side_cut a.est.now a.y a.lead s.requires.2 s.requires.1)
 
 pub operate-at-spec : {M : Type 1} → statement M

@@ -6,7 +6,7 @@ use mathlib.Core.List.{List, ◌∷◌}
 use Prim.Native.Nat.{ℕ}
 use lib.Bits.{bit_and}
 use Rattle.calculus.specs.Layout.{masked}
-use Rattle.calculus.proofs.EqualResults.{sameMask}
+use Rattle.calculus.proofs.EqualResults.{same_mask}
 use Rattle.calculus.proofs.Masks.{nonzero}
 use Rattle.rows.proofs.Laws.{meets-nonzero}
 use Rattle.results.proofs.Sides.{nonzero-first, nonzero-rest}
@@ -15,16 +15,16 @@ use Rattle.results.proofs.same_bits.Statement.{statement}
 use Rattle.results.proofs.same_bits.Tie as tie
 
 module _ (xs ys : List ℕ) where
-  yes-bits : nonzero (masked xs ys) ≡ true → 4 ≡ sameMask xs ys
-  unfolding sameMask
-  yes-bits e = rw (e, sameMask)
+  yes-bits : nonzero (masked xs ys) ≡ true → 4 ≡ same_mask xs ys
+  unfolding same_mask
+  yes-bits e = rw (e, same_mask)
 
-  no_bits : nonzero (masked xs ys) ≡ false → 0 ≡ sameMask xs ys
-  unfolding sameMask
-  no_bits e = rw (e, sameMask)
+  no_bits : nonzero (masked xs ys) ≡ false → 0 ≡ same_mask xs ys
+  unfolding same_mask
+  no_bits e = rw (e, same_mask)
 
 module _ (x y : ℕ) (a d : List ℕ) where
-  first : (bit_and x y ≡ 0 → ⊥) → 4 ≡ sameMask (x ∷ a) (y ∷ d)
+  first : (bit_and x y ≡ 0 → ⊥) → 4 ≡ same_mask (x ∷ a) (y ∷ d)
   unfolding masked
   first n = yes-bits (x ∷ a) (y ∷ d) (nonzero-first (bit_and x y) (masked a d) n)
 

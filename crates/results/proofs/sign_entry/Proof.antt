@@ -7,23 +7,23 @@ use Prim.Native.Nat.{ℕ, ◌+◌, ◌/◌, ◌%◌}
 use borrow.Author.Tests.{not-true, not-false}
 use lib.ListN.{get_or}
 use Rattle.permset.specs.Sets.{member}
-use Rattle.calculus.proofs.SignResults.{signEntry}
+use Rattle.calculus.proofs.SignResults.{sign_entry}
 use borrow.Author.Rules.{rules}
 use Rattle.results.proofs.sign_entry.Statement.{statement}
 use Rattle.results.proofs.sign_entry.Tie as tie
 
 module _ (t : List ℕ) (a d k : ℕ) where
-  no-first : member a (4 + k / 3) ≡ false → 0 ≡ signEntry t a d k
-  unfolding signEntry
-  no-first e = rw (e, signEntry)
+  no-first : member a (4 + k / 3) ≡ false → 0 ≡ sign_entry t a d k
+  unfolding sign_entry
+  no-first e = rw (e, sign_entry)
 
-  no_second : member a (4 + k / 3) ≡ true → member d (4 + k % 3) ≡ false → 0 ≡ signEntry t a d k
-  unfolding signEntry
-  no_second e f = rw (e, f, signEntry)
+  no_second : member a (4 + k / 3) ≡ true → member d (4 + k % 3) ≡ false → 0 ≡ sign_entry t a d k
+  unfolding sign_entry
+  no_second e f = rw (e, f, sign_entry)
 
-  both : member a (4 + k / 3) ≡ true → member d (4 + k % 3) ≡ true → get_or t k 0 ≡ signEntry t a d k
-  unfolding signEntry
-  both e f = rw (e, f, signEntry)
+  both : member a (4 + k / 3) ≡ true → member d (4 + k % 3) ≡ true → get_or t k 0 ≡ sign_entry t a d k
+  unfolding sign_entry
+  both e f = rw (e, f, sign_entry)
 
 returns : tie.Need-returns
 returns c = no-first _ _ _ _ (sym c.before.has-digit.ensures ∙ not-true _ c.if1.true)

@@ -7,8 +7,8 @@ use lib.Dec.{eqb, ltb, eqb→eq}
 use lib.ListN.{get_or}
 use borrow.Author.Tests.{eq-eqb, ne_eqb, lt-ltb, le-ltb}
 use Rattle.table.proofs.Constants.{at}
-use Rattle.calculus.proofs.SignResults.{sumMasks, lessMasks}
-use Rattle.results.specs.Signs.{signTable}
+use Rattle.calculus.proofs.SignResults.{sum_masks, less_masks}
+use Rattle.results.specs.Signs.{sign_table}
 use borrow.Author.Rules.{rules}
 use Rattle.results.proofs.sign_result.Statement.{statement}
 use Rattle.results.proofs.sign_result.Tie as tie
@@ -27,12 +27,12 @@ formula true x y =
 formula false x y =
     elim (eqb x y) [ true ↦ elim (eqb x 1) [ true ↦ 8 | false ↦ 12 ] | false ↦ elim (ltb x y) [ true ↦ 4 | false ↦ 8 ] ]
 
-entries : (sum : Bool) (i : ℕ) → i < 9 → formula sum (i / 3) (i % 3) ≡ get_or (signTable sum) i 0
-unfolding signTable sumMasks lessMasks
-entries true i h = sym (eqb→eq _ _ (at (λ (k m : ℕ). eqb m (formula true (k / 3) (k % 3))) sumMasks tt i h))
-entries false i h = sym (eqb→eq _ _ (at (λ (k m : ℕ). eqb m (formula false (k / 3) (k % 3))) lessMasks tt i h))
+entries : (sum : Bool) (i : ℕ) → i < 9 → formula sum (i / 3) (i % 3) ≡ get_or (sign_table sum) i 0
+unfolding sign_table sum_masks less_masks
+entries true i h = sym (eqb→eq _ _ (at (λ (k m : ℕ). eqb m (formula true (k / 3) (k % 3))) sum_masks tt i h))
+entries false i h = sym (eqb→eq _ _ (at (λ (k m : ℕ). eqb m (formula false (k / 3) (k % 3))) less_masks tt i h))
 
-entry : (sum b : Bool) (i : ℕ) → i < 9 → sum ≡ b → formula b (i / 3) (i % 3) ≡ get_or (signTable sum) i 0
+entry : (sum b : Bool) (i : ℕ) → i < 9 → sum ≡ b → formula b (i / 3) (i % 3) ≡ get_or (sign_table sum) i 0
 entry sum b i h e = ap (λ (s : Bool). formula s (i / 3) (i % 3)) (sym e) ∙ entries sum i h
 
 module _ (x y : ℕ) where

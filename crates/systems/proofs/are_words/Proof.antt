@@ -1,6 +1,6 @@
 -- `systems::are_words` meets its contract. Assumes nothing.
 use mathlib.Core.Path.{refl, sym}
-use Rattle.systems.specs.System.{areWords}
+use Rattle.systems.specs.System.{are_words}
 use Rattle.systems.proofs.Laws.{few_bytes}
 use borrow.Author.Rules.{rules}
 use Rattle.systems.proofs.are_words.Statement.{statement}
@@ -10,7 +10,7 @@ returns : tie.Need-returns
 returns c = sym (few_bytes c.before.args.input.now c.if1.true)
 
 returns-2 : tie.Need-returns-2
-unfolding areWords
+unfolding are_words
 returns-2 c = refl
 
 pub are-words-spec : {M : Type 1} → statement M

@@ -2,7 +2,7 @@
 use Prim.Native.Nat.{ℕ}
 use mathlib.Core.Path.{sym, ap, ap₂, ◌∙◌}
 use Rattle.listing.specs.Answer.{answered}
-use Rattle.listing.specs.Listing.{readAs, left, wordsOf}
+use Rattle.listing.specs.Listing.{read_as, left, words_of}
 use Rattle.listing.proofs.Places.{read-few, read-words}
 use Rattle.systems.specs.System.{system, refusal}
 use Rattle.systems.proofs.Laws.{listing-done, listing-refused}
@@ -17,8 +17,8 @@ returns c =
     let out = c.before.before.before.before.before.before.before.before.before.args.words.now in
     let r = c.before.before.before.before.before.read in
     let e = sym r.ensures.0 ∙ ap answered c.before.n.given.1 in
-    let f = ap (readAs input) (sym c.before.before.before.before.before.before.before.before.before.requires) ∙ e in
-    let q = r.ensures.1 ∙ ap (λ (k : ℕ). left (readAs input k) (wordsOf input) out) c.before.before.before.before.before.before.before.before.before.requires in
+    let f = ap (read_as input) (sym c.before.before.before.before.before.before.before.before.before.requires) ∙ e in
+    let q = r.ensures.1 ∙ ap (λ (k : ℕ). left (read_as input k) (words_of input) out) c.before.before.before.before.before.before.before.before.before.requires in
     record {
       is = listing-done input _ f ∙ ap system (sym (read-words input r.new.1.0 out _ f q));
       few = read-few input _ f;
@@ -29,7 +29,7 @@ unfolding answered
 returns-2 c =
     let input = c.before.before.before.before.before.before.before.before.before.before.before.args.input.now in
     let r = c.before.before.before.before.before.before.before.read in
-    listing-refused input _ _ (ap (readAs input) (sym c.before.before.before.before.before.before.before.before.before.before.before.requires) ∙ sym r.ensures.0 ∙ ap answered c.before.before.before.r.given.1)
+    listing-refused input _ _ (ap (read_as input) (sym c.before.before.before.before.before.before.before.before.before.before.before.requires) ∙ sym r.ensures.0 ∙ ap answered c.before.before.before.r.given.1)
     ∙ ap₂ refusal (sym c.before.refusal-number.ensures) (sym c.refusal-place.ensures)
 
 pub read-listing-spec : {M : Type 1} → statement M

@@ -2,7 +2,7 @@
 use mathlib.Core.Path.{sym, ap, ◌∙◌}
 use native.Mathlib.Omega.{arith}
 use Rattle.little_endian.proofs.First.{words-first}
-use Rattle.systems.specs.System.{tableOf}
+use Rattle.systems.specs.System.{table_of}
 use Rattle.systems.proofs.Laws.{said_of, words_long, words-odd, words-even, words-all}
 use borrow.Author.Rules.{rules}
 use Rattle.systems.proofs.read_words.Statement.{statement}
@@ -19,7 +19,7 @@ returns-3 c =
     let input = c.before.before.before.before.before.before.before.before.before.before.args.input.now in
     let w = c.before.before.before.before.words_of in
     said_of w.new.1.0 c.table_of.result
-    (ap tableOf (words-first 1024 input c.before.before.before.before.before.before.before.before.before.before.args.words.now w.new.1.0 w.result c.before.before.before.before.before.before.before.before.before.before.requires w.ensures.0 w.ensures.1 ∙ words-all input c.before.before.before.before.before.before.before.if1.false)
+    (ap table_of (words-first 1024 input c.before.before.before.before.before.before.before.before.before.before.args.words.now w.new.1.0 w.result c.before.before.before.before.before.before.before.before.before.before.requires w.ensures.0 w.ensures.1 ∙ words-all input c.before.before.before.before.before.before.before.if1.false)
     ∙ words-even input c.before.before.before.before.before.before.before.if1.false c.before.before.before.before.before.before.if2.false)
     c.table_of.ensures
 

@@ -14,14 +14,14 @@ use Rattle.table.specs.Scan.{Task, term, Outcome, under, fault, keep, next, scan
 use Rattle.table.proofs.read.Steps.{goes_on}
 
 -- the tasks of some parts of the term at a place
-abbrev pub partTasks : ℕ → ℕ → ℕ → List ℕ → List Bool → List Task
-partTasks at d h s bs = map (λ b. term (suc d) h (under b at s)) bs
+abbrev pub part_tasks : ℕ → ℕ → ℕ → List ℕ → List Bool → List Task
+part_tasks at d h s bs = map (λ b. term (suc d) h (under b at s)) bs
 
 -- with the word of the term at `at` and its first i parts read, up to the place p, what is left gives the outcome of the whole
 abbrev pub Left : ℕ → List ℕ → ℕ → ℕ → ℕ → ℕ → ℕ → ℕ → Type 0
 Left names ws at d n w p i =
     (keys : List ℕ) (h : ℕ) (s : List ℕ) (ts : List Task) → length s ≡ n
-    → scan names (drop at ws) keys at (term d h s ∷ ts) ≡ scan names (drop p ws) keys p (partTasks at d h s (drop i (parts w)) ++ ts)
+    → scan names (drop at ws) keys at (term d h s ∷ ts) ≡ scan names (drop p ws) keys p (part_tasks at d h s (drop i (parts w)) ++ ts)
 
 -- the binders of a part
 pub under-length : (b : Bool) (at : ℕ) (s : List ℕ) → length (under b at s) ≡ length s + mark b
@@ -45,15 +45,15 @@ module _ (names : ℕ) (ws : List ℕ) (at d n : ℕ) where
         → ((keys : List ℕ) (h : ℕ) (s : List ℕ) (ts : List Task) → length s ≡ n + m
         → scan names (drop p ws) keys p (term (d + 1) h s ∷ ts) ≡ after keys ts)
         → (keys : List ℕ) (h : ℕ) (s : List ℕ) (ts : List Task) → length s ≡ n
-        → scan names (drop at ws) keys at (term d h s ∷ ts) ≡ after keys (partTasks at d h s (drop (i + 1) (parts w)) ++ ts)
+        → scan names (drop at ws) keys at (term d h s ∷ ts) ≡ after keys (part_tasks at d h s (drop (i + 1) (parts w)) ++ ts)
     unfolding arity
     left-part l m em after post keys h s ts e =
         let b = get_or (parts w) i false in
-        let rest = partTasks at d h s (drop (i + 1) (parts w)) ++ ts in
+        let rest = part_tasks at d h s (drop (i + 1) (parts w)) ++ ts in
         left keys h s ts e
-        ∙ ap (λ (bs : List Bool). scan names (drop p ws) keys p (partTasks at d h s bs ++ ts)) (drop-cons (parts w) i false l)
+        ∙ ap (λ (bs : List Bool). scan names (drop p ws) keys p (part_tasks at d h s bs ++ ts)) (drop-cons (parts w) i false l)
         ∙ ap₂
-        (λ (j k : ℕ). scan names (drop p ws) keys p (term j h (under b at s) ∷ partTasks at d h s (drop k (parts w)) ++ ts))
+        (λ (j k : ℕ). scan names (drop p ws) keys p (term j h (under b at s) ∷ part_tasks at d h s (drop k (parts w)) ++ ts))
         (sym (add-one d))
         (sym (add-one i))
         ∙ post keys h (under b at s) rest (under-length b at s ∙ ap₂ ◌+◌ e (sym em))
@@ -64,4 +64,4 @@ module _ (names : ℕ) (ws : List ℕ) (at d n : ℕ) where
     unfolding arity
     left-all l keys h s ts e =
         left keys h s ts e
-        ∙ ap (λ (bs : List Bool). scan names (drop p ws) keys p (partTasks at d h s bs ++ ts)) (drop_of_length-le (parts w) l)
+        ∙ ap (λ (bs : List Bool). scan names (drop p ws) keys p (part_tasks at d h s bs ++ ts)) (drop_of_length-le (parts w) l)

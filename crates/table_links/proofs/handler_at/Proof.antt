@@ -1,10 +1,10 @@
-use Rattle.table.specs.Item.{handlerAt}
+use Rattle.table.specs.Item.{handler_at}
 use borrow.Author.Rules.{rules}
 use Rattle.table_links.proofs.handler_at.Statement.{statement}
 use Rattle.table_links.proofs.handler_at.Tie as tie
 
 returns : tie.Need-returns
-unfolding handlerAt
+unfolding handler_at
 returns c = λ i. record { name = c.before.before.argument-of.ensures i; perms = c.before.set_at.ensures i; guard = c.set-at2.ensures i }
 
 pub handler-at-spec : {M : Type 1} → statement M

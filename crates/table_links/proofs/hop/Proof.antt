@@ -4,13 +4,13 @@ use mathlib.Core.Path.{◌≡◌, refl, sym, ap, ◌∙◌}
 use Prim.Native.Nat.{ℕ, ◌-◌}
 use Rattle.table.specs.declared.Link.{Link}
 use borrow.Author.Rules.{rules}
-use Rattle.table.specs.Links.{iterate, linkAt}
+use Rattle.table.specs.Links.{iterate, link_at}
 use Rattle.table_links.proofs.Iterate.{iterate-more, iterate-done}
 use Rattle.table_links.proofs.hop.Statement.{statement}
 use Rattle.table_links.proofs.hop.Tie as tie
 
 abbrev invariant-loop : tie.invariant-loop
-invariant-loop links count p at₀ left₀ at left = iterate (λ q. (linkAt links q).end) left at ≡ iterate (λ q. (linkAt links q).end) count p
+invariant-loop links count p at₀ left₀ at left = iterate (λ q. (link_at links q).end) left at ≡ iterate (λ q. (link_at links q).end) count p
 
 abbrev decreases-loop : tie.decreases-loop
 decreases-loop links count p at₀ left₀ at left = left
@@ -21,7 +21,7 @@ loop-holds c = refl
 loop-again : tie.Need-loop-preserved invariant-loop decreases-loop
 loop-again c =
     let l = c.before.before.loop in
-    let f : ℕ → ℕ = λ q. (linkAt c.before.before.before.before.args.links.now q).end in
+    let f : ℕ → ℕ = λ q. (link_at c.before.before.before.before.args.links.now q).end in
     ap (λ (r : Link). iterate f (l.left - 1) r.end) c.link_at.ensures
     ∙ sym (iterate-more f l.left l.at (search rules))
     ∙ l.invariant

@@ -6,7 +6,7 @@ use Prim.Native.Nat.{ℕ, ◌+◌, ◌-◌, ◌≤◌}
 use native.Mathlib.Nat.{sub-zero}
 use lib.ListN.{length, get_or}
 use borrow.Author.Rules.{rules}
-use Rattle.table.specs.Links.{withHome, block_at, binders}
+use Rattle.table.specs.Links.{with_home, block_at, binders}
 use Rattle.table_links.proofs.Passes.{binders-more, binders-done}
 use Rattle.table_links.proofs.link_binders.Statement.{statement}
 use Rattle.table_links.proofs.link_binders.Tie as tie
@@ -34,7 +34,7 @@ loop-again c =
       search rules,
       ap₂ (λ (b : ℕ) (m : List ℕ). binders ws (length ws - (l.p + 1)) (l.p + 1) b m) c.before.before.before.before.before.before.before.before.Block-of.ensures
           (c.before.before.set-home.ensures
-          ∙ ap₂ (λ (m : List ℕ) (b : ℕ). withHome m l.p b) c.before.before.before.before.before.before.bind_word.ensures c.before.before.before.before.before.before.before.before.Block-of.ensures)
+          ∙ ap₂ (λ (m : List ℕ) (b : ℕ). with_home m l.p b) c.before.before.before.before.before.before.bind_word.ensures c.before.before.before.before.before.before.before.before.Block-of.ensures)
           ∙ sym (binders-more ws l.links (length ws - l.p) l.p l.home (length ws - (l.p + 1)) (search rules))
           ∙ l.invariant.2,
     )

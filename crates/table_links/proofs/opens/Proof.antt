@@ -3,25 +3,25 @@
 use Prim.Native.Nat.{ℕ}
 use mathlib.Core.Path.{◌≡◌, sym, ap, ◌∙◌}
 use Rattle.table.specs.declared.Item.{Item}
-use Rattle.table.specs.Item.{itemGuarded}
+use Rattle.table.specs.Item.{item_guarded}
 use borrow.Author.Rules.{rules}
 use Rattle.table_links.proofs.opens.Statement.{statement}
 use Rattle.table_links.proofs.opens.Tie as tie
 
-guarded-of : (x y z : Item) (ρ : ℕ) → x ≡ z → x ≡ y → itemGuarded y ρ ≡ itemGuarded z ρ
-guarded-of x y z ρ f g = ap (λ (i : Item). itemGuarded i ρ) (sym g ∙ f)
+guarded-of : (x y z : Item) (ρ : ℕ) → x ≡ z → x ≡ y → item_guarded y ρ ≡ item_guarded z ρ
+guarded-of x y z ρ f g = ap (λ (i : Item). item_guarded i ρ) (sym g ∙ f)
 
 returns : tie.Need-returns
-unfolding itemGuarded
+unfolding item_guarded
 returns c = guarded-of _ _ _ _ c.before.before.item-at.ensures c.enum_told.given.1
 
 returns-2 : tie.Need-returns-2
-unfolding itemGuarded
+unfolding item_guarded
 returns-2 c =
     c.within.ensures ∙ guarded-of _ _ _ _ c.before.before.before.before.before.item-at.ensures c.before.before.before.h.given.1
 
 returns-3 : tie.Need-returns-3
-unfolding itemGuarded
+unfolding item_guarded
 returns-3 c = guarded-of _ _ _ _ c.before.before.item-at.ensures c.enum-told2.given.1
 
 pub opens-spec : {M : Type 1} → statement M

@@ -1,11 +1,11 @@
 -- `table_links::permissions_of` meets its contract: only a block has permissions. Assumes nothing.
 use borrow.Author.Rules.{rules}
-use Rattle.table.specs.Item.{itemPerms}
+use Rattle.table.specs.Item.{item_perms}
 use Rattle.table_links.proofs.permissions_of.Statement.{statement}
 use Rattle.table_links.proofs.permissions_of.Tie as tie
 
 pub permissions-of-spec : {M : Type 1} → statement M
-unfolding itemPerms
+unfolding item_perms
 permissions-of-spec =
     tie.close (tie.spec (λ link-at-requires κs. search rules) (λ item-at-requires κs. search rules) (λ enum_told. search rules) (λ enum-known-h. search rules)
     (λ enum-told-2. search rules)

@@ -6,18 +6,18 @@ use lib.ListN.{set}
 use lib.Seq.{set_out}
 use borrow.Author.Rules.{rules}
 use Rattle.table.specs.declared.Link.{Link}
-use Rattle.table.specs.Links.{pack, withHome}
+use Rattle.table.specs.Links.{pack, with_home}
 use Rattle.table_links.proofs.set_home.Statement.{statement}
 use Rattle.table_links.proofs.set_home.Tie as tie
 
 returns : tie.Need-returns
-unfolding withHome
+unfolding with_home
 returns c =
     ap (λ (x : ℕ). set c.before.before.before.before.before.args.links.now c.before.before.before.before.before.args.p x)
     (c.pack.ensures ∙ ap (λ (l : Link). pack (record { end = l.end; binder = l.binder; home = c.before.before.before.before.before.args.home })) c.before.link_at.ensures)
 
 returns-2 : tie.Need-returns-2
-unfolding withHome
+unfolding with_home
 returns-2 c = sym (set_out _ _ _ c.if1.false)
 
 pub set-home-spec : {M : Type 1} → statement M

@@ -1,13 +1,13 @@
 -- `text::hex_field` meets its contract. Assumes nothing.
 use native.Mathlib.Omega.{arith}
 use borrow.Author.Rules.{rules}
-use Rattle.text.specs.Text.{hexWord}
+use Rattle.text.specs.Text.{hex_word}
 use Rattle.text.proofs.Writing.{then}
 use Rattle.text.proofs.hex_field.Statement.{statement}
 use Rattle.text.proofs.hex_field.Tie as tie
 
 returns : tie.Need-returns
-unfolding hexWord
+unfolding hex_word
 returns c =
     let first = c.before.before.before.before.before.before in
     (then first.put.ensures c.before.before.numeral.ensures.0, omega arith)

@@ -6,7 +6,7 @@ use native.Mathlib.Omega.{arith}
 use Rattle.text.specs.Text.{bytes}
 use Rattle.text.proofs.Writing.{reworded, then, wrote-length}
 use Rattle.arguments.specs.Shown.{shown}
-use Rattle.arguments.specs.Complaints.{fileText}
+use Rattle.arguments.specs.Complaints.{file_text}
 use borrow.Author.Rules.{rules}
 use Rattle.arguments.proofs.complaints.put_file.Statement.{statement}
 use Rattle.arguments.proofs.complaints.put_file.Tie as tie
@@ -23,7 +23,7 @@ put-shown-requires-2 c κs =
     omega (arith, c.before.before.before.before.before.before.before.before.before.before.before.before.before.before.before.before.before.before.before.requires, c.before.before.before.before.before.before.before.before.before.before.before.before.before.before.put.ensures.ends, c.before.before.before.before.before.before.before.before.before.put-shown.ensures.1, c.before.before.before.before.put2.ensures.ends, wrote-length c.before.before.before.before.before.before.before.before.before.before.before.before.before.before.put.ensures, wrote-length c.before.before.before.before.before.before.before.before.before.put-shown.ensures.0, wrote-length c.before.before.before.before.put2.ensures)
 
 returns : tie.Need-returns
-unfolding fileText
+unfolding file_text
 returns c = (
   reworded (ap₂ (λ (x y : List ℕ). ((bytes "wiphosega " ++ shown x) ++ bytes ": ") ++ shown y) c.before.before.before.before.before.before.before.before.before.before.before.before.before.item.ensures c.before.before.before.item2.ensures)
       (then (then (then c.before.before.before.before.before.before.before.before.before.before.before.before.before.before.before.before.before.put.ensures c.before.before.before.before.before.before.before.before.before.before.before.before.put-shown.ensures.0) c.before.before.before.before.before.before.before.put2.ensures) c.before.before.put-shown2.ensures.0),

@@ -6,7 +6,7 @@ use native.Mathlib.Omega.{arith}
 use Rattle.text.specs.Text.{bytes}
 use Rattle.text.proofs.Writing.{reworded, then, wrote-length}
 use Rattle.arguments.specs.Shown.{shown}
-use Rattle.arguments.specs.Complaints.{unknownText}
+use Rattle.arguments.specs.Complaints.{unknown_text}
 use borrow.Author.Rules.{rules}
 use Rattle.arguments.proofs.complaints.put_unknown.Statement.{statement}
 use Rattle.arguments.proofs.complaints.put_unknown.Tie as tie
@@ -19,7 +19,7 @@ put-requires-2 c κs =
     omega (arith, c.before.before.before.before.before.before.before.before.before.before.before.before.before.before.requires, c.before.before.before.before.before.before.before.before.before.put.ensures.ends, c.before.before.before.before.put-shown.ensures.1, wrote-length c.before.before.before.before.before.before.before.before.before.put.ensures, wrote-length c.before.before.before.before.put-shown.ensures.0)
 
 returns : tie.Need-returns
-unfolding unknownText
+unfolding unknown_text
 returns c =
     reworded (ap (λ (x : List ℕ). (bytes "wiphosega: unknown command " ++ shown x) ++ bytes "\nwiphosega help lists the commands\n") c.before.before.before.before.before.before.before.before.item.ensures)
     (then (then c.before.before.before.before.before.before.before.before.before.before.before.before.put.ensures c.before.before.before.before.before.before.before.put-shown.ensures.0) c.before.before.put2.ensures)

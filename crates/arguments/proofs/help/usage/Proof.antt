@@ -7,7 +7,7 @@ use lib.ListN.{length}
 use Rattle.text.specs.Text.{bytes}
 use Rattle.text.proofs.Writing.{reworded, then, wrote-length}
 use Rattle.arguments.specs.Lists.{item}
-use Rattle.arguments.specs.Help.{usages, usageLine}
+use Rattle.arguments.specs.Help.{usages, usage_line}
 use Rattle.arguments.proofs.ListLaws.{item-short}
 use borrow.Author.Rules.{rules}
 use Rattle.arguments.proofs.help.usage.Statement.{statement}
@@ -29,7 +29,7 @@ unfolding usages
 put-requires-2 c κs = omega (arith, c.before.before.before.before.before.before.before.before.before.requires, c.before.before.before.before.put.ensures.ends, wrote-length c.before.before.before.before.put.ensures, short c.before.before.before.before.before.item.result.now c.before.before.before.before.before.before.before.before.before.args.k c.before.before.before.before.before.item.ensures)
 
 returns : tie.Need-returns
-unfolding usageLine usages
+unfolding usage_line usages
 returns c = (
   reworded (ap (λ (l : List ℕ). l ++ bytes "\n") c.before.before.before.before.before.before.before.before.item.ensures) (then c.before.before.before.before.before.before.before.put.ensures c.before.before.put2.ensures),
   omega (arith, c.before.before.put2.ensures.ends, c.before.before.before.before.before.before.before.put.ensures.ends, short c.before.before.before.before.before.before.before.before.item.result.now c.before.before.before.before.before.before.before.before.before.before.before.before.args.k c.before.before.before.before.before.before.before.before.item.ensures),

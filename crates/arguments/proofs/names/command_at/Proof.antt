@@ -2,74 +2,74 @@
 use mathlib.Core.Path.{sym, ap}
 use Prim.Native.Nat.{◌≤◌}
 use native.Mathlib.Omega.{arith}
-use Rattle.arguments.specs.Names.{commands, commandAt}
+use Rattle.arguments.specs.Names.{commands, command_at}
 use Rattle.arguments.proofs.NameLaws.{past, command-last}
 use Rattle.arguments.proofs.names.command_at.Statement.{statement}
 use Rattle.arguments.proofs.names.command_at.Tie as tie
 
 returns : tie.Need-returns
-unfolding commandAt commands
-returns c = sym (ap commandAt c.match.keys1)
+unfolding command_at commands
+returns c = sym (ap command_at c.match.keys1)
 
 returns-2 : tie.Need-returns-2
-unfolding commandAt commands
-returns-2 c = sym (ap commandAt c.match.keys2)
+unfolding command_at commands
+returns-2 c = sym (ap command_at c.match.keys2)
 
 returns-3 : tie.Need-returns-3
-unfolding commandAt commands
-returns-3 c = sym (ap commandAt c.match.keys3)
+unfolding command_at commands
+returns-3 c = sym (ap command_at c.match.keys3)
 
 returns-4 : tie.Need-returns-4
-unfolding commandAt commands
-returns-4 c = sym (ap commandAt c.match.keys4)
+unfolding command_at commands
+returns-4 c = sym (ap command_at c.match.keys4)
 
 returns-5 : tie.Need-returns-5
-unfolding commandAt commands
-returns-5 c = sym (ap commandAt c.match.keys5)
+unfolding command_at commands
+returns-5 c = sym (ap command_at c.match.keys5)
 
 returns-6 : tie.Need-returns-6
-unfolding commandAt commands
-returns-6 c = sym (ap commandAt c.match.keys6)
+unfolding command_at commands
+returns-6 c = sym (ap command_at c.match.keys6)
 
 returns-7 : tie.Need-returns-7
-unfolding commandAt commands
-returns-7 c = sym (ap commandAt c.match.keys7)
+unfolding command_at commands
+returns-7 c = sym (ap command_at c.match.keys7)
 
 returns-8 : tie.Need-returns-8
-unfolding commandAt commands
-returns-8 c = sym (ap commandAt c.match.keys8)
+unfolding command_at commands
+returns-8 c = sym (ap command_at c.match.keys8)
 
 returns-9 : tie.Need-returns-9
-unfolding commandAt commands
-returns-9 c = sym (ap commandAt c.match.keys9)
+unfolding command_at commands
+returns-9 c = sym (ap command_at c.match.keys9)
 
 returns-10 : tie.Need-returns-10
-unfolding commandAt commands
-returns-10 c = sym (ap commandAt c.match.keys10)
+unfolding command_at commands
+returns-10 c = sym (ap command_at c.match.keys10)
 
 returns-11 : tie.Need-returns-11
-unfolding commandAt commands
-returns-11 c = sym (ap commandAt c.match.keys11)
+unfolding command_at commands
+returns-11 c = sym (ap command_at c.match.keys11)
 
 returns-12 : tie.Need-returns-12
-unfolding commandAt commands
-returns-12 c = sym (ap commandAt c.match.keys12)
+unfolding command_at commands
+returns-12 c = sym (ap command_at c.match.keys12)
 
 returns-13 : tie.Need-returns-13
-unfolding commandAt commands
-returns-13 c = sym (ap commandAt c.match.keys13)
+unfolding command_at commands
+returns-13 c = sym (ap command_at c.match.keys13)
 
 returns-14 : tie.Need-returns-14
-unfolding commandAt commands
-returns-14 c = sym (ap commandAt c.match.keys14)
+unfolding command_at commands
+returns-14 c = sym (ap command_at c.match.keys14)
 
 returns-15 : tie.Need-returns-15
-unfolding commandAt commands
-returns-15 c = sym (ap commandAt c.match.keys15)
+unfolding command_at commands
+returns-15 c = sym (ap command_at c.match.keys15)
 
 returns-16 : tie.Need-returns-16
-unfolding commandAt commands
-returns-16 c = sym (ap commandAt c.match.keys16)
+unfolding command_at commands
+returns-16 c = sym (ap command_at c.match.keys16)
 
 returns-17 : tie.Need-returns-17
 returns-17 c =

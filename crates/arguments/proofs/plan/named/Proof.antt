@@ -3,7 +3,7 @@ use Prim.Native.Nat.{ℕ}
 use mathlib.Core.Path.{ap, ◌∙◌}
 use native.Mathlib.Omega.{arith}
 use Rattle.arguments.specs.declared.Command.{Command}
-use Rattle.arguments.specs.Names.{commandAt}
+use Rattle.arguments.specs.Names.{command_at}
 use Rattle.arguments.specs.Plan.{call_of}
 use Rattle.arguments.proofs.NameLaws.{decided}
 use Rattle.arguments.proofs.PlanLaws.{named-help, named-asked, named-version, named-call, named_none}
@@ -25,7 +25,7 @@ returns-3 c =
 returns-4 : tie.Need-returns-4
 returns-4 c =
     c.call-of.ensures
-    ∙ ap (λ (x : Command). call_of c.before.before.before.before.before.before.before.before.before.before.before.before.before.before.before.args.arguments.now x) (c.before.command-at.ensures ∙ ap commandAt c.before.before.before.position.ensures.0)
+    ∙ ap (λ (x : Command). call_of c.before.before.before.before.before.before.before.before.before.before.before.before.before.before.before.args.arguments.now x) (c.before.command-at.ensures ∙ ap command_at c.before.before.before.position.ensures.0)
     ∙ named-call c.before.before.before.before.before.before.before.before.before.before.before.before.before.before.before.args.arguments.now c.before.before.before.before.before.before.before.before.before.before.before.before.before.before.before.args.name.now (decided _ _ _ c.before.before.before.before.before.before.before.before.before.before.before.same.ensures ∙ c.before.before.before.before.before.before.before.before.before.before.if1.false) (decided _ _ _ c.before.before.before.before.before.before.before.before.same2.ensures ∙ c.before.before.before.before.before.before.before.if2.false)
     (decided _ _ _ c.before.before.before.before.before.same3.ensures ∙ c.before.before.before.before.if3.false) (omega (arith, c.before.before.before.position.ensures.0, c.before.before.if4.true))
 

@@ -2,7 +2,7 @@
 use mathlib.Core.Path.{sym, ap, ◌∙◌}
 use mathlib.Core.List.{List}
 use native.Mathlib.Omega.{arith}
-use Rattle.arguments.specs.Plan.{orWrong}
+use Rattle.arguments.specs.Plan.{or_wrong}
 use Rattle.arguments.specs.Values.{value_of}
 use Rattle.arguments.proofs.PlanLaws.{required-missing, required-there}
 use borrow.Author.Rules.{rules}
@@ -13,17 +13,17 @@ returns : tie.Need-returns
 returns c = required-missing c.before.before.before.args.base c.before.before.before.args.most c.before.before.before.args.arguments.now c.before.before.before.args.i c.before.before.before.args.wrong (omega (arith, c.before.count.ensures.0))
 
 returns-2 : tie.Need-returns-2
-unfolding orWrong
+unfolding or_wrong
 returns-2 c =
     let a = c.before.before.before.before.before.before.before.before.args in
-    sym (ap (orWrong a.wrong a.i) (sym (ap (value_of a.base a.most) c.before.before.before.before.item.ensures) ∙ sym c.before.before.before.value_of_lem.ensures ∙ c.before.n.given.1))
+    sym (ap (or_wrong a.wrong a.i) (sym (ap (value_of a.base a.most) c.before.before.before.before.item.ensures) ∙ sym c.before.before.before.value_of_lem.ensures ∙ c.before.n.given.1))
     ∙ required-there a.base a.most a.arguments.now a.i a.wrong (omega (arith, c.before.before.before.before.before.before.count.ensures.0))
 
 returns-3 : tie.Need-returns-3
-unfolding orWrong
+unfolding or_wrong
 returns-3 c =
     let a = c.before.before.before.before.before.before.before.args in
-    sym (ap (orWrong a.wrong a.i) (sym (ap (value_of a.base a.most) c.before.before.before.item.ensures) ∙ sym c.before.before.value_of_lem.ensures ∙ c.enum_told.given.1))
+    sym (ap (or_wrong a.wrong a.i) (sym (ap (value_of a.base a.most) c.before.before.before.item.ensures) ∙ sym c.before.before.value_of_lem.ensures ∙ c.enum_told.given.1))
     ∙ required-there a.base a.most a.arguments.now a.i a.wrong (omega (arith, c.before.before.before.before.before.count.ensures.0))
 
 pub required-spec : {M : Type 1} → statement M

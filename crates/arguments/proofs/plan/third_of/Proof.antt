@@ -4,7 +4,7 @@ use mathlib.Core.Path.{sym, ap, ◌∙◌}
 use native.Mathlib.Omega.{arith}
 use Rattle.arguments.specs.declared.values.Value.{Value}
 use Rattle.arguments.specs.Lists.{count}
-use Rattle.arguments.specs.Plan.{taken, thirdOf, sources as Plan·sources}
+use Rattle.arguments.specs.Plan.{taken, third_of, sources as Plan·sources}
 use Rattle.arguments.proofs.PlanLaws.{next-most, next-value, next-wrong}
 use borrow.Author.Rules.{rules}
 use Rattle.arguments.proofs.plan.third_of.Statement.{statement}
@@ -16,7 +16,7 @@ sources-requires c κs =
     (c.before.before.before.before.before.before.requires.0, omega (arith, c.before.before.before.before.before.before.requires.1, next-most a.arguments.now a.slot a.i _ _ (sym c.before.before.third.given.1 ∙ c.before.before.before.before.take.ensures)))
 
 returns : tie.Need-returns
-unfolding thirdOf
+unfolding third_of
 returns c =
     let a = c.before.before.before.before.before.before.before.args in
     c.sources.ensures
@@ -24,7 +24,7 @@ returns c =
     ∙ next-value (taken a.arguments.now a.slot a.i) (λ (third : Value) (j : ℕ). Plan·sources a.command a.first a.second third a.files j (count 0 a.arguments.now)) _ _ (sym c.before.before.before.before.before.take.ensures ∙ c.before.before.before.third.given.1)
 
 returns-2 : tie.Need-returns-2
-unfolding thirdOf
+unfolding third_of
 returns-2 c =
     let a = c.before.before.before.before.before.args in
     next-wrong (taken a.arguments.now a.slot a.i) (λ (third : Value) (j : ℕ). Plan·sources a.command a.first a.second third a.files j (count 0 a.arguments.now)) _ _ (sym c.before.before.before.take.ensures ∙ c.before.m.given.1)

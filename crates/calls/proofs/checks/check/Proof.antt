@@ -2,7 +2,7 @@
 -- Assumes nothing.
 use mathlib.Core.Path.{sym, ap, ◌∙◌}
 use Rattle.table.specs.Answer.{outcome}
-use Rattle.calls.specs.Faults.{faultNumber, faultPlace}
+use Rattle.calls.specs.Faults.{fault_number, fault_place}
 use Rattle.calls.proofs.Answers.{answer-table}
 use borrow.Author.Rules.{rules}
 use Rattle.calls.proofs.checks.check.Statement.{statement}
@@ -13,7 +13,7 @@ unfolding outcome
 check-call-requires c κs = sym c.before.before.read.ensures ∙ ap outcome c.enum_told.given.1
 
 returns : tie.Need-returns
-unfolding outcome faultNumber faultPlace
+unfolding outcome fault_number fault_place
 returns c =
     let a = c.before.before.before.before.before.args in
     answer-table a.words.now a.rho a.bound a.est a.work _ _ (sym c.before.before.before.read.ensures ∙ ap outcome c.before.r.given.1)

@@ -2,7 +2,7 @@
 use mathlib.Core.Path.{sym, ap, ◌∙◌}
 use Rattle.audit.specs.declared.Audit.{Audit}
 use Rattle.audit.specs.Audited.{said}
-use Rattle.capi.specs.Check.{checkNumber}
+use Rattle.capi.specs.Check.{check_number}
 use Rattle.capi.proofs.Taken.{refusal-number}
 use borrow.Author.Rules.{rules}
 use Rattle.capi.proofs.check.check_number.Statement.{statement}
@@ -29,8 +29,8 @@ unfolding said
 returns-5 c = c.refusal5.ensures ∙ refusal-number (ap said c.before.enum-told5.given.1)
 
 returns-6 : tie.Need-returns-6
-unfolding said checkNumber
-returns-6 c = sym (ap (λ (x : Audit). checkNumber (said x)) c.before.before.a.given.1)
+unfolding said check_number
+returns-6 c = sym (ap (λ (x : Audit). check_number (said x)) c.before.before.a.given.1)
 
 pub check-number-spec : {M : Type 1} → statement M
 check-number-spec =

@@ -3,7 +3,7 @@ use mathlib.Core.Path.{sym, ap, ◌∙◌}
 use native.Mathlib.Omega.{arith}
 use lib.ListN.{length}
 use Rattle.audit.specs.Audited.{audited}
-use Rattle.capi.specs.Check.{checkNumber}
+use Rattle.capi.specs.Check.{check_number}
 use Rattle.capi.proofs.Audits.{place-fits}
 use Rattle.capi.proofs.Taken.{taken-audited}
 use borrow.Author.Rules.{rules}
@@ -27,7 +27,7 @@ returns c =
     let a = s.args in
     let t = c.before.before.before.before.before.take_words.ensures in
     c.check-number.ensures
-    ∙ ap checkNumber
+    ∙ ap check_number
     (c.before.audit.ensures.0 ∙ ap (audited a.words.now a.rho) t.words ∙ taken-audited a.words.now a.rho a.estimate.now s.requires.0)
 
 pub of-room-spec : {M : Type 1} → statement M

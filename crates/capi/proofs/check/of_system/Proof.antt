@@ -4,7 +4,7 @@ use mathlib.Core.Path.{sym, ap, ◌∙◌}
 use mathlib.Core.List.{List}
 use native.Mathlib.Omega.{arith}
 use Rattle.audit.specs.Audited.{audited}
-use Rattle.capi.specs.Check.{checkNumber, estimateFrom}
+use Rattle.capi.specs.Check.{check_number, estimate_from}
 use Rattle.capi.proofs.Written.{read_length}
 use Rattle.capi.proofs.Systems.{system-read}
 use borrow.Author.Rules.{rules}
@@ -25,7 +25,7 @@ returns c =
     let a = s.args in
     let w = c.before.before.before.before.words_of.ensures in
     c.of_words.ensures
-    ∙ ap (λ (ws : List ℕ). checkNumber (audited ws a.rho (estimateFrom a.estimate.now)))
+    ∙ ap (λ (ws : List ℕ). check_number (audited ws a.rho (estimate_from a.estimate.now)))
     (system-read a.system.now a.words.now _ _ w.0 w.1 s.requires.1 s.requires.0)
 
 pub of-system-spec : {M : Type 1} → statement M

@@ -1,7 +1,7 @@
 -- `capi::check::wiphosega_check` meets its contract: refused before the reading, or checked on the words of the system. Assumes nothing.
 use mathlib.Core.Path.{refl, sym, ap, ◌∙◌, subst}
 use native.Mathlib.Omega.{arith}
-use Rattle.capi.specs.Check.{checkNumber, ExactNumber}
+use Rattle.capi.specs.Check.{check_number, ExactNumber}
 use Rattle.capi.proofs.Macros.{check-read}
 use Rattle.capi.proofs.Systems.{system-size}
 use Rattle.capi.proofs.Taken.{exact-number, refused-before, answered-after}
@@ -29,7 +29,7 @@ returns-2 : tie.Need-returns-2
 returns-2 c =
     let a = c.before.before.before.before.before.before.before.args in
     let f = c.before.before.before.before.system-fault in
-    let e = c.before.of-system.ensures ∙ ap checkNumber (answered-after a.system.now a.rho a.estimate.now f.result f.ensures c.before.before.before.if1.false) in (
+    let e = c.before.of-system.ensures ∙ ap check_number (answered-after a.system.now a.rho a.estimate.now f.result f.ensures c.before.before.before.if1.false) in (
       e,
       (
         check-read a.system.now a.rho a.estimate.now _ e,

@@ -6,13 +6,13 @@ use mathlib.Core.List.{[], ◌∷◌}
 use lib.Dec.{eqb, ltb}
 use borrow.Author.Tests.{lt-ltb, le-ltb, eq-eqb, ne_eqb}
 use Rattle.table.specs.Scan.{first_of}
-use Rattle.capi.specs.Large.{largeTests}
+use Rattle.capi.specs.Large.{large_tests}
 use Rattle.capi.proofs.large.large_fault.Statement.{statement}
 use Rattle.capi.proofs.large.large_fault.Tie as tie
 
 by_tests : {long whole : Bool} (size : ℕ) → ltb 4096 size ≡ long → eqb (size % 4) 0 ≡ whole
-    → first_of ((long, 31) ∷ (not whole, 30) ∷ []) ≡ first_of (largeTests size)
-unfolding largeTests
+    → first_of ((long, 31) ∷ (not whole, 30) ∷ []) ≡ first_of (large_tests size)
+unfolding large_tests
 by_tests size p q = sym (λ i. first_of ((p i, 31) ∷ (not (q i), 30) ∷ []))
 
 returns : tie.Need-returns

@@ -1,6 +1,6 @@
 -- `capi::large::of_words` meets its contract: what the call answered, as a number. Assumes nothing.
 use mathlib.Core.Path.{ap, ◌∙◌}
-use Rattle.capi.specs.Large.{largeNumber}
+use Rattle.capi.specs.Large.{large_number}
 use Rattle.capi.proofs.LargeDemands.{small-place}
 use borrow.Author.Rules.{rules}
 use Rattle.capi.proofs.large.of_words.Statement.{statement}
@@ -15,7 +15,7 @@ limited-number-requires c κs =
 returns : tie.Need-returns
 returns c =
     let w = c.before.before.before.before.before.with-bytes.ensures in
-    record { number = c.limited-number.ensures ∙ ap largeNumber w.0; estimates = w.1.0; works = w.1.1 }
+    record { number = c.limited-number.ensures ∙ ap large_number w.0; estimates = w.1.0; works = w.1.1 }
 
 pub of-words-spec : {M : Type 1} → statement M
 of-words-spec =

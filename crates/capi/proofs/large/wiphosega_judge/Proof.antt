@@ -1,7 +1,7 @@
 -- `capi::large::wiphosega_judge` meets its contract: refused before the reading, or answered on the words of the system. Assumes nothing.
 use mathlib.Core.Path.{refl, sym, ◌∙◌}
 use native.Mathlib.Omega.{arith}
-use Rattle.little_endian.specs.LittleEndian.{wordsOf}
+use Rattle.little_endian.specs.LittleEndian.{words_of}
 use Rattle.capi.proofs.LargeDemands.{large-size, large-refused, large-answered, refused-large, large-as}
 use borrow.Author.Rules.{rules}
 use Rattle.capi.proofs.large.wiphosega_judge.Statement.{statement}
@@ -11,7 +11,7 @@ returns : tie.Need-returns
 returns c =
     let a = c.before.before.before.before.before.args in
     large-as a.system.now a.rho a.bound a.ceiling a.estimate.now a.work.now _ _ _ _
-    (refused-large (wordsOf a.system.now) a.rho a.ceiling c.before.large-fault.result a.estimate.now a.work.now)
+    (refused-large (words_of a.system.now) a.rho a.ceiling c.before.large-fault.result a.estimate.now a.work.now)
     (sym (large-refused a.system.now a.rho a.bound _ _ c.before.large-fault.result c.before.large-fault.ensures c.if1.true))
 
 of-system-requires : tie.Need-of-system-requires

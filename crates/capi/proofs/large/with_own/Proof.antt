@@ -6,7 +6,7 @@ use lib.ListN.{length, drop}
 use lib.Seq.{take_at}
 use Rattle.calculus.specs.Answer.{answer}
 use Rattle.solver.specs.Ceiling.{under}
-use Rattle.capi.specs.Large.{workPut}
+use Rattle.capi.specs.Large.{work_put}
 use Rattle.capi.proofs.Written.{read_length}
 use Rattle.capi.proofs.Copies.{put_back, work-same, estimate-put, work-put, work-fits}
 use borrow.Author.Rules.{rules}
@@ -46,7 +46,7 @@ returns c =
       v.0 ∙ ap (under a.ceiling) same,
       (
         v.1.0 ∙ estimate-put a.words.now a.rho a.bound a.ceiling a.est.now _ A same,
-        put_back a.work.now a.own.now _ _ w.0 w.1 (λ k. omega (arith, low k)) (workPut a.words.now A) _ _ _ _
+        put_back a.work.now a.own.now _ _ w.0 w.1 (λ k. omega (arith, low k)) (work_put a.words.now A) _ _ _ _
             (work-fits a.words.now a.rho a.bound a.ceiling e _ A few) long
             (v.1.1.0 ∙ work-put a.words.now a.rho a.bound a.ceiling a.est.now _ A same) b.0 b.1,
       ),

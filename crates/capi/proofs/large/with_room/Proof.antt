@@ -6,7 +6,7 @@ use lib.ListN.{length, drop}
 use lib.Seq.{take_at}
 use Rattle.calculus.specs.Answer.{Answer, answer}
 use Rattle.solver.specs.Ceiling.{under}
-use Rattle.capi.specs.Large.{estimatePut, workPut, putBytes}
+use Rattle.capi.specs.Large.{estimate_put, work_put, put_bytes}
 use Rattle.capi.proofs.Written.{read_length}
 use Rattle.capi.proofs.Copies.{put_back, estimate-same, put_same, estimate-fits}
 use borrow.Author.Rules.{rules}
@@ -45,10 +45,10 @@ returns c =
     let few = ap (λ (n : ℕ). answer a.words.now a.rho a.bound n k) (sym (read_length _ _ _ _ w.0 w.1)) ∙ same in (
       v.0 ∙ ap (under a.ceiling) same,
       (
-        put_back a.estimate.now a.room.now _ _ w.0 w.1 (λ i. omega (arith, low i)) (estimatePut a.words.now a.rho a.ceiling A) _ _ _ _
+        put_back a.estimate.now a.room.now _ _ w.0 w.1 (λ i. omega (arith, low i)) (estimate_put a.words.now a.rho a.ceiling A) _ _ _ _
             (estimate-fits a.words.now a.rho a.bound a.ceiling _ k A few) long
             (put_same a.words.now a.rho a.bound a.ceiling _ _ _ _ v.1.0 same) b.0 b.1,
-        v.1.1 ∙ ap (λ (x : Answer). putBytes (workPut a.words.now x) a.work.now) same,
+        v.1.1 ∙ ap (λ (x : Answer). put_bytes (work_put a.words.now x) a.work.now) same,
       ),
     )
 

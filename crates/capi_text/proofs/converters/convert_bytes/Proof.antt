@@ -4,71 +4,71 @@ use mathlib.Core.List.{List}
 use Prim.Native.Nat.{ℕ}
 use native.Mathlib.Omega.{arith}
 use lib.ListN.{length, take, replicate}
-use Rattle.little_endian.specs.LittleEndian.{bytesOf, wordsOf}
+use Rattle.little_endian.specs.LittleEndian.{bytes_of, words_of}
 use Rattle.listing.specs.Listing.{Answered, left}
 use Rattle.widths.specs.Converters.{converted}
-use Rattle.widths.specs.Answers.{convertedAs}
+use Rattle.widths.specs.Answers.{converted_as}
 use Rattle.widths.proofs.Theorems.{converted-written, written-few}
-use Rattle.capi_text.specs.Interface.{answerNumber}
-use Rattle.capi_text.proofs.Converted.{odd-bytes, whole_words, room-done, room-not, converted-small}
+use Rattle.capi_text.specs.Interface.{answer_number}
+use Rattle.capi_text.proofs.Converted.{odd-bytes, whole_words_lem, room-done, room-not, converted-small}
 use Rattle.capi_text.proofs.Macros.{convert-read}
 use borrow.Author.Rules.{rules}
 use Rattle.capi_text.proofs.converters.convert_bytes.Statement.{statement}
 use Rattle.capi_text.proofs.converters.convert_bytes.Tie as tie
 
 returns : tie.Need-returns
-unfolding answerNumber left
+unfolding answer_number left
 returns c =
     let s = c.before.before.before in
     let out = s.args.out.now in
     let e = odd-bytes s.args.wide s.args.system.now (length out) c.if1.true in
-    let n = sym (ap answerNumber e) in
-    (n, (convert-read s.args.wide s.args.system.now (length out) _ n, sym (ap (λ (a : Answered). left a (bytesOf (converted s.args.wide (wordsOf s.args.system.now))) out) e)))
+    let n = sym (ap answer_number e) in
+    (n, (convert-read s.args.wide s.args.system.now (length out) _ n, sym (ap (λ (a : Answered). left a (bytes_of (converted s.args.wide (words_of s.args.system.now))) out) e)))
 
 put-words-requires : tie.Need-put-words-requires
-unfolding convertedAs
+unfolding converted_as
 put-words-requires c κs =
     let s = c.before.before.before.before.before.before.before.before.before.before.before in
     let j = c.before.before.before.before.before.before.convert-in in
-    let e = sym j.ensures.0 ∙ ap convertedAs c.before.before.before.count.given.1 in
-    let few = written-few s.args.wide (wordsOf s.args.system.now) (replicate 1024 0) _ e in
+    let e = sym j.ensures.0 ∙ ap converted_as c.before.before.before.count.given.1 in
+    let few = written-few s.args.wide (words_of s.args.system.now) (replicate 1024 0) _ e in
     (omega (arith, j.auto.1.1.0), few)
 
 fault-answer-requires : tie.Need-fault-answer-requires
-unfolding convertedAs
+unfolding converted_as
 fault-answer-requires c κs =
     let s = c.before.before.before.before.before.before.before.before.before in
     let j = c.before.before.before.before.convert-in in
-    let e = sym j.ensures.0 ∙ ap convertedAs c.before.f.given.1 in
-    omega (arith, (converted-small s.args.wide (wordsOf s.args.system.now) (replicate 1024 0) _ _ e).1)
+    let e = sym j.ensures.0 ∙ ap converted_as c.before.f.given.1 in
+    omega (arith, (converted-small s.args.wide (words_of s.args.system.now) (replicate 1024 0) _ _ e).1)
 
 returns-2 : tie.Need-returns-2
-unfolding convertedAs
+unfolding converted_as
 returns-2 c =
     let s = c.before.before.before.before.before.before.before.before.before.before.before.before.before.before in
-    let ws = wordsOf s.args.system.now in
+    let ws = words_of s.args.system.now in
     let out = s.args.out.now in
     let j = c.before.before.before.before.before.before.before.before.before.convert-in in
-    let e = sym j.ensures.0 ∙ ap convertedAs c.before.before.before.before.before.before.count.given.1 in
+    let e = sym j.ensures.0 ∙ ap converted_as c.before.before.before.before.before.before.count.given.1 in
     let p = c.before.before.put-words.ensures in
-    let a = room-done s.args.wide ws (length out) _ e ∙ sym (whole_words s.args.wide s.args.system.now (length out) c.before.before.before.before.before.before.before.before.before.before.before.if1.false) in
+    let a = room-done s.args.wide ws (length out) _ e ∙ sym (whole_words_lem s.args.wide s.args.system.now (length out) c.before.before.before.before.before.before.before.before.before.before.before.if1.false) in
     let w = ap (take c.before.before.before.before.before.before.count.given.0.0) j.ensures.1 ∙ converted-written s.args.wide ws (replicate 1024 0) _ e in
-    let n = p.answer ∙ ap answerNumber a in (
+    let n = p.answer ∙ ap answer_number a in (
       n,
-      (convert-read s.args.wide s.args.system.now (length out) _ n, p.bytes ∙ ap₂ (λ (q : Answered) (l : List ℕ). left q (bytesOf l) out) a w),
+      (convert-read s.args.wide s.args.system.now (length out) _ n, p.bytes ∙ ap₂ (λ (q : Answered) (l : List ℕ). left q (bytes_of l) out) a w),
     )
 
 returns-3 : tie.Need-returns-3
-unfolding convertedAs answerNumber left
+unfolding converted_as answer_number left
 returns-3 c =
     let s = c.before.before.before.before.before.before.before.before.before.before in
-    let ws = wordsOf s.args.system.now in
+    let ws = words_of s.args.system.now in
     let out = s.args.out.now in
     let j = c.before.before.before.before.before.convert-in in
-    let e = sym j.ensures.0 ∙ ap convertedAs c.before.before.f.given.1 in
-    let a = room-not s.args.wide ws (length out) _ _ e ∙ sym (whole_words s.args.wide s.args.system.now (length out) c.before.before.before.before.before.before.before.if1.false) in
-    let n = c.fault-answer.ensures ∙ ap answerNumber a in
-    (n, (convert-read s.args.wide s.args.system.now (length out) _ n, ap (λ (q : Answered). left q (bytesOf (converted s.args.wide ws)) out) a))
+    let e = sym j.ensures.0 ∙ ap converted_as c.before.before.f.given.1 in
+    let a = room-not s.args.wide ws (length out) _ _ e ∙ sym (whole_words_lem s.args.wide s.args.system.now (length out) c.before.before.before.before.before.before.before.if1.false) in
+    let n = c.fault-answer.ensures ∙ ap answer_number a in
+    (n, (convert-read s.args.wide s.args.system.now (length out) _ n, ap (λ (q : Answered). left q (bytes_of (converted s.args.wide ws)) out) a))
 
 pub convert-bytes-spec : {M : Type 1} → statement M
 convert-bytes-spec =

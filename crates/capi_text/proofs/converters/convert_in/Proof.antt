@@ -4,7 +4,7 @@ use mathlib.Core.List.{List}
 use Prim.Native.Nat.{ℕ}
 use lib.ListN.{replicate, length}
 use Rattle.little_endian.proofs.First.{words_size, words-first}
-use Rattle.widths.specs.Converters.{convertAnswer, convertOut}
+use Rattle.widths.specs.Converters.{convert_answer, convert_out}
 use Rattle.widths.proofs.Lengths.{answer-first, out_first}
 use borrow.Author.Rules.{rules}
 use Rattle.capi_text.proofs.converters.convert_in.Statement.{statement}
@@ -23,8 +23,8 @@ returns c =
     let w = c.before.before.before.before.before.before.words_of in
     let j = c.before.before.convert.ensures in
     let x = words-first 1025 s.args.system.now (replicate 1025 0) w.new.1.0 w.result refl w.ensures.0 w.ensures.1 in (
-      j.0 ∙ ap (λ (v : List ℕ). convertAnswer s.args.wide v (length out)) x ∙ answer-first s.args.wide _ out,
-      j.1 ∙ ap (λ (v : List ℕ). convertOut s.args.wide v out) x ∙ out_first s.args.wide _ out,
+      j.0 ∙ ap (λ (v : List ℕ). convert_answer s.args.wide v (length out)) x ∙ answer-first s.args.wide _ out,
+      j.1 ∙ ap (λ (v : List ℕ). convert_out s.args.wide v out) x ∙ out_first s.args.wide _ out,
     )
 
 pub convert-in-spec : {M : Type 1} → statement M

@@ -4,7 +4,7 @@ use mathlib.Core.List.{List}
 use Prim.Native.Nat.{ℕ}
 use lib.ListN.{replicate, length}
 use Rattle.little_endian.proofs.First.{words_size, words-first}
-use Rattle.overlay.specs.Join.{joinAnswer, outAfter}
+use Rattle.overlay.specs.Join.{join_answer, out_after}
 use Rattle.capi_text.proofs.TwoTables.{join_first, out_first}
 use borrow.Author.Rules.{rules}
 use Rattle.capi_text.proofs.overlays.join_in.Statement.{statement}
@@ -31,8 +31,8 @@ returns c =
     let j = c.before.before.join.ensures in
     let x = words-first 1025 s.args.base.now (replicate 1025 0) a.new.1.0 a.result refl a.ensures.0 a.ensures.1 in
     let y = words-first 1025 s.args.overlay.now (replicate 1025 0) b.new.1.0 b.result refl b.ensures.0 b.ensures.1 in (
-      j.0 ∙ ap₂ (λ (v w : List ℕ). joinAnswer v w (length out)) x y ∙ join_first _ _ out,
-      j.1 ∙ ap₂ (λ (v w : List ℕ). outAfter v w out) x y ∙ out_first _ _ out,
+      j.0 ∙ ap₂ (λ (v w : List ℕ). join_answer v w (length out)) x y ∙ join_first _ _ out,
+      j.1 ∙ ap₂ (λ (v w : List ℕ). out_after v w out) x y ∙ out_first _ _ out,
     )
 
 pub join-in-spec : {M : Type 1} → statement M

@@ -4,12 +4,12 @@ use mathlib.Core.List.{List}
 use Prim.Native.Nat.{ℕ}
 use native.Mathlib.Omega.{arith}
 use lib.ListN.{length, replicate}
-use Rattle.little_endian.specs.LittleEndian.{bytesOf, wordsOf}
+use Rattle.little_endian.specs.LittleEndian.{bytes_of, words_of}
 use Rattle.listing.specs.Listing.{Answered, left}
 use Rattle.overlay.specs.Join.{joined}
 use Rattle.overlay.proofs.Theorems.{joined-few, joined_words}
-use Rattle.overlay.specs.Answers.{joinedAs}
-use Rattle.capi_text.specs.Interface.{answerNumber}
+use Rattle.overlay.specs.Answers.{joined_as}
+use Rattle.capi_text.specs.Interface.{answer_number}
 use Rattle.capi_text.proofs.TwoTables.{odd-small, join-odd, join-odd-number, join-even, join-done, join-not, join-refused-small}
 use Rattle.capi_text.proofs.Macros.{join-read}
 use borrow.Author.Rules.{rules}
@@ -30,53 +30,53 @@ returns c =
     let o = c.before.odd_number.ensures in
     let n = join-odd-number s.args.base.now s.args.overlay.now _ o c.if1.true (length out) in (
       n,
-      (join-read s.args.base.now s.args.overlay.now (length out) _ n, sym (ap (λ (a : Answered). left a (bytesOf (joined (wordsOf s.args.base.now) (wordsOf s.args.overlay.now))) out) (join-odd s.args.base.now s.args.overlay.now (λ z. c.if1.true (o ∙ z)) (length out)))),
+      (join-read s.args.base.now s.args.overlay.now (length out) _ n, sym (ap (λ (a : Answered). left a (bytes_of (joined (words_of s.args.base.now) (words_of s.args.overlay.now))) out) (join-odd s.args.base.now s.args.overlay.now (λ z. c.if1.true (o ∙ z)) (length out)))),
     )
 
 put-words-requires : tie.Need-put-words-requires
-unfolding joinedAs
+unfolding joined_as
 put-words-requires c κs =
     let s = c.before.before.before.before.before.before.before.before.before.before.before.before.before in
     let j = c.before.before.before.before.before.before.join-in in
-    let e = sym j.ensures.0 ∙ ap joinedAs c.before.before.before.count.given.1 in
-    let few = joined-few (wordsOf s.args.base.now) (wordsOf s.args.overlay.now) (replicate 1024 0) _ e in
+    let e = sym j.ensures.0 ∙ ap joined_as c.before.before.before.count.given.1 in
+    let few = joined-few (words_of s.args.base.now) (words_of s.args.overlay.now) (replicate 1024 0) _ e in
     (omega (arith, j.auto.1.1.0), few)
 
 fault-answer-requires : tie.Need-fault-answer-requires
-unfolding joinedAs
+unfolding joined_as
 fault-answer-requires c κs =
     let s = c.before.before.before.before.before.before.before.before.before.before.before in
     let j = c.before.before.before.before.join-in in
-    let e = sym j.ensures.0 ∙ ap joinedAs c.before.f.given.1 in
-    let q = join-refused-small (wordsOf s.args.base.now) (wordsOf s.args.overlay.now) (replicate 1024 0) _ _ e in
+    let e = sym j.ensures.0 ∙ ap joined_as c.before.f.given.1 in
+    let q = join-refused-small (words_of s.args.base.now) (words_of s.args.overlay.now) (replicate 1024 0) _ _ e in
     omega (arith, q.1)
 
 returns-2 : tie.Need-returns-2
-unfolding joinedAs
+unfolding joined_as
 returns-2 c =
     let s = c.before.before.before.before.before.before.before.before.before.before.before.before.before.before.before.before in
     let out = s.args.out.now in
     let j = c.before.before.before.before.before.before.before.before.before.join-in in
-    let e = sym j.ensures.0 ∙ ap joinedAs c.before.before.before.before.before.before.count.given.1 in
+    let e = sym j.ensures.0 ∙ ap joined_as c.before.before.before.before.before.before.count.given.1 in
     let p = c.before.before.put-words.ensures in
-    let a = join-done (wordsOf s.args.base.now) (wordsOf s.args.overlay.now) (length out) _ e ∙ sym (join-even s.args.base.now s.args.overlay.now (sym c.before.before.before.before.before.before.before.before.before.before.before.before.odd_number.ensures ∙ c.before.before.before.before.before.before.before.before.before.before.before.if1.false) (length out)) in
-    let ws = joined_words (wordsOf s.args.base.now) (wordsOf s.args.overlay.now) (replicate 1024 0) _ e j.new.1.1.0 j.ensures.1 in
-    let n = p.answer ∙ ap answerNumber a in (
+    let a = join-done (words_of s.args.base.now) (words_of s.args.overlay.now) (length out) _ e ∙ sym (join-even s.args.base.now s.args.overlay.now (sym c.before.before.before.before.before.before.before.before.before.before.before.before.odd_number.ensures ∙ c.before.before.before.before.before.before.before.before.before.before.before.if1.false) (length out)) in
+    let ws = joined_words (words_of s.args.base.now) (words_of s.args.overlay.now) (replicate 1024 0) _ e j.new.1.1.0 j.ensures.1 in
+    let n = p.answer ∙ ap answer_number a in (
       n,
-      (join-read s.args.base.now s.args.overlay.now (length out) _ n, p.bytes ∙ ap₂ (λ (q : Answered) (l : List ℕ). left q (bytesOf l) out) a ws),
+      (join-read s.args.base.now s.args.overlay.now (length out) _ n, p.bytes ∙ ap₂ (λ (q : Answered) (l : List ℕ). left q (bytes_of l) out) a ws),
     )
 
 returns-3 : tie.Need-returns-3
-unfolding joinedAs answerNumber left
+unfolding joined_as answer_number left
 returns-3 c =
     let s = c.before.before.before.before.before.before.before.before.before.before.before.before in
     let out = s.args.out.now in
     let j = c.before.before.before.before.before.join-in in
-    let e = sym j.ensures.0 ∙ ap joinedAs c.before.before.f.given.1 in
-    let a = join-not (wordsOf s.args.base.now) (wordsOf s.args.overlay.now) (length out) _ _ e ∙ sym (join-even s.args.base.now s.args.overlay.now (sym c.before.before.before.before.before.before.before.before.odd_number.ensures ∙ c.before.before.before.before.before.before.before.if1.false) (length out)) in
-    let n = c.fault-answer.ensures ∙ ap answerNumber a in (
+    let e = sym j.ensures.0 ∙ ap joined_as c.before.before.f.given.1 in
+    let a = join-not (words_of s.args.base.now) (words_of s.args.overlay.now) (length out) _ _ e ∙ sym (join-even s.args.base.now s.args.overlay.now (sym c.before.before.before.before.before.before.before.before.odd_number.ensures ∙ c.before.before.before.before.before.before.before.if1.false) (length out)) in
+    let n = c.fault-answer.ensures ∙ ap answer_number a in (
       n,
-      (join-read s.args.base.now s.args.overlay.now (length out) _ n, ap (λ (q : Answered). left q (bytesOf (joined (wordsOf s.args.base.now) (wordsOf s.args.overlay.now))) out) a),
+      (join-read s.args.base.now s.args.overlay.now (length out) _ n, ap (λ (q : Answered). left q (bytes_of (joined (words_of s.args.base.now) (words_of s.args.overlay.now))) out) a),
     )
 
 pub wiphosega-join-spec : {M : Type 1} → statement M

@@ -3,7 +3,7 @@ use borrow.Author.Rules.{rules}
 use mathlib.Core.Path.{refl, ap}
 use native.Mathlib.Omega.{arith}
 use Rattle.table.specs.declared.Link.{Link}
-use Rattle.table.specs.Code.{termNode}
+use Rattle.table.specs.Code.{term_node}
 use Rattle.queries.proofs.Home.{sender, sender-home, sender-inside}
 use Rattle.checker.proofs.Laws.{both, put_is}
 use Rattle.checker.proofs.Placed.{links-of, sizes, term-at, part_at, linked-here, node-here}
@@ -12,7 +12,7 @@ use Rattle.checker.proofs.sends.send.Statement.{statement}
 use Rattle.checker.proofs.sends.send.Tie as tie
 
 to-blocks-requires : tie.Need-to-blocks-requires
-unfolding termNode
+unfolding term_node
 to-blocks-requires c κs =
     let s = c.before.before.before.before.before.before.before in let g = s.requires.0 in let y = g.ready in let i = s.requires.1 in
     let x = linked-here g i refl c.before.before.second-of.ensures.0 refl in
@@ -33,7 +33,7 @@ to-blocks-requires c κs =
     )
 
 pub send-spec : {M : Type 1} → statement M
-unfolding termNode
+unfolding term_node
 send-spec =
     tie.close (tie.spec
     (λ c κs. let g = c.before.before.before.before.requires.0 in omega (arith, (sizes g).size, g.inside))

@@ -1,4 +1,4 @@
--- `checker::sends::to_block` meets its contract. Assumes nothing.
+-- `checker::sends::to_block_lem` meets its contract. Assumes nothing.
 use borrow.Author.Rules.{rules}
 use Prim.Native.Nat.{ℕ, ◌+◌}
 use mathlib.Core.Path.{sym, ap₂, ◌∙◌}
@@ -7,9 +7,9 @@ use Rattle.table.specs.Code.{code}
 use Rattle.table.proofs.Linked.{linked}
 use Rattle.calculus.specs.Constraint.{C}
 use Rattle.calculus.specs.Layout.{sets}
-use Rattle.rows.specs.Numbered.{sortAt}
+use Rattle.rows.specs.Numbered.{sort_at}
 use Rattle.rows.proofs.Numbered.{row-C, row-B}
-use Rattle.checker.specs.Sends.{toBlock, toSender}
+use Rattle.checker.specs.Sends.{to_block, to_sender}
 use Rattle.checker.proofs.Laws.{both, put_is, due}
 use Rattle.checker.proofs.Lowered.{lowered_none, lowered-then}
 use Rattle.checker.proofs.Blocks.{size_is, name_in, unasked, on-started}
@@ -17,15 +17,15 @@ use Rattle.checker.proofs.sends.to_block.Statement.{statement}
 use Rattle.checker.proofs.sends.to_block.Tie as tie
 
 returns-2 : tie.Need-returns-2
-unfolding sortAt
+unfolding sort_at
 returns-2 c =
     let s = c.before.before.before.before.before.before.before.before.before.before.before.before.before.before in let a = s.args in let k = code a.words.now in let e = sets k a.est.now in let h = s.requires.0 in let o = h.laid in
     let x = c.before.before.before.before.before.before.before.before.before.before.starts.ensures k o in
     lowered-then
-    (c.before.before.before.before.lowered.ensures e (toBlock k a.s.p a.s.d a.s.required.bits a.b) (due (on-started h a.b s.requires.1 s.requires.2 x) c.before.before.before.before.before.before.before.before.before.if1.false
+    (c.before.before.before.before.lowered.ensures e (to_block k a.s.p a.s.d a.s.required.bits a.b) (due (on-started h a.b s.requires.1 s.requires.2 x) c.before.before.before.before.before.before.before.before.before.if1.false
     (both (put_is (c.before.before.before.before.before.before.before.before.is_live.ensures k o))
     (both (rw (row-C a.s.d, row-B a.b) at (c.before.before.before.before.before.before.passed-by.ensures k (linked a.words.now h.readable) o h.well h.masked)) (c.before.before.before.before.before.lifted.ensures k o h.well)))))
-    (c.lowered2.ensures e (toSender k a.s.p a.s.required.bits a.b) (due (on-started h a.b s.requires.1 s.requires.2 x) c.before.before.before.before.before.before.before.before.before.if1.false
+    (c.lowered2.ensures e (to_sender k a.s.p a.s.required.bits a.b) (due (on-started h a.b s.requires.1 s.requires.2 x) c.before.before.before.before.before.before.before.before.before.if1.false
     (put_is (c.before.in-value.ensures k o ∙ ap₂ (λ (y z : ℕ). e (C a.b) (y + z)) (sym o.lead) h.home))))
 
 pub to-block-spec : {M : Type 1} → statement M

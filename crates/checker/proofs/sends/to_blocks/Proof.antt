@@ -8,7 +8,7 @@ use Rattle.table.specs.Code.{code}
 use Rattle.table.proofs.Limits.{size-le}
 use Rattle.table.proofs.BlockLoop.{named-there}
 use Rattle.calculus.specs.Layout.{sets}
-use Rattle.rows.specs.Numbered.{sortAt}
+use Rattle.rows.specs.Numbered.{sort_at}
 use Rattle.checker.specs.Sends.{AskedFor}
 use Rattle.checker.proofs.Blocks.{Looked, looked-start, looked-next, looked-all}
 use Rattle.checker.proofs.Sent.{nothing-sent, something-sent}
@@ -22,11 +22,11 @@ abbrev decreases-loop : tie.decreases-loop
 decreases-loop words links masks est l s below lowest₀ b₀ lowest b = length words - b
 
 pub to-blocks-spec : {M : Type 1} → statement M
-unfolding sortAt
+unfolding sort_at
 to-blocks-spec =
     tie.close (tie.spec invariant-loop decreases-loop (λ mul-has-some. search rules) (λ has-some-requires κs. search rules)
     (λ c. let s = c.before.before.before.before.before.before.before in let h = s.requires.0 in
-    nothing-sent _ s.args.est.now _ _ _ (c.before.has_some.ensures _ (sortAt 3 _) h.laid h.well (h.masked.mask 3 (omega arith))) c.if1.true)
+    nothing-sent _ s.args.est.now _ _ _ (c.before.has_some.ensures _ (sort_at 3 _) h.laid h.well (h.masked.mask 3 (omega arith))) c.if1.true)
     (λ c. looked-start _ c.before.before.before.before.before.before.before.requires.0.readable _)
     (λ c κs. let s = c.before.before.before.before.before.before.before.before.before in
     (s.requires.0, c.loop-test.true, named-there _ s.requires.0.readable _ c.before.loop.invariant.0 c.loop-test.true))
@@ -37,5 +37,5 @@ to-blocks-spec =
     (λ c. let s = c.before.before.before.before.before.before.before.before.before.before.before in
     (looked-next _ s.requires.0.readable _ c.before.before.before.loop.invariant c.before.before.loop-test.true s.requires.1 c.next-block.ensures c.before.to_block.ensures).0)
     (λ c. let s = c.before.before.before.before.before.before.before.before.before in let h = s.requires.0 in
-    something-sent _ s.args.est.now _ _ _ (c.before.before.before.has_some.ensures _ (sortAt 3 _) h.laid h.well (h.masked.mask 3 (omega arith)))
+    something-sent _ s.args.est.now _ _ _ (c.before.before.before.has_some.ensures _ (sort_at 3 _) h.laid h.well (h.masked.mask 3 (omega arith)))
     c.before.before.if1.false (looked-all _ h.readable _ c.before.loop.invariant c.loop-test.false)))

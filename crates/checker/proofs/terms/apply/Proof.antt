@@ -1,7 +1,7 @@
 -- `checker::terms::apply` meets its contract. Assumes nothing.
 use borrow.Author.Rules.{rules}
-use Rattle.calculus.specs.Rules.{flow, twoRule}
-use Rattle.rows.specs.Numbered.{thingAt}
+use Rattle.calculus.specs.Rules.{flow, two_rule}
+use Rattle.rows.specs.Numbered.{thing_at}
 use Rattle.checker.proofs.Laws.{both, parted}
 use Rattle.rows.proofs.Numbered.{row-C}
 use Rattle.checker.specs.Things.{asked}
@@ -9,7 +9,7 @@ use Rattle.checker.proofs.terms.apply.Statement.{statement}
 use Rattle.checker.proofs.terms.apply.Tie as tie
 
 returns : tie.Need-returns
-unfolding flow twoRule thingAt asked
+unfolding flow two_rule thing_at asked
 returns c = λ k j o w n. parted (both (c.before.parts.ensures k o w) (rw (row-C c.before.before.before.before.args.d) at (c.things.ensures k j o w n)))
 
 pub apply-spec : {M : Type 1} → statement M

@@ -1,6 +1,6 @@
 -- `checker::terms::cell` meets its contract. Assumes nothing.
 use borrow.Author.Rules.{rules}
-use Rattle.calculus.specs.Rules.{flow, oneRule}
+use Rattle.calculus.specs.Rules.{flow, one_rule}
 use Rattle.checker.proofs.Laws.{both}
 use Rattle.checker.proofs.Rows.{CB}
 use Rattle.checker.proofs.Asking.{own_is}
@@ -8,7 +8,7 @@ use Rattle.checker.proofs.terms.cell.Statement.{statement}
 use Rattle.checker.proofs.terms.cell.Tie as tie
 
 pub cell-spec : {M : Type 1} → statement M
-unfolding flow oneRule
+unfolding flow one_rule
 cell-spec =
     tie.close (tie.spec (λ add-part. search rules) (λ part-requires κs. search rules) (λ mul-in-value. search rules) (λ add-in-value. search rules)
     (λ in-value-requires κs. search rules) (λ add-passed. search rules) (λ mul-passed. search rules) (λ mul-passed-2. search rules)

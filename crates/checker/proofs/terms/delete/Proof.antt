@@ -1,15 +1,15 @@
 -- `checker::terms::delete` meets its contract. Assumes nothing.
 use borrow.Author.Rules.{rules}
 use Prim.Native.Nat.{◌+◌}
-use Rattle.calculus.specs.Rules.{flow, twoRule}
-use Rattle.rows.specs.Numbered.{sortAt}
+use Rattle.calculus.specs.Rules.{flow, two_rule}
+use Rattle.rows.specs.Numbered.{sort_at}
 use Rattle.rows.proofs.Numbered.{row-C}
 use Rattle.checker.proofs.Laws.{both, both-idle, parted, idle, due, on_value}
 use Rattle.checker.proofs.terms.delete.Statement.{statement}
 use Rattle.checker.proofs.terms.delete.Tie as tie
 
 pub delete-spec : {M : Type 1} → statement M
-unfolding flow twoRule sortAt
+unfolding flow two_rule sort_at
 delete-spec =
     tie.close (tie.spec (λ parts-requires κs. search rules) (λ mul-has-text. search rules) (λ has-text-requires κs. search rules)
     (λ c. λ k j o w n. parted (both-idle (c.before.before.parts.ensures k o w) (idle (on_value _ _ (c.before.has-text.ensures k o w)) c.if1.true)))

@@ -2,14 +2,14 @@
 use borrow.Author.Rules.{rules}
 use mathlib.Core.Path.{refl, ap, ◌∙◌}
 use Rattle.permset.specs.Sets.{within}
-use Rattle.calculus.specs.Rules.{leafRule}
+use Rattle.calculus.specs.Rules.{leaf_rule}
 use Rattle.checker.proofs.Laws.{decided, both, put_is, idle, due, on-only}
 use Rattle.checker.proofs.Rows.{permitted-is}
 use Rattle.checker.proofs.terms.exercise.Statement.{statement}
 use Rattle.checker.proofs.terms.exercise.Tie as tie
 
 pub exercise-spec : {M : Type 1} → statement M
-unfolding leafRule
+unfolding leaf_rule
 exercise-spec =
     tie.close (tie.spec (λ within-requires κs. search rules)
     (λ c. λ k o w q. idle (on-only (c.before.within.ensures ∙ ap (within c.before.before.before.args.set.bits) q)) c.if1.true)

@@ -1,7 +1,7 @@
 -- `checker::terms::read` meets its contract. Assumes nothing.
 use borrow.Author.Rules.{rules}
-use Rattle.calculus.specs.Rules.{flow, oneRule}
-use Rattle.rows.specs.Numbered.{thingAt}
+use Rattle.calculus.specs.Rules.{flow, one_rule}
+use Rattle.rows.specs.Numbered.{thing_at}
 use Rattle.checker.proofs.Laws.{both}
 use Rattle.rows.proofs.Numbered.{row-C}
 use Rattle.checker.specs.Things.{asked}
@@ -9,7 +9,7 @@ use Rattle.checker.proofs.terms.read.Statement.{statement}
 use Rattle.checker.proofs.terms.read.Tie as tie
 
 returns : tie.Need-returns
-unfolding flow oneRule thingAt asked
+unfolding flow one_rule thing_at asked
 returns c = λ k j o w n. both (c.before.part.ensures k o w) (rw (row-C c.before.before.before.before.args.p) at (c.things.ensures k j o w n))
 
 pub read_spec : {M : Type 1} → statement M

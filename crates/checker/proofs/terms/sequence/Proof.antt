@@ -1,13 +1,13 @@
 -- `checker::terms::sequence` meets its contract. Assumes nothing.
 use borrow.Author.Rules.{rules}
-use Rattle.calculus.specs.Rules.{flow, twoRule}
+use Rattle.calculus.specs.Rules.{flow, two_rule}
 use Rattle.checker.proofs.Laws.{both, parted}
 use Rattle.checker.proofs.Rows.{CC}
 use Rattle.checker.proofs.terms.sequence.Statement.{statement}
 use Rattle.checker.proofs.terms.sequence.Tie as tie
 
 returns : tie.Need-returns
-unfolding flow twoRule
+unfolding flow two_rule
 returns c = λ k o w. parted (both (c.before.parts.ensures k o w) (CC (c.passed.ensures k o w)))
 
 pub sequence-spec : {M : Type 1} → statement M

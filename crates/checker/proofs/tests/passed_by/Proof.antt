@@ -5,7 +5,7 @@ use mathlib.Core.Bool.{not}
 use Prim.Native.Nat.{◌*◌}
 use native.Mathlib.Omega.{arith}
 use Rattle.rows.proofs.Laws.{same-part, length_part}
-use Rattle.rows.specs.Numbered.{sortAt}
+use Rattle.rows.specs.Numbered.{sort_at}
 use Rattle.queries.proofs.Laws.{row_in, mask-in}
 use Rattle.checker.proofs.Laws.{decided}
 use Rattle.checker.proofs.Rows.{passed-by-is}
@@ -26,4 +26,4 @@ passed-by-spec =
     (row_in s.requires.0 _ s.requires.1, row_in s.requires.0 _ s.requires.2, length_part a.masks.now (a.m * a.l.row) a.l.row (mask-in _ a.l.row _ s.requires.3 s.requires.4)))
     (λ c. λ k j o w n. let s = c.before.before.before.before in let a = s.args in
     decided (ap not c.lacks-masked.ensures ∙ rw (same-part a.masks.now (a.m * a.l.row) a.l.row) refl)
-    (passed-by-is _ _ s.requires.0 k o w _ _ s.requires.1 s.requires.2 (sortAt a.m k) _ (n.mask a.m s.requires.4))))
+    (passed-by-is _ _ s.requires.0 k o w _ _ s.requires.1 s.requires.2 (sort_at a.m k) _ (n.mask a.m s.requires.4))))

@@ -1,13 +1,13 @@
 -- `class_report::lines::count_line` meets its contract. Assumes nothing.
 use native.Mathlib.Omega.{arith}
 use Rattle.text.proofs.Writing.{then}
-use Rattle.class_report.specs.Report.{countLine}
+use Rattle.class_report.specs.Report.{count_line}
 use borrow.Author.Rules.{rules}
 use Rattle.class_report.proofs.lines.count_line.Statement.{statement}
 use Rattle.class_report.proofs.lines.count_line.Tie as tie
 
 returns : tie.Need-returns
-unfolding countLine
+unfolding count_line
 returns c =
     let three = c.before.before in
     let two = three.before.before.before.before.before in

@@ -1,13 +1,13 @@
 -- `class_report::lines::permission_line` meets its contract. Assumes nothing.
 use native.Mathlib.Omega.{arith}
 use Rattle.text.proofs.Writing.{then}
-use Rattle.class_report.specs.Report.{permissionLine}
+use Rattle.class_report.specs.Report.{permission_line}
 use borrow.Author.Rules.{rules}
 use Rattle.class_report.proofs.lines.permission_line.Statement.{statement}
 use Rattle.class_report.proofs.lines.permission_line.Tie as tie
 
 returns : tie.Need-returns
-unfolding permissionLine
+unfolding permission_line
 returns c =
     let four = c.before.before in
     let three = four.before.before.before.before.before in

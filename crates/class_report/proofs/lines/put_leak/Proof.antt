@@ -1,12 +1,12 @@
 -- `class_report::lines::put_leak` meets its contract. Assumes nothing.
 use Rattle.text.proofs.Writing.{then}
-use Rattle.class_report.specs.Report.{outcomeText}
+use Rattle.class_report.specs.Report.{outcome_text}
 use borrow.Author.Rules.{rules}
 use Rattle.class_report.proofs.lines.put_leak.Statement.{statement}
 use Rattle.class_report.proofs.lines.put_leak.Tie as tie
 
 returns : tie.Need-returns
-unfolding outcomeText
+unfolding outcome_text
 returns c =
     let two = c.before.before in
     let one = two.before.before.before.before.before in

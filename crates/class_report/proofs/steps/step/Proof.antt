@@ -2,17 +2,17 @@
 use Prim.Native.Nat.{ℕ}
 use mathlib.Core.Path.{◌≡◌, sym, ap, ◌∙◌}
 use Rattle.class_report.specs.Tally.{position}
-use Rattle.class_report.specs.Steps.{taskFor}
+use Rattle.class_report.specs.Steps.{task_for}
 use Rattle.class_report.proofs.Stepped.{more-done, stepped, system-there}
 use borrow.Author.Rules.{rules}
 use Rattle.class_report.proofs.steps.step.Statement.{statement}
 use Rattle.class_report.proofs.steps.step.Tie as tie
 
 -- the task that is done
-asked : (c : tie.After-task-for) → let a = c.before.before.before.args in c.task-for.result ≡ taskFor (position a.tally) a.ended a.piece.now
+asked : (c : tie.After-task-for) → let a = c.before.before.before.args in c.task-for.result ≡ task_for (position a.tally) a.ended a.piece.now
 asked c =
     let a = c.before.before.before.args in
-    c.task-for.ensures ∙ ap (λ (p : ℕ). taskFor p a.ended a.piece.now) c.before.position.ensures
+    c.task-for.ensures ∙ ap (λ (p : ℕ). task_for p a.ended a.piece.now) c.before.position.ensures
 
 system-step-requires : tie.Need-system-step-requires
 system-step-requires c κs =

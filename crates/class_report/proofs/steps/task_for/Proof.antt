@@ -1,6 +1,6 @@
 -- `class_report::steps::task_for` meets its contract. Assumes nothing.
 use mathlib.Core.Path.{sym, ap, ◌∙◌}
-use Rattle.class_report.specs.Steps.{frontTask}
+use Rattle.class_report.specs.Steps.{front_task}
 use Rattle.class_report.proofs.Tasks.{task-front, task-full}
 use borrow.Author.Rules.{rules}
 use Rattle.class_report.proofs.steps.task_for.Statement.{statement}
@@ -9,7 +9,7 @@ use Rattle.class_report.proofs.steps.task_for.Tie as tie
 returns : tie.Need-returns
 returns c =
     let a = c.before.before.before.before.args in
-    c.front-task.ensures ∙ ap (frontTask a.ended) c.before.front_of.ensures ∙ sym (task-front a.ended a.piece.now a.position c.before.before.if1.true)
+    c.front-task.ensures ∙ ap (front_task a.ended) c.before.front_of.ensures ∙ sym (task-front a.ended a.piece.now a.position c.before.before.if1.true)
 
 returns-2 : tie.Need-returns-2
 returns-2 c =

@@ -1,11 +1,11 @@
 -- `clauses::make::of_apply` meets its contract: an arm for each clause, and none past them. Assumes nothing.
-use Rattle.clauses.specs.Clauses.{ofApply}
+use Rattle.clauses.specs.Clauses.{of_apply}
 use Rattle.clauses.proofs.Arms.{arms}
 use Rattle.clauses.proofs.make.of_apply.Statement.{statement}
 use Rattle.clauses.proofs.make.of_apply.Tie as tie
 
 pub of-apply-spec : {M : Type 1} → statement M
-unfolding ofApply
+unfolding of_apply
 of-apply-spec =
     tie.close (tie.spec (λ parts-requires κs. search arms) (λ free-requires κs. search arms) (λ of-requires κs. search arms)
     (λ free-requires-2 κs. search arms) (λ value-requires κs. search arms) (λ of-requires-2 κs. search arms) (λ free-requires-3 κs. search arms)

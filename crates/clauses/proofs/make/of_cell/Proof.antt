@@ -1,11 +1,11 @@
 -- `clauses::make::of_cell` meets its contract: an arm for each clause, and none past them. Assumes nothing.
-use Rattle.clauses.specs.Clauses.{ofCell}
+use Rattle.clauses.specs.Clauses.{of_cell}
 use Rattle.clauses.proofs.Arms.{arms}
 use Rattle.clauses.proofs.make.of_cell.Statement.{statement}
 use Rattle.clauses.proofs.make.of_cell.Tie as tie
 
 pub of-cell-spec : {M : Type 1} → statement M
-unfolding ofCell
+unfolding of_cell
 of-cell-spec =
     tie.close (tie.spec (λ parts-requires κs. search arms) (λ free-requires κs. search arms) (λ value-requires κs. search arms)
     (λ put-requires κs. search arms) (λ free-requires-2 κs. search arms) (λ add-value. search arms) (λ value-requires-2 κs. search arms)

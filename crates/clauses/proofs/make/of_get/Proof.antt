@@ -1,11 +1,11 @@
 -- `clauses::make::of_get` meets its contract: an arm for each clause, and none past them. Assumes nothing.
-use Rattle.clauses.specs.Clauses.{ofGet}
+use Rattle.clauses.specs.Clauses.{of_get}
 use Rattle.clauses.proofs.Arms.{arms}
 use Rattle.clauses.proofs.make.of_get.Statement.{statement}
 use Rattle.clauses.proofs.make.of_get.Tie as tie
 
 pub of-get-spec : {M : Type 1} → statement M
-unfolding ofGet
+unfolding of_get
 of-get-spec =
     tie.close (tie.spec (λ parts-requires κs. search arms) (λ free-requires κs. search arms) (λ add-text-some. search arms) (λ value-requires κs. search arms)
     (λ put-requires κs. search arms) (λ text-some-requires κs. search arms) (λ add-text-has. search arms) (λ value-requires-2 κs. search arms)

@@ -1,11 +1,11 @@
 -- `clauses::make::of_if` meets its contract: an arm for each clause, and none past them. Assumes nothing.
-use Rattle.clauses.specs.Clauses.{ofIf}
+use Rattle.clauses.specs.Clauses.{of_if}
 use Rattle.clauses.proofs.Arms.{arms}
 use Rattle.clauses.proofs.make.of_if.Statement.{statement}
 use Rattle.clauses.proofs.make.of_if.Tie as tie
 
 pub of-if-spec : {M : Type 1} → statement M
-unfolding ofIf
+unfolding of_if
 of-if-spec =
     tie.close (tie.spec (λ branches-requires κs. search arms) (λ free-requires κs. search arms) (λ add-has. search arms) (λ alive-requires κs. search arms)
     (λ has-requires κs. search arms) (λ add-has-2. search arms) (λ alive-requires-2 κs. search arms) (λ has-requires-2 κs. search arms)

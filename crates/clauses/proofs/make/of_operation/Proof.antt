@@ -1,11 +1,11 @@
 -- `clauses::make::of_operation` meets its contract: an arm for each clause, and none past them. Assumes nothing.
-use Rattle.clauses.specs.Clauses.{ofOperation}
+use Rattle.clauses.specs.Clauses.{of_operation}
 use Rattle.clauses.proofs.Arms.{arms}
 use Rattle.clauses.proofs.make.of_operation.Statement.{statement}
 use Rattle.clauses.proofs.make.of_operation.Tie as tie
 
 pub of-operation-spec : {M : Type 1} → statement M
-unfolding ofOperation
+unfolding of_operation
 of-operation-spec =
     tie.close (tie.spec (λ parts-requires κs. search arms) (λ free-requires κs. search arms) (λ of-requires κs. search arms)
     (λ free-requires-2 κs. search arms) (λ never-requires κs. search arms) (λ returns. search arms) (λ returns-2. search arms) (λ returns-3. search arms))

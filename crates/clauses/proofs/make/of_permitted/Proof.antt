@@ -1,11 +1,11 @@
 -- `clauses::make::of_permitted` meets its contract: an arm for each clause, and none past them. Assumes nothing.
-use Rattle.clauses.specs.Clauses.{ofPermitted}
+use Rattle.clauses.specs.Clauses.{of_permitted}
 use Rattle.clauses.proofs.Arms.{arms}
 use Rattle.clauses.proofs.make.of_permitted.Statement.{statement}
 use Rattle.clauses.proofs.make.of_permitted.Tie as tie
 
 pub of-permitted-spec : {M : Type 1} → statement M
-unfolding ofPermitted
+unfolding of_permitted
 of-permitted-spec =
     tie.close (tie.spec (λ value-requires κs. search arms) (λ put-requires κs. search arms) (λ free-requires κs. search arms) (λ of-requires κs. search arms)
     (λ free-requires-2 κs. search arms) (λ never-requires κs. search arms) (λ returns. search arms) (λ returns-2. search arms) (λ returns-3. search arms))

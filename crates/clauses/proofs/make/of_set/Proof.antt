@@ -1,11 +1,11 @@
 -- `clauses::make::of_set` meets its contract: an arm for each clause, and none past them. Assumes nothing.
-use Rattle.clauses.specs.Clauses.{ofSet}
+use Rattle.clauses.specs.Clauses.{of_set}
 use Rattle.clauses.proofs.Arms.{arms}
 use Rattle.clauses.proofs.make.of_set.Statement.{statement}
 use Rattle.clauses.proofs.make.of_set.Tie as tie
 
 pub of-set-spec : {M : Type 1} → statement M
-unfolding ofSet
+unfolding of_set
 of-set-spec =
     tie.close (tie.spec (λ parts-requires κs. search arms) (λ free-requires κs. search arms) (λ add-text-some. search arms) (λ value-requires κs. search arms)
     (λ put-requires κs. search arms) (λ text-some-requires κs. search arms) (λ add-text-some-2. search arms) (λ value-requires-2 κs. search arms)

@@ -1,12 +1,12 @@
 -- `clauses::make::of_term` meets its contract: an arm for each term. Assumes nothing.
 use borrow.Author.Rules.{rules}
-use Rattle.clauses.specs.Clauses.{ofTerm}
+use Rattle.clauses.specs.Clauses.{of_term}
 use Rattle.clauses.proofs.ByItem.{of-case}
 use Rattle.clauses.proofs.make.of_term.Statement.{statement}
 use Rattle.clauses.proofs.make.of_term.Tie as tie
 
 pub of-term-spec : {M : Type 1} → statement M
-unfolding ofTerm
+unfolding of_term
 of-term-spec =
     tie.close (tie.spec (λ enum-known-t. search rules) (λ constant-element-requires κs. search rules) (λ of-value-requires κs. search rules)
     (λ enum-known-t-2. search rules) (λ sign-element-requires κs. search rules) (λ of-value-requires-2 κs. search rules) (λ enum-known-t-3. search rules)

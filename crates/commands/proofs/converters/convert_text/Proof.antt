@@ -1,10 +1,10 @@
 -- `commands::converters::convert_text` meets its contract. Assumes nothing.
 use mathlib.Core.Path.{refl, sym, ap, ◌∙◌}
 use lib.ListN.{replicate}
-use Rattle.little_endian.specs.LittleEndian.{wordsOf}
+use Rattle.little_endian.specs.LittleEndian.{words_of}
 use Rattle.little_endian.proofs.First.{words_size, words-first}
 use Rattle.text.proofs.Writing.{reworded}
-use Rattle.commands.specs.Printed.{convertedText}
+use Rattle.commands.specs.Printed.{converted_text}
 use Rattle.commands.proofs.Conversions.{converted-first, convert-even, convert-odd}
 use borrow.Author.Rules.{rules}
 use Rattle.commands.proofs.converters.convert_text.Statement.{statement}
@@ -26,7 +26,7 @@ returns-2 c =
     let s = c.before.before.before.before.before.before.before.before.before.before.before in
     let w = c.before.before.before.before.before.before.words_of in
     let x = words-first 1025 s.args.input.now (replicate 1025 0) w.new.1.0 w.result refl w.ensures.0 w.ensures.1 in
-    reworded (ap (convertedText s.args.wide) x ∙ converted-first s.args.wide (wordsOf s.args.input.now) ∙ convert-even s.args.wide s.args.input.now c.before.before.before.before.before.before.before.before.if1.false) c.before.before.converted-text.ensures
+    reworded (ap (converted_text s.args.wide) x ∙ converted-first s.args.wide (words_of s.args.input.now) ∙ convert-even s.args.wide s.args.input.now c.before.before.before.before.before.before.before.before.if1.false) c.before.before.converted-text.ensures
 
 pub convert-text-spec : {M : Type 1} → statement M
 convert-text-spec =

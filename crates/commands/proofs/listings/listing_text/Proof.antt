@@ -3,7 +3,7 @@ use mathlib.Core.Path.{sym, ap, ◌∙◌}
 use mathlib.Core.Path.{ap₂}
 use native.Mathlib.Omega.{arith}
 use Rattle.listing.specs.Answer.{answered}
-use Rattle.report.specs.Lines.{refusalLine}
+use Rattle.report.specs.Lines.{refusal_line}
 use Rattle.text.proofs.Writing.{reworded}
 use Rattle.commands.proofs.Texts.{unchanged, listing-done, listing-refused, listing-left}
 use borrow.Author.Rules.{rules}
@@ -26,7 +26,7 @@ returns-2 c =
     let s = c.before.before.before.before.before.before.before.before.before.before.before.before.before.before.before in
     let w = c.before.before.before.before.before.before.before.before.before.before.before.write.ensures in
     let e = sym w.0 ∙ ap answered c.before.before.before.before.before.before.before.r.given.1 in
-    let line = ap₂ refusalLine c.before.before.before.before.refusal-number.ensures c.before.before.before.refusal-place.ensures in
+    let line = ap₂ refusal_line c.before.before.before.before.refusal-number.ensures c.before.before.before.refusal-place.ensures in
     reworded (line ∙ listing-refused s.args.words.now s.args.out.now _ s.requires w.1 _ _ e)
     (unchanged (listing-left s.args.words.now s.args.out.now _ s.requires w.1 _ _ e) c.before.before.refusal-line.ensures.0)
 

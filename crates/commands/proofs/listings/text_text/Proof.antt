@@ -1,10 +1,10 @@
 -- `commands::listings::text_text` meets its contract. Assumes nothing.
 use mathlib.Core.Path.{refl, sym, ap, ◌∙◌}
 use lib.ListN.{replicate}
-use Rattle.little_endian.specs.LittleEndian.{wordsOf}
+use Rattle.little_endian.specs.LittleEndian.{words_of}
 use Rattle.little_endian.proofs.First.{words_size, words-first}
 use Rattle.text.proofs.Writing.{reworded}
-use Rattle.commands.specs.Printed.{listingText}
+use Rattle.commands.specs.Printed.{listing_text}
 use Rattle.commands.proofs.Texts.{listing-first, text-even, text-odd}
 use borrow.Author.Rules.{rules}
 use Rattle.commands.proofs.listings.text_text.Statement.{statement}
@@ -20,7 +20,7 @@ returns-2 : tie.Need-returns-2
 returns-2 c =
     let s = c.before.before.before.before.before.before.before.before.before.before.before in
     let w = c.before.before.before.before.before.before.words_of in
-    reworded (ap listingText (words-first 1025 s.args.input.now (replicate 1025 0) w.new.1.0 w.result refl w.ensures.0 w.ensures.1) ∙ listing-first (wordsOf s.args.input.now) ∙ text-even s.args.input.now c.before.before.before.before.before.before.before.before.if1.false) c.before.before.listing-text.ensures
+    reworded (ap listing_text (words-first 1025 s.args.input.now (replicate 1025 0) w.new.1.0 w.result refl w.ensures.0 w.ensures.1) ∙ listing-first (words_of s.args.input.now) ∙ text-even s.args.input.now c.before.before.before.before.before.before.before.before.if1.false) c.before.before.listing-text.ensures
 
 pub text-text-spec : {M : Type 1} → statement M
 text-text-spec =

@@ -6,7 +6,7 @@ use Rattle.listing.specs.Answer.{answered}
 use lib.ListN.{replicate}
 use lib.Seq.{length-take-le}
 use Rattle.listing.proofs.Places.{read-few}
-use Rattle.report.specs.Lines.{refusalLine}
+use Rattle.report.specs.Lines.{refusal_line}
 use Rattle.text.proofs.Writing.{reworded}
 use Rattle.commands.proofs.Texts.{words-done, words-refused}
 use borrow.Author.Rules.{rules}
@@ -45,7 +45,7 @@ returns-2 c =
     let s = c.before.before.before.before.before.before.before.before.before.before.before.before.before.before in
     let r = c.before.before.before.before.before.before.before.before.before.before.read in
     let e = sym r.ensures.0 ∙ ap answered c.before.before.before.before.before.before.before.r.given.1 in
-    reworded (ap₂ refusalLine c.before.before.before.before.refusal-number.ensures c.before.before.before.refusal-place.ensures ∙ words-refused s.args.input.now _ _ e) c.before.before.refusal-line.ensures.0
+    reworded (ap₂ refusal_line c.before.before.before.before.refusal-number.ensures c.before.before.before.refusal-place.ensures ∙ words-refused s.args.input.now _ _ e) c.before.before.refusal-line.ensures.0
 
 pub words-text-spec : {M : Type 1} → statement M
 words-text-spec =

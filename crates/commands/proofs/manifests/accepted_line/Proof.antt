@@ -1,7 +1,7 @@
 -- `commands::manifests::accepted_line` meets its contract. Assumes nothing.
 use native.Mathlib.Omega.{arith}
 use Rattle.text.proofs.Writing.{then, wrote-length}
-use Rattle.commands.specs.Printed.{outcomeText}
+use Rattle.commands.specs.Printed.{outcome_text}
 use borrow.Author.Rules.{rules}
 use Rattle.commands.proofs.manifests.accepted_line.Statement.{statement}
 use Rattle.commands.proofs.manifests.accepted_line.Tie as tie
@@ -23,7 +23,7 @@ put-requires c κs =
     omega (arith, u.1, v.1, w.1, wrote-length u.0, wrote-length v.0, wrote-length w.0)
 
 returns : tie.Need-returns
-unfolding outcomeText
+unfolding outcome_text
 returns c = then (then (then c.before.before.before.before.before.before.before.before.before.before.before.before.before.before.before.before.before.number-field.ensures.0 c.before.before.before.before.before.before.before.before.before.before.before.before.set-field.ensures.0) c.before.before.before.before.before.before.before.number-field2.ensures.0) c.before.before.put.ensures
 
 pub accepted-line-spec : {M : Type 1} → statement M

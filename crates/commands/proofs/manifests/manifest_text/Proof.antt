@@ -1,10 +1,10 @@
 -- `commands::manifests::manifest_text` meets its contract. Assumes nothing.
 use mathlib.Core.Path.{sym, ap, ◌∙◌}
 use Prim.Native.Nat.{ℕ}
-use Rattle.report.specs.Lines.{refusalLine}
+use Rattle.report.specs.Lines.{refusal_line}
 use Rattle.text.proofs.Writing.{reworded}
 use Rattle.manifest.specs.Answer.{outcome}
-use Rattle.commands.specs.Printed.{outcomeText}
+use Rattle.commands.specs.Printed.{outcome_text}
 use borrow.Author.Rules.{rules}
 use Rattle.commands.proofs.manifests.manifest_text.Statement.{statement}
 use Rattle.commands.proofs.manifests.manifest_text.Tie as tie
@@ -12,13 +12,13 @@ use Rattle.commands.proofs.manifests.manifest_text.Tie as tie
 returns : tie.Need-returns
 returns c =
     let r = c.before.before.before.before.before.before.before.read.ensures.0 in
-    reworded (ap outcomeText (sym (ap outcome c.before.before.before.before.before.version.given.1) ∙ r)) c.before.before.accepted-line.ensures
+    reworded (ap outcome_text (sym (ap outcome c.before.before.before.before.before.version.given.1) ∙ r)) c.before.before.accepted-line.ensures
 
 returns-2 : tie.Need-returns-2
-unfolding outcomeText
+unfolding outcome_text
 returns-2 c =
     let r = c.before.before.before.before.before.before.before.before.read.ensures.0 in
-    reworded (ap (λ (n : ℕ). refusalLine n 0) c.before.before.before.refusal-number.ensures ∙ ap outcomeText (sym (ap outcome c.before.before.before.before.before.before.r.given.1) ∙ r)) c.before.before.refusal-line.ensures.0
+    reworded (ap (λ (n : ℕ). refusal_line n 0) c.before.before.before.refusal-number.ensures ∙ ap outcome_text (sym (ap outcome c.before.before.before.before.before.before.r.given.1) ∙ r)) c.before.before.refusal-line.ensures.0
 
 pub manifest-text-spec : {M : Type 1} → statement M
 manifest-text-spec =

@@ -5,10 +5,10 @@ use Prim.Native.Nat.{ℕ, ◌-◌}
 use native.Mathlib.Omega.{arith}
 use lib.ListN.{length, take, drop, length-take, length-drop}
 use lib.Seq.{length-take-le}
-use Rattle.listing.specs.Listing.{wordsOf}
+use Rattle.listing.specs.Listing.{words_of}
 use Rattle.overlay.specs.Lookup.{place_of}
 use Rattle.text.proofs.Writing.{reworded}
-use Rattle.commands.specs.Printed.{placeText, foundText}
+use Rattle.commands.specs.Printed.{place_text, found_text}
 use Rattle.commands.specs.Pairs.{PairAs}
 use Rattle.commands.proofs.PairLaws.{both-text, refused-text}
 use borrow.Author.Rules.{rules}
@@ -46,20 +46,20 @@ place-text-requires c κs =
     (omega (arith, length-take k input), omega (arith, length-take (length input - k) (drop k input), length-drop k input), omega arith)
 
 returns : tie.Need-returns
-unfolding foundText
+unfolding found_text
 returns c =
     let s = c.before.before.before.before.before.before.before.before.before.before.before.before.before.before.before.before.before.before.before in
     let input = s.args.input.now in
     let k = c.before.before.before.before.before.before.before.before.before.before.before.before.before.before.before.before.second-start.result in
     let b = subst (PairAs _ _ _ _) c.before.before.before.before.before.before.before.m.given.1 c.before.before.before.before.before.before.before.before.before.before.before.read-pair.ensures in
-    reworded (ap₂ (λ (u v : List ℕ). placeText (take k input) (take (length input - k) (drop k input)) (place_of u v s.args.name s.args.perms)) b.base b.overlay ∙ both-text input k c.before.before.before.before.before.before.before.before.before.before.before.before.before.before.before.before.second-start.ensures.0 (λ (x y : List ℕ). placeText x y (place_of (wordsOf x) (wordsOf y) s.args.name s.args.perms)) b) c.before.before.place-text.ensures
+    reworded (ap₂ (λ (u v : List ℕ). place_text (take k input) (take (length input - k) (drop k input)) (place_of u v s.args.name s.args.perms)) b.base b.overlay ∙ both-text input k c.before.before.before.before.before.before.before.before.before.before.before.before.before.before.before.before.second-start.ensures.0 (λ (x y : List ℕ). place_text x y (place_of (words_of x) (words_of y) s.args.name s.args.perms)) b) c.before.before.place-text.ensures
 
 returns-2 : tie.Need-returns-2
-unfolding foundText
+unfolding found_text
 returns-2 c =
     let s = c.before.before.before.before.before.before.before.before.before.before.before.before.before.before.before.before.before in
     let h = subst (PairAs _ _ _ _) c.before.before.before.before.before.number.given.1 c.before.before.before.before.before.before.before.before.before.read-pair.ensures in
-    reworded (refused-text s.args.input.now _ c.before.before.before.before.before.before.before.before.before.before.before.before.before.before.second-start.ensures.0 (λ (x y : List ℕ). placeText x y (place_of (wordsOf x) (wordsOf y) s.args.name s.args.perms)) _ _ h) c.before.before.refusal-line.ensures.0
+    reworded (refused-text s.args.input.now _ c.before.before.before.before.before.before.before.before.before.before.before.before.before.before.second-start.ensures.0 (λ (x y : List ℕ). place_text x y (place_of (words_of x) (words_of y) s.args.name s.args.perms)) _ _ h) c.before.before.refusal-line.ensures.0
 
 pub found-text-spec : {M : Type 1} → statement M
 found-text-spec =

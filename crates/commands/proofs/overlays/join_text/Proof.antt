@@ -4,9 +4,9 @@ use mathlib.Core.List.{List}
 use Prim.Native.Nat.{ℕ}
 use native.Mathlib.Omega.{arith}
 use lib.Seq.{length-take-le}
-use Rattle.listing.specs.Listing.{wordsOf}
+use Rattle.listing.specs.Listing.{words_of}
 use Rattle.text.proofs.Writing.{reworded}
-use Rattle.commands.specs.Printed.{joinedText, joinText}
+use Rattle.commands.specs.Printed.{joined_text, join_text}
 use Rattle.commands.specs.Pairs.{PairAs}
 use Rattle.commands.proofs.PairLaws.{both-text, refused-text}
 use borrow.Author.Rules.{rules}
@@ -37,18 +37,18 @@ slice-aggregate-joined-text-2 c =
     sym (length-take-le _ _ (omega (arith, b.fit, c.before.before.before.before.before.before.before.read-pair.auto.1.1.1.0)))
 
 returns : tie.Need-returns
-unfolding joinText
+unfolding join_text
 returns c =
     let s = c.before.before.before.before.before.before.before.before.before.before.before.before.before.before.before.before.before.before.before in
     let b = subst (PairAs _ _ _ _) c.before.before.before.before.before.before.before.m.given.1 c.before.before.before.before.before.before.before.before.before.before.before.read-pair.ensures in
-    reworded (ap₂ joinedText b.base b.overlay ∙ both-text s.args.input.now _ c.before.before.before.before.before.before.before.before.before.before.before.before.before.before.before.before.second-start.ensures.0 (λ (x y : List ℕ). joinedText (wordsOf x) (wordsOf y)) b) c.before.before.joined-text.ensures
+    reworded (ap₂ joined_text b.base b.overlay ∙ both-text s.args.input.now _ c.before.before.before.before.before.before.before.before.before.before.before.before.before.before.before.before.second-start.ensures.0 (λ (x y : List ℕ). joined_text (words_of x) (words_of y)) b) c.before.before.joined-text.ensures
 
 returns-2 : tie.Need-returns-2
-unfolding joinText
+unfolding join_text
 returns-2 c =
     let s = c.before.before.before.before.before.before.before.before.before.before.before.before.before.before.before.before.before in
     let h = subst (PairAs _ _ _ _) c.before.before.before.before.before.number.given.1 c.before.before.before.before.before.before.before.before.before.read-pair.ensures in
-    reworded (refused-text s.args.input.now _ c.before.before.before.before.before.before.before.before.before.before.before.before.before.before.second-start.ensures.0 (λ (x y : List ℕ). joinedText (wordsOf x) (wordsOf y)) _ _ h) c.before.before.refusal-line.ensures.0
+    reworded (refused-text s.args.input.now _ c.before.before.before.before.before.before.before.before.before.before.before.before.before.before.second-start.ensures.0 (λ (x y : List ℕ). joined_text (words_of x) (words_of y)) _ _ h) c.before.before.refusal-line.ensures.0
 
 pub join-text-spec : {M : Type 1} → statement M
 join-text-spec =

@@ -3,7 +3,7 @@ use mathlib.Core.Path.{refl, sym, ap, ap₂, ◌∙◌}
 use Prim.Native.Nat.{ℕ, ◌+◌}
 use native.Mathlib.Omega.{arith}
 use Rattle.listing.specs.Answer.{answered}
-use Rattle.report.specs.Lines.{refusalLine}
+use Rattle.report.specs.Lines.{refusal_line}
 use Rattle.commands.proofs.PairLaws.{number_small, first-refused, second-refused, both_read}
 use borrow.Author.Rules.{rules}
 use Rattle.commands.proofs.overlays.read_pair.Statement.{statement}
@@ -17,7 +17,7 @@ unfolding answered
 returns c =
     let s = c.before.before.before.before.before.before.before.before.before.before.before.before.before in
     let e = sym c.before.before.before.before.before.before.before.read.ensures.0 ∙ ap answered c.before.before.before.r.given.1 in
-    λ t. first-refused s.args.first.now s.args.second.now _ 1024 s.requires.0 refl _ _ e t ∙ sym (ap₂ refusalLine c.before.refusal-number.ensures c.refusal-place.ensures)
+    λ t. first-refused s.args.first.now s.args.second.now _ 1024 s.requires.0 refl _ _ e t ∙ sym (ap₂ refusal_line c.before.refusal-number.ensures c.refusal-place.ensures)
 
 returns-2 : tie.Need-returns-2
 unfolding answered
@@ -26,7 +26,7 @@ returns-2 c =
     let d = sym c.before.before.before.before.before.before.before.before.before.before.before.before.before.before.read.ensures.0 ∙ ap answered c.before.before.before.before.before.before.before.before.before.before.m.given.1 in
     let e = sym c.before.before.before.before.before.before.before.read2.ensures.0 ∙ ap answered c.before.before.before.r2.given.1 in
     λ t. second-refused s.args.first.now s.args.second.now _ _ s.requires.0 s.requires.1 _ d _ _ e t
-    ∙ sym (ap₂ (λ (n p : ℕ). refusalLine (100 + n) p) c.before.refusal-number2.ensures c.refusal-place2.ensures)
+    ∙ sym (ap₂ (λ (n p : ℕ). refusal_line (100 + n) p) c.before.refusal-number2.ensures c.refusal-place2.ensures)
 
 returns-3 : tie.Need-returns-3
 unfolding answered

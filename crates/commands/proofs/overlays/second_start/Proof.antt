@@ -5,7 +5,7 @@ use mathlib.Core.Bool.{Bool, false, ◌&&◌}
 use mathlib.Core.Logic.{⊎_elim}
 use native.Mathlib.Omega.{arith}
 use lib.ListN.{length, drop}
-use Rattle.commands.specs.Printed.{startsSystem, before}
+use Rattle.commands.specs.Printed.{starts_system, before}
 use Rattle.commands.proofs.PairLaws.{and-false, before-end, before_here, before_more}
 use borrow.Author.Rules.{rules}
 use Rattle.commands.proofs.overlays.second_start.Statement.{statement}
@@ -31,10 +31,10 @@ loop-again : tie.Need-loop-preserved invariant-loop decreases-loop
 loop-again c =
     let l = c.before.before.before.loop in
     let text = c.before.before.before.before.before.args.text.now in
-    let none : (l.start && startsSystem (drop l.i text)) ≡ false =
+    let none : (l.start && starts_system (drop l.i text)) ≡ false =
     ⊎_elim
-    (λ w. and-false l.start (startsSystem (drop l.i text)) (sym w.1.ensures ∙ w.2.left))
-    (λ w. ap (λ (s : Bool). s && startsSystem (drop l.i text)) w.left)
+    (λ w. and-false l.start (starts_system (drop l.i text)) (sym w.1.ensures ∙ w.2.left))
+    (λ w. ap (λ (s : Bool). s && starts_system (drop l.i text)) w.left)
     c.before.if1.branch in
     (omega arith, omega (arith, l.invariant.1, before_more text l.i (omega arith) l.start none))
 

@@ -6,13 +6,13 @@ use native.Mathlib.Nat.{add-zero}
 use lib.Dec.{eqb}
 use lib.ListN.{get_or}
 use lib.Seq.{get_or-drop}
-use Rattle.commands.specs.Printed.{startsSystem}
+use Rattle.commands.specs.Printed.{starts_system}
 use borrow.Author.Rules.{rules}
 use Rattle.commands.proofs.overlays.starts_system.Statement.{statement}
 use Rattle.commands.proofs.overlays.starts_system.Tie as tie
 
 returns : tie.Need-returns
-unfolding startsSystem
+unfolding starts_system
 returns c =
     let at = c.before.before.before.before.before.before.before.args.at in
     let text = c.before.before.before.before.before.before.before.args.text.now in

@@ -1,5 +1,5 @@
 -- `diagnosis::mistakes::end_row` meets its contract. Assumes nothing.
-use Rattle.diagnosis.specs.Mistakes.{endRow}
+use Rattle.diagnosis.specs.Mistakes.{end_row}
 use borrow.Author.Rules.{rules}
 use Rattle.diagnosis.proofs.mistakes.end_row.Statement.{statement}
 use Rattle.diagnosis.proofs.mistakes.end_row.Tie as tie
@@ -15,7 +15,7 @@ or-else-requires : tie.Need-or-else-requires
 or-else-requires c κs = search rules
 
 returns : tie.Need-returns
-unfolding endRow
+unfolding end_row
 returns c =
     cc (c.or_else.ensures, c.before.kind-of.ensures, c.before.before.word_at.ensures)
 

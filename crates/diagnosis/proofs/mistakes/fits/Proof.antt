@@ -1,6 +1,6 @@
 -- `diagnosis::mistakes::fits` meets its contract. Assumes nothing.
 use mathlib.Core.Path.{ap, ◌∙◌}
-use Rattle.lines.specs.Lines.{bareLine}
+use Rattle.lines.specs.Lines.{bare_line}
 use Rattle.lines.proofs.Laws.{line-part}
 use Rattle.diagnosis.proofs.MistakeLaws.{fits-exact, fits-close}
 use borrow.Author.Rules.{rules}
@@ -33,7 +33,7 @@ agree-requires c κs = search rules
 returns : tie.Need-returns
 returns c =
     let a = c.before.before.before.before.before.before.before.args in
-    let e = line-part a.names.now a.k _ _ c.before.before.before.before.line-start.ensures c.before.before.before.line-stop.ensures ∙ ap (bareLine a.k) c.before.before.before.before.before.before.before.requires in
+    let e = line-part a.names.now a.k _ _ c.before.before.before.before.line-start.ensures c.before.before.before.line-stop.ensures ∙ ap (bare_line a.k) c.before.before.before.before.before.before.before.requires in
     c.agree.ensures ∙ fits-exact a.w.now a.k _ e a.exact c.before.if1.true
 
 close-requires : tie.Need-close-requires
@@ -45,7 +45,7 @@ both-requires c κs = search rules
 returns-2 : tie.Need-returns-2
 returns-2 c =
     let a = c.before.before.before.before.before.before.before.before.args in
-    let e = line-part a.names.now a.k _ _ c.before.before.before.before.before.line-start.ensures c.before.before.before.before.line-stop.ensures ∙ ap (bareLine a.k) c.before.before.before.before.before.before.before.before.requires in
+    let e = line-part a.names.now a.k _ _ c.before.before.before.before.before.line-start.ensures c.before.before.before.before.line-stop.ensures ∙ ap (bare_line a.k) c.before.before.before.before.before.before.before.before.requires in
     cc (c.both.ensures, c.before.close.ensures, fits-close a.w.now a.k _ e a.exact c.before.before.if1.false)
 
 pub fits-spec : {M : Type 1} → statement M

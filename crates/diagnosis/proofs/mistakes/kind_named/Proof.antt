@@ -2,7 +2,7 @@
 use Prim.Native.Nat.{◌+◌, ◌-◌, ◌≤◌}
 use mathlib.Core.Path.{◌≡◌, refl, sym, ◌∙◌}
 use native.Mathlib.Omega.{arith}
-use Rattle.diagnosis.specs.Mistakes.{kindFrom, kindNamed}
+use Rattle.diagnosis.specs.Mistakes.{kind_from, kind_named}
 use Rattle.diagnosis.proofs.MistakeLaws.{kind-here, kind-more, kind-none}
 use borrow.Author.Rules.{rules}
 use Rattle.diagnosis.proofs.mistakes.kind_named.Statement.{statement}
@@ -10,14 +10,14 @@ use Rattle.diagnosis.proofs.mistakes.kind_named.Tie as tie
 
 abbrev invariant-loop : tie.invariant-loop
 invariant-loop names exact w k₀ k =
-    (1 ≤ k) × (k ≤ 37) × (kindFrom exact w (37 - k) k ≡ kindNamed exact w)
+    (1 ≤ k) × (k ≤ 37) × (kind_from exact w (37 - k) k ≡ kind_named exact w)
 
 abbrev decreases-loop : tie.decreases-loop
 decreases-loop names exact w k₀ k =
     37 - k
 
 loop-holds : tie.Need-loop-init invariant-loop decreases-loop
-unfolding kindNamed
+unfolding kind_named
 loop-holds c =
     (omega arith, omega arith, refl)
 

@@ -1,5 +1,5 @@
 -- `diagnosis::mistakes::row_by` meets its contract. Assumes nothing.
-use Rattle.diagnosis.specs.Mistakes.{rowBy}
+use Rattle.diagnosis.specs.Mistakes.{row_by}
 use borrow.Author.Rules.{rules}
 use Rattle.diagnosis.proofs.mistakes.row_by.Statement.{statement}
 use Rattle.diagnosis.proofs.mistakes.row_by.Tie as tie
@@ -57,7 +57,7 @@ or-else-requires-10 : tie.Need-or-else-requires-10
 or-else-requires-10 c κs = search rules
 
 returns : tie.Need-returns
-unfolding rowBy
+unfolding row_by
 returns c =
     cc (c.or-else10.ensures, c.before.or-else9.ensures, c.before.before.both.ensures, c.before.before.before.marked.ensures, c.before.before.before.before.or-else8.ensures, c.before.before.before.before.before.or-else7.ensures, c.before.before.before.before.before.before.byte-at2.ensures, c.before.before.before.before.before.before.before.or-else6.ensures, c.before.before.before.before.before.before.before.before.or-else5.ensures, c.before.before.before.before.before.before.before.before.before.byte_at.ensures, c.before.before.before.before.before.before.before.before.before.before.or-else4.ensures, c.before.before.before.before.before.before.before.before.before.before.before.or-else3.ensures, c.before.before.before.before.before.before.before.before.before.before.before.before.or-else2.ensures, c.before.before.before.before.before.before.before.before.before.before.before.before.before.or_else.ensures, c.before.before.before.before.before.before.before.before.before.before.before.before.before.before.leading.ensures.0, c.before.before.before.before.before.before.before.before.before.before.before.before.before.before.before.odd.ensures.0, c.before.before.before.before.before.before.before.before.before.before.before.before.before.before.before.before.last_of.ensures)
 

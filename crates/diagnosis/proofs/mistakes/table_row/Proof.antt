@@ -1,5 +1,5 @@
 -- `diagnosis::mistakes::table_row` meets its contract. Assumes nothing.
-use Rattle.diagnosis.specs.Mistakes.{tableRow, termRow}
+use Rattle.diagnosis.specs.Mistakes.{table_row, term_row}
 use borrow.Author.Rules.{rules}
 use Rattle.diagnosis.proofs.mistakes.table_row.Statement.{statement}
 use Rattle.diagnosis.proofs.mistakes.table_row.Tie as tie
@@ -54,7 +54,7 @@ or-else-requires-11 : tie.Need-or-else-requires-11
 or-else-requires-11 c κs = search rules
 
 returns : tie.Need-returns
-unfolding tableRow termRow
+unfolding table_row term_row
 returns c =
     cc (c.or-else11.ensures, c.before.or-else10.ensures, c.before.before.or-else9.ensures, c.before.before.before.or-else8.ensures, c.before.before.before.before.block_row.ensures, c.before.before.before.before.before.or-else7.ensures, c.before.before.before.before.before.before.or-else6.ensures, c.before.before.before.before.before.before.before.or-else5.ensures, c.before.before.before.before.before.before.before.before.or-else4.ensures, c.before.before.before.before.before.before.before.before.before.or-else3.ensures, c.before.before.before.before.before.before.before.before.before.before.or-else2.ensures, c.before.before.before.before.before.before.before.before.before.before.before.End-row.ensures, c.before.before.before.before.before.before.before.before.before.before.before.before.or_else.ensures, c.before.before.before.before.before.before.before.before.before.before.before.before.before.kind-of.ensures, c.before.before.before.before.before.before.before.before.before.before.before.before.before.before.word_at.ensures, c.before.before.before.before.before.before.before.before.before.before.before.before.before.before.before.before.requires)
 

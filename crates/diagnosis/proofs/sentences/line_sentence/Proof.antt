@@ -5,8 +5,8 @@ use mathlib.Core.List.{List}
 use Prim.Native.Nat.{ℕ}
 use Rattle.text.proofs.Writing.{reworded}
 use Rattle.diagnosis.specs.Pages.{names}
-use Rattle.diagnosis.specs.Mistakes.{first_word, kindNamed, rowBy, lineRow}
-use Rattle.diagnosis.specs.Sentences.{sentence, lineValues, lineSentence}
+use Rattle.diagnosis.specs.Mistakes.{first_word, kind_named, row_by, line_row}
+use Rattle.diagnosis.specs.Sentences.{sentence, line_values, line_sentence}
 use Rattle.diagnosis.proofs.SentenceLaws.{line_word}
 use borrow.Author.Rules.{rules}
 use Rattle.diagnosis.proofs.sentences.line_sentence.Statement.{statement}
@@ -56,16 +56,16 @@ same_length : tie.Need-same-length
 same_length c = search rules
 
 returns : tie.Need-returns
-unfolding lineSentence lineRow lineValues
+unfolding line_sentence line_row line_values
 returns c =
     let a = c.before.before.before.before.before.before.before.before.before.before.before.before.before.before.before.args in
     let l = a.l.now in
     let e = line_word l _ _ c.before.before.before.before.before.before.before.before.before.before.before.before.leading.ensures.0 c.before.before.before.before.before.before.before.before.before.before.before.word_end.ensures.0 in
-    let x = c.before.before.before.before.before.before.before.before.kind-named.ensures.0 ∙ ap (kindNamed true) e in
-    let y = c.before.before.before.before.before.before.kind-named2.ensures.0 ∙ ap (kindNamed false) e in
-    let r = c.before.before.before.before.before.row_by.ensures ∙ ap₂ (λ (i j : ℕ). rowBy a.first a.fed l i j) x y in
+    let x = c.before.before.before.before.before.before.before.before.kind-named.ensures.0 ∙ ap (kind_named true) e in
+    let y = c.before.before.before.before.before.before.kind-named2.ensures.0 ∙ ap (kind_named false) e in
+    let r = c.before.before.before.before.before.row_by.ensures ∙ ap₂ (λ (i j : ℕ). row_by a.first a.fed l i j) x y in
     let w = c.before.before.put-sentence.ensures in
-    (reworded (ap (λ (x : List ℕ). sentence (lineValues c.before.before.before.before.before.before.kind-named2.result) x c.before.before.before.before.before.row_by.result) e ∙ ap₂ (λ (n i : ℕ). sentence (lineValues n) (first_word l) i) y r) w.0, w.1)
+    (reworded (ap (λ (x : List ℕ). sentence (line_values c.before.before.before.before.before.before.kind-named2.result) x c.before.before.before.before.before.row_by.result) e ∙ ap₂ (λ (n i : ℕ). sentence (line_values n) (first_word l) i) y r) w.0, w.1)
 
 pub line-sentence-spec : {M : Type 1} → statement M
 line-sentence-spec =

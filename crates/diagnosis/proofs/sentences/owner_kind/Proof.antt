@@ -4,7 +4,7 @@ use mathlib.Core.Path.{ap, ◌∙◌}
 use native.Mathlib.Omega.{arith}
 use lib.ListN.{get_or}
 use Rattle.table.specs.Words.{kind}
-use Rattle.diagnosis.specs.Sentences.{ownerKind}
+use Rattle.diagnosis.specs.Sentences.{owner_kind}
 use borrow.Author.Rules.{rules}
 use Rattle.diagnosis.proofs.sentences.owner_kind.Statement.{statement}
 use Rattle.diagnosis.proofs.sentences.owner_kind.Tie as tie
@@ -23,7 +23,7 @@ cast-result : tie.Need-overflow-cast-result
 cast-result c = search rules
 
 returns : tie.Need-returns
-unfolding ownerKind
+unfolding owner_kind
 returns c =
     let a = c.before.before.before.before.args in
     let e = c.before.before.less.ensures ∙ ap (λ (n : ℕ). n - 1) c.before.before.before.before.requires in

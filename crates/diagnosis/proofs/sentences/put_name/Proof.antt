@@ -3,7 +3,7 @@ use mathlib.Core.Path.{ap, ◌∙◌}
 use native.Mathlib.Omega.{arith}
 use lib.ListN.{length}
 use Rattle.text.proofs.Writing.{reworded}
-use Rattle.lines.specs.Lines.{bareLine}
+use Rattle.lines.specs.Lines.{bare_line}
 use Rattle.lines.proofs.Laws.{line-part}
 use Rattle.diagnosis.proofs.SentenceLaws.{name-short}
 use borrow.Author.Rules.{rules}
@@ -32,7 +32,7 @@ part-put-end c = search rules
 put-requires : tie.Need-put-requires
 put-requires c κs =
     let a = c.before.before.before.before.before.before.args in
-    let e = line-part a.names.now a.k _ _ c.before.before.before.line-start.ensures c.before.before.line-stop.ensures ∙ ap (bareLine a.k) c.before.before.before.before.before.before.requires.0 in
+    let e = line-part a.names.now a.k _ _ c.before.before.before.line-start.ensures c.before.before.line-stop.ensures ∙ ap (bare_line a.k) c.before.before.before.before.before.before.requires.0 in
     omega (arith, ap length e, name-short a.k, c.before.before.before.before.before.before.requires.1)
 
 same_length : tie.Need-same-length
@@ -41,7 +41,7 @@ same_length c = search rules
 returns : tie.Need-returns
 returns c =
     let a = c.before.before.before.before.before.before.before.before.before.args in
-    let e = line-part a.names.now a.k _ _ c.before.before.before.before.before.before.line-start.ensures c.before.before.before.before.before.line-stop.ensures ∙ ap (bareLine a.k) c.before.before.before.before.before.before.before.before.before.requires.0 in
+    let e = line-part a.names.now a.k _ _ c.before.before.before.before.before.before.line-start.ensures c.before.before.before.before.before.line-stop.ensures ∙ ap (bare_line a.k) c.before.before.before.before.before.before.before.before.before.requires.0 in
     let w = reworded e c.before.before.put.ensures in
     (w, omega (arith, w.ends, name-short a.k))
 

@@ -4,7 +4,7 @@ use mathlib.Core.List.{List}
 use native.Mathlib.Omega.{arith}
 use lib.ListN.{length}
 use Rattle.text.proofs.Writing.{reworded, then, wrote-length}
-use Rattle.lines.specs.Lines.{bareLine}
+use Rattle.lines.specs.Lines.{bare_line}
 use Rattle.lines.proofs.Laws.{line-part}
 use Rattle.diagnosis.specs.Pages.{sentences, names}
 use Rattle.diagnosis.specs.Shown.{each}

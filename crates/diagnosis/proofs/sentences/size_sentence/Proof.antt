@@ -1,5 +1,5 @@
 -- `diagnosis::sentences::size_sentence` meets its contract. Assumes nothing.
-use Rattle.diagnosis.specs.Sentences.{sizeValues}
+use Rattle.diagnosis.specs.Sentences.{size_values}
 use borrow.Author.Rules.{rules}
 use Rattle.diagnosis.proofs.sentences.size_sentence.Statement.{statement}
 use Rattle.diagnosis.proofs.sentences.size_sentence.Tie as tie
@@ -17,7 +17,7 @@ same_length : tie.Need-same-length
 same_length c = search rules
 
 returns : tie.Need-returns
-unfolding sizeValues
+unfolding size_values
 returns c =
     c.before.before.put-sentence.ensures
 

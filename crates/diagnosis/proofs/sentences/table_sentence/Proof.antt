@@ -5,7 +5,7 @@ use Prim.Native.Nat.{ℕ}
 use native.Mathlib.Omega.{arith}
 use Rattle.text.proofs.Writing.{reworded}
 use Rattle.diagnosis.specs.Terms.{owner}
-use Rattle.diagnosis.specs.Sentences.{sentence, tableSentence}
+use Rattle.diagnosis.specs.Sentences.{sentence, table_sentence}
 use borrow.Author.Rules.{rules}
 use Rattle.diagnosis.proofs.sentences.table_sentence.Statement.{statement}
 use Rattle.diagnosis.proofs.sentences.table_sentence.Tie as tie
@@ -35,7 +35,7 @@ same_length : tie.Need-same-length
 same_length c = search rules
 
 returns : tie.Need-returns
-unfolding tableSentence
+unfolding table_sentence
 returns c =
     let w = c.before.before.put-sentence.ensures in
     (reworded (ap₂ (λ (v : List ℕ) (r : ℕ). sentence v [] r) c.before.before.before.before.before.before.before.table-values.ensures c.before.before.before.before.before.before.table-row.ensures) w.0, w.1)

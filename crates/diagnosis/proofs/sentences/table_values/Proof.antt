@@ -1,6 +1,6 @@
 -- `diagnosis::sentences::table_values` meets its contract. Assumes nothing.
 use Rattle.table.specs.Scan.{names_at}
-use Rattle.diagnosis.specs.Sentences.{tableValues, phraseLine}
+use Rattle.diagnosis.specs.Sentences.{table_values, phrase_line}
 use borrow.Author.Rules.{rules}
 use Rattle.diagnosis.proofs.sentences.table_values.Statement.{statement}
 use Rattle.diagnosis.proofs.sentences.table_values.Tie as tie
@@ -53,7 +53,7 @@ less-requires-3 : tie.Need-less-requires-3
 less-requires-3 c κs = search rules
 
 returns : tie.Need-returns
-unfolding tableValues phraseLine
+unfolding table_values phrase_line
 returns c =
     cc (c.less3.ensures, c.before.twin-line.ensures, c.before.before.around.ensures.0, c.before.before.before.handlers.ensures.0, c.before.before.before.before.less2.ensures, c.before.before.before.before.before.less.ensures, c.before.before.before.before.before.before.owner-kind.ensures.0, c.before.before.before.before.before.before.before.names_in.ensures, c.before.before.before.before.before.before.before.before.argument-of.ensures, c.before.before.before.before.before.before.before.before.before.word_at.ensures, c.before.before.before.before.before.before.before.before.before.before.before.requires.1.0, c.before.before.before.before.before.before.before.before.before.before.before.requires.1.1)
 

@@ -5,7 +5,7 @@ use native.Mathlib.Numerals.{add-one}
 use lib.ListN.{get_or}
 use Rattle.table.specs.Words.{argument}
 use Rattle.diagnosis.specs.Terms.{before}
-use Rattle.diagnosis.specs.Sentences.{twinLine}
+use Rattle.diagnosis.specs.Sentences.{twin_line}
 use borrow.Author.Rules.{rules}
 use Rattle.diagnosis.proofs.sentences.twin_line.Statement.{statement}
 use Rattle.diagnosis.proofs.sentences.twin_line.Tie as tie
@@ -33,7 +33,7 @@ add-result : tie.Need-overflow-add-result
 add-result c = search rules
 
 returns : tie.Need-returns
-unfolding twinLine
+unfolding twin_line
 returns c =
     let a = c.before.before.before.before.before.before.before.args in
     let n = c.before.before.before.argument-of.ensures ∙ ap (λ (x : ℕ). argument x) (c.before.before.before.before.word_at.ensures ∙ ap (λ (k : ℕ). get_or a.words.now k 0) c.before.before.before.before.before.less.ensures) in

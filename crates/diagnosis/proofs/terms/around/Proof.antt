@@ -2,7 +2,7 @@
 use Prim.Native.Nat.{ℕ, ◌+◌, ◌-◌, ◌≤◌}
 use mathlib.Core.Path.{◌≡◌, refl, sym, ap, ap₂, ◌∙◌}
 use native.Mathlib.Omega.{arith}
-use Rattle.diagnosis.specs.Terms.{around, aroundFrom, leftover, weight}
+use Rattle.diagnosis.specs.Terms.{around, around_from, leftover, weight}
 use Rattle.diagnosis.proofs.TermLaws.{around-block, around-back, around-start}
 use borrow.Author.Rules.{rules}
 use Rattle.diagnosis.proofs.terms.around.Statement.{statement}
@@ -11,7 +11,7 @@ use Rattle.table.proofs.kind_of.Reads as kind-of-reads
 
 abbrev invariant-loop : tie.invariant-loop
 invariant-loop binders words p q₀ whole₀ n₀ q whole n =
-    (n + q ≤ p) × (whole + q ≤ p) × (n + aroundFrom binders words whole q ≡ around binders words p)
+    (n + q ≤ p) × (whole + q ≤ p) × (n + around_from binders words whole q ≡ around binders words p)
 
 abbrev decreases-loop : tie.decreases-loop
 decreases-loop binders words p q₀ whole₀ n₀ q whole n =
@@ -60,7 +60,7 @@ loop-again c =
     let g = c.before.weight.ensures in
     let f = c.leftover.ensures in
     let e = g.0 ∙ ap (λ (x : ℕ). weight a.binders x l.whole) w in
-    let d = ap (λ (x : ℕ). aroundFrom a.binders a.words.now x (l.q - 1)) (f.0 ∙ ap (λ (x : ℕ). leftover x l.whole) w) in
+    let d = ap (λ (x : ℕ). around_from a.binders a.words.now x (l.q - 1)) (f.0 ∙ ap (λ (x : ℕ). leftover x l.whole) w) in
     let b = around-back a.words.now l.whole l.q (omega arith) a.binders (omega (arith, k, w, c.before.before.if1.false)) in
     (omega (arith, l.invariant.0, g.1), omega (arith, l.invariant.1, f.1), omega (arith, l.invariant.2, e, d, b))
 

@@ -3,7 +3,7 @@ use Rattle.table.specs.Words.{arity}
 use Prim.Native.Nat.{ℕ, ◌+◌, ◌-◌, ◌≤◌}
 use mathlib.Core.Path.{◌≡◌, refl, sym, ap, ◌∙◌}
 use native.Mathlib.Omega.{arith}
-use Rattle.diagnosis.specs.Terms.{owner, ownerFrom, leftover}
+use Rattle.diagnosis.specs.Terms.{owner, owner_from, leftover}
 use Rattle.diagnosis.proofs.TermLaws.{owner-block, owner_here, owner-back, owner-start}
 use borrow.Author.Rules.{rules}
 use Rattle.diagnosis.proofs.terms.owner_of.Statement.{statement}
@@ -13,7 +13,7 @@ use Rattle.table.proofs.kind_of.Reads as kind-of-reads
 
 abbrev invariant-loop : tie.invariant-loop
 invariant-loop words p q₀ whole₀ q whole =
-    (whole + q ≤ p) × (ownerFrom words whole q ≡ owner words p)
+    (whole + q ≤ p) × (owner_from words whole q ≡ owner words p)
 
 abbrev decreases-loop : tie.decreases-loop
 decreases-loop words p q₀ whole₀ q whole =
@@ -66,7 +66,7 @@ loop-again c =
     let w = c.before.before.before.before.before.word_at.ensures in
     let d = c.before.before.arity-of.ensures ∙ ap (λ (x : ℕ). arity x) w in
     let f = c.leftover.ensures in
-    let e = ap (λ (x : ℕ). ownerFrom a.words.now x (l.q - 1)) (f.0 ∙ ap (λ (x : ℕ). leftover x l.whole) w) in
+    let e = ap (λ (x : ℕ). owner_from a.words.now x (l.q - 1)) (f.0 ∙ ap (λ (x : ℕ). leftover x l.whole) w) in
     (omega (arith, l.invariant.0, f.1), e ∙ owner-back a.words.now l.whole l.q (omega arith) (omega (arith, c.before.before.before.before.kind-of.ensures, w, c.before.before.before.if1.false)) (omega (arith, d, c.before.if2.false)) ∙ l.invariant.1)
 
 returns-3 : tie.Need-returns-3 invariant-loop decreases-loop

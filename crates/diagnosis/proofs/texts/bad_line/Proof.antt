@@ -6,8 +6,8 @@ use Prim.Native.Nat.{ℕ}
 use lib.Dec.{eqb}
 use Rattle.text.proofs.Writing.{reworded}
 use Rattle.lines.proofs.Laws.{line-part}
-use Rattle.diagnosis.specs.Sentences.{lineSentence}
-use Rattle.diagnosis.specs.Diagnosis.{badLine}
+use Rattle.diagnosis.specs.Sentences.{line_sentence}
+use Rattle.diagnosis.specs.Diagnosis.{bad_line}
 use Rattle.diagnosis.proofs.TextLaws.{fed-is}
 use borrow.Author.Rules.{rules}
 use Rattle.diagnosis.proofs.texts.bad_line.Statement.{statement}
@@ -38,13 +38,13 @@ same_length : tie.Need-same-length
 same_length c = search rules
 
 returns : tie.Need-returns
-unfolding badLine
+unfolding bad_line
 returns c =
     let a = c.before.before.before.before.before.before.before.before.before.args in
     let s = c.before.before.before.before.before.before.line-start.ensures in
     let t = c.before.before.before.before.before.line-stop.ensures in
     let w = c.before.before.line-sentence.ensures in
-    (reworded (ap₂ (λ (f : Bool) (l : List ℕ). lineSentence (eqb a.k 0) f l) (fed-is a.text.now a.k _ s _ t) (line-part a.text.now a.k _ _ s t)) w.0, w.1)
+    (reworded (ap₂ (λ (f : Bool) (l : List ℕ). line_sentence (eqb a.k 0) f l) (fed-is a.text.now a.k _ s _ t) (line-part a.text.now a.k _ _ s t)) w.0, w.1)
 
 pub bad-line-spec : {M : Type 1} → statement M
 bad-line-spec =

@@ -5,7 +5,7 @@ use mathlib.Core.List.{List}
 use native.Mathlib.Omega.{arith}
 use Rattle.text.proofs.Writing.{reworded, wrote_nothing}
 use Rattle.lines.proofs.Laws.{line-part}
-use Rattle.diagnosis.specs.Diagnosis.{spacesText}
+use Rattle.diagnosis.specs.Diagnosis.{spaces_text}
 use Rattle.diagnosis.proofs.TextLaws.{moved-far, moved-near}
 use borrow.Author.Rules.{rules}
 use Rattle.diagnosis.proofs.texts.moved_line.Statement.{statement}
@@ -47,7 +47,7 @@ returns-2 : tie.Need-returns-2
 returns-2 c =
     let a = c.before.before.before.before.before.before.before.before.before.before.before.args in
     let w = c.before.before.spaces-text.ensures in
-    let e = ap₂ (λ (n : ℕ) (l : List ℕ). spacesText n a.k l) c.before.before.before.before.before.before.before.right-spaces.ensures.0 (line-part a.text.now a.k _ _ c.before.before.before.before.before.before.line-start.ensures c.before.before.before.before.before.line-stop.ensures) in
+    let e = ap₂ (λ (n : ℕ) (l : List ℕ). spaces_text n a.k l) c.before.before.before.before.before.before.before.right-spaces.ensures.0 (line-part a.text.now a.k _ _ c.before.before.before.before.before.before.line-start.ensures c.before.before.before.before.before.line-stop.ensures) in
     (reworded (e ∙ moved-near a.k a.text.now (omega (arith, c.before.before.before.before.before.before.before.before.if1.false))) w.0, w.1)
 
 pub moved-line-spec : {M : Type 1} → statement M

@@ -4,7 +4,7 @@ use mathlib.Core.Path.{ap, ◌∙◌}
 use mathlib.Core.List.{◌++◌}
 use native.Mathlib.Omega.{arith}
 use Rattle.text.proofs.Writing.{reworded, then}
-use Rattle.diagnosis.specs.Diagnosis.{textLine, lineText}
+use Rattle.diagnosis.specs.Diagnosis.{text_line, line_text}
 use Rattle.diagnosis.proofs.TextLaws.{refused-line, refused-table, refused-size}
 use borrow.Author.Rules.{rules}
 use Rattle.diagnosis.proofs.texts.refused_text.Statement.{statement}
@@ -29,8 +29,8 @@ returns : tie.Need-returns
 returns c =
     let a = c.before.before.before.before.before.before.before.before.before.before.before.before.before.args in
     let text = a.text.now in
-    let v = reworded (ap (λ (k : ℕ). textLine k text) c.before.before.before.before.before.before.before.before.less.ensures) c.before.before.before.before.before.before.before.text-line.ensures.0 in
-    let w = reworded (ap (λ (k : ℕ). lineText k text) c.before.before.before.less2.ensures) c.before.before.line-text.ensures.0 in
+    let v = reworded (ap (λ (k : ℕ). text_line k text) c.before.before.before.before.before.before.before.before.less.ensures) c.before.before.before.before.before.before.before.text-line.ensures.0 in
+    let w = reworded (ap (λ (k : ℕ). line_text k text) c.before.before.before.less2.ensures) c.before.before.line-text.ensures.0 in
     reworded (refused-line a.number a.place text c.before.before.before.before.before.before.before.before.before.before.if1.true) (then v w)
 
 text-line-requires-2 : tie.Need-text-line-requires-2

@@ -10,7 +10,7 @@ use Rattle.text.proofs.Writing.{reworded, then, wrote-length}
 use Rattle.listing.specs.Spelling.{space}
 use Rattle.listing.proofs.Cutting.{behind}
 use Rattle.diagnosis.specs.Shown.{shown}
-use Rattle.diagnosis.specs.Diagnosis.{rightLine}
+use Rattle.diagnosis.specs.Diagnosis.{right_line}
 use borrow.Author.Rules.{rules}
 use Rattle.diagnosis.proofs.texts.right_line.Statement.{statement}
 use Rattle.diagnosis.proofs.texts.right_line.Tie as tie
@@ -71,7 +71,7 @@ same_length : tie.Need-same-length
 same_length c = search rules
 
 returns : tie.Need-returns
-unfolding rightLine
+unfolding right_line
 returns c =
     let a = c.before.before.before.before.before.before.before.before.before.before.before.before.before.before.before.before.before.before.before.before.before.before.before.before.before.before.before.args in
     let n = c.before.before.before.before.before.before.before.before.before.before.before.before.before.before.before.before.before.before.before.before.before.number-field.ensures in

@@ -3,7 +3,7 @@ use Prim.Native.Nat.{ℕ}
 use mathlib.Core.Path.{ap, ◌∙◌}
 use mathlib.Core.List.{List}
 use Rattle.text.proofs.Writing.{line, line_taken}
-use Rattle.diagnosis.specs.Diagnosis.{firstWords, spacesAt}
+use Rattle.diagnosis.specs.Diagnosis.{first_words, spaces_at}
 use borrow.Author.Rules.{rules}
 use Rattle.diagnosis.proofs.texts.right_spaces.Statement.{statement}
 use Rattle.diagnosis.proofs.texts.right_spaces.Tie as tie
@@ -26,11 +26,11 @@ spaces-at-requires : tie.Need-spaces-at-requires
 spaces-at-requires c κs = search rules
 
 returns : tie.Need-returns
-unfolding firstWords
+unfolding first_words
 returns c =
     let a = c.before.before.before.before.before.before.args in
     let r = c.spaces-at.ensures in
-    (r.0 ∙ ap (λ (l : List ℕ). spacesAt l a.k) (line_taken (line c.before.before.before.line-words.ensures)), r.1)
+    (r.0 ∙ ap (λ (l : List ℕ). spaces_at l a.k) (line_taken (line c.before.before.before.line-words.ensures)), r.1)
 
 pub right-spaces-spec : {M : Type 1} → statement M
 right-spaces-spec =

@@ -5,8 +5,8 @@ use mathlib.Core.List.{List}
 use native.Mathlib.Omega.{arith}
 use lib.ListN.{length, replicate, length-replicate}
 use Rattle.text.proofs.Writing.{reworded, line, line_taken, wrote-length}
-use Rattle.diagnosis.specs.Sentences.{tableSentence}
-use Rattle.diagnosis.specs.Diagnosis.{firstWords}
+use Rattle.diagnosis.specs.Sentences.{table_sentence}
+use Rattle.diagnosis.specs.Diagnosis.{first_words}
 use borrow.Author.Rules.{rules}
 use Rattle.diagnosis.proofs.texts.table_text.Statement.{statement}
 use Rattle.diagnosis.proofs.texts.table_text.Tie as tie
@@ -34,11 +34,11 @@ same_length : tie.Need-same-length
 same_length c = search rules
 
 returns : tie.Need-returns
-unfolding firstWords
+unfolding first_words
 returns c =
     let a = c.before.before.before.before.before.before.before.before.before.before.args in
     let w = c.before.before.table-sentence.ensures in
-    (reworded (ap (λ (l : List ℕ). tableSentence l a.number a.p) (line_taken (line c.before.before.before.before.before.before.line-words.ensures))) w.0, w.1)
+    (reworded (ap (λ (l : List ℕ). table_sentence l a.number a.p) (line_taken (line c.before.before.before.before.before.before.line-words.ensures))) w.0, w.1)
 
 pub table-text-spec : {M : Type 1} → statement M
 table-text-spec =

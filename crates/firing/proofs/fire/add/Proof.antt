@@ -2,7 +2,7 @@
 use native.Mathlib.Omega.{arith}
 use borrow.Author.Rules.{rules}
 use Rattle.table.specs.Code.{code}
-use Rattle.calculus.specs.Rules.{twoRule}
+use Rattle.calculus.specs.Rules.{two_rule}
 use Rattle.clauses.specs.Asks.{effect}
 use Rattle.queries.proofs.Given.{sized, linked-code}
 use Rattle.queries.proofs.Laws.{row_in}
@@ -12,7 +12,7 @@ use Rattle.firing.proofs.fire.add.Statement.{statement}
 use Rattle.firing.proofs.fire.add.Tie as tie
 
 pub add_spec : {M : Type 1} → statement M
-unfolding effect twoRule code
+unfolding effect two_rule code
 add_spec =
     tie.close (tie.spec (λ enum_told. search rules)
     (λ c κs. let t = c.before.before in let s = t.before.before.before.before.before.before.before in let z = sized s.requires.0 s.requires.1 in let p = rw t.enum_told.given.1 at s.requires.2 in (z, p))

@@ -7,7 +7,7 @@ use lib.ListN.{length}
 use Rattle.table.specs.Code.{code}
 use Rattle.table.proofs.Blocks.{Follows}
 use Rattle.table.proofs.Limits.{size-le}
-use Rattle.table.proofs.BlockLoop.{blocksOn, named-there, follows-first, next-is, follows_next, next-later}
+use Rattle.table.proofs.BlockLoop.{blocks_on, named-there, follows-first, next-is, follows_next, next-later}
 use Rattle.calculus.specs.Constraint.{each}
 use Rattle.calculus.specs.Layout.{WellFormed}
 use Rattle.calculus.specs.Estimate.{fire, facts}
@@ -22,7 +22,7 @@ use Rattle.firing.proofs.sends.send_all.Tie as tie
 abbrev invariant-loop : tie.invariant-loop
 invariant-loop words links est₀ masks h₀ l e own added₀ b₀ est h added b =
     (length est ≡ length est₀) × (length h ≡ length h₀) × WellFormed (code words) est × Follows words b
-    × (fire (code words) (each (blocksOn words b) (at_block (code words) e.x e.y e.z)) est ≡ fire (code words) (each (code words).blocks (at_block (code words) e.x e.y e.z)) est₀)
+    × (fire (code words) (each (blocks_on words b) (at_block (code words) e.x e.y e.z)) est ≡ fire (code words) (each (code words).blocks (at_block (code words) e.x e.y e.z)) est₀)
     × (facts est ≡ facts est₀ + added)
 
 abbrev decreases-loop : tie.decreases-loop

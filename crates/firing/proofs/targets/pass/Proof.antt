@@ -3,7 +3,7 @@ use Prim.Native.Nat.{◌*◌}
 use native.Mathlib.Omega.{arith}
 use borrow.Author.Rules.{rules}
 use Rattle.rows.proofs.Laws.{length_part, same-part}
-use Rattle.rows.specs.Numbered.{sortAt}
+use Rattle.rows.specs.Numbered.{sort_at}
 use Rattle.queries.proofs.Laws.{row_in, mask-in}
 use Rattle.firing.proofs.Fires.{pass-fired}
 use Rattle.firing.proofs.targets.pass.Statement.{statement}
@@ -12,7 +12,7 @@ use Rattle.firing.proofs.targets.pass.Tie as tie
 returns : tie.Need-returns
 returns c =
     let s = c.before.before.before.before.before.before.before.before.before.before.before.before in let a = s.args in let row = a.l.row in
-    pass-fired (sortAt a.m) a.a a.b s.requires.1 s.requires.2 (λ k o x. (x.0, x.1.mask a.m s.requires.3))
+    pass-fired (sort_at a.m) a.a a.b s.requires.1 s.requires.2 (λ k o x. (x.0, x.1.mask a.m s.requires.3))
     (rw (same-part a.masks.now (a.m * row) row) at c.before.before.before.before.before.before.join-masked.ensures)
 
 pub pass_spec : {M : Type 1} → statement M

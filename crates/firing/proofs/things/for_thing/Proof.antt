@@ -4,7 +4,7 @@ use mathlib.Core.Path.{sym, ap}
 use native.Mathlib.Numerals.{add-one}
 use native.Mathlib.Omega.{arith}
 use Rattle.calculus.proofs.Folds.{fire-none}
-use Rattle.clauses.specs.Asks.{forThing}
+use Rattle.clauses.specs.Asks.{for_thing}
 use Rattle.rows.proofs.Numbered.{row-C, row-B}
 use Rattle.queries.proofs.Laws.{row_in}
 use Rattle.firing.specs.Placed.{entering}
@@ -14,7 +14,7 @@ use Rattle.firing.proofs.things.for_thing.Statement.{statement}
 use Rattle.firing.proofs.things.for_thing.Tie as tie
 
 pub for-thing-spec : {M : Type 1} → statement M
-unfolding entering forThing
+unfolding entering for_thing
 for-thing-spec =
     tie.close (tie.spec (λ enum_told. search rules) (λ add-wake. search rules)
     (λ c κs. let s = c.before.before.before.before.before.before in (s.requires.0, s.requires.1.body (ap entering c.before.before.enum_told.given.1)))

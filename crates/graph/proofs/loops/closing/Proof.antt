@@ -9,7 +9,7 @@ use borrow.Author.Rules.{rules}
 use lib.Bits.{bit_and}
 use lib.ListN.{length}
 use Rattle.permset.specs.Sets.{member}
-use Rattle.graph.specs.Search.{lowestFrom, senders, reaching, closes}
+use Rattle.graph.specs.Search.{lowest_from, senders, reaching, closes}
 use Rattle.graph.proofs.Lowest.{scan-here, scan-on, scan-end}
 use Rattle.graph.proofs.Walks.{reaching-at, reaching-below}
 use Rattle.graph.proofs.loops.closing.Statement.{statement}
@@ -24,7 +24,7 @@ tested rows alive t m set found r l e f g = g ∙ ap (λ (s : ℕ). member s t) 
 abbrev invariant-loop : tie.invariant-loop
 invariant-loop rows alive t limit set₀ m₀ set m =
     (1 ≤ m) × (m ≤ limit) × (set ≡ reaching rows alive t (m - 1))
-    × (lowestFrom (limit - m) m (λ k. closes rows alive k t) ≡ lowestFrom (limit - 1) 1 (λ k. closes rows alive k t))
+    × (lowest_from (limit - m) m (λ k. closes rows alive k t) ≡ lowest_from (limit - 1) 1 (λ k. closes rows alive k t))
 
 abbrev decreases-loop : tie.decreases-loop
 decreases-loop rows alive t limit set₀ m₀ set m = limit - m

@@ -3,13 +3,13 @@ use mathlib.Core.Path.{◌∙◌}
 use borrow.Author.Rules.{rules}
 use lib.ListN.{get_or}
 use Rattle.permset.specs.Sets.{member}
-use Rattle.graph.specs.Search.{isNext}
+use Rattle.graph.specs.Search.{is_next}
 use Rattle.graph.proofs.Digits.{both-tests, first-test}
 use Rattle.graph.proofs.loops.is_next.Statement.{statement}
 use Rattle.graph.proofs.loops.is_next.Tie as tie
 
 returns : tie.Need-returns
-unfolding isNext
+unfolding is_next
 returns c =
     let a = c.before.before.before.before.before.args in
     c.has2.ensures
@@ -17,7 +17,7 @@ returns c =
     c.before.before.if1.true
 
 returns-2 : tie.Need-returns-2
-unfolding isNext
+unfolding is_next
 returns-2 c =
     first-test (member c.before.before.before.args.set c.before.before.before.args.z) _ _ c.before.has.ensures
     c.if1.false

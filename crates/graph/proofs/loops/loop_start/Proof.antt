@@ -3,13 +3,13 @@ use Prim.Native.Nat.{◌-◌, ◌≤◌}
 use mathlib.Core.Path.{◌≡◌, sym, ◌∙◌}
 use native.Mathlib.Nat.{le_antisymm}
 use borrow.Author.Rules.{rules}
-use Rattle.graph.specs.Search.{lowestFrom, closes, loopStart}
+use Rattle.graph.specs.Search.{lowest_from, closes, loop_start}
 use Rattle.graph.proofs.Lowest.{scan-start, scan-here, scan-on, scan-end}
 use Rattle.graph.proofs.loops.loop_start.Statement.{statement}
 use Rattle.graph.proofs.loops.loop_start.Tie as tie
 
 abbrev invariant-loop : tie.invariant-loop
-invariant-loop rows n alive m t₀ t = (t ≤ n) × (lowestFrom (n - t) t (closes rows alive m) ≡ lowestFrom n 0 (closes rows alive m))
+invariant-loop rows n alive m t₀ t = (t ≤ n) × (lowest_from (n - t) t (closes rows alive m) ≡ lowest_from n 0 (closes rows alive m))
 
 abbrev decreases-loop : tie.decreases-loop
 decreases-loop rows n alive m t₀ t = n - t
@@ -20,7 +20,7 @@ loop-holds c =
     (search rules, scan-start (closes a.rows.now a.alive a.m) a.n)
 
 returns : tie.Need-returns invariant-loop decreases-loop
-unfolding loopStart
+unfolding loop_start
 returns c =
     let l = c.before.before.before.loop in
     let a = c.before.before.before.before.before.args in
@@ -36,7 +36,7 @@ loop-again c =
     )
 
 returns-2 : tie.Need-returns-2 invariant-loop decreases-loop
-unfolding loopStart
+unfolding loop_start
 returns-2 c =
     let l = c.before.loop in
     let a = c.before.before.before.args in

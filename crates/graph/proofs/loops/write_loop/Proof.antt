@@ -4,7 +4,7 @@ use Prim.Native.Nat.{ℕ, ◌+◌, ◌-◌, ◌≤◌}
 use mathlib.Core.Path.{◌≡◌, ap, ◌∙◌}
 use native.Mathlib.Omega.{arith}
 use borrow.Author.Rules.{rules}
-use Rattle.graph.specs.Search.{reaching, isNext, lowestNext, follow}
+use Rattle.graph.specs.Search.{reaching, is_next, lowest_next, follow}
 use Rattle.graph.proofs.Lowest.{lowest-most}
 use Rattle.graph.proofs.Walks.{follow-length}
 use Rattle.graph.proofs.Writing.{Partly, partly-start, partly-on, partly-end, follow-on, follow-none}
@@ -28,13 +28,13 @@ slice-write-positions : tie.Need-slice-write-positions invariant-loop decreases-
 slice-write-positions c = omega (arith, c.before.loop.invariant.2.size)
 
 loop-again : tie.Need-loop-preserved invariant-loop decreases-loop
-unfolding lowestNext
+unfolding lowest_next
 loop-again c =
     let l = c.before.before.before.loop in
     let a = c.before.before.before.before.before.before.args in
     let e =
-    c.lowest-next.ensures ∙ ap (λ (s : ℕ). lowestNext a.rows.now a.n s l.x) c.before.reaching.ensures in
-    let h = lowest-most (isNext a.rows.now (reaching a.rows.now a.alive a.t (a.m - (l.i + 1))) l.x) a.n 0 in (
+    c.lowest-next.ensures ∙ ap (λ (s : ℕ). lowest_next a.rows.now a.n s l.x) c.before.reaching.ensures in
+    let h = lowest-most (is_next a.rows.now (reaching a.rows.now a.alive a.t (a.m - (l.i + 1))) l.x) a.n 0 in (
       search rules,
       omega (arith, e, h),
       partly-on a.positions.now (follow a.rows.now a.alive a.n a.t a.m a.t) l.positions l.i l.x _ _

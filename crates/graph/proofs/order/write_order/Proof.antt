@@ -7,27 +7,27 @@ use native.Mathlib.Nat.{zero-add}
 use native.Mathlib.Omega.{arith}
 use borrow.Author.Rules.{rules}
 use lib.ListN.{length}
-use Rattle.graph.specs.Search.{orderFrom}
-use Rattle.graph.specs.Answer.{startingWith}
+use Rattle.graph.specs.Search.{order_from}
+use Rattle.graph.specs.Answer.{starting_with}
 use Rattle.graph.proofs.Writing.{Partly, partly-start, partly-on, partly-end, order-on, order-stop, order-none, order-length}
 use Rattle.graph.proofs.order.write_order.Statement.{statement}
 use Rattle.graph.proofs.order.write_order.Tie as tie
 
 -- where nothing is left to be written
-finished : (rows : List ℕ) (n alive : ℕ) (old now : List ℕ) (left count : ℕ) → orderFrom rows n (n - count) left ≡ [] → n ≤ length old
-    → Partly old (orderFrom rows n n alive) now count (orderFrom rows n (n - count) left)
-    → count + length (orderFrom rows n (n - count) left) ≡ length (orderFrom rows n n alive)
-    → (count ≡ length (orderFrom rows n n alive)) × (now ≡ startingWith (orderFrom rows n n alive) old)
+finished : (rows : List ℕ) (n alive : ℕ) (old now : List ℕ) (left count : ℕ) → order_from rows n (n - count) left ≡ [] → n ≤ length old
+    → Partly old (order_from rows n n alive) now count (order_from rows n (n - count) left)
+    → count + length (order_from rows n (n - count) left) ≡ length (order_from rows n n alive)
+    → (count ≡ length (order_from rows n n alive)) × (now ≡ starting_with (order_from rows n n alive) old)
 finished rows n alive old now left count e h w t = (
   omega (arith, ap length e),
-  partly-end old (orderFrom rows n n alive) now count (orderFrom rows n (n - count) left) e
+  partly-end old (order_from rows n n alive) now count (order_from rows n (n - count) left) e
       (let k = order-length rows n n alive in omega arith) w,
 )
 
 abbrev invariant-loop : tie.invariant-loop
 invariant-loop rows n alive positions₀ left₀ count₀ positions left count =
-    (count ≤ n) × Partly positions₀ (orderFrom rows n n alive) positions count (orderFrom rows n (n - count) left)
-    × (count + length (orderFrom rows n (n - count) left) ≡ length (orderFrom rows n n alive))
+    (count ≤ n) × Partly positions₀ (order_from rows n n alive) positions count (order_from rows n (n - count) left)
+    × (count + length (order_from rows n (n - count) left) ≡ length (order_from rows n n alive))
 
 abbrev decreases-loop : tie.decreases-loop
 decreases-loop rows n alive positions₀ left₀ count₀ positions left count = n - count
@@ -60,7 +60,7 @@ loop-again c =
     order-on a.rows.now a.n l.count l.left c.before.before.lowest-free.result c.without.result (search rules)
     c.before.before.lowest-free.ensures c.before.if1.false c.without.ensures in (
       search rules,
-      partly-on a.positions.now (orderFrom a.rows.now a.n a.n a.alive) l.positions l.count _ _ _ e l.invariant.1,
+      partly-on a.positions.now (order_from a.rows.now a.n a.n a.alive) l.positions l.count _ _ _ e l.invariant.1,
       omega (arith, ap length e, l.invariant.2),
     )
 

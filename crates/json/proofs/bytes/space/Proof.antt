@@ -4,7 +4,7 @@ use mathlib.Core.Path.{◌≡◌, refl, sym, ap, ◌∙◌}
 use Prim.Native.Nat.{◌-◌, ◌<◌}
 use native.Mathlib.Omega.{arith}
 use lib.ListN.{length, drop}
-use Rattle.json.specs.Bytes.{isSpace, space}
+use Rattle.json.specs.Bytes.{is_space, space}
 use Rattle.json.proofs.Places.{there, tail-drop, space-small, space-more, space-end}
 use Rattle.json.proofs.bytes.space.Statement.{statement}
 use Rattle.json.proofs.bytes.space.Tie as tie
@@ -33,12 +33,12 @@ loop-less c = let h : c.before.before.before.loop.p < length c.before.before.bef
 loop-again : tie.Need-loop-preserved invariant-loop decreases-loop
 loop-again c =
     c.before.before.before.loop.invariant
-    ∙ space-more _ (ap isSpace (sym c.before.before.byte.ensures) ∙ sym c.before.is-space.ensures ∙ c.if1.true)
+    ∙ space-more _ (ap is_space (sym c.before.before.byte.ensures) ∙ sym c.before.is-space.ensures ∙ c.if1.true)
     ∙ ap space (tail-drop c.before.before.before.before.before.args.text.now c.before.before.before.loop.p)
 
 returns : tie.Need-returns invariant-loop decreases-loop
 returns c =
-    sym (c.before.before.before.loop.invariant ∙ space-end _ (ap isSpace (sym c.before.before.byte.ensures) ∙ sym c.before.is-space.ensures ∙ c.if1.false))
+    sym (c.before.before.before.loop.invariant ∙ space-end _ (ap is_space (sym c.before.before.byte.ensures) ∙ sym c.before.is-space.ensures ∙ c.if1.false))
 
 pub space-spec : {M : Type 1} → statement M
 space-spec =

@@ -4,7 +4,7 @@ use mathlib.Core.Path.{◌≡◌, refl, sym, ap, ◌∙◌}
 use Prim.Native.Nat.{◌-◌, ◌<◌}
 use native.Mathlib.Omega.{arith}
 use lib.ListN.{length, drop}
-use Rattle.json.specs.Numbers.{isDigit, digits}
+use Rattle.json.specs.Numbers.{is_digit, digits}
 use Rattle.json.proofs.Places.{there, tail-drop, digit-small, digits_more, digits-end}
 use Rattle.json.proofs.numbers.digits.Statement.{statement}
 use Rattle.json.proofs.numbers.digits.Tie as tie
@@ -33,12 +33,12 @@ loop-less c = let h : c.before.before.before.loop.p < length c.before.before.bef
 loop-again : tie.Need-loop-preserved invariant-loop decreases-loop
 loop-again c =
     c.before.before.before.loop.invariant
-    ∙ digits_more _ (ap isDigit (sym c.before.before.byte.ensures) ∙ sym c.before.is_within.ensures ∙ c.if1.true)
+    ∙ digits_more _ (ap is_digit (sym c.before.before.byte.ensures) ∙ sym c.before.is_within.ensures ∙ c.if1.true)
     ∙ ap digits (tail-drop c.before.before.before.before.before.args.text.now c.before.before.before.loop.p)
 
 returns : tie.Need-returns invariant-loop decreases-loop
 returns c =
-    sym (c.before.before.before.loop.invariant ∙ digits-end _ (ap isDigit (sym c.before.before.byte.ensures) ∙ sym c.before.is_within.ensures ∙ c.if1.false))
+    sym (c.before.before.before.loop.invariant ∙ digits-end _ (ap is_digit (sym c.before.before.byte.ensures) ∙ sym c.before.is_within.ensures ∙ c.if1.false))
 
 pub digits-spec : {M : Type 1} → statement M
 digits-spec =

@@ -6,7 +6,7 @@ use native.Mathlib.Omega.{arith}
 use mathlib.Core.Bool.{◌||◌}
 use lib.Dec.{eqb}
 use lib.ListN.{length}
-use Rattle.json.specs.Numbers.{someDigits, sign}
+use Rattle.json.specs.Numbers.{some_digits, sign}
 use Rattle.json.proofs.Numerals.{exp-yes, exp-no}
 use Rattle.json.proofs.Places.{there, tail-drop, either-small}
 use borrow.Author.Rules.{rules}
@@ -23,7 +23,7 @@ returns : tie.Need-returns
 returns c =
     sym
     (exp-yes _ (ap (λ (b : ℕ). eqb b 101 || eqb b 69) (sym c.before.before.before.before.byte.ensures) ∙ sym c.before.before.before.is-either.ensures ∙ c.before.before.if1.true)
-    ∙ ap someDigits (ap sign (tail-drop c.before.before.before.before.before.before.args.text.now c.before.before.before.before.before.before.args.at) ∙ sym c.before.sign.ensures)
+    ∙ ap some_digits (ap sign (tail-drop c.before.before.before.before.before.before.args.text.now c.before.before.before.before.before.before.args.at) ∙ sym c.before.sign.ensures)
     ∙ sym c.some-digits.ensures)
 
 returns-2 : tie.Need-returns-2

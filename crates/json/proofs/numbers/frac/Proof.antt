@@ -4,7 +4,7 @@ use mathlib.Core.Path.{sym, ap, ◌∙◌}
 use Prim.Native.Nat.{◌<◌}
 use native.Mathlib.Omega.{arith}
 use lib.ListN.{length}
-use Rattle.json.specs.Numbers.{someDigits}
+use Rattle.json.specs.Numbers.{some_digits}
 use Rattle.json.proofs.Choice.{is, is-not}
 use Rattle.json.proofs.Numerals.{frac-yes, frac-no}
 use Rattle.json.proofs.Places.{there, tail-drop}
@@ -19,7 +19,7 @@ add-some-digits c =
     let h : a.at < length a.text.now = there a.text.now a.at c.before.byte.ensures (omega arith) in omega arith
 
 returns : tie.Need-returns
-returns c = sym (frac-yes _ (is c.before.before.byte.ensures c.before.if1.true) ∙ ap someDigits (tail-drop c.before.before.before.before.args.text.now c.before.before.before.before.args.at) ∙ sym c.some-digits.ensures)
+returns c = sym (frac-yes _ (is c.before.before.byte.ensures c.before.if1.true) ∙ ap some_digits (tail-drop c.before.before.before.before.args.text.now c.before.before.before.before.args.at) ∙ sym c.some-digits.ensures)
 
 returns-2 : tie.Need-returns-2
 returns-2 c = sym (frac-no _ (is-not c.before.byte.ensures c.if1.false))

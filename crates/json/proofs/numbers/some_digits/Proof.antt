@@ -5,7 +5,7 @@ use Prim.Native.Nat.{◌<◌}
 use native.Mathlib.Omega.{arith}
 use lib.ListN.{length}
 use Rattle.json.specs.Bytes.{rest}
-use Rattle.json.specs.Numbers.{isDigit, digits}
+use Rattle.json.specs.Numbers.{is_digit, digits}
 use Rattle.json.proofs.Numerals.{digits-yes, digits-no}
 use Rattle.json.proofs.Places.{there, tail-drop, digit-small}
 use borrow.Author.Rules.{rules}
@@ -21,12 +21,12 @@ add-digits c =
 returns : tie.Need-returns
 returns c =
     sym
-    (digits-yes _ (ap isDigit (sym c.before.before.before.byte.ensures) ∙ sym c.before.before.is_within.ensures ∙ c.before.if1.true)
+    (digits-yes _ (ap is_digit (sym c.before.before.before.byte.ensures) ∙ sym c.before.before.is_within.ensures ∙ c.before.if1.true)
     ∙ ap rest (ap digits (tail-drop c.before.before.before.before.before.args.text.now c.before.before.before.before.before.args.at) ∙ sym c.digits.ensures))
 
 returns-2 : tie.Need-returns-2
 returns-2 c =
-    sym (digits-no _ (ap isDigit (sym c.before.before.byte.ensures) ∙ sym c.before.is_within.ensures ∙ c.if1.false))
+    sym (digits-no _ (ap is_digit (sym c.before.before.byte.ensures) ∙ sym c.before.is_within.ensures ∙ c.if1.false))
 
 pub some-digits-spec : {M : Type 1} → statement M
 some-digits-spec =

@@ -6,7 +6,7 @@ use Prim.Native.Nat.{ℕ, ◌<◌}
 use native.Mathlib.Omega.{arith}
 use lib.ListN.{length}
 use Rattle.json.specs.Bytes.{goes}
-use Rattle.json.specs.Strings.{hexUnit, escapeOf}
+use Rattle.json.specs.Strings.{hex_unit, escape_of}
 use Rattle.json.proofs.Characters.{escape-small, escaped-hex, escaped-none, escaped-byte}
 use Rattle.json.proofs.Choice.{is, is-not}
 use Rattle.json.proofs.Places.{there, tail-drop}
@@ -22,11 +22,11 @@ add-hex-unit c =
 
 returns : tie.Need-returns
 returns c =
-    sym (escaped-hex _ (is c.before.before.byte.ensures c.before.if1.true) ∙ ap hexUnit (tail-drop c.before.before.before.before.args.text.now c.before.before.before.before.args.at) ∙ sym c.hex-unit.ensures)
+    sym (escaped-hex _ (is c.before.before.byte.ensures c.before.if1.true) ∙ ap hex_unit (tail-drop c.before.before.before.before.args.text.now c.before.before.before.before.args.at) ∙ sym c.hex-unit.ensures)
 
 returns-2 : tie.Need-returns-2
 returns-2 c =
-    sym (escaped-none _ (is-not c.before.before.before.byte.ensures c.before.before.if1.false) (is (c.before.escape-of.ensures ∙ ap escapeOf c.before.before.before.byte.ensures) c.if2.true))
+    sym (escaped-none _ (is-not c.before.before.before.byte.ensures c.before.before.if1.false) (is (c.before.escape-of.ensures ∙ ap escape_of c.before.before.before.byte.ensures) c.if2.true))
 
 add-t7 : tie.Need-overflow-add-t7
 add-t7 c =
@@ -38,8 +38,8 @@ returns-3 : tie.Need-returns-3
 returns-3 c =
     let s = c.before.before.before in
     sym
-    (escaped-byte _ (is-not s.byte.ensures c.before.before.if1.false) (is-not (c.before.escape-of.ensures ∙ ap escapeOf s.byte.ensures) c.if2.false)
-    ∙ ap₂ (λ (u : ℕ) (bs : List ℕ). goes (u ∷ []) bs) (sym (c.before.escape-of.ensures ∙ ap escapeOf s.byte.ensures)) (tail-drop c.before.before.before.before.before.args.text.now c.before.before.before.before.before.args.at))
+    (escaped-byte _ (is-not s.byte.ensures c.before.before.if1.false) (is-not (c.before.escape-of.ensures ∙ ap escape_of s.byte.ensures) c.if2.false)
+    ∙ ap₂ (λ (u : ℕ) (bs : List ℕ). goes (u ∷ []) bs) (sym (c.before.escape-of.ensures ∙ ap escape_of s.byte.ensures)) (tail-drop c.before.before.before.before.before.args.text.now c.before.before.before.before.before.args.at))
 
 pub escaped-spec : {M : Type 1} → statement M
 escaped-spec =

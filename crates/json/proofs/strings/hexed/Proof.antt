@@ -4,7 +4,7 @@ use mathlib.Core.Path.{◌≡◌, ap, ◌∙◌}
 use Prim.Native.Nat.{◌<◌}
 use native.Mathlib.Omega.{arith}
 use lib.ListN.{length}
-use Rattle.json.specs.Strings.{hexOf}
+use Rattle.json.specs.Strings.{hex_of}
 use Rattle.json.specs.Answers.{code_of}
 use Rattle.json.proofs.Characters.{hex-small, hexed-bad, hexed-yes, hexed-no}
 use Rattle.json.proofs.Places.{there}
@@ -28,11 +28,11 @@ returns-2 : tie.Need-returns-2
 returns-2 c =
     let s = c.before.before.before.before in
     let k : code_of c.before.before.before.before.before.before.before.args.s ≡ s.s.given.0.0 = ap code_of s.s.given.1 in
-    (hexed-yes c.before.before.before.before.before.before.before.args.text.now _ _ _ s.s.given.1 _ (c.before.hex-of.ensures ∙ ap hexOf c.before.before.byte.ensures) c.if1.true, omega arith)
+    (hexed-yes c.before.before.before.before.before.before.before.args.text.now _ _ _ s.s.given.1 _ (c.before.hex-of.ensures ∙ ap hex_of c.before.before.byte.ensures) c.if1.true, omega arith)
 
 returns-3 : tie.Need-returns-3
 returns-3 c =
-    (hexed-no c.before.before.before.before.before.before.before.args.text.now _ _ _ c.before.before.before.before.s.given.1 _ (c.before.hex-of.ensures ∙ ap hexOf c.before.before.byte.ensures) c.if1.false, omega arith)
+    (hexed-no c.before.before.before.before.before.before.before.args.text.now _ _ _ c.before.before.before.before.s.given.1 _ (c.before.hex-of.ensures ∙ ap hex_of c.before.before.byte.ensures) c.if1.false, omega arith)
 
 pub hexed-spec : {M : Type 1} → statement M
 hexed-spec =

@@ -8,7 +8,7 @@ use borrow.Author.Rules.{rules}
 use borrow.Fn.Kinds.{In}
 use borrow.Fn.PlainCycle.{Measures, is as is_at, falls, and}
 use Rattle.json.specs.Bytes.{head, tail, rest, after}
-use Rattle.json.specs.Values.{separated, item as item_at, items as itemsAt, value as value_at}
+use Rattle.json.specs.Values.{separated, item as item_at, items as items_at, value as value_at}
 use Rattle.json.specs.Answers.{ended, started, stepped}
 use Rattle.json.proofs.Choice.{is, is-not}
 use Rattle.json.proofs.Places.{there, tail-drop}
@@ -43,7 +43,7 @@ abbrev μ-value : Measures 1 value-kinds.ps ℕ
 μ-value κs a = 3 * a.1.1.0
 
 abbrev items-Inv-loop : items-lts.invariant-loop
-items-Inv-loop text at keyed nest p₀ p = itemsAt (value_at nest) keyed (drop at text) ≡ after (item_at (value_at nest) keyed) (drop p text)
+items-Inv-loop text at keyed nest p₀ p = items_at (value_at nest) keyed (drop at text) ≡ after (item_at (value_at nest) keyed) (drop p text)
 
 abbrev items-μ-loop : items-lts.decreases-loop
 items-μ-loop text at keyed nest p₀ p = length (drop p text)

@@ -5,14 +5,14 @@ use native.Mathlib.Omega.{arith}
 use lib.ListN.{drop}
 use borrow.Author.Rules.{rules}
 use Rattle.listing.specs.Keywords.{entries}
-use Rattle.listing.specs.Spelling.{kindFrom, guessedKind}
+use Rattle.listing.specs.Spelling.{kind_from, guessed_kind}
 use Rattle.listing.proofs.Guessing.{kind-start, kind-found, kind-next, kind-none}
 use Rattle.listing.proofs.guess.guessed_kind.Statement.{statement}
 use Rattle.listing.proofs.guess.guessed_kind.Tie as tie
 
 abbrev invariant-loop : tie.invariant-loop
 invariant-loop letters l k₀ k =
-    (k ≤ 37) × (guessedKind l ≡ kindFrom k (drop k entries) l)
+    (k ≤ 37) × (guessed_kind l ≡ kind_from k (drop k entries) l)
 
 abbrev decreases-loop : tie.decreases-loop
 decreases-loop letters l k₀ k = 37 - k

@@ -6,7 +6,7 @@ use native.Mathlib.Omega.{arith}
 use lib.ListN.{length}
 use Rattle.text.proofs.Writing.{line_taken}
 use Rattle.listing.specs.Keywords.{entry_of}
-use Rattle.listing.specs.Spelling.{prefix, guessedKind, guessed, spelled}
+use Rattle.listing.specs.Spelling.{prefix, guessed_kind, guessed, spelled}
 use Rattle.listing.proofs.Letters.{keyword-short}
 use Rattle.listing.proofs.Guessing.{guessed-as, spells-none, spells-yes, spells-longer, spells-other}
 use borrow.Author.Rules.{rules}
@@ -21,7 +21,7 @@ line g = g.before.before.before.before.before.before.before.args.l.now
 abbrev kind : tie.After-guessed-argument → ℕ
 kind g = g.before.before.before.before.guessed-kind.result
 
-guess : (g : tie.After-guessed-argument) → kind g ≡ guessedKind (line g)
+guess : (g : tie.After-guessed-argument) → kind g ≡ guessed_kind (line g)
 guess g = g.before.before.before.before.guessed-kind.ensures.0
 
 some : (g : tie.After-guessed-argument) → kind g ≡ 0 → ⊥

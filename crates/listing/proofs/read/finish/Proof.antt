@@ -6,7 +6,7 @@ use mathlib.Core.List.{List}
 use native.Mathlib.Omega.{arith}
 use lib.ListN.{length}
 use lib.Seq.{length-take-le}
-use Rattle.listing.specs.Listing.{left, wordsOf, indents, tabled}
+use Rattle.listing.specs.Listing.{left, words_of, indents, tabled}
 use Rattle.listing.specs.Answer.{number, place, answered}
 use Rattle.listing.proofs.Cutting.{left-bad, all-fine, all_words, all-spaces, more-words, first_word}
 use Rattle.listing.proofs.Answers.{spelt-line, spelt-table, table-refused}
@@ -21,7 +21,7 @@ returns c =
     let text = s.args.text.now in
     let m = c.before.misspelled in
     let e = left-bad text s.args.n s.args.at s.args.words.now s.args.spaces.now s.requires.1.0 m.result m.ensures in
-    (sym (spelt-line (wordsOf text) (indents text) _ m.result e c.if2.true), refl)
+    (sym (spelt-line (words_of text) (indents text) _ m.result e c.if2.true), refl)
 
 returns-2 : tie.Need-returns-2
 unfolding answered left number place
@@ -33,9 +33,9 @@ returns-2 c =
     let more = c.before.before.before.before.if1.true in
     let many : s.args.n ≡ 1024 = ⊎_elim (λ h. absurd (let o : ⊥ = omega arith in o)) (λ e. e) s.requires.1.2 in
     let e = left-bad text s.args.n s.args.at s.args.words.now s.args.spaces.now t m.result m.ensures ∙ c.before.before.if2.false in
-    let r = c.too_many.ensures (wordsOf text) (omega (arith, more-words text s.args.n s.args.at s.args.words.now s.args.spaces.now t more))
+    let r = c.too_many.ensures (words_of text) (omega (arith, more-words text s.args.n s.args.at s.args.words.now s.args.spaces.now t more))
     (first_word text s.args.n s.args.at s.args.words.now s.args.spaces.now t more (omega arith)) in
-    (sym (spelt-table (wordsOf text) (indents text) _ e ∙ table-refused (wordsOf text) (indents text) _ _ _ r), refl)
+    (sym (spelt-table (words_of text) (indents text) _ e ∙ table-refused (words_of text) (indents text) _ _ _ r), refl)
 
 slice-aggregate-place : tie.Need-slice-aggregate-place
 slice-aggregate-place c =
@@ -57,7 +57,7 @@ returns-3 c =
     let ws = all_words text s.args.n s.args.at s.args.words.now s.args.spaces.now t done in
     let is = all-spaces text s.args.n s.args.at s.args.words.now s.args.spaces.now t done in
     let e = all-fine text s.args.n s.args.at s.args.words.now s.args.spaces.now t done in (
-      p.ensures.0 ∙ ap₂ (λ (v i : List ℕ). tabled v i (length s.args.out.now)) ws is ∙ sym (spelt-table (wordsOf text) (indents text) _ e),
+      p.ensures.0 ∙ ap₂ (λ (v i : List ℕ). tabled v i (length s.args.out.now)) ws is ∙ sym (spelt-table (words_of text) (indents text) _ e),
       p.ensures.1 ∙ ap (λ (v : List ℕ). left (answered p.result) v s.args.out.now) ws,
     )
 

@@ -4,14 +4,14 @@ use mathlib.Core.Path.{◌≡◌, refl}
 use native.Mathlib.Omega.{arith}
 use lib.ListN.{length, drop}
 use borrow.Author.Rules.{rules}
-use Rattle.listing.specs.Decoding.{lineSize}
+use Rattle.listing.specs.Decoding.{line_size}
 use Rattle.listing.proofs.Cutting.{size-end, size-feed, size-more}
 use Rattle.listing.proofs.read.line_end.Statement.{statement}
 use Rattle.listing.proofs.read.line_end.Tie as tie
 
 abbrev invariant-loop : tie.invariant-loop
 invariant-loop text at i₀ i =
-    (i ≤ length text) × (at + lineSize (drop at text) ≡ i + lineSize (drop i text))
+    (i ≤ length text) × (at + line_size (drop at text) ≡ i + line_size (drop i text))
 
 abbrev decreases-loop : tie.decreases-loop
 decreases-loop text at i₀ i = length text - i

@@ -5,13 +5,13 @@ use native.Mathlib.Omega.{arith}
 use lib.ListN.{length}
 use borrow.Author.Rules.{rules}
 use Rattle.listing.specs.Listing.{misplaced as Listing·misplaced}
-use Rattle.listing.proofs.Answers.{misplacedFrom, placed_end, placed-short, placed-other, placed-more}
+use Rattle.listing.proofs.Answers.{misplaced_from, placed_end, placed-short, placed-other, placed-more}
 use Rattle.listing.proofs.read.misplaced.Statement.{statement}
 use Rattle.listing.proofs.read.misplaced.Tie as tie
 
 abbrev invariant-loop : tie.invariant-loop
 invariant-loop depths spaces i₀ i =
-    (i ≤ length depths) × (Listing·misplaced 1 depths spaces ≡ misplacedFrom depths spaces i)
+    (i ≤ length depths) × (Listing·misplaced 1 depths spaces ≡ misplaced_from depths spaces i)
 
 abbrev decreases-loop : tie.decreases-loop
 decreases-loop depths spaces i₀ i = length depths - i

@@ -4,8 +4,8 @@ use native.Mathlib.Omega.{arith}
 use lib.ListN.{length}
 use mathlib.Core.Path.{subst}
 use Rattle.listing.specs.declared.read.Decoded.{Decoded}
-use Rattle.listing.specs.Keywords.{styleLetter, entries, packed, packedAll, letters}
-use Rattle.listing.specs.Listing.{Answered, left, wordsOf, indents}
+use Rattle.listing.specs.Keywords.{style_letter, entries, packed, packed_all, letters}
+use Rattle.listing.specs.Listing.{Answered, left, words_of, indents}
 use Rattle.listing.specs.Decoding.{DecodedAs}
 use Rattle.listing.specs.Answer.{number, place, answered}
 use Rattle.listing.proofs.Answers.{read-long, read-spelt, spelt-line}
@@ -18,15 +18,15 @@ unfolding answered left number place
 returns c =
     let s = c.before.before.before in
     let e = read-long s.args.text.now (length s.args.out.now) c.if1.true in
-    (sym e, sym (ap (λ (a : Answered). left a (wordsOf s.args.text.now) s.args.out.now) e))
+    (sym e, sym (ap (λ (a : Answered). left a (words_of s.args.text.now) s.args.out.now) e))
 
 decode-requires : tie.Need-decode-requires
-unfolding letters entries packedAll packed styleLetter
+unfolding letters entries packed_all packed style_letter
 decode-requires c κs =
     (refl, omega arith, omega arith)
 
 finish-requires : tie.Need-finish-requires
-unfolding letters entries packedAll packed styleLetter
+unfolding letters entries packed_all packed style_letter
 finish-requires c κs =
     let d = c.before.before.before.before.before.before.before.before.before.decode in
     let known = subst (λ (r : Decoded). DecodedAs c.before.before.before.before.before.before.before.before.before.before.before.before.before.before.before.before.args.text.now r d.new.1.1.0 d.new.1.1.1.0) c.before.before.before.before.before.n2.given.1 d.ensures in
@@ -39,8 +39,8 @@ returns-2 c =
     let d = c.before.before.before.before.before.decode in
     let text = s.args.text.now in
     let known = subst (λ (r : Decoded). DecodedAs text r d.new.1.1.0 d.new.1.1.1.0) c.before.n.given.1 d.ensures in
-    let e = read-spelt text (length s.args.out.now) c.before.before.before.before.before.before.before.before.before.if1.false ∙ spelt-line (wordsOf text) (indents text) _ _ known.0 (λ z. omega (arith, known.1)) in
-    (sym e, sym (ap (λ (a : Answered). left a (wordsOf text) s.args.out.now) e))
+    let e = read-spelt text (length s.args.out.now) c.before.before.before.before.before.before.before.before.before.if1.false ∙ spelt-line (words_of text) (indents text) _ _ known.0 (λ z. omega (arith, known.1)) in
+    (sym e, sym (ap (λ (a : Answered). left a (words_of text) s.args.out.now) e))
 
 returns-3 : tie.Need-returns-3
 returns-3 c =
@@ -49,7 +49,7 @@ returns-3 c =
     let e = read-spelt text (length s.args.out.now) c.before.before.before.before.before.before.before.before.before.before.before.before.before.before.before.before.if1.false in
     let f = c.before.before.finish.ensures in
     let a = f.0 ∙ sym e in
-    (a, f.1 ∙ ap (λ (q : Answered). left q (wordsOf text) s.args.out.now) a)
+    (a, f.1 ∙ ap (λ (q : Answered). left q (words_of text) s.args.out.now) a)
 
 pub read_spec : {M : Type 1} → statement M
 read_spec =

@@ -5,7 +5,7 @@ use mathlib.Core.List.{◌++◌}
 use native.Mathlib.Omega.{arith}
 use lib.ListN.{drop}
 use Rattle.listing.proofs.Depths.{narrow_size}
-use Rattle.listing.specs.Keywords.{styleLetter, entries, packed, packedAll, letters}
+use Rattle.listing.specs.Keywords.{style_letter, entries, packed, packed_all, letters}
 use Rattle.listing.specs.Listing.{done, left, listing}
 use Rattle.listing.specs.Answer.{number, place, answered}
 use Rattle.listing.proofs.Answers.{write-long, write-short, write_done}
@@ -19,7 +19,7 @@ find-depths-requires c κs =
     (s.requires, narrow_size s.args.words.now s.requires)
 
 text-size-requires : tie.Need-text-size-requires
-unfolding letters entries packedAll packed styleLetter
+unfolding letters entries packed_all packed style_letter
 text-size-requires c κs =
     let s = c.before.before.before.before.before.before.before in
     ((refl, s.requires), c.before.before.before.find-depths.ensures)
@@ -38,7 +38,7 @@ returns-2 c =
     (sym (write-short s.args.words.now _ s.requires (omega (arith, size)) (omega (arith, size))), refl)
 
 put-lines-requires : tie.Need-put-lines-requires
-unfolding letters entries packedAll packed styleLetter
+unfolding letters entries packed_all packed style_letter
 put-lines-requires c κs =
     let s = c.before.before.before.before.before.before.before.before.before.before.before.before.before in
     ((refl, s.requires), (c.before.before.before.before.before.before.before.before.before.find-depths.ensures, omega (arith, c.before.before.before.before.before.text-size.ensures)))

@@ -10,7 +10,7 @@ use Rattle.json.proofs.Choice.{is, is-not}
 use Rattle.json.proofs.Places.{there}
 use Rattle.manifest.specs.declared.members.Tally.{Tally}
 use Rattle.manifest.specs.Members.{strings, counted}
-use Rattle.manifest.specs.Answer.{count_of, othersOf}
+use Rattle.manifest.specs.Answer.{count_of, others_of}
 use Rattle.manifest.proofs.Lists.{counted-not, no-string, element-other, element-sets}
 use borrow.Author.Rules.{rules}
 use Rattle.manifest.proofs.members.element.Statement.{statement}
@@ -35,14 +35,14 @@ add-set-of c =
     let h : a.at < length a.text.now = there a.text.now a.at c.before.byte.ensures (omega arith) in omega arith
 
 add-t14 : tie.Need-overflow-add-t14
-add-t14 c = let k : othersOf c.before.before.before.before.before.before.before.before.before.args.tally ≡ c.before.before.before.before.before.before.tally.given.0.1.0 = ap othersOf c.before.before.before.before.before.before.tally.given.1 in omega (arith, c.before.before.before.before.before.before.before.before.before.requires)
+add-t14 c = let k : others_of c.before.before.before.before.before.before.before.before.before.args.tally ≡ c.before.before.before.before.before.before.tally.given.0.1.0 = ap others_of c.before.before.before.before.before.before.tally.given.1 in omega (arith, c.before.before.before.before.before.before.before.before.before.requires)
 
 returns-3 : tie.Need-returns-3
 returns-3 c =
     let s = c.before.before.before.before.before.before.before.before.before in
     let a = s.args in
     let t = c.before.before.before.before.before.before in
-    let k : othersOf a.tally ≡ t.tally.given.0.1.0 = ap othersOf t.tally.given.1 in (
+    let k : others_of a.tally ≡ t.tally.given.0.1.0 = ap others_of t.tally.given.1 in (
       sym
           ((ap (λ (x : Tally). counted a.names a.hosts (drop a.at a.text.now ∷ []) (count_of x)) t.tally.given.1)
           ∙ element-other a.names a.hosts a.text.now a.at _ _ _ c.before.before.set-of.ensures (is c.before.before.before.before.byte.ensures c.before.before.before.if1.false) (sym c.before.is-empty.ensures ∙ c.if2.true)),
@@ -54,7 +54,7 @@ returns-4 c =
     let t = c.before.before.before.before.before.before.before.before.before.before in
     let a = t.args in
     let u = c.before.before.before.before.before.before.before in
-    let k : othersOf a.tally ≡ u.tally.given.0.1.0 = ap othersOf u.tally.given.1 in (
+    let k : others_of a.tally ≡ u.tally.given.0.1.0 = ap others_of u.tally.given.1 in (
       ap (λ (s : PermSet). strings s.bits u.tally.given.0.1.0) c.union.ensures
           ∙ sym
           ((ap (λ (x : Tally). counted a.names a.hosts (drop a.at a.text.now ∷ []) (count_of x)) u.tally.given.1)

@@ -11,7 +11,7 @@ use Rattle.json.specs.Values.{value, item}
 use Rattle.json.specs.Answers.{stepped}
 use Rattle.json.proofs.Repetition.{starts-fails, starts-goes, starts-ends}
 use Rattle.manifest.specs.Members.{counted}
-use Rattle.manifest.specs.Answer.{count_of, othersOf}
+use Rattle.manifest.specs.Answer.{count_of, others_of}
 use Rattle.manifest.proofs.Lists.{counted-cons, counted_none}
 use Rattle.manifest.proofs.Tops.{narrow}
 use borrow.Author.Rules.{rules}
@@ -22,7 +22,7 @@ abbrev invariant-loop : tie.invariant-loop
 invariant-loop text at names hosts p₀ sum₀ p sum =
     (counted names hosts (starts (item (value 14) false) (drop at text)) (count_of sum₀)
     ≡ counted names hosts (starts (item (value 14) false) (drop p text)) (count_of sum))
-    × (othersOf sum + length (drop p text) ≤ othersOf sum₀ + length text)
+    × (others_of sum + length (drop p text) ≤ others_of sum₀ + length text)
 
 abbrev decreases-loop : tie.decreases-loop
 decreases-loop text at names hosts p₀ sum₀ p sum = length (drop p text)

@@ -7,7 +7,7 @@ use Prim.Native.Nat.{ℕ, ◌<◌}
 use native.Mathlib.Omega.{arith}
 use lib.ListN.{length}
 use Rattle.json.specs.declared.Ending.{Ending}
-use Rattle.json.specs.Values.{value, first, startsFrom}
+use Rattle.json.specs.Values.{value, first, starts_from}
 use Rattle.json.specs.Answers.{ended}
 use Rattle.json.proofs.Choice.{is, is-not}
 use Rattle.json.proofs.Places.{there, tail-drop}
@@ -42,7 +42,7 @@ returns-3 c =
       sym
           (ap (λ (x : Ending). listed a.names a.hosts (ended a.text.now x) (count_of a.tally)) c.before.before.before.before.before.before.value.given.1
           ∙ array a.names a.hosts _ _ (is c.before.before.before.before.byte.ensures c.before.before.before.if1.false)
-          ∙ ap (λ (l : List (List ℕ)). counted a.names a.hosts l (count_of a.tally)) (ap (startsFrom (value 14) false) (ap (first false) (tail-drop a.text.now c.before.before.before.before.before.before.value.given.0.0) ∙ sym c.before.before.first.ensures) ∙ starts_none 14 false a.text.now _ c.enum-told2.given.1)
+          ∙ ap (λ (l : List (List ℕ)). counted a.names a.hosts l (count_of a.tally)) (ap (starts_from (value 14) false) (ap (first false) (tail-drop a.text.now c.before.before.before.before.before.before.value.given.0.0) ∙ sym c.before.before.first.ensures) ∙ starts_none 14 false a.text.now _ c.enum-told2.given.1)
           ∙ counted_none a.names a.hosts _),
       omega arith,
     )
@@ -54,7 +54,7 @@ returns-4 c =
       sym
           (ap (λ (x : Ending). listed a.names a.hosts (ended a.text.now x) (count_of a.tally)) c.before.before.before.before.before.before.before.before.value.given.1
           ∙ array a.names a.hosts _ _ (is c.before.before.before.before.before.before.byte.ensures c.before.before.before.before.before.if1.false)
-          ∙ ap (λ (l : List (List ℕ)). counted a.names a.hosts l (count_of a.tally)) (ap (startsFrom (value 14) false) (ap (first false) (tail-drop a.text.now c.before.before.before.before.before.before.before.before.value.given.0.0) ∙ sym c.before.before.before.before.first.ensures) ∙ starts-at 14 false a.text.now _ _ c.before.before.p.given.1)
+          ∙ ap (λ (l : List (List ℕ)). counted a.names a.hosts l (count_of a.tally)) (ap (starts_from (value 14) false) (ap (first false) (tail-drop a.text.now c.before.before.before.before.before.before.before.before.value.given.0.0) ∙ sym c.before.before.before.before.first.ensures) ∙ starts-at 14 false a.text.now _ _ c.before.before.p.given.1)
           ∙ sym c.elements.ensures.0),
       c.elements.ensures.1,
     )

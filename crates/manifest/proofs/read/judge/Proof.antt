@@ -3,7 +3,7 @@
 use mathlib.Core.Path.{sym, ap, ◌∙◌}
 use native.Mathlib.Omega.{arith}
 use Rattle.manifest.specs.Manifest.{version, counts}
-use Rattle.manifest.specs.Answer.{count_of, othersOf}
+use Rattle.manifest.specs.Answer.{count_of, others_of}
 use Rattle.manifest.proofs.Judged.{judged-repeated, judged-unversioned, judged-versioned}
 use borrow.Author.Rules.{rules}
 use Rattle.manifest.proofs.read.judge.Statement.{statement}
@@ -34,7 +34,7 @@ returns-4 c = (
   sym
       (judged-versioned _ (sym c.before.before.before.before.before.before.before.before.before.repeated.ensures ∙ c.before.before.before.before.before.before.before.before.if1.false) _ (ap version (sym c.before.before.before.before.before.before.find.ensures) ∙ sym c.before.before.before.before.before.version.ensures) c.before.before.before.before.if2.false
       ∙ ap (counts c.before.before.before.before.before.version.result) (sym c.before.before.before.total.ensures.0 ∙ ap count_of c.before.set.given.1)),
-  let k = ap othersOf c.before.set.given.1 in omega (arith, k, c.before.before.before.total.ensures.1),
+  let k = ap others_of c.before.set.given.1 in omega (arith, k, c.before.before.before.total.ensures.1),
 )
 
 pub judge-spec : {M : Type 1} → statement M

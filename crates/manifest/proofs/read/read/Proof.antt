@@ -7,10 +7,10 @@ use native.Mathlib.Omega.{arith}
 use lib.ListN.{length}
 use borrow.Author.Tests.{le-leb, lt-leb, not-true, not-false}
 use Rattle.json.specs.Bytes.{head, tail}
-use Rattle.json.specs.Values.{value, first, startsFrom}
+use Rattle.json.specs.Values.{value, first, starts_from}
 use Rattle.json.proofs.Choice.{is, is-not}
 use Rattle.json.proofs.Places.{there, tail-drop}
-use Rattle.manifest.specs.Manifest.{judgedFrom}
+use Rattle.manifest.specs.Manifest.{judged_from}
 use Rattle.manifest.proofs.Judged.{judged-not, judged-object, too_long, no_text, no-object, an-object}
 use borrow.Author.Rules.{rules}
 use Rattle.manifest.proofs.read.read.Statement.{statement}
@@ -44,8 +44,8 @@ returns-4 c =
       c.judge.ensures.0
           ∙ sym
           (judged-object _ (an-object _ (le-leb _ _ c.before.before.before.before.before.before.before.if1.false) (sym c.before.before.before.before.before.before.is-text.ensures ∙ not-false _ c.before.before.before.before.before.if2.false) (is (c.before.before.before.byte.ensures ∙ ap head s.space.ensures) c.before.before.if3.false))
-          ∙ ap (λ bs. judgedFrom (startsFrom (value 15) true (first true bs))) (ap tail (sym s.space.ensures) ∙ tail-drop c.before.before.before.before.before.before.before.before.before.args.text.now s.space.result)
-          ∙ ap (λ r. judgedFrom (startsFrom (value 15) true r)) (sym c.before.first.ensures)),
+          ∙ ap (λ bs. judged_from (starts_from (value 15) true (first true bs))) (ap tail (sym s.space.ensures) ∙ tail-drop c.before.before.before.before.before.before.before.before.before.args.text.now s.space.result)
+          ∙ ap (λ r. judged_from (starts_from (value 15) true r)) (sym c.before.first.ensures)),
       c.judge.ensures.1,
     )
 

@@ -4,7 +4,7 @@ use mathlib.Core.Path.{sym, ap, ap₂, ◌∙◌}
 use mathlib.Core.Bool.{true, false}
 use native.Mathlib.Omega.{arith}
 use Rattle.permset.specs.declared.PermSet.{PermSet}
-use Rattle.json.specs.Values.{value, startsFrom}
+use Rattle.json.specs.Values.{value, starts_from}
 use Rattle.json.specs.Answers.{ended}
 use Rattle.manifest.specs.Members.{strings, listed}
 use Rattle.manifest.proofs.Judged.{total-two, total-three}
@@ -16,7 +16,7 @@ returns : tie.Need-returns
 returns c = (
   c.list.ensures.0
       ∙ ap₂ (listed true true) c.before.before.find.ensures (ap (λ (s : PermSet). strings s.bits 0) c.before.before.before.before.empty.ensures)
-      ∙ sym (total-two (startsFrom (value 15) true (ended c.before.before.before.before.before.before.args.text.now c.before.before.before.before.before.before.args.members)) _ _ c.before.if1.true),
+      ∙ sym (total-two (starts_from (value 15) true (ended c.before.before.before.before.before.before.args.text.now c.before.before.before.before.before.before.args.members)) _ _ c.before.if1.true),
   omega (arith, c.list.ensures.1, c.before.before.before.before.before.before.requires),
 )
 
@@ -26,7 +26,7 @@ returns-2 c =
     let a = t.args in (
       c.list3.ensures.0
           ∙ ap₂ (listed false true) c.before.find2.ensures (c.before.before.before.list2.ensures.0 ∙ ap₂ (listed true false) c.before.before.before.before.before.find.ensures (ap (λ (s : PermSet). strings s.bits 0) c.before.before.before.before.before.before.before.empty.ensures))
-          ∙ sym (total-three (startsFrom (value 15) true (ended a.text.now a.members)) _ _ c.before.before.before.before.if1.false),
+          ∙ sym (total-three (starts_from (value 15) true (ended a.text.now a.members)) _ _ c.before.before.before.before.if1.false),
       omega (arith, c.list3.ensures.1, c.before.before.before.list2.ensures.1, t.requires),
     )
 

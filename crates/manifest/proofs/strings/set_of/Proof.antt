@@ -3,13 +3,13 @@
 use mathlib.Core.Path.{ap, ap₂, ◌∙◌}
 use Rattle.permset.specs.declared.PermSet.{PermSet}
 use Rattle.permset.specs.Sets.{union}
-use Rattle.manifest.specs.Strings.{setOf}
+use Rattle.manifest.specs.Strings.{set_of}
 use borrow.Author.Rules.{rules}
 use Rattle.manifest.proofs.strings.set_of.Statement.{statement}
 use Rattle.manifest.proofs.strings.set_of.Tie as tie
 
 returns : tie.Need-returns
-unfolding setOf
+unfolding set_of
 returns c =
     ap (λ (s : PermSet). s.bits) c.union.ensures ∙ ap₂ union c.before.before.by_name.ensures c.before.by-host.ensures
 

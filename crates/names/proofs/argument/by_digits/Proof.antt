@@ -3,7 +3,7 @@ use Prim.Native.Nat.{ℕ, ◌+◌, ◌-◌, ◌*◌, ◌^◌, ◌≤◌, ◌<◌
 use mathlib.Core.Path.{◌≡◌, sym, ap, ◌∙◌}
 use native.Mathlib.Omega.{arith}
 use lib.ListN.{length, drop}
-use Rattle.names.specs.Argument.{folded, byDigits}
+use Rattle.names.specs.Argument.{folded, by_digits}
 use Rattle.names.specs.declared.argument.Argument.TheVariants.{Set}
 use Rattle.names.proofs.Digits.{folded-end, folded-digit, folded-other, digits-none, digits_long, digits-short, digit-more, six-digits}
 use borrow.Author.Rules.{rules}
@@ -11,7 +11,7 @@ use Rattle.names.proofs.argument.by_digits.Statement.{statement}
 use Rattle.names.proofs.argument.by_digits.Tie as tie
 
 abbrev invariant-loop : tie.invariant-loop
-invariant-loop bytes n₀ i₀ n i = (i ≤ length bytes) × (length bytes ≤ 6) × (n < 2 ^ (4 * i)) × (byDigits bytes ≡ folded n (drop i bytes))
+invariant-loop bytes n₀ i₀ n i = (i ≤ length bytes) × (length bytes ≤ 6) × (n < 2 ^ (4 * i)) × (by_digits bytes ≡ folded n (drop i bytes))
 
 abbrev decreases-loop : tie.decreases-loop
 decreases-loop bytes n₀ i₀ n i = length bytes - i

@@ -4,7 +4,7 @@ use Prim.Native.Nat.{◌-◌}
 use native.Mathlib.Omega.{arith}
 use lib.ListN.{length}
 use Rattle.deliveries.proofs.Positions.{Filled, filled-start, filled-step, filled-end}
-use Rattle.order_text.specs.Handlers.{line_for, lineOfPosition}
+use Rattle.order_text.specs.Handlers.{line_for, line_of_position}
 use Rattle.order_text.proofs.handlers.put_position.Statement.{statement}
 use Rattle.order_text.proofs.handlers.put_position.Tie as tie
 
@@ -26,7 +26,7 @@ same_length : tie.Need-same-length invariant-loop decreases-loop
 same_length c = c.before.loop.invariant.added.same
 
 returns : tie.Need-returns invariant-loop decreases-loop
-unfolding lineOfPosition
+unfolding line_of_position
 returns c = let i = c.before.loop.invariant in (filled-end _ _ i c.loop-test.false, omega (arith, i.near, i.inside))
 
 pub put-position-spec : {M : Type 1} → statement M

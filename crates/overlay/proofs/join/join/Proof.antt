@@ -9,9 +9,9 @@ use lib.ListN.{length, take, drop, set, replicate, length-set, length-replicate}
 use lib.Seq.{take-length}
 use borrow.Author.Rules.{rules}
 use Rattle.table.specs.Scan.{accepted}
-use Rattle.overlay.specs.Lookup.{tablesRead}
+use Rattle.overlay.specs.Lookup.{tables_read}
 use Rattle.overlay.specs.Join.{joined}
-use Rattle.overlay.specs.Answers.{faultNumber, faultPlace, joinedAs, checkedAs}
+use Rattle.overlay.specs.Answers.{fault_number, fault_place, joined_as, checked_as}
 use Rattle.overlay.proofs.Refusals.{tables-accepted}
 use Rattle.overlay.proofs.Appended.{appended-as}
 use Rattle.overlay.proofs.Joins.{join-refused, out-refused, Ready, ready, too-many-handlers, too-many-words, short-output, all-written}
@@ -19,16 +19,16 @@ use Rattle.overlay.proofs.join.join.Statement.{statement}
 use Rattle.overlay.proofs.join.join.Tie as tie
 
 returns : tie.Need-returns
-unfolding joinedAs checkedAs
+unfolding joined_as checked_as
 returns c =
-    let e = sym c.before.before.before.check.ensures ∙ ap checkedAs c.before.f.given.1 in
+    let e = sym c.before.before.before.check.ensures ∙ ap checked_as c.before.f.given.1 in
     let out = c.before.before.before.before.before.before.before.args.out.now in
     (sym (join-refused _ _ out _ _ e), sym (out-refused _ _ out _ _ e))
 
 -- both tables are accepted
-both : (c : tie.After-enum-told) → tablesRead c.before.before.before.before.before.before.args.base.now c.before.before.before.before.before.before.args.overlay.now ≡ accepted
-unfolding checkedAs
-both c = sym c.before.before.check.ensures ∙ ap checkedAs c.enum_told.given.1
+both : (c : tie.After-enum-told) → tables_read c.before.before.before.before.before.before.args.base.now c.before.before.before.before.before.before.args.overlay.now ≡ accepted
+unfolding checked_as
+both c = sym c.before.before.check.ensures ∙ ap checked_as c.enum_told.given.1
 
 put-blocks-requires : tie.Need-put-blocks-requires
 put-blocks-requires c κs = let t = tables-accepted _ _ (both c.before) in (omega arith, t.0, t.1)
@@ -64,22 +64,22 @@ buffer-long : (c : tie.After-put-blocks2) → length c.put-blocks2.new.0 ≡ 102
 buffer-long c = c.put-blocks2.auto.0 ∙ c.before.before.before.put-blocks.auto.0 ∙ zeros
 
 returns-2 : tie.Need-returns-2
-unfolding joinedAs faultNumber faultPlace
+unfolding joined_as fault_number fault_place
 returns-2 c = too-many-handlers _ _ (written c.before.before.before.before) _ (both c.before.before.before.before.before.before.before.before.before) (search rules)
 
 returns-3 : tie.Need-returns-3
-unfolding joinedAs faultNumber faultPlace
+unfolding joined_as fault_number fault_place
 returns-3 c = too-many-words _ _ (written c.before.before.before.before.before) _ (both c.before.before.before.before.before.before.before.before.before.before) (search rules) (search rules)
 
 returns-4 : tie.Need-returns-4
-unfolding joinedAs faultNumber faultPlace
+unfolding joined_as fault_number fault_place
 returns-4 c = short-output _ _ (written c.before.before.before.before.before.before) _ (both c.before.before.before.before.before.before.before.before.before.before.before) (search rules) (search rules) (search rules)
 
 part-append-end : tie.Need-slice-bounds-append-end
 part-append-end c = let l = buffer-long c.before.before.before.before.before.before.before.before in simp length-set (search rules)
 
 returns-5 : tie.Need-returns-5
-unfolding joinedAs
+unfolding joined_as
 returns-5 c =
     let a = c.before.before.before.before.before.before.before.before.before.before.before.before.before.before.before.before.before.before.before.before.before.before.before.args in
     let out = a.out.now in

@@ -9,7 +9,7 @@ use native.Mathlib.Omega.{arith}
 use lib.ListN.{length, get_or}
 use borrow.Author.Rules.{rules}
 use Rattle.table.specs.Words.{argument}
-use Rattle.blocks.specs.Blocks.{blocks, name_of, permsOf}
+use Rattle.blocks.specs.Blocks.{blocks, name_of, perms_of}
 use Rattle.blocks.proofs.Narrow.{table}
 use Rattle.overlay.specs.declared.search.Span.TheVariants as spans
 use Rattle.overlay.specs.Lookup.{Sought, found, seek, sought}
@@ -29,7 +29,7 @@ abbrev other : tie.After-seek → List ℕ
 other c = c.before.before.before.before.before.before.before.before.args.other.now
 
 abbrev search-of : tie.After-seek → Sought
-search-of c = seek (name_of (block c)) (permsOf (block c)) 1 (blocks (other c))
+search-of c = seek (name_of (block c)) (perms_of (block c)) 1 (blocks (other c))
 
 spanned : (c : tie.After-seek) → span_of (search-of c) ≡ c.seek.result
 spanned c =
@@ -38,7 +38,7 @@ spanned c =
     let n : name_of (block c) ≡ c.before.before.before.argument-of.result =
     ap argument (part-word ws a.start a.end 0 (omega arith) ∙ ap (λ (i : ℕ). get_or ws i 0) (add-zero a.start))
     ∙ sym c.before.before.before.argument-of.ensures in
-    let p : permsOf (block c) ≡ c.before.argument-of2.result =
+    let p : perms_of (block c) ≡ c.before.argument-of2.result =
     ap argument (part-word ws a.start a.end 1 (omega arith)) ∙ sym c.before.argument-of2.ensures in
     ap₂ (λ (i j : ℕ). span_of (sought a.other.now i j)) n p ∙ sym c.seek.ensures
 

@@ -12,8 +12,8 @@ use lib.Arith.{le-zero}
 use lib.ListN.{length, take, drop}
 use borrow.Author.Rules.{rules}
 use Rattle.table.specs.Words.{narrow}
-use Rattle.table.specs.Scan.{accepted, narrowReading}
-use Rattle.blocks.specs.Blocks.{blockLength, cut, blocks}
+use Rattle.table.specs.Scan.{accepted, narrow_reading}
+use Rattle.blocks.specs.Blocks.{block_length, cut, blocks}
 use Rattle.blocks.proofs.Tables.{Cuts}
 use Rattle.blocks.proofs.Narrow.{table as accepted-table}
 use Rattle.blocks.proofs.Places.{Here, here}
@@ -41,7 +41,7 @@ record Going (out₀ : List ℕ) (start : ℕ) (table other : List ℕ) (new : B
 
 -- one block more
 module _ {out₀ table other out : List ℕ} {start left at end count : ℕ} {new : Bool}
-    (g : Going out₀ start table other new out left at end count) (ta : narrowReading table ≡ accepted) (oa : narrowReading other ≡ accepted)
+    (g : Going out₀ start table other new out left at end count) (ta : narrow_reading table ≡ accepted) (oa : narrow_reading other ≡ accepted)
     (some_left : 0 < left) (r : Here narrow table left at) where
   abbrev block : List ℕ
   block = take r.size (drop at table)
@@ -91,7 +91,7 @@ module _ {out₀ table other out : List ℕ} {start left at end count : ℕ} {ne
           written = appended-on g.same g.written w;
         }
 
-  goes_on : {out' : List ℕ} {after count' : ℕ} (next : ℕ) → next ≡ at + blockLength (drop at table) → length out' ≡ length out
+  goes_on : {out' : List ℕ} {after count' : ℕ} (next : ℕ) → next ≡ at + block_length (drop at table) → length out' ≡ length out
       → AppendedTo end (given new (blocks other) (part at next table)) out out' after
       → ((count' ≡ count + 1) × (end < after)) ⊎ ((count' ≡ count) × (after ≤ end))
       → Going out₀ start table other new out' (left - 1) next after count'

@@ -7,67 +7,67 @@ use lib.Dec.{eqb}
 use lib.ListN.{length}
 use borrow.Author.Rules.{rules}
 use Rattle.overlay.specs.declared.Found.{Found}
-use Rattle.overlay.specs.Lookup.{place_of, is_refused, lookedUp}
-use Rattle.overlay.specs.Answers.{foundAs}
+use Rattle.overlay.specs.Lookup.{place_of, is_refused, looked_up}
+use Rattle.overlay.specs.Answers.{found_as}
 use Rattle.overlay.proofs.Places.{Stands, place-stands, none-refused}
 use Rattle.overlay.proofs.lookup.lookup.Statement.{statement}
 use Rattle.overlay.proofs.lookup.lookup.Tie as tie
 
 -- what the answer of `find` says of the two slices
 answered : (c : tie.After-find) (r : Found) → c.find.result ≡ r
-    → Stands c.before.before.before.args.base.now c.before.before.before.args.overlay.now c.before.before.before.args.name c.before.before.before.args.perms (foundAs r)
+    → Stands c.before.before.before.args.base.now c.before.before.before.args.overlay.now c.before.before.before.args.name c.before.before.before.args.perms (found_as r)
 answered c r e =
     let a = c.before.before.before.args in
     let S = Stands a.base.now a.overlay.now a.name a.perms in
-    subst S (sym c.find.ensures ∙ ap foundAs e) (place-stands a.base.now a.overlay.now a.name a.perms)
+    subst S (sym c.find.ensures ∙ ap found_as e) (place-stands a.base.now a.overlay.now a.name a.perms)
 
 mul-result : tie.Need-overflow-mul-result
-unfolding foundAs
+unfolding found_as
 mul-result c = let q = answered c.before.before.before _ c.before.start.given.1 in search rules
 
 sub-result : tie.Need-overflow-sub-result
-unfolding foundAs
+unfolding found_as
 sub-result c = let q = answered c.before.before.before _ c.before.start.given.1 in search rules
 
 part-result-start : tie.Need-slice-bounds-result-start
-unfolding foundAs
+unfolding found_as
 part-result-start c = let q = answered c.before.before.before _ c.before.start.given.1 in search rules
 
 part-result-end : tie.Need-slice-bounds-result-end
-unfolding foundAs
+unfolding found_as
 part-result-end c = let q = answered c.before.before.before _ c.before.start.given.1 in search rules
 
 mul-result-2 : tie.Need-overflow-mul-result-2
-unfolding foundAs
+unfolding found_as
 mul-result-2 c = let q = answered c.before.before.before _ c.before.start2.given.1 in search rules
 
 sub-result-2 : tie.Need-overflow-sub-result-2
-unfolding foundAs
+unfolding found_as
 sub-result-2 c = let q = answered c.before.before.before _ c.before.start2.given.1 in search rules
 
 part-result-start-2 : tie.Need-slice-bounds-result-start-2
-unfolding foundAs
+unfolding found_as
 part-result-start-2 c = let q = answered c.before.before.before _ c.before.start2.given.1 in search rules
 
 part-result-end-2 : tie.Need-slice-bounds-result-end-2
-unfolding foundAs
+unfolding found_as
 part-result-end-2 c = let q = answered c.before.before.before _ c.before.start2.given.1 in search rules
 
 -- of the words of the block, both clauses
-told : (base overlay : List ℕ) (n s : ℕ) (ws : List ℕ) → ws ≡ lookedUp base overlay n s
-    → (ws ≡ lookedUp base overlay n s) × (eqb (length ws) 0 ≡ is_refused (place_of base overlay n s))
+told : (base overlay : List ℕ) (n s : ℕ) (ws : List ℕ) → ws ≡ looked_up base overlay n s
+    → (ws ≡ looked_up base overlay n s) × (eqb (length ws) 0 ≡ is_refused (place_of base overlay n s))
 told base overlay n s ws e = (e, ap (λ (xs : List ℕ). eqb (length xs) 0) e ∙ none-refused base overlay n s)
 
 returns : tie.Need-returns
-unfolding foundAs
+unfolding found_as
 returns c = told _ _ _ _ _ (answered c.before.before.before.before _ c.before.before.start.given.1).2
 
 returns-2 : tie.Need-returns-2
-unfolding foundAs
+unfolding found_as
 returns-2 c = told _ _ _ _ _ (answered c.before.before.before.before _ c.before.before.start2.given.1).2
 
 returns-3 : tie.Need-returns-3
-unfolding foundAs
+unfolding found_as
 returns-3 c = told _ _ _ _ _ (sym (answered c.before.before.before _ c.before.enum_told.given.1))
 
 pub lookup-spec : {M : Type 1} → statement M

@@ -2,7 +2,7 @@
 use mathlib.Core.Path.{sym, ap, ◌∙◌}
 use Prim.Native.Nat.{ℕ, ◌+◌}
 use native.Mathlib.Omega.{arith}
-use Rattle.overlay.specs.Answers.{faultNumber}
+use Rattle.overlay.specs.Answers.{fault_number}
 use Rattle.overlay.proofs.Refusals.{number_small}
 use borrow.Author.Rules.{rules}
 use Rattle.overlay.proofs.numbers.fault_number.Statement.{statement}
@@ -12,28 +12,28 @@ add-result : tie.Need-overflow-add-result
 add-result c = omega (arith, number_small c.before.before.f2.given.0.0, c.refusal-number2.ensures)
 
 returns : tie.Need-returns
-unfolding faultNumber
-returns c = c.refusal-number.ensures ∙ sym (ap faultNumber c.before.before.f.given.1)
+unfolding fault_number
+returns c = c.refusal-number.ensures ∙ sym (ap fault_number c.before.before.f.given.1)
 
 returns-2 : tie.Need-returns-2
-unfolding faultNumber
-returns-2 c = ap (λ (n : ℕ). 100 + n) c.refusal-number2.ensures ∙ sym (ap faultNumber c.before.before.f2.given.1)
+unfolding fault_number
+returns-2 c = ap (λ (n : ℕ). 100 + n) c.refusal-number2.ensures ∙ sym (ap fault_number c.before.before.f2.given.1)
 
 returns-3 : tie.Need-returns-3
-unfolding faultNumber
-returns-3 c = sym (ap faultNumber c.enum_told.given.1)
+unfolding fault_number
+returns-3 c = sym (ap fault_number c.enum_told.given.1)
 
 returns-4 : tie.Need-returns-4
-unfolding faultNumber
-returns-4 c = sym (ap faultNumber c.enum-told2.given.1)
+unfolding fault_number
+returns-4 c = sym (ap fault_number c.enum-told2.given.1)
 
 returns-5 : tie.Need-returns-5
-unfolding faultNumber
-returns-5 c = sym (ap faultNumber c.enum-told3.given.1)
+unfolding fault_number
+returns-5 c = sym (ap fault_number c.enum-told3.given.1)
 
 returns-6 : tie.Need-returns-6
-unfolding faultNumber
-returns-6 c = sym (ap faultNumber c.enum-told4.given.1)
+unfolding fault_number
+returns-6 c = sym (ap fault_number c.enum-told4.given.1)
 
 pub fault-number-spec : {M : Type 1} → statement M
 fault-number-spec =

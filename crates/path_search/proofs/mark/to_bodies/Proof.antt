@@ -8,7 +8,7 @@ use Rattle.table.specs.Code.{code}
 use Rattle.calculus.specs.Layout.{sets}
 use Rattle.queries.proofs.Given.{linked-code}
 use Rattle.checker.proofs.Placed.{sizes}
-use Rattle.paths.specs.Path.{isBody}
+use Rattle.paths.specs.Path.{is_body}
 use Rattle.paths.specs.Search.{comes}
 use Rattle.paths.proofs.Answer.{body-inside}
 use Rattle.steps.proofs.Laws.{may-look}
@@ -20,7 +20,7 @@ use Rattle.path_search.proofs.mark.to_bodies.Tie as tie
 
 abbrev invariant-loop : tie.invariant-loop
 invariant-loop words links masks est reached₀ l n w found₀ f₀ reached found f =
-    SpreadTo (code words).size (comes (code words) (sets (code words) est)) (λ v. T (isBody (code words) (sets (code words) est) (w + 1) v) × (v ≤ f))
+    SpreadTo (code words).size (comes (code words) (sets (code words) est)) (λ v. T (is_body (code words) (sets (code words) est) (w + 1) v) × (v ≤ f))
     n w found₀ found reached₀ reached
 
 abbrev decreases-loop : tie.decreases-loop

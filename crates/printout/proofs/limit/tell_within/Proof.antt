@@ -1,41 +1,41 @@
 -- `printout::limit::tell_within` meets its contract. Assumes nothing.
 use mathlib.Core.Path.{sym, ap, ◌∙◌}
-use Rattle.verdict.specs.Limits.{limitedAnswer}
+use Rattle.verdict.specs.Limits.{limited_answer}
 use Rattle.text.proofs.Writing.{reworded}
-use Rattle.printout.specs.Program.{answerText}
+use Rattle.printout.specs.Program.{answer_text}
 use Rattle.printout.proofs.Texts.{held-under}
 use borrow.Author.Rules.{rules}
 use Rattle.printout.proofs.limit.tell_within.Statement.{statement}
 use Rattle.printout.proofs.limit.tell_within.Tie as tie
 
 answer-text-requires : tie.Need-answer-text-requires
-unfolding limitedAnswer
+unfolding limited_answer
 answer-text-requires c κs =
     let s = c.before.before.before.before.before.before.before.before.before.before.before.before.before.before.before.before in
     let a = s.args in
     let v = c.before.before.before.before.before.before.before.before.before.verdict-within.ensures in
-    (held-under a.words.now a.rho a.bound a.ceiling a.est.now a.work.now _ _ (sym (ap limitedAnswer c.before.before.before.v.given.1) ∙ v.0) v.1.0, s.requires)
+    (held-under a.words.now a.rho a.bound a.ceiling a.est.now a.work.now _ _ (sym (ap limited_answer c.before.before.before.v.given.1) ∙ v.0) v.1.0, s.requires)
 
 returns : tie.Need-returns
-unfolding limitedAnswer
+unfolding limited_answer
 returns c =
     let s = c.before.before.before.before.before.before.before.before.before.before.before.before.before.before.before.before.before.before.before in
     let a = s.args in
     let v = c.before.before.before.before.before.before.before.before.before.before.before.before.verdict-within.ensures in
     record {
-      wrote = reworded (ap (answerText a.rho a.words.now) (sym (ap limitedAnswer c.before.before.before.before.before.before.v.given.1) ∙ v.0)) c.before.before.answer-text.ensures;
+      wrote = reworded (ap (answer_text a.rho a.words.now) (sym (ap limited_answer c.before.before.before.before.before.before.v.given.1) ∙ v.0)) c.before.before.answer-text.ensures;
       estimates = v.1.0;
       works = v.1.1.0;
     }
 
 returns-2 : tie.Need-returns-2
-unfolding limitedAnswer answerText
+unfolding limited_answer answer_text
 returns-2 c =
     let s = c.before.before.before.before.before.before.before.before.before.before.before.before.before.before.before.before.before.before in
     let a = s.args in
     let v = c.before.before.before.before.before.before.before.before.before.before.before.verdict-within.ensures in
     record {
-      wrote = reworded (ap (answerText a.rho a.words.now) (sym (ap limitedAnswer c.before.before.before.before.before.n.given.1) ∙ v.0)) c.before.before.refusal-line.ensures.0;
+      wrote = reworded (ap (answer_text a.rho a.words.now) (sym (ap limited_answer c.before.before.before.before.before.n.given.1) ∙ v.0)) c.before.before.refusal-line.ensures.0;
       estimates = v.1.0;
       works = v.1.1.0;
     }

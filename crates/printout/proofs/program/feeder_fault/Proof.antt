@@ -6,13 +6,13 @@ use mathlib.Core.List.{[], ◌∷◌}
 use lib.Dec.{eqb, ltb}
 use borrow.Author.Tests.{lt-ltb, le-ltb, eq-eqb, ne_eqb}
 use Rattle.table.specs.Scan.{first_of}
-use Rattle.printout.specs.Program.{feederTests}
+use Rattle.printout.specs.Program.{feeder_tests}
 use Rattle.printout.proofs.program.feeder_fault.Statement.{statement}
 use Rattle.printout.proofs.program.feeder_fault.Tie as tie
 
 by_tests : {long short whole : Bool} (size : ℕ) → ltb 1032 size ≡ long → ltb size 8 ≡ short → eqb (size % 4) 0 ≡ whole
-    → first_of (feederTests size) ≡ first_of ((long, 31) ∷ (short, 30) ∷ (not whole, 30) ∷ [])
-unfolding feederTests
+    → first_of (feeder_tests size) ≡ first_of ((long, 31) ∷ (short, 30) ∷ (not whole, 30) ∷ [])
+unfolding feeder_tests
 by_tests size p q r = λ i. first_of ((p i, 31) ∷ (q i, 30) ∷ (not (r i), 30) ∷ [])
 
 returns : tie.Need-returns

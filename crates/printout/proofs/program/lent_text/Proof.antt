@@ -4,9 +4,9 @@ use mathlib.Core.Path.{ap, ◌∙◌}
 use mathlib.Core.List.{List}
 use native.Mathlib.Omega.{arith}
 use lib.ListN.{length, get_or, drop}
-use Rattle.little_endian.proofs.Laws.{length-wordsOf, words-read}
+use Rattle.little_endian.proofs.Laws.{length-words_of, words-read}
 use Rattle.text.proofs.Writing.{reworded}
-use Rattle.printout.specs.Program.{systemText}
+use Rattle.printout.specs.Program.{system_text}
 use Rattle.printout.proofs.Texts.{fed, printed-system}
 use borrow.Author.Rules.{rules}
 use Rattle.printout.proofs.program.lent_text.Statement.{statement}
@@ -18,7 +18,7 @@ slice-aggregate-words-text c =
     let w = c.before.before.before.words_of.ensures in
     let k = fed (length s.args.input.now) s.requires.0 in
     let e = words-read s.args.input.now s.args.words.now _ _ w.0 w.1 (omega (arith, s.requires.1)) in
-    omega (arith, ap length e, length-wordsOf s.args.input.now, w.0, s.requires.1)
+    omega (arith, ap length e, length-words_of s.args.input.now, w.0, s.requires.1)
 
 words-text-requires : tie.Need-words-text-requires
 words-text-requires c κs =
@@ -26,7 +26,7 @@ words-text-requires c κs =
     let w = c.before.before.before.before.words_of.ensures in
     let k = fed (length s.args.input.now) s.requires.0 in
     let e = words-read s.args.input.now s.args.words.now _ _ w.0 w.1 (omega (arith, s.requires.1)) in
-    let n = length-wordsOf s.args.input.now in
+    let n = length-words_of s.args.input.now in
     (omega (arith, ap length e), omega (arith, ap length e), s.requires.2)
 
 returns : tie.Need-returns
@@ -35,7 +35,7 @@ returns c =
     let w = c.before.before.before.before.before.before.before.words_of.ensures in
     let k = fed (length s.args.input.now) s.requires.0 in
     let e = words-read s.args.input.now s.args.words.now _ _ w.0 w.1 (omega (arith, s.requires.1)) in
-    reworded (ap (λ (ws : List ℕ). systemText (get_or ws 0 0) (get_or ws 1 0) (drop 2 ws)) e ∙ printed-system s.args.input.now s.requires.0)
+    reworded (ap (λ (ws : List ℕ). system_text (get_or ws 0 0) (get_or ws 1 0) (drop 2 ws)) e ∙ printed-system s.args.input.now s.requires.0)
     c.before.before.words-text.ensures
 
 pub lent-text-spec : {M : Type 1} → statement M

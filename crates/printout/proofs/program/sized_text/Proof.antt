@@ -3,7 +3,7 @@ use Prim.Native.Nat.{ℕ}
 use mathlib.Core.Path.{ap₂, ◌∙◌}
 use Rattle.calculus.specs.Answer.{refused, answer}
 use Rattle.text.proofs.Writing.{reworded}
-use Rattle.printout.specs.Program.{answerText, unlessWide}
+use Rattle.printout.specs.Program.{answer_text, unless_wide}
 use Rattle.printout.proofs.Texts.{system-exact}
 use borrow.Author.Rules.{rules}
 use Rattle.printout.proofs.program.sized_text.Statement.{statement}
@@ -13,7 +13,7 @@ returns : tie.Need-returns
 returns c =
     let s = c.before.before.before.before.before.before.before.before.before.before.before.before.before.before in
     reworded
-    (ap₂ (λ (m n : ℕ). answerText s.args.rho s.args.words.now (unlessWide s.args.words.now (refused 1 0) (answer s.args.words.now s.args.rho s.args.bound m n))) s.requires.1 s.requires.2
+    (ap₂ (λ (m n : ℕ). answer_text s.args.rho s.args.words.now (unless_wide s.args.words.now (refused 1 0) (answer s.args.words.now s.args.rho s.args.bound m n))) s.requires.1 s.requires.2
     ∙ system-exact s.args.words.now s.args.rho s.args.bound s.requires.0)
     c.before.before.before.before.before.before.tell.ensures.wrote
 

@@ -3,37 +3,37 @@ use mathlib.Core.Path.{sym, ap, ap₂, ◌∙◌}
 use Rattle.comparison.specs.declared.Verdict.{Verdict}
 use Rattle.comparison.specs.Values.{answer_of}
 use Rattle.text.proofs.Writing.{reworded}
-use Rattle.report.specs.Lines.{refusalLine}
-use Rattle.printout.specs.Program.{firstLine}
+use Rattle.report.specs.Lines.{refusal_line}
+use Rattle.printout.specs.Program.{first_line}
 use borrow.Author.Rules.{rules}
 use Rattle.printout.proofs.system.answer_line.Statement.{statement}
 use Rattle.printout.proofs.system.answer_line.Tie as tie
 
 returns : tie.Need-returns
-unfolding firstLine answer_of
+unfolding first_line answer_of
 returns c =
     let at-line = c.before.before in
     let f = c.before.before.before.before.before.before.before.v.given in (
       reworded
-          (ap₂ refusalLine c.before.before.before.before.fault-number.ensures c.before.before.before.fault-place.ensures
-          ∙ sym (ap (λ (v : Verdict). firstLine (answer_of v)) f.1))
+          (ap₂ refusal_line c.before.before.before.before.fault-number.ensures c.before.before.before.fault-place.ensures
+          ∙ sym (ap (λ (v : Verdict). first_line (answer_of v)) f.1))
           at-line.refusal-line.ensures.0,
       at-line.refusal-line.ensures.1,
     )
 
 returns-2 : tie.Need-returns-2
-unfolding firstLine answer_of
+unfolding first_line answer_of
 returns-2 c =
     let at-line = c.before.before in (
-      reworded (sym (ap (λ (v : Verdict). firstLine (answer_of v)) c.before.before.before.before.before.v2.given.1)) at-line.report-line.ensures.0,
+      reworded (sym (ap (λ (v : Verdict). first_line (answer_of v)) c.before.before.before.before.before.v2.given.1)) at-line.report-line.ensures.0,
       at-line.report-line.ensures.1,
     )
 
 returns-3 : tie.Need-returns-3
-unfolding firstLine answer_of
+unfolding first_line answer_of
 returns-3 c =
     let at-line = c.before.before in (
-      reworded (sym (ap (λ (v : Verdict). firstLine (answer_of v)) c.before.before.before.before.before.v3.given.1)) at-line.report-line2.ensures.0,
+      reworded (sym (ap (λ (v : Verdict). first_line (answer_of v)) c.before.before.before.before.before.v3.given.1)) at-line.report-line2.ensures.0,
       at-line.report-line2.ensures.1,
     )
 

@@ -7,7 +7,7 @@ use lib.ListN.{take}
 use lib.Seq.{length-take-le}
 use Rattle.table.specs.Code.{code}
 use Rattle.text.proofs.Writing.{reworded}
-use Rattle.printout.specs.Program.{handlerLines}
+use Rattle.printout.specs.Program.{handler_lines}
 use borrow.Author.Rules.{rules}
 use Rattle.printout.proofs.system.handlers_of.Statement.{statement}
 use Rattle.printout.proofs.system.handlers_of.Tie as tie
@@ -27,7 +27,7 @@ returns : tie.Need-returns
 returns c =
     let s = c.before.before.before.before.before.before.before.before.before in
     let first = ap (λ (n : ℕ). take n s.args.est.now) c.before.before.before.before.before.words-needed.ensures ∙ s.requires.0.starts in
-    reworded (ap (λ (us : List ℕ). handlerLines (code s.args.words.now) s.args.rho us 0 (code s.args.words.now).blocks) first)
+    reworded (ap (λ (us : List ℕ). handler_lines (code s.args.words.now) s.args.rho us 0 (code s.args.words.now).blocks) first)
     c.before.before.handler-lines.ensures
 
 pub handlers-of-spec : {M : Type 1} → statement M

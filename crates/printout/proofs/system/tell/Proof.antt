@@ -1,7 +1,7 @@
 -- `printout::system::tell` meets its contract. Assumes nothing.
 use mathlib.Core.Path.{sym, ap, ◌∙◌}
 use Rattle.calculus.specs.Answer.{refused}
-use Rattle.printout.specs.Program.{answerText}
+use Rattle.printout.specs.Program.{answer_text}
 use Rattle.text.proofs.Writing.{reworded}
 use Rattle.printout.proofs.Texts.{wide-text, if-wide, if-other}
 use borrow.Author.Rules.{rules}
@@ -26,7 +26,7 @@ returns-2 c =
     let e = sym c.before.before.before.before.before.before.before.before.before.before.before.is_IsWide.ensures ∙ c.before.before.before.before.before.before.before.before.before.before.if1.false in
     let t = c.before.before.before.before.before.before.tell-either.ensures in
     record {
-      wrote = reworded (ap (answerText s.args.rho ws) (if-other ws (refused 1 0) _ e)) t.wrote;
+      wrote = reworded (ap (answer_text s.args.rho ws) (if-other ws (refused 1 0) _ e)) t.wrote;
       estimates = t.estimates ∙ if-other ws s.args.est.now _ e;
       works = t.works ∙ if-other ws s.args.work.now _ e;
     }

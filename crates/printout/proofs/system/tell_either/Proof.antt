@@ -1,7 +1,7 @@
 -- `printout::system::tell_either` meets its contract. Assumes nothing.
 use mathlib.Core.Path.{ap}
 use Rattle.text.proofs.Writing.{reworded}
-use Rattle.printout.specs.Program.{answerText}
+use Rattle.printout.specs.Program.{answer_text}
 use Rattle.printout.proofs.Texts.{held_after}
 use borrow.Author.Rules.{rules}
 use Rattle.printout.proofs.system.tell_either.Statement.{statement}
@@ -18,7 +18,7 @@ returns c =
     let s = c.before.before.before.before.before.before.before.before.before.before.before.before.before.before.before.before in
     let v = c.before.before.before.before.before.before.before.before.before.verdict.ensures in
     record {
-      wrote = reworded (ap (answerText s.args.rho s.args.words.now) v.0) c.before.before.answer-text.ensures;
+      wrote = reworded (ap (answer_text s.args.rho s.args.words.now) v.0) c.before.before.answer-text.ensures;
       estimates = v.1.0;
       works = v.1.1.0;
     }

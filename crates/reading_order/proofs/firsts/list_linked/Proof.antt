@@ -12,25 +12,25 @@ use Rattle.table.specs.Scan.{accepted, reading}
 use Rattle.table.specs.Code.{code, end_of}
 use Rattle.table.proofs.Limits.{size-le}
 use Rattle.table.proofs.Blocks.{Follows, blocks-first, blocks-next, blocks_end}
-use Rattle.table.proofs.BlockLoop.{blocksOn, named-there, follows-first, next-is, follows_next, next-later}
+use Rattle.table.proofs.BlockLoop.{blocks_on, named-there, follows-first, next-is, follows_next, next-later}
 use Rattle.graph.proofs.Writing.{Partly, partly-start, partly-on, partly-end}
 use Rattle.reading_order.proofs.firsts.list_linked.Statement.{statement}
 use Rattle.reading_order.proofs.firsts.list_linked.Tie as tie
 
 abbrev invariant-loop : tie.invariant-loop
 invariant-loop words links firsts₀ n₀ b₀ firsts n b =
-    Follows words b × Partly firsts₀ (code words).blocks firsts n (blocksOn words b)
-    × (n + length (blocksOn words b) ≡ length (code words).blocks)
+    Follows words b × Partly firsts₀ (code words).blocks firsts n (blocks_on words b)
+    × (n + length (blocks_on words b) ≡ length (code words).blocks)
 
 abbrev decreases-loop : tie.decreases-loop
 decreases-loop words links firsts₀ n₀ b₀ firsts n b = length words - b
 
-blocks-are : (ws : List ℕ) → reading ws ≡ accepted → (code ws).blocks ≡ blocksOn ws 1
+blocks-are : (ws : List ℕ) → reading ws ≡ accepted → (code ws).blocks ≡ blocks_on ws 1
 unfolding code
 blocks-are ws e = blocks-first ws e
 
 -- the block at b and those behind it
-step : (c : tie.In-loop invariant-loop decreases-loop) → blocksOn c.before.before.before.before.before.args.words.now c.before.loop.b ≡ c.before.loop.b ∷ blocksOn c.before.before.before.before.before.args.words.now (end_of c.before.before.before.before.before.args.words.now (c.before.loop.b + 3))
+step : (c : tie.In-loop invariant-loop decreases-loop) → blocks_on c.before.before.before.before.before.args.words.now c.before.loop.b ≡ c.before.loop.b ∷ blocks_on c.before.before.before.before.before.args.words.now (end_of c.before.before.before.before.before.args.words.now (c.before.loop.b + 3))
 step c =
     let s = c.before.before.before.before.before in
     let i = c.before.loop in
@@ -91,7 +91,7 @@ loop-again c =
     let i = c.before.before.loop in
     let g = c.before.loop-test.true in
     let t = named-there s.args.words.now s.requires.0 i.b i.invariant.0 g in
-    let e = step c.before ∙ ap (λ (k : ℕ). i.b ∷ blocksOn s.args.words.now k) (sym (end_is c)) in (
+    let e = step c.before ∙ ap (λ (k : ℕ). i.b ∷ blocks_on s.args.words.now k) (sym (end_is c)) in (
       subst (Follows s.args.words.now) (sym (end_is c)) (follows_next s.args.words.now s.requires.0 i.b g t),
       partly-on _ _ i.firsts i.n i.b _ _ e i.invariant.1,
       omega (arith, ap length e, i.invariant.2),
@@ -106,7 +106,7 @@ returns c =
     let i = c.before.loop in
     let ws = s.args.words.now in
     let z : i.b ≡ length ws = ⊎_elim (λ x. x) (λ x. absurd (omega (arith, x.0, c.loop-test.false))) i.invariant.0 in
-    let none = ap (blocksOn ws) z ∙ blocks_end ws s.requires.0 in (
+    let none = ap (blocks_on ws) z ∙ blocks_end ws s.requires.0 in (
       omega (arith, ap length none, i.invariant.2),
       partly-end _ _ i.firsts i.n _ none s.requires.2 i.invariant.1,
     )

@@ -11,12 +11,12 @@ use lib.Seq.{drop-cons}
 use Rattle.table.specs.Code.{Code}
 use Rattle.rows.specs.Laid.{LaidOut}
 use Rattle.graph.proofs.Writing.{Partly, partly-start, partly-on, partly-end}
-use Rattle.reading_order.specs.Relation.{sendersTo}
+use Rattle.reading_order.specs.Relation.{senders_to}
 use Rattle.reading_order.proofs.relation.fill_rows.Statement.{statement}
 use Rattle.reading_order.proofs.relation.fill_rows.Tie as tie
 
 abbrev rows_from : Code → (est blocks : List ℕ) → ℕ → List ℕ
-rows_from c est blocks t = map (sendersTo c est blocks) (drop t blocks)
+rows_from c est blocks t = map (senders_to c est blocks) (drop t blocks)
 
 -- the row of the block at place t, and those behind it
 row_next : (f : ℕ → ℕ) (bs : List ℕ) (t x : ℕ) → t < length bs → x ≡ f (get_or bs t 0) → map f (drop t bs) ≡ x ∷ map f (drop (t + 1) bs)
@@ -50,7 +50,7 @@ loop-again c =
       search rules,
       simp length-set i.invariant.1,
       λ k o. partly-on _ _ i.rows i.t c.senders-to.result _ _
-          (row_next (sendersTo k a.est.now a.blocks.now) a.blocks.now i.t _ h (c.senders-to.ensures k o)) (i.invariant.2 k o),
+          (row_next (senders_to k a.est.now a.blocks.now) a.blocks.now i.t _ h (c.senders-to.ensures k o)) (i.invariant.2 k o),
     )
 
 returns : tie.Need-returns invariant-loop decreases-loop
@@ -59,8 +59,8 @@ returns c =
     let s = c.before.before.before.before.before in
     let a = s.args in
     λ k o. partly-end _ _ i.rows i.t _
-    (ap (map (sendersTo k a.est.now a.blocks.now)) (drop_of_length-le a.blocks.now {i = i.t} c.loop-test.false))
-    (omega (arith, s.requires.2, length-map a.blocks.now (sendersTo k a.est.now a.blocks.now))) (i.invariant.2 k o)
+    (ap (map (senders_to k a.est.now a.blocks.now)) (drop_of_length-le a.blocks.now {i = i.t} c.loop-test.false))
+    (omega (arith, s.requires.2, length-map a.blocks.now (senders_to k a.est.now a.blocks.now))) (i.invariant.2 k o)
 
 pub fill-rows-spec : {M : Type 1} → statement M
 fill-rows-spec =

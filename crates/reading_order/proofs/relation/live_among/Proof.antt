@@ -7,7 +7,7 @@ use borrow.Author.Rules.{rules}
 use Rattle.table.specs.Code.{Code}
 use Rattle.calculus.specs.Constraint.{L}
 use Rattle.calculus.specs.Layout.{sets}
-use Rattle.reading_order.specs.Relation.{liveAmong}
+use Rattle.reading_order.specs.Relation.{live_among}
 use Rattle.reading_order.proofs.Places.{Collected, collected-start, collected-end, collected-room, collected-step}
 use Rattle.reading_order.proofs.relation.live_among.Statement.{statement}
 use Rattle.reading_order.proofs.relation.live_among.Tie as tie
@@ -47,7 +47,7 @@ loop-again c =
     c.before.is_live.result c.before.is_live.ensures c.shifted.result c.shifted.ensures
 
 returns : tie.Need-returns invariant-loop decreases-loop
-unfolding liveAmong
+unfolding live_among
 returns c =
     let i = c.before.loop in
     let a = c.before.before.before.before.args in

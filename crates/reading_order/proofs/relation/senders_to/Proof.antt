@@ -9,7 +9,7 @@ use Rattle.table.specs.Code.{Code}
 use Rattle.calculus.specs.Elements.{made}
 use Rattle.calculus.specs.Constraint.{C}
 use Rattle.calculus.specs.Layout.{sets}
-use Rattle.reading_order.specs.Relation.{sendersTo}
+use Rattle.reading_order.specs.Relation.{senders_to}
 use Rattle.reading_order.proofs.Elements.{sender-is}
 use Rattle.reading_order.proofs.Places.{Collected, collected-start, collected-end, collected-room, collected-step}
 use Rattle.reading_order.proofs.relation.senders_to.Statement.{statement}
@@ -61,7 +61,7 @@ loop-again c =
     c.shifted.result c.shifted.ensures
 
 returns : tie.Need-returns invariant-loop decreases-loop
-unfolding sendersTo
+unfolding senders_to
 returns c =
     let i = c.before.loop in
     let a = c.before.before.before.before.args in

@@ -2,7 +2,7 @@
 use Prim.Native.Nat.{ℕ}
 use mathlib.Core.Path.{ap, ◌∙◌}
 use lib.ListN.{length}
-use Rattle.reading_order.specs.Reply.{reply, estimateAfterOrder, positionsAfter}
+use Rattle.reading_order.specs.Reply.{reply, estimate_after_order, positions_after}
 use Rattle.reading_order.proofs.Ceilings.{reply-unlimited}
 use borrow.Author.Rules.{rules}
 use Rattle.reading_order.proofs.unlimited.order_unlimited.Statement.{statement}
@@ -19,11 +19,11 @@ returns c =
     let said = o.0 ∙ ap (λ (n : ℕ). reply a.words.now a.rho n e w p) m in (
       said,
       (
-        o.1.0 ∙ ap (λ (n : ℕ). estimateAfterOrder a.words.now a.rho n a.est.now a.work.now a.positions.now) m,
+        o.1.0 ∙ ap (λ (n : ℕ). estimate_after_order a.words.now a.rho n a.est.now a.work.now a.positions.now) m,
         (
           o.1.1.0,
           (
-            o.1.1.1.0 ∙ ap (λ (n : ℕ). positionsAfter a.words.now a.rho n a.est.now a.work.now a.positions.now) m,
+            o.1.1.1.0 ∙ ap (λ (n : ℕ). positions_after a.words.now a.rho n a.est.now a.work.now a.positions.now) m,
             (o.1.1.1.1, λ n h. said ∙ reply-unlimited a.words.now a.rho e w p n h),
           ),
         ),

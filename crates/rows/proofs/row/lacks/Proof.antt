@@ -9,7 +9,7 @@ use lib.Dec.{eqb}
 use lib.ListN.{take, drop}
 use borrow.Author.Rules.{rules}
 use Rattle.rows.specs.Rows.{lacking}
-use Rattle.rows.proofs.Laws.{length-row, getD-row, missing_at, missing-done}
+use Rattle.rows.proofs.Laws.{length-row, get_or-row, missing_at, missing-done}
 use Rattle.rows.proofs.row.lacks.Statement.{statement}
 use Rattle.rows.proofs.row.lacks.Tie as tie
 
@@ -35,7 +35,7 @@ loop-again c =
       omega arith,
       l.invariant.1 ∙ missing_at xs ys l.i l.missing (omega (arith, n)) (omega (arith, k))
           ∙ ap₂ (λ (x y : ℕ). not (eqb (bit_or l.missing (bit_xor x (bit_and x y))) 0) || lacking (drop (l.i + 1) xs) (drop (l.i + 1) ys))
-          (getD-row a.est.now a.from a.row l.i (omega arith)) (getD-row a.est.now a.to a.row l.i (omega arith)),
+          (get_or-row a.est.now a.from a.row l.i (omega arith)) (get_or-row a.est.now a.to a.row l.i (omega arith)),
     )
 
 returns : tie.Need-returns invariant-loop decreases-loop

@@ -9,9 +9,9 @@ use lib.Dec.{eqb}
 use lib.ListN.{get_or, take, drop}
 use borrow.Author.Rules.{rules}
 use Rattle.calculus.specs.Layout.{masked}
-use Rattle.calculus.proofs.Masks.{getD-masked}
+use Rattle.calculus.proofs.Masks.{get_or-masked}
 use Rattle.rows.specs.Rows.{lacking}
-use Rattle.rows.proofs.Laws.{length-row, getD-row, length-masked-row, missing_at, missing-done}
+use Rattle.rows.proofs.Laws.{length-row, get_or-row, length-masked-row, missing_at, missing-done}
 use Rattle.rows.proofs.row.lacks_masked.Statement.{statement}
 use Rattle.rows.proofs.row.lacks_masked.Tie as tie
 
@@ -38,9 +38,9 @@ loop-again c =
       omega arith,
       l.invariant.1 ∙ missing_at xs ys l.i l.missing (omega (arith, n)) (omega (arith, k))
           ∙ ap₂ (λ (x y : ℕ). not (eqb (bit_or l.missing (bit_xor x (bit_and x y))) 0) || lacking (drop (l.i + 1) xs) (drop (l.i + 1) ys))
-          (getD-masked a.mask.now row l.i
-          ∙ ap (bit_and (get_or a.mask.now l.i 0)) (getD-row a.est.now a.from a.row l.i (omega arith)))
-          (getD-row a.est.now a.to a.row l.i (omega arith)),
+          (get_or-masked a.mask.now row l.i
+          ∙ ap (bit_and (get_or a.mask.now l.i 0)) (get_or-row a.est.now a.from a.row l.i (omega arith)))
+          (get_or-row a.est.now a.to a.row l.i (omega arith)),
     )
 
 returns : tie.Need-returns invariant-loop decreases-loop

@@ -2,7 +2,7 @@
 use Prim.Native.Nat.{◌≤◌}
 use native.Mathlib.Omega.{arith}
 use Rattle.table.specs.Code.{code}
-use Rattle.calculus.specs.Estimate.{mostFacts}
+use Rattle.calculus.specs.Estimate.{most_facts}
 use Rattle.solver.proofs.Least.{found_in}
 use Rattle.solver.proofs.Unlimited.{most-facts-of}
 use borrow.Author.Rules.{rules}
@@ -14,7 +14,7 @@ returns c =
     let m = c.before.before.before.before.before.before.before in
     let s = m.before.before.before.before in
     let a = s.args in
-    let h : mostFacts (code a.words.now) ≤ m.most-facts.result =
+    let h : most_facts (code a.words.now) ≤ m.most-facts.result =
     omega (arith, most-facts-of a.words.now s.requires.readable, m.most-facts.ensures) in
     found_in a.words.now s.requires.readable a.rho.bits _ h a.est.now a.work.now _ _ _ c.before.before.before.before.solve-in.ensures
 

@@ -5,18 +5,18 @@ use mathlib.Core.Bool.{not}
 use Prim.Native.Nat.{ℕ}
 use lib.Dec.{eqb}
 use Rattle.stray.specs.declared.Holding.{Holding}
-use Rattle.stray.specs.Allowed.{wordNamed}
+use Rattle.stray.specs.Allowed.{word_named}
 use borrow.Author.Rules.{rules}
 use Rattle.stray.proofs.allowed.named.Statement.{statement}
 use Rattle.stray.proofs.allowed.named.Tie as tie
 
 returns : tie.Need-returns
-unfolding wordNamed
-returns c = ap (λ (n : ℕ). not (eqb n 0)) c.word_Makes.ensures ∙ sym (ap (λ (s : Holding). wordNamed s c.before.before.before.args.w) c.before.enum_told.given.1)
+unfolding word_named
+returns c = ap (λ (n : ℕ). not (eqb n 0)) c.word_Makes.ensures ∙ sym (ap (λ (s : Holding). word_named s c.before.before.before.args.w) c.before.enum_told.given.1)
 
 returns-2 : tie.Need-returns-2
-unfolding wordNamed
-returns-2 c = c.is_block.ensures ∙ sym (ap (λ (s : Holding). wordNamed s c.before.before.before.args.w) c.before.enum-told2.given.1)
+unfolding word_named
+returns-2 c = c.is_block.ensures ∙ sym (ap (λ (s : Holding). word_named s c.before.before.before.args.w) c.before.enum-told2.given.1)
 
 pub named-spec : {M : Type 1} → statement M
 named-spec =

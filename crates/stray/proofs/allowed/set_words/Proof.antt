@@ -12,7 +12,7 @@ use Rattle.calculus.proofs.Places.{fits-row}
 use Rattle.rows.specs.declared.layout.Layout.{Layout}
 use Rattle.rows.specs.Laid.{LaidOut}
 use Rattle.rows.proofs.Bounds.{row_small}
-use Rattle.masks.specs.Masks.{markIf}
+use Rattle.masks.specs.Masks.{mark_if}
 use Rattle.stray.specs.Allowed.{Allowed}
 use Rattle.stray.proofs.Named.{word-named, one_more}
 use borrow.Author.Rules.{rules}
@@ -72,8 +72,8 @@ loop-again c =
     let y : 32 * s.args.l.lead + l.p ≡ plain (code ws) + l.p = omega (arith, s.requires.0.1.lead) in (
       c.before.before.set_if.auto.0 ∙ l.invariant.0,
       omega arith,
-      subst (Allowed (code ws) s.args.h (plain (code ws) + (l.p + 1))) (sym (c.before.before.set_if.ensures ∙ ap (markIf c.before.before.before.named.result l.row) y))
-          (subst (λ (n : ℕ). Allowed (code ws) s.args.h n (markIf c.before.before.before.named.result l.row (plain (code ws) + l.p))) z
+      subst (Allowed (code ws) s.args.h (plain (code ws) + (l.p + 1))) (sym (c.before.before.set_if.ensures ∙ ap (mark_if c.before.before.before.named.result l.row) y))
+          (subst (λ (n : ℕ). Allowed (code ws) s.args.h n (mark_if c.before.before.before.named.result l.row (plain (code ws) + l.p))) z
           (one_more (code ws) s.args.h l.p l.row (omega arith) c.before.before.before.named.result
           (c.before.before.before.named.ensures ∙ word-named ws s.requires.0.0 l.p t s.args.h) l.invariant.2)),
     )

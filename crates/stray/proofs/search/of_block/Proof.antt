@@ -11,21 +11,21 @@ use lib.ListN.{length, get_or}
 use Rattle.table.specs.Words.{kind}
 use Rattle.table.specs.Scan.{accepted, reading}
 use Rattle.table.specs.Code.{code}
-use Rattle.calculus.specs.Rules.{isBlock}
-use Rattle.stray.specs.Stray.{ofBlock}
+use Rattle.calculus.specs.Rules.{is_block}
+use Rattle.stray.specs.Stray.{of_block}
 use Rattle.stray.proofs.Named.{kind-block}
 use borrow.Author.Rules.{rules}
 use Rattle.stray.proofs.search.of_block.Statement.{statement}
 use Rattle.stray.proofs.search.of_block.Tie as tie
 
-even : (ws : List ℕ) → reading ws ≡ accepted → (r : ℕ) → r < 2 * length ws → r % 2 ≡ 0 → eqb (kind (get_or ws (r / 2) 0)) 2 ≡ ofBlock (code ws) r
-unfolding ofBlock
+even : (ws : List ℕ) → reading ws ≡ accepted → (r : ℕ) → r < 2 * length ws → r % 2 ≡ 0 → eqb (kind (get_or ws (r / 2) 0)) 2 ≡ of_block (code ws) r
+unfolding of_block
 even ws e r h z =
-    kind-block ws e (r / 2) (omega arith) ∙ ap (λ (b : Bool). b && isBlock ((code ws).node (r / 2))) (sym (eq-eqb (r % 2) 0 z))
+    kind-block ws e (r / 2) (omega arith) ∙ ap (λ (b : Bool). b && is_block ((code ws).node (r / 2))) (sym (eq-eqb (r % 2) 0 z))
 
-odd : (ws : List ℕ) (r : ℕ) → (r % 2 ≡ 0 → ⊥) → false ≡ ofBlock (code ws) r
-unfolding ofBlock
-odd ws r n = ap (λ (b : Bool). b && isBlock ((code ws).node (r / 2))) (sym (ne_eqb (r % 2) 0 n))
+odd : (ws : List ℕ) (r : ℕ) → (r % 2 ≡ 0 → ⊥) → false ≡ of_block (code ws) r
+unfolding of_block
+odd ws r n = ap (λ (b : Bool). b && is_block ((code ws).node (r / 2))) (sym (ne_eqb (r % 2) 0 n))
 
 returns : tie.Need-returns
 returns c =

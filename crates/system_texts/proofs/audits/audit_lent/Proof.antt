@@ -2,7 +2,7 @@
 use mathlib.Core.Path.{sym, ap, ◌∙◌}
 use Rattle.little_endian.proofs.First.{words_size, words-first}
 use Rattle.text.proofs.Writing.{reworded}
-use Rattle.system_texts.specs.Audit.{auditWords}
+use Rattle.system_texts.specs.Audit.{audit_words}
 use Rattle.system_texts.proofs.Laws.{audit-all}
 use borrow.Author.Rules.{rules}
 use Rattle.system_texts.proofs.audits.audit_lent.Statement.{statement}
@@ -17,7 +17,7 @@ returns : tie.Need-returns
 returns c =
     let w = c.before.before.before.before.before.before.before.words_of in
     reworded
-    (ap (auditWords c.before.before.before.before.before.before.before.before.before.before.before.before.args.rho)
+    (ap (audit_words c.before.before.before.before.before.before.before.before.before.before.before.before.args.rho)
     (words-first 73729 c.before.before.before.before.before.before.before.before.before.before.before.before.args.input.now c.before.before.before.before.before.before.before.before.before.before.before.before.args.words.now w.new.1.0 w.result c.before.before.before.before.before.before.before.before.before.before.before.before.requires.1 w.ensures.0 w.ensures.1 ∙ audit-all c.before.before.before.before.before.before.before.before.before.before.before.before.args.rho c.before.before.before.before.before.before.before.before.before.before.before.before.args.input.now c.before.before.before.before.before.before.before.before.before.before.before.before.requires.0))
     c.before.before.audit-words.ensures
 

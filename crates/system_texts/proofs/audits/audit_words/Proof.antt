@@ -2,7 +2,7 @@
 use mathlib.Core.Path.{ap, sym, ◌∙◌}
 use native.Mathlib.Omega.{arith}
 use Rattle.text.proofs.Writing.{reworded}
-use Rattle.system_texts.specs.Audit.{auditLine}
+use Rattle.system_texts.specs.Audit.{audit_line}
 use Rattle.system_texts.proofs.Laws.{audit-none, audit-few, audit-there}
 use borrow.Author.Rules.{rules}
 use Rattle.system_texts.proofs.audits.audit_words.Statement.{statement}
@@ -17,7 +17,7 @@ returns-2 c =
 
 returns-3 : tie.Need-returns-3
 returns-3 c =
-    reworded (ap auditLine c.before.before.before.before.audit.ensures.0 ∙ audit-there c.before.before.before.before.before.before.before.before.before.before.before.before.before.args.rho c.before.before.before.before.before.before.before.before.before.before.before.before.before.args.words.now c.before.before.before.before.before.before.before.before.type_size.result c.before.before.before.before.before.before.before.before.type_size.ensures c.before.before.before.before.before.before.before.if2.false)
+    reworded (ap audit_line c.before.before.before.before.audit.ensures.0 ∙ audit-there c.before.before.before.before.before.before.before.before.before.before.before.before.before.args.rho c.before.before.before.before.before.before.before.before.before.before.before.before.before.args.words.now c.before.before.before.before.before.before.before.before.type_size.result c.before.before.before.before.before.before.before.before.type_size.ensures c.before.before.before.before.before.before.before.if2.false)
     c.before.before.put-audit.ensures
 
 pub audit-words-spec : {M : Type 1} → statement M

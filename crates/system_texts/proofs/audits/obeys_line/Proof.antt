@@ -1,7 +1,7 @@
 -- `system_texts::audits::obeys_line` meets its contract. Assumes nothing.
 use native.Mathlib.Omega.{arith}
 use Rattle.text.proofs.Writing.{then, wrote-length}
-use Rattle.system_texts.specs.Audit.{auditLine}
+use Rattle.system_texts.specs.Audit.{audit_line}
 use borrow.Author.Rules.{rules}
 use Rattle.system_texts.proofs.audits.obeys_line.Statement.{statement}
 use Rattle.system_texts.proofs.audits.obeys_line.Tie as tie
@@ -10,7 +10,7 @@ put-requires : tie.Need-put-requires
 put-requires c κs = omega (arith, c.before.before.before.before.before.before.before.before.requires, c.before.before.before.before.set-field.ensures.1, wrote-length c.before.before.before.before.set-field.ensures.0)
 
 returns : tie.Need-returns
-unfolding auditLine
+unfolding audit_line
 returns c = then c.before.before.before.before.before.before.before.set-field.ensures.0 c.before.before.put.ensures
 
 pub obeys-line-spec : {M : Type 1} → statement M

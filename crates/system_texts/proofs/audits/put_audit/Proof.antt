@@ -2,9 +2,9 @@
 use mathlib.Core.Path.{sym, ap, ap₂, ◌∙◌}
 use Rattle.audit.specs.declared.Audit.{Audit}
 use Rattle.audit.specs.Audited.{said}
-use Rattle.report.specs.Lines.{refusalLine}
+use Rattle.report.specs.Lines.{refusal_line}
 use Rattle.text.proofs.Writing.{reworded}
-use Rattle.system_texts.specs.Audit.{auditLine}
+use Rattle.system_texts.specs.Audit.{audit_line}
 use Rattle.system_texts.proofs.Laws.{audit-refused}
 use borrow.Author.Rules.{rules}
 use Rattle.system_texts.proofs.audits.put_audit.Statement.{statement}
@@ -12,36 +12,36 @@ use Rattle.system_texts.proofs.audits.put_audit.Tie as tie
 
 returns : tie.Need-returns
 unfolding said
-returns c = reworded (sym (ap (λ (x : Audit). auditLine (said x)) c.before.before.before.before.before.a.given.1)) c.before.before.obeys-line.ensures
+returns c = reworded (sym (ap (λ (x : Audit). audit_line (said x)) c.before.before.before.before.before.a.given.1)) c.before.before.obeys-line.ensures
 
 returns-2 : tie.Need-returns-2
 unfolding said
 returns-2 c =
-    reworded (ap₂ refusalLine c.before.before.before.before.audit-number.ensures c.before.before.before.audit-place.ensures ∙ audit-refused _ _ _ (ap said c.before.before.before.before.before.before.enum_told.given.1))
+    reworded (ap₂ refusal_line c.before.before.before.before.audit-number.ensures c.before.before.before.audit-place.ensures ∙ audit-refused _ _ _ (ap said c.before.before.before.before.before.before.enum_told.given.1))
     c.before.before.refusal-line.ensures.0
 
 returns-3 : tie.Need-returns-3
 unfolding said
 returns-3 c =
-    reworded (ap₂ refusalLine c.before.before.before.before.audit-number2.ensures c.before.before.before.audit-place2.ensures ∙ audit-refused _ _ _ (ap said c.before.before.before.before.before.before.enum-told2.given.1))
+    reworded (ap₂ refusal_line c.before.before.before.before.audit-number2.ensures c.before.before.before.audit-place2.ensures ∙ audit-refused _ _ _ (ap said c.before.before.before.before.before.before.enum-told2.given.1))
     c.before.before.refusal-line2.ensures.0
 
 returns-4 : tie.Need-returns-4
 unfolding said
 returns-4 c =
-    reworded (ap₂ refusalLine c.before.before.before.before.audit-number3.ensures c.before.before.before.audit-place3.ensures ∙ audit-refused _ _ _ (ap said c.before.before.before.before.before.before.enum-told3.given.1))
+    reworded (ap₂ refusal_line c.before.before.before.before.audit-number3.ensures c.before.before.before.audit-place3.ensures ∙ audit-refused _ _ _ (ap said c.before.before.before.before.before.before.enum-told3.given.1))
     c.before.before.refusal-line3.ensures.0
 
 returns-5 : tie.Need-returns-5
 unfolding said
 returns-5 c =
-    reworded (ap₂ refusalLine c.before.before.before.before.audit-number4.ensures c.before.before.before.audit-place4.ensures ∙ audit-refused _ _ _ (ap said c.before.before.before.before.before.before.enum-told4.given.1))
+    reworded (ap₂ refusal_line c.before.before.before.before.audit-number4.ensures c.before.before.before.audit-place4.ensures ∙ audit-refused _ _ _ (ap said c.before.before.before.before.before.before.enum-told4.given.1))
     c.before.before.refusal-line4.ensures.0
 
 returns-6 : tie.Need-returns-6
 unfolding said
 returns-6 c =
-    reworded (ap₂ refusalLine c.before.before.before.before.audit-number5.ensures c.before.before.before.audit-place5.ensures ∙ audit-refused _ _ _ (ap said c.before.before.before.before.before.before.enum-told5.given.1))
+    reworded (ap₂ refusal_line c.before.before.before.before.audit-number5.ensures c.before.before.before.audit-place5.ensures ∙ audit-refused _ _ _ (ap said c.before.before.before.before.before.before.enum-told5.given.1))
     c.before.before.refusal-line5.ensures.0
 
 pub put-audit-spec : {M : Type 1} → statement M

@@ -3,10 +3,10 @@ use mathlib.Core.Path.{sym, ap, ap₂, ◌∙◌}
 use native.Mathlib.Omega.{arith}
 use Rattle.table.specs.Scan.{reading}
 use Rattle.listing.specs.Answer.{answered}
-use Rattle.report.specs.Lines.{refusalLine}
+use Rattle.report.specs.Lines.{refusal_line}
 use Rattle.deliveries.specs.Text.{text, written_by, written}
 use Rattle.text.proofs.Writing.{reworded}
-use Rattle.system_texts.specs.Texts.{deliveriesText}
+use Rattle.system_texts.specs.Texts.{deliveries_text}
 use Rattle.system_texts.proofs.Laws.{unchanged, answer-done, answer-refused, answer-left}
 use borrow.Author.Rules.{rules}
 use Rattle.system_texts.proofs.lines.put_deliveries.Statement.{statement}
@@ -16,7 +16,7 @@ refusal-line-requires : tie.Need-refusal-line-requires
 refusal-line-requires c κs = omega (arith, c.before.before.before.before.before.before.before.before.before.before.before.before.requires, c.before.before.before.before.before.before.before.before.write.auto.1.0)
 
 returns : tie.Need-returns
-unfolding answered deliveriesText written_by
+unfolding answered deliveries_text written_by
 returns c =
     let ws = c.before.before.before.before.before.before.before.before.before.args.words.now in
     let w = c.before.before.before.before.before.write in
@@ -24,14 +24,14 @@ returns c =
     (sym (ap (written ws) c.before.before.before.before.before.before.before.before.before.requires) ∙ sym w.ensures.0 ∙ ap answered c.before.n.given.1)
 
 returns-2 : tie.Need-returns-2
-unfolding answered deliveriesText written_by
+unfolding answered deliveries_text written_by
 returns-2 c =
     let ws = c.before.before.before.before.before.before.before.before.before.before.before.before.before.before.before.args.words.now in
     let w = c.before.before.before.before.before.before.before.before.before.before.before.write in
     let e = sym (ap (written ws) c.before.before.before.before.before.before.before.before.before.before.before.before.before.before.before.requires) ∙ sym w.ensures.0 ∙ ap answered c.before.before.before.before.before.before.before.r.given.1 in
     unchanged (answer-left (reading ws) (text ws) c.before.before.before.before.before.before.before.before.before.before.before.before.before.before.before.args.out.now w.new.1.0 1048576 c.before.before.before.before.before.before.before.before.before.before.before.before.before.before.before.requires w.ensures.1 _ _ e)
     (reworded
-    (ap₂ refusalLine c.before.before.before.before.refusal-number.ensures c.before.before.before.refusal-place.ensures
+    (ap₂ refusal_line c.before.before.before.before.refusal-number.ensures c.before.before.before.refusal-place.ensures
     ∙ answer-refused (reading ws) (text ws) c.before.before.before.before.before.before.before.before.before.before.before.before.before.before.before.args.out.now w.new.1.0 1048576 c.before.before.before.before.before.before.before.before.before.before.before.before.before.before.before.requires w.ensures.1 _ _ e)
     c.before.before.refusal-line.ensures.0)
 

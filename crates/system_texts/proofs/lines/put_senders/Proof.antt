@@ -3,10 +3,10 @@ use mathlib.Core.Path.{sym, ap, ap₂, ◌∙◌}
 use native.Mathlib.Omega.{arith}
 use Rattle.table.specs.Scan.{reading}
 use Rattle.listing.specs.Answer.{answered}
-use Rattle.report.specs.Lines.{refusalLine}
+use Rattle.report.specs.Lines.{refusal_line}
 use Rattle.senders.specs.Text.{text, written}
 use Rattle.text.proofs.Writing.{reworded}
-use Rattle.system_texts.specs.Texts.{sendersBy}
+use Rattle.system_texts.specs.Texts.{senders_by}
 use Rattle.system_texts.proofs.Laws.{unchanged, answer-done, answer-refused, answer-left}
 use borrow.Author.Rules.{rules}
 use Rattle.system_texts.proofs.lines.put_senders.Statement.{statement}
@@ -16,7 +16,7 @@ refusal-line-requires : tie.Need-refusal-line-requires
 refusal-line-requires c κs = omega (arith, c.before.before.before.before.before.before.before.before.before.before.before.before.before.requires, c.before.before.before.before.before.before.before.before.write.auto.1.1.0)
 
 returns : tie.Need-returns
-unfolding answered sendersBy written
+unfolding answered senders_by written
 returns c =
     let ws = c.before.before.before.before.before.before.before.before.before.before.args.words.now in
     let est = c.before.before.before.before.before.before.before.before.before.before.args.est.now in
@@ -25,7 +25,7 @@ returns c =
     (sym (ap (written ws est) c.before.before.before.before.before.before.before.before.before.before.requires) ∙ sym w.ensures.0 ∙ ap answered c.before.n.given.1)
 
 returns-2 : tie.Need-returns-2
-unfolding answered sendersBy written
+unfolding answered senders_by written
 returns-2 c =
     let ws = c.before.before.before.before.before.before.before.before.before.before.before.before.before.before.before.before.args.words.now in
     let est = c.before.before.before.before.before.before.before.before.before.before.before.before.before.before.before.before.args.est.now in
@@ -33,7 +33,7 @@ returns-2 c =
     let e = sym (ap (written ws est) c.before.before.before.before.before.before.before.before.before.before.before.before.before.before.before.before.requires) ∙ sym w.ensures.0 ∙ ap answered c.before.before.before.before.before.before.before.r.given.1 in
     unchanged (answer-left (reading ws) (text ws est) c.before.before.before.before.before.before.before.before.before.before.before.before.before.before.before.before.args.out.now w.new.1.1.0 65536 c.before.before.before.before.before.before.before.before.before.before.before.before.before.before.before.before.requires w.ensures.1 _ _ e)
     (reworded
-    (ap₂ refusalLine c.before.before.before.before.refusal-number.ensures c.before.before.before.refusal-place.ensures
+    (ap₂ refusal_line c.before.before.before.before.refusal-number.ensures c.before.before.before.refusal-place.ensures
     ∙ answer-refused (reading ws) (text ws est) c.before.before.before.before.before.before.before.before.before.before.before.before.before.before.before.before.args.out.now w.new.1.1.0 65536 c.before.before.before.before.before.before.before.before.before.before.before.before.before.before.before.before.requires w.ensures.1 _ _ e)
     c.before.before.refusal-line.ensures.0)
 

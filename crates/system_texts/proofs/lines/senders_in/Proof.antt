@@ -5,7 +5,7 @@ use native.Mathlib.Omega.{arith}
 use lib.ListN.{take}
 use lib.Seq.{length-take-le}
 use Rattle.text.proofs.Writing.{reworded}
-use Rattle.system_texts.specs.Texts.{sendersBy}
+use Rattle.system_texts.specs.Texts.{senders_by}
 use Rattle.system_texts.proofs.Laws.{wrote-front}
 use borrow.Author.Rules.{rules}
 use Rattle.system_texts.proofs.lines.senders_in.Statement.{statement}
@@ -22,7 +22,7 @@ put-senders-requires c κs = length-take-le 65536 c.before.before.before.before.
 
 returns : tie.Need-returns
 returns c =
-    reworded (ap (λ (n : ℕ). sendersBy c.before.before.before.before.before.before.before.before.before.args.words.now (take n c.before.before.before.before.before.before.before.before.before.args.est.now)) c.before.before.before.before.before.words-needed.ensures)
+    reworded (ap (λ (n : ℕ). senders_by c.before.before.before.before.before.before.before.before.before.args.words.now (take n c.before.before.before.before.before.before.before.before.before.args.est.now)) c.before.before.before.before.before.words-needed.ensures)
     (wrote-front 65536 c.before.before.before.before.before.before.before.before.before.args.out.now _ _ _ c.before.before.before.before.before.before.before.before.before.requires.2 c.before.before.put-senders.ensures)
 
 pub senders-in-spec : {M : Type 1} → statement M

@@ -4,10 +4,10 @@ use mathlib.Core.Path.{◌≡◌, ap, ◌∙◌}
 use mathlib.Core.List.{List}
 use native.Mathlib.Omega.{arith}
 use lib.ListN.{length, replicate, length-replicate}
-use Rattle.reading_order.specs.Reply.{replyOf, reply, positionsAfter}
-use Rattle.order_text.specs.Text.{replyText, textSize, textAfter}
+use Rattle.reading_order.specs.Reply.{reply_of, reply, positions_after}
+use Rattle.order_text.specs.Text.{reply_text, text_size, text_after}
 use Rattle.text.proofs.Writing.{reworded}
-use Rattle.system_texts.specs.Texts.{noCeiling, zeros}
+use Rattle.system_texts.specs.Texts.{no_ceiling, zeros}
 use Rattle.system_texts.proofs.Laws.{ordered, order-wrote}
 use borrow.Author.Rules.{rules}
 use Rattle.system_texts.proofs.lines.sized_order.Statement.{statement}
@@ -22,13 +22,13 @@ returns c =
     let ps = a.positions.now in
     let n : length ps ≡ 64 = ap length c.before.before.before.before.before.before.before.before.before.before.before.before.before.before.before.before.before.before.before.before.requires.1.0 ∙ length-replicate {A = ℕ} 64 0 in
     let m : length o.new.1.1.1.1.1.0 ≡ 64 = o.auto.1.1.1.1.1.0 ∙ n in
-    let text = replyText (replyOf o.result) o.new.1.1.1.1.1.0 in
+    let text = reply_text (reply_of o.result) o.new.1.1.1.1.1.0 in
     reworded
     (ordered ws a.rho c.before.before.before.before.before.before.before.before.before.before.before.before.before.before.before.before.before.before.before.before.requires.0.0 a.est.now a.work.now a.est.now c.before.before.before.before.before.before.before.before.before.before.before.before.before.before.before.before.before.before.before.before.requires.0.1 c.before.before.before.before.before.before.before.before.before.before.before.before.before.before.before.before.before.before.before.before.requires.0.2 _ _
-    (o.ensures.0 ∙ ap (λ (k : ℕ). reply ws a.rho noCeiling (length a.est.now) (length a.work.now) k) n)
-    (o.ensures.1.1.1.0 ∙ ap (λ (l : List ℕ). positionsAfter ws a.rho noCeiling a.est.now a.work.now l) c.before.before.before.before.before.before.before.before.before.before.before.before.before.before.before.before.before.before.before.before.requires.1.0))
-    (order-wrote text a.out.now _ _ c.before.before.before.before.before.before.before.before.before.before.before.before.before.before.before.before.before.before.before.before.requires.1.1 (w.ensures.0 ∙ ap (λ (k : ℕ). textSize k text (length a.out.now)) m)
-    (w.ensures.1.0 ∙ ap (λ (k : ℕ). textAfter k text a.out.now) m) w.ensures.1.1)
+    (o.ensures.0 ∙ ap (λ (k : ℕ). reply ws a.rho no_ceiling (length a.est.now) (length a.work.now) k) n)
+    (o.ensures.1.1.1.0 ∙ ap (λ (l : List ℕ). positions_after ws a.rho no_ceiling a.est.now a.work.now l) c.before.before.before.before.before.before.before.before.before.before.before.before.before.before.before.before.before.before.before.before.requires.1.0))
+    (order-wrote text a.out.now _ _ c.before.before.before.before.before.before.before.before.before.before.before.before.before.before.before.before.before.before.before.before.requires.1.1 (w.ensures.0 ∙ ap (λ (k : ℕ). text_size k text (length a.out.now)) m)
+    (w.ensures.1.0 ∙ ap (λ (k : ℕ). text_after k text a.out.now) m) w.ensures.1.1)
 
 pub sized-order-spec : {M : Type 1} → statement M
 sized-order-spec =

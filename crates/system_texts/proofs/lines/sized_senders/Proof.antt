@@ -3,22 +3,22 @@ use mathlib.Core.Path.{sym, ap, ap₂, ◌∙◌}
 use Rattle.calculus.specs.Estimate.{estimate}
 use Rattle.table.specs.Code.{code}
 use Rattle.solver.specs.Analysis.{said}
-use Rattle.report.specs.Lines.{refusalLine}
+use Rattle.report.specs.Lines.{refusal_line}
 use Rattle.text.proofs.Writing.{reworded}
-use Rattle.system_texts.specs.Texts.{sendersBy, sendersText}
+use Rattle.system_texts.specs.Texts.{senders_by, senders_text}
 use Rattle.system_texts.proofs.Laws.{estimated-refused, estimated-solved}
 use borrow.Author.Rules.{rules}
 use Rattle.system_texts.proofs.lines.sized_senders.Statement.{statement}
 use Rattle.system_texts.proofs.lines.sized_senders.Tie as tie
 
 returns : tie.Need-returns
-unfolding said sendersText
+unfolding said senders_text
 returns c =
     let a = c.before.before.before.before.before.before.before.before.before.before.before.before.before.before.before.before.before.before.before.before.args in
     let ws = a.words.now in
     reworded
-    (ap₂ refusalLine c.before.before.before.before.fault-number.ensures c.before.before.before.fault-place.ensures
-    ∙ estimated-refused ws a.rho c.before.before.before.before.before.before.before.before.before.before.before.before.before.before.before.before.before.before.before.before.requires.0 a.est.now a.work.now a.est.now c.before.before.before.before.before.before.before.before.before.before.before.before.before.before.before.before.before.before.before.before.requires.1 c.before.before.before.before.before.before.before.before.before.before.before.before.before.before.before.before.before.before.before.before.requires.2 _ _ (sendersBy ws (estimate (code ws) a.rho))
+    (ap₂ refusal_line c.before.before.before.before.fault-number.ensures c.before.before.before.fault-place.ensures
+    ∙ estimated-refused ws a.rho c.before.before.before.before.before.before.before.before.before.before.before.before.before.before.before.before.before.before.before.before.requires.0 a.est.now a.work.now a.est.now c.before.before.before.before.before.before.before.before.before.before.before.before.before.before.before.before.before.before.before.before.requires.1 c.before.before.before.before.before.before.before.before.before.before.before.before.before.before.before.before.before.before.before.before.requires.2 _ _ (senders_by ws (estimate (code ws) a.rho))
     (sym (ap said c.before.before.before.before.before.before.before.f.given.1) ∙ c.before.before.before.before.before.before.before.before.before.before.before.before.before.analyse.ensures.0))
     c.before.before.refusal-line.ensures.0
 
@@ -31,12 +31,12 @@ senders-in-requires c κs =
     (s.readable, s.long, c.before.before.before.before.before.before.before.before.before.before.before.before.before.before.before.requires.3)
 
 returns-2 : tie.Need-returns-2
-unfolding said sendersText
+unfolding said senders_text
 returns-2 c =
     let a = c.before.before.before.before.before.before.before.before.before.before.before.before.before.before.before.before.before.before.args in
     let y = c.before.before.before.before.before.before.before.before.before.before.before.analyse in
     let s = estimated-solved a.words.now a.rho c.before.before.before.before.before.before.before.before.before.before.before.before.before.before.before.before.before.before.requires.0 a.est.now a.work.now _ c.before.before.before.before.before.before.before.before.before.before.before.before.before.before.before.before.before.before.requires.1 c.before.before.before.before.before.before.before.before.before.before.before.before.before.before.before.before.before.before.requires.2 _ _ (sym (ap said c.before.before.before.before.before.enum_told.given.1) ∙ y.ensures.0) y.ensures.1.0 in
-    reworded (ap (sendersBy a.words.now) s.starts ∙ s.says _) c.before.before.senders-in.ensures
+    reworded (ap (senders_by a.words.now) s.starts ∙ s.says _) c.before.before.senders-in.ensures
 
 pub sized-senders-spec : {M : Type 1} → statement M
 sized-senders-spec =

@@ -12,11 +12,11 @@ use borrow.Fn.Kinds.{In}
 use borrow.Fn.PlainCycle.{Measures, is, falls, and}
 use Rattle.table.specs.declared.read.Step.{Step}
 use Rattle.table.specs.Words.{parts}
-use Rattle.table.specs.Scan.{Task, term as termTask, scan, fault, missing}
+use Rattle.table.specs.Scan.{Task, term as term_task, scan, fault, missing}
 use Rattle.table.specs.Answer.{number, place, outcome}
-use Rattle.table.specs.Rest.{afterStep}
+use Rattle.table.specs.Rest.{after_step}
 use Rattle.table.proofs.read.Steps.{judged-zero, none_left, stops, shallow}
-use Rattle.table.proofs.read.Parts.{partTasks, Left, mark-small, left-none, left-part, left-all}
+use Rattle.table.proofs.read.Parts.{part_tasks, Left, mark-small, left-none, left-part, left-all}
 use Rattle.table.proofs.read.term.Reads as term
 use Rattle.table.proofs.read.term.Kinds as term-kinds
 use Rattle.table.proofs.read.+term.Lts-term as term-lts
@@ -58,7 +58,7 @@ module _ (t : ℕ) where
   -- the term's word may stand
   accepts : (c : term-lts.After-enum-told claims entry term.Post invariant-loop decreases-loop) (keys : List ℕ) (h : ℕ) (s : List ℕ)
       → length s ≡ c.before.before.before.before.before.before.args.binders
-      → fault c.before.before.before.before.before.before.args.names keys (get_or c.before.before.before.before.before.before.args.words.now c.before.before.before.before.before.before.args.at 0) (termTask c.before.before.before.before.before.before.args.depth h s) ≡ 0
+      → fault c.before.before.before.before.before.before.args.names keys (get_or c.before.before.before.before.before.before.args.words.now c.before.before.before.before.before.before.args.at 0) (term_task c.before.before.before.before.before.before.args.depth h s) ≡ 0
   unfolding outcome
   accepts c keys h s e = judged-zero _ _ (sym (c.before.before.term-word.ensures keys h s e) ∙ ap outcome c.enum_told.given.1)
 
@@ -75,9 +75,9 @@ module _ (t : ℕ) where
   -- what is left once the next part is read
   after-part : (c : term-lts.After-term claims entry term.Post invariant-loop decreases-loop) (r : Step) → c.term.result ≡ r → (keys : List ℕ) (h : ℕ) (s : List ℕ) (ts : List Task)
       → length s ≡ c.before.before.before.before.before.before.before.before.before.before.before.args.binders
-      → scan c.before.before.before.before.before.before.before.before.before.before.before.args.names (drop c.before.before.before.before.before.before.before.before.before.before.before.args.at c.before.before.before.before.before.before.before.before.before.before.before.args.words.now) keys c.before.before.before.before.before.before.before.before.before.before.before.args.at (termTask c.before.before.before.before.before.before.before.before.before.before.before.args.depth h s ∷ ts)
-      ≡ afterStep r c.before.before.before.before.before.before.before.before.before.before.before.args.names c.before.before.before.before.before.before.before.before.before.before.before.args.words.now keys
-      (partTasks c.before.before.before.before.before.before.before.before.before.before.before.args.at c.before.before.before.before.before.before.before.before.before.before.before.args.depth h s
+      → scan c.before.before.before.before.before.before.before.before.before.before.before.args.names (drop c.before.before.before.before.before.before.before.before.before.before.before.args.at c.before.before.before.before.before.before.before.before.before.before.before.args.words.now) keys c.before.before.before.before.before.before.before.before.before.before.before.args.at (term_task c.before.before.before.before.before.before.before.before.before.before.before.args.depth h s ∷ ts)
+      ≡ after_step r c.before.before.before.before.before.before.before.before.before.before.before.args.names c.before.before.before.before.before.before.before.before.before.before.before.args.words.now keys
+      (part_tasks c.before.before.before.before.before.before.before.before.before.before.before.args.at c.before.before.before.before.before.before.before.before.before.before.before.args.depth h s
       (drop (c.before.before.before.loop.i + 1) (parts (get_or c.before.before.before.before.before.before.before.before.before.before.before.args.words.now c.before.before.before.before.before.before.before.before.before.before.before.args.at 0))) ++ ts)
   after-part c r q =
       left-part _ c.before.before.before.before.before.before.before.before.before.before.before.args.words.now c.before.before.before.before.before.before.before.before.before.before.before.args.at c.before.before.before.before.before.before.before.before.before.before.before.args.depth c.before.before.before.before.before.before.before.before.before.before.before.args.binders _ c.before.before.before.loop.next _
@@ -85,12 +85,12 @@ module _ (t : ℕ) where
       (subst (λ (m : ℕ). c.before.before.before.loop.i < m) c.before.before.before.before.arity-of.ensures c.before.before.loop-test.true)
       c.before.binds.result
       c.before.binds.ensures
-      (afterStep r c.before.before.before.before.before.before.before.before.before.before.before.args.names c.before.before.before.before.before.before.before.before.before.before.before.args.words.now)
-      (λ keys h s ts e. c.term.ensures keys h s ts e ∙ ap (λ (x : Step). afterStep x c.before.before.before.before.before.before.before.before.before.before.before.args.names c.before.before.before.before.before.before.before.before.before.before.before.args.words.now keys ts) q)
+      (after_step r c.before.before.before.before.before.before.before.before.before.before.before.args.names c.before.before.before.before.before.before.before.before.before.before.before.args.words.now)
+      (λ keys h s ts e. c.term.ensures keys h s ts e ∙ ap (λ (x : Step). after_step x c.before.before.before.before.before.before.before.before.before.before.before.args.names c.before.before.before.before.before.before.before.before.before.before.before.args.words.now keys ts) q)
 
   returns : term-lts.Need-returns claims entry term.Post invariant-loop decreases-loop
-  unfolding afterStep number place missing
-  returns c = λ keys h s ts e. none_left _ _ keys _ (termTask _ h s) ts c.if1.true
+  unfolding after_step number place missing
+  returns c = λ keys h s ts e. none_left _ _ keys _ (term_task _ h s) ts c.if1.true
 
   mul-w : term-lts.Need-overflow-mul-w claims entry term.Post invariant-loop decreases-loop
   mul-w c = search rules
@@ -105,11 +105,11 @@ module _ (t : ℕ) where
   enum-known-r c = search rules
 
   returns-2 : term-lts.Need-returns-2 claims entry term.Post invariant-loop decreases-loop
-  unfolding afterStep outcome
+  unfolding after_step outcome
   returns-2 c keys h s ts e =
       let at = c.before.before.before.before.before.before.before.args.at in
       let words = c.before.before.before.before.before.before.before.args.words.now in
-      stops _ words keys at (termTask _ h s) ts (omega arith) _ _
+      stops _ words keys at (term_task _ h s) ts (omega arith) _ _
       (sym (ap outcome c.before.r.given.1) ∙ c.before.before.before.term-word.ensures keys h s e)
 
   enum_told : term-lts.Need-enum-told claims entry term.Post invariant-loop decreases-loop
@@ -146,7 +146,7 @@ module _ (t : ℕ) where
   enum-known-r-2 c = search rules
 
   returns-3 : term-lts.Need-returns-3 claims entry term.Post invariant-loop decreases-loop
-  unfolding afterStep
+  unfolding after_step
   returns-3 c keys h s ts e =
       after-part c.before.before.before _ c.before.r2.given.1 keys h s ts e
 
@@ -160,12 +160,12 @@ module _ (t : ℕ) where
   loop-less c = search rules
 
   loop-again : term-lts.Need-loop-preserved claims entry term.Post invariant-loop decreases-loop
-  unfolding afterStep
+  unfolding after_step
   loop-again c =
       (search rules, after-part c.before.before.before _ c.before.n.given.1)
 
   returns-4 : term-lts.Need-returns-4 claims entry term.Post invariant-loop decreases-loop
-  unfolding afterStep
+  unfolding after_step
   returns-4 c =
       left-all _ c.before.before.before.before.before.before.before.before.before.args.words.now c.before.before.before.before.before.before.before.before.before.args.at c.before.before.before.before.before.before.before.before.before.args.depth c.before.before.before.before.before.before.before.before.before.args.binders _ c.before.loop.next _
       c.before.loop.invariant.1

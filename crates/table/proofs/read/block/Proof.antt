@@ -13,7 +13,7 @@ use Rattle.table.specs.declared.read.Step.{Step}
 use Rattle.table.specs.Words.{argument}
 use Rattle.table.specs.Scan.{Task, Outcome, name, perms, guard, term, has, key, scan}
 use Rattle.table.specs.Answer.{number, place}
-use Rattle.table.specs.Rest.{FoundAt, afterStep, after_block}
+use Rattle.table.specs.Rest.{FoundAt, after_step, after_block}
 use Rattle.table.proofs.read.BlockWords.{no_name, no-perms, no-guard, name-range, key-used, after-name, after-perms, after-guard}
 use Rattle.table.proofs.read.block.Statement.{statement}
 use Rattle.table.proofs.read.block.Tie as tie
@@ -103,13 +103,13 @@ after-third c ts =
 -- the body, whose reading ended in r
 after-body : (c : tie.After-term) (r : Step) → c.term.result ≡ r → (ts : List Task)
     → whole c.before.before.before.before.before.before.before.before.before.before.before.before.before.before.before.before.before ts
-    ≡ afterStep r (ns c.before.before.before.before.before.before.before.before.before.before.before.before.before.before.before.before.before) (ws c.before.before.before.before.before.before.before.before.before.before.before.before.before.before.before.before.before) (key c.before.before.before.before.before.before.before.before.before.before.before.before.name.given.0.0 c.before.before.before.before.before.before.before.perms.given.0.0 ∷ ks c.before.before.before.before.before.before.before.before.before.before.before.before.before.before.before.before.before) ts
+    ≡ after_step r (ns c.before.before.before.before.before.before.before.before.before.before.before.before.before.before.before.before.before) (ws c.before.before.before.before.before.before.before.before.before.before.before.before.before.before.before.before.before) (key c.before.before.before.before.before.before.before.before.before.before.before.before.name.given.0.0 c.before.before.before.before.before.before.before.perms.given.0.0 ∷ ks c.before.before.before.before.before.before.before.before.before.before.before.before.before.before.before.before.before) ts
 after-body c r e ts =
     let s = c.before.before.before.before.before.before.before.before.before.before.before.before.before.before.before.before.before in
     let keys = key c.before.before.before.before.before.before.before.before.before.before.before.before.name.given.0.0 c.before.before.before.before.before.before.before.perms.given.0.0 ∷ ks s in
     after-third c.before ts
     ∙ c.term.ensures keys (at s) (at s ∷ []) ts refl
-    ∙ ap (λ (x : Step). afterStep x (ns s) (ws s) keys ts) e
+    ∙ ap (λ (x : Step). after_step x (ns s) (ws s) keys ts) e
 
 returns : tie.Need-returns
 unfolding after_block number place
@@ -170,11 +170,11 @@ add_term : tie.Need-overflow-add-term
 add_term c = let f = guard-found c in omega arith
 
 returns-6 : tie.Need-returns-6
-unfolding afterStep after_block
+unfolding after_step after_block
 returns-6 c = after-body c.before.before.before _ c.before.next.given.1
 
 returns-7 : tie.Need-returns-7
-unfolding afterStep after_block
+unfolding after_step after_block
 returns-7 c = after-body c.before.before.before _ c.before.r.given.1
 
 pub block_spec : {M : Type 1} → statement M

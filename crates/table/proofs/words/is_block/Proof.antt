@@ -1,4 +1,4 @@
--- `table::words::is_block` meets its contract. Assumes nothing.
+-- `table::words::is_block_lem` meets its contract. Assumes nothing.
 use Prim.Native.Nat.{ℕ}
 use mathlib.Core.Path.{ap}
 use lib.Dec.{eqb}

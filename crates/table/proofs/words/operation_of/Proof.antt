@@ -4,25 +4,25 @@ use mathlib.Core.Path.{sym, ap}
 use mathlib.Core.List.{[], ◌∷◌}
 use lib.ListN.{get_or-eq_default}
 use Rattle.table.specs.declared.Operation.TheVariants.{Add, Less, Equal}
-use Rattle.table.specs.Words.{operationOf}
+use Rattle.table.specs.Words.{operation_of}
 use Rattle.table.proofs.Outside.{outside}
 use Rattle.table.proofs.words.operation_of.Statement.{statement}
 use Rattle.table.proofs.words.operation_of.Tie as tie
 
 returns : tie.Need-returns
-unfolding operationOf
-returns c = sym (ap operationOf c.match.keys1)
+unfolding operation_of
+returns c = sym (ap operation_of c.match.keys1)
 
 returns-2 : tie.Need-returns-2
-unfolding operationOf
-returns-2 c = sym (ap operationOf c.match.keys2)
+unfolding operation_of
+returns-2 c = sym (ap operation_of c.match.keys2)
 
 returns-3 : tie.Need-returns-3
-unfolding operationOf
-returns-3 c = sym (ap operationOf c.match.keys3)
+unfolding operation_of
+returns-3 c = sym (ap operation_of c.match.keys3)
 
 returns-4 : tie.Need-returns-4
-unfolding operationOf
+unfolding operation_of
 returns-4 c =
     sym (get_or-eq_default (Add ∷ Less ∷ Equal ∷ []) Add (outside 3 _ c.match.rest))
 

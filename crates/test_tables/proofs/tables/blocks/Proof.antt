@@ -5,14 +5,14 @@ use Prim.Native.Nat.{◌≤◌, ◌-◌}
 use native.Mathlib.Omega.{arith}
 use lib.ListN.{length, length-set}
 use borrow.Author.Rules.{rules}
-use Rattle.test_tables.specs.Tables.{numbered, blockWord}
+use Rattle.test_tables.specs.Tables.{numbered, block_word}
 use Rattle.test_tables.proofs.Laws.{numbered_more, numbered-done}
 use Rattle.test_tables.proofs.tables.blocks.Statement.{statement}
 use Rattle.test_tables.proofs.tables.blocks.Tie as tie
 
 abbrev invariant-loop : tie.invariant-loop
 invariant-loop words₀ span name i₀ words i = (1 ≤ i) × (length words ≡ length words₀)
-    × (numbered (blockWord span name) (i - 1) words i ≡ numbered (blockWord span name) 0 words₀ 1)
+    × (numbered (block_word span name) (i - 1) words i ≡ numbered (block_word span name) 0 words₀ 1)
 
 abbrev decreases-loop : tie.decreases-loop
 decreases-loop words₀ span name i₀ words i = length words₀ - i

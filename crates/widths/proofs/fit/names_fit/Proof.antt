@@ -5,14 +5,14 @@ use Prim.Native.Nat.{◌-◌}
 use native.Mathlib.Omega.{arith}
 use lib.ListN.{length, drop}
 use borrow.Author.Rules.{rules}
-use Rattle.widths.specs.Converters.{namesFit}
-use Rattle.widths.specs.Answers.{faultNumber, faultPlace, checkedAs}
+use Rattle.widths.specs.Converters.{names_fit}
+use Rattle.widths.specs.Answers.{fault_number, fault_place, checked_as}
 use Rattle.widths.proofs.Refusals.{wide-here, wide-later, wide-none}
 use Rattle.widths.proofs.fit.names_fit.Statement.{statement}
 use Rattle.widths.proofs.fit.names_fit.Tie as tie
 
 abbrev invariant-loop : tie.invariant-loop
-invariant-loop words i₀ i = namesFit words 0 ≡ namesFit (drop i words) i
+invariant-loop words i₀ i = names_fit words 0 ≡ names_fit (drop i words) i
 
 abbrev decreases-loop : tie.decreases-loop
 decreases-loop words i₀ i = length words - i
@@ -21,7 +21,7 @@ loop-holds : tie.Need-loop-init invariant-loop decreases-loop
 loop-holds c = refl
 
 returns : tie.Need-returns invariant-loop decreases-loop
-unfolding checkedAs faultNumber faultPlace
+unfolding checked_as fault_number fault_place
 returns c =
     let l = c.before.before.before.before.loop in
     sym (l.invariant ∙ wide-here c.before.before.before.before.before.before.args.words.now l.i (omega arith) (sym c.before.wide-name.ensures ∙ c.if1.true))
@@ -32,7 +32,7 @@ loop-again c =
     l.invariant ∙ wide-later c.before.before.before.before.before.before.args.words.now l.i (omega arith) (sym c.before.wide-name.ensures ∙ c.if1.false)
 
 returns-2 : tie.Need-returns-2 invariant-loop decreases-loop
-unfolding checkedAs
+unfolding checked_as
 returns-2 c = sym (c.before.loop.invariant ∙ wide-none _ _ c.loop-test.false)
 
 pub names-fit-spec : {M : Type 1} → statement M

@@ -4,18 +4,18 @@ use mathlib.Core.Path.{◌≡◌, sym, ap, ◌∙◌}
 use lib.ListN.{get_or}
 use Rattle.table.specs.Words.{kind}
 use Rattle.table.specs.Answer.{number, place, outcome}
-use Rattle.widths.specs.Answers.{faultNumber, faultPlace, checkedAs}
+use Rattle.widths.specs.Answers.{fault_number, fault_place, checked_as}
 use Rattle.widths.proofs.Refusals.{of-kind, other-kind, no_word}
 use borrow.Author.Rules.{rules}
 use Rattle.widths.proofs.fit.read_as.Statement.{statement}
 use Rattle.widths.proofs.fit.read_as.Tie as tie
 
 returns : tie.Need-returns
-unfolding checkedAs faultNumber faultPlace number place
+unfolding checked_as fault_number fault_place number place
 returns c = sym (no_word _ _ c.if1.true)
 
 returns-2 : tie.Need-returns-2
-unfolding checkedAs faultNumber faultPlace number place
+unfolding checked_as fault_number fault_place number place
 returns-2 c =
     sym (other-kind _ _ (λ h. c.if2.true (c.before.kind-of.ensures ∙ h)))
 
@@ -24,12 +24,12 @@ kind-is : (c : tie.Else2) → kind (get_or c.before.before.before.before.before.
 kind-is c = sym c.before.kind-of.ensures ∙ c.if2.false
 
 returns-3 : tie.Need-returns-3
-unfolding checkedAs faultNumber faultPlace outcome
+unfolding checked_as fault_number fault_place outcome
 returns-3 c =
     sym (of-kind _ _ (kind-is c.before.before.before.before) ∙ sym c.before.before.before.read.ensures ∙ ap outcome c.before.r.given.1)
 
 returns-4 : tie.Need-returns-4
-unfolding checkedAs outcome
+unfolding checked_as outcome
 returns-4 c =
     sym (of-kind _ _ (kind-is c.before.before.before) ∙ sym c.before.before.read.ensures ∙ ap outcome c.enum_told.given.1)
 

@@ -7,7 +7,7 @@ use native.Mathlib.Omega.{arith}
 use borrow.Author.Tests.{eq-eqb, ne_eqb}
 use lib.Dec.{eqb}
 use Rattle.table.specs.Words.{kind}
-use Rattle.widths.specs.Converters.{wideName}
+use Rattle.widths.specs.Converters.{wide_name}
 use Rattle.widths.proofs.Refusals.{low-name, high-name}
 use borrow.Author.Rules.{rules}
 use Rattle.widths.proofs.fit.wide_name.Statement.{statement}
@@ -17,7 +17,7 @@ returns : tie.Need-returns
 returns c = sym (low-name _ (omega (arith, c.before.argument-of.ensures)))
 
 -- the kind alone is left to test
-named : (c : tie.Else1) (k : ℕ) → k ≡ kind c.before.before.args.w → wideName c.before.before.args.w ≡ (eqb k 2 || eqb k 19)
+named : (c : tie.Else1) (k : ℕ) → k ≡ kind c.before.before.args.w → wide_name c.before.before.args.w ≡ (eqb k 2 || eqb k 19)
 named c k e =
     high-name _ (omega (arith, c.before.argument-of.ensures)) ∙ ap (λ (n : ℕ). eqb n 2 || eqb n 19) (sym e)
 

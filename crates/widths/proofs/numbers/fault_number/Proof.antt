@@ -1,25 +1,25 @@
 -- `widths::numbers::fault_number` meets its contract. Assumes nothing.
 use mathlib.Core.Path.{sym, ap, ◌∙◌}
-use Rattle.widths.specs.Answers.{faultNumber}
+use Rattle.widths.specs.Answers.{fault_number}
 use borrow.Author.Rules.{rules}
 use Rattle.widths.proofs.numbers.fault_number.Statement.{statement}
 use Rattle.widths.proofs.numbers.fault_number.Tie as tie
 
 returns : tie.Need-returns
-unfolding faultNumber
-returns c = c.refusal-number.ensures ∙ sym (ap faultNumber c.before.before.f.given.1)
+unfolding fault_number
+returns c = c.refusal-number.ensures ∙ sym (ap fault_number c.before.before.f.given.1)
 
 returns-2 : tie.Need-returns-2
-unfolding faultNumber
-returns-2 c = sym (ap faultNumber c.enum_told.given.1)
+unfolding fault_number
+returns-2 c = sym (ap fault_number c.enum_told.given.1)
 
 returns-3 : tie.Need-returns-3
-unfolding faultNumber
-returns-3 c = sym (ap faultNumber c.enum-told2.given.1)
+unfolding fault_number
+returns-3 c = sym (ap fault_number c.enum-told2.given.1)
 
 returns-4 : tie.Need-returns-4
-unfolding faultNumber
-returns-4 c = sym (ap faultNumber c.enum-told3.given.1)
+unfolding fault_number
+returns-4 c = sym (ap fault_number c.enum-told3.given.1)
 
 pub fault-number-spec : {M : Type 1} → statement M
 fault-number-spec =

@@ -1,25 +1,25 @@
 -- `widths::numbers::fault_place` meets its contract. Assumes nothing.
 use mathlib.Core.Path.{sym, ap, ◌∙◌}
-use Rattle.widths.specs.Answers.{faultPlace}
+use Rattle.widths.specs.Answers.{fault_place}
 use borrow.Author.Rules.{rules}
 use Rattle.widths.proofs.numbers.fault_place.Statement.{statement}
 use Rattle.widths.proofs.numbers.fault_place.Tie as tie
 
 returns : tie.Need-returns
-unfolding faultPlace
-returns c = c.refusal-place.ensures ∙ sym (ap faultPlace c.before.before.f.given.1)
+unfolding fault_place
+returns c = c.refusal-place.ensures ∙ sym (ap fault_place c.before.before.f.given.1)
 
 returns-2 : tie.Need-returns-2
-unfolding faultPlace
-returns-2 c = sym (ap faultPlace c.enum_told.given.1)
+unfolding fault_place
+returns-2 c = sym (ap fault_place c.enum_told.given.1)
 
 returns-3 : tie.Need-returns-3
-unfolding faultPlace
-returns-3 c = sym (ap faultPlace c.before.f2.given.1)
+unfolding fault_place
+returns-3 c = sym (ap fault_place c.before.f2.given.1)
 
 returns-4 : tie.Need-returns-4
-unfolding faultPlace
-returns-4 c = sym (ap faultPlace c.enum-told2.given.1)
+unfolding fault_place
+returns-4 c = sym (ap fault_place c.enum-told2.given.1)
 
 pub fault-place-spec : {M : Type 1} → statement M
 fault-place-spec =

@@ -9,21 +9,21 @@ use lib.ListN.{length, get_or}
 use Rattle.table.specs.Words.{names_of}
 use Rattle.table.specs.Code.{code}
 use Rattle.table.proofs.Widths.{either-width}
-use Rattle.calculus.specs.Layout.{rowWords}
+use Rattle.calculus.specs.Layout.{row_words}
 use Rattle.rows.specs.declared.layout.Layout.{Layout}
 use Rattle.rows.specs.Laid.{LaidOut}
 use borrow.Author.Rules.{rules}
 use Rattle.rows.proofs.layout.Layout.of.Statement.{statement}
 use Rattle.rows.proofs.layout.Layout.of.Tie as tie
 
-whole_words : (w n : ℕ) → n ≡ names_of w → 32 + names_of w ≡ 32 * (1 + n / 32)
-whole_words w n e = ⊎_elim (λ h. omega arith) (λ h. omega arith) (either-width w)
+whole_words_lem : (w n : ℕ) → n ≡ names_of w → 32 + names_of w ≡ 32 * (1 + n / 32)
+whole_words_lem w n e = ⊎_elim (λ h. omega arith) (λ h. omega arith) (either-width w)
 
 laid : (ws : List ℕ) (l : Layout) (n : ℕ) → n ≡ names_of (get_or ws 0 0) → l.size ≡ length ws → l.lead ≡ 1 + n / 32
     → l.row ≡ (32 * l.lead + l.size + 31) / 32 → LaidOut (code ws) l
-unfolding code rowWords
+unfolding code row_words
 laid ws l n e s d r =
-    let h = whole_words (get_or ws 0 0) n e in
+    let h = whole_words_lem (get_or ws 0 0) n e in
     record { size = omega arith; row = omega arith; lead = omega arith }
 
 returns : tie.Need-returns
