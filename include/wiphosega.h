@@ -1,43 +1,19 @@
-/* Privilege leaks in browser extensions, for programs in C and C++ on x86-64 Linux. `./install` makes one library of all calls, libwiphosega.a
-   (docs/LINKING.md). In the repository they stand in three, target/staticlib/libcapi.a, libcapi_path.a and libcapi_text.a, which `rt staticlib capi`,
-   `rt staticlib capi_path` and `rt staticlib capi_text` make.
-
-   A system is narrow (word 0 of kind 1) or wide (kind 5). wiphosega_verdict, wiphosega_judge, wiphosega_check, wiphosega_why and the converters take
-   either; listings, look-up and join refuse a wide one with 1. */
+/* The verdict on a browser extension system, for programs in C. `rt staticlib capi` makes the library to link,
+   target/staticlib/libcapi.a, for x86-64 Linux. */
 #ifndef WIPHOSEGA_H
 #define WIPHOSEGA_H
 
 #include <stddef.h>
 #include <stdint.h>
 
-#define WIPHOSEGA_VERSION "1.0"
-
 #ifdef __cplusplus
 extern "C" {
 #endif
 
-#ifdef __cplusplus
-#define WIPHOSEGA_AS(type, value) static_cast<type>(value)
-#else
-#define WIPHOSEGA_AS(type, value) ((type)(value))
-#endif
-
-/* Answers. Of every call but wiphosega_fingerprint: bit 32 is set exactly if the call refuses. A refusal is 2^32 + number * 65536 + place, and number
-   and place always have room in their 16 bits. The other macros are for an answer that is no refusal, each for the calls that it stands beside. That
-   each macro reads its part back, for all bytes and all lengths, is promised and proved with each call. */
-#define WIPHOSEGA_REFUSED(answer) (((answer) >> 32 & 1) != 0)
-#define WIPHOSEGA_NUMBER(answer) WIPHOSEGA_AS(uint32_t, (answer) >> 16 & 0xffff)
-#define WIPHOSEGA_PLACE(answer) WIPHOSEGA_AS(uint32_t, (answer) & 0xffff)
-
 /* As the bound: the empty set. */
 #define WIPHOSEGA_STANDING_BOUND UINT32_C(0x80000000)
 
-/* The leak of wiphosega_verdict and wiphosega_check, and of wiphosega_verdict whether it is over the bound. */
-#define WIPHOSEGA_LEAK(answer) WIPHOSEGA_AS(uint32_t, (answer) & 0xffffff)
-#define WIPHOSEGA_OVER(answer) (((answer) >> 24 & 1) != 0)
-
-/* The answer: the leak in bits 0 to 23, and 2^24 added if the leak is over the bound. Refused: 2^32 + number * 65536 + place. Every permission that
-   can be exercised in any run is in the leak.
+/* The answer: the leak in bits 0 to 23, and 2^24 added if the leak is over the bound. Refused: 2^32 + number * 65536 + place.
 
    system    the words of the table, narrow or wide, low byte first; at most 1,024 bytes, a multiple of four (else refused 31 or 30)
    rho       the permissions that the opponent holds: bits 0 to 23
@@ -52,16 +28,19 @@ extern "C" {
    Each pointer must be to as many bytes as its length says. `estimate` must share no byte with `work`, nor either with `system`, and nobody
    else may touch the three during the call. A pointer may be anything but null where its length is 0; wiphosega_verdict_nullable takes null
    there. The call keeps no pointer, takes no memory but its stack, and always returns. WIPHOSEGA_STACK bytes of stack are enough:
-   tests/c/stack.c measures 207,344, 37,032 for wiphosega_check and 58,888 for wiphosega_why. */
+   tests/c/stack.c measures 56,952, and 37,032 for wiphosega_check. */
 uint64_t wiphosega_verdict(const uint8_t *system, size_t system_bytes, uint32_t rho, uint32_t bound, uint8_t *estimate,
                            size_t estimate_bytes, uint8_t *work, size_t work_bytes);
 
-#define WIPHOSEGA_STACK 262144
+#define WIPHOSEGA_STACK 131072
 
-/* Bytes that are enough for every system that wiphosega_verdict and wiphosega_check take: of the system, of the estimate, of the work. */
-#define WIPHOSEGA_SYSTEM_BYTES 1024
-#define WIPHOSEGA_ESTIMATE_BYTES 23552
-#define WIPHOSEGA_WORK_BYTES 4096
+/* The same where a pointer may be null if its length is 0: the call gets another one there, through which nothing is read or written. */
+static inline uint64_t wiphosega_verdict_nullable(const uint8_t *system, size_t system_bytes, uint32_t rho, uint32_t bound, uint8_t *estimate,
+                                                  size_t estimate_bytes, uint8_t *work, size_t work_bytes) {
+    uint8_t none[3];
+    return wiphosega_verdict(system_bytes ? system : &none[0], system_bytes, rho, bound, estimate_bytes ? estimate : &none[1], estimate_bytes,
+                             work_bytes ? work : &none[2], work_bytes);
+}
 
 /* Whether an estimate from elsewhere, of `system` where the opponent holds `rho`, has no stray bit and obeys every rule. The answer is the leak
    read from it: every permission that can be exercised is in it, and it contains the leak that wiphosega_verdict finds. Refused: 2^32 + number *
@@ -70,36 +49,8 @@ uint64_t wiphosega_verdict(const uint8_t *system, size_t system_bytes, uint32_t 
    Nothing is written, and for pointers the same holds as above. */
 uint64_t wiphosega_check(const uint8_t *system, size_t system_bytes, uint32_t rho, const uint8_t *estimate, size_t estimate_bytes);
 
-/* The verdict on larger systems, under a ceiling on facts: as wiphosega_verdict, for up to 4,096 bytes (1,024 words; more are 31), and refused with 23
-   where the least estimate has more than `ceiling` facts. UINT32_MAX is no ceiling: no system has so many. After 23 the bytes that the estimate
-   would take are zero and `work` is as after a verdict; every other refusal leaves all bytes as they were.
-
-   estimate  290,816 bytes are enough for every system
-   work      16,384 bytes are enough for every system
-
-   The place of 23 is the ceiling, which may have more than 16 bits. Its low 16 bits stand where the place of every refusal does, the others from bit
-   33 on: 2^32 + number * 65536 + place % 65536 + (place / 65536) * 2^33. WIPHOSEGA_JUDGE_PLACE takes them together; of the other refusals it is the
-   same as WIPHOSEGA_PLACE. WIPHOSEGA_JUDGE_STACK bytes of stack are enough: tests/c/judge.c runs on them, and on 499,712. For pointers the same
-   holds as above. */
-uint64_t wiphosega_judge(const uint8_t *system, size_t system_bytes, uint32_t rho, uint32_t bound, uint32_t ceiling, uint8_t *estimate,
-                         size_t estimate_bytes, uint8_t *work, size_t work_bytes);
-
-#define WIPHOSEGA_JUDGE_PLACE(answer) WIPHOSEGA_AS(uint32_t, ((answer) & 0xffff) | ((answer) >> 33 << 16))
-#define WIPHOSEGA_JUDGE_STACK 1048576
-#define WIPHOSEGA_JUDGE_ESTIMATE_BYTES 290816
-#define WIPHOSEGA_JUDGE_WORK_BYTES 16384
-#define WIPHOSEGA_NO_CEILING UINT32_MAX
-
-/* Why `permission`, 0 to 23, is in the leak of `system` where the opponent holds `rho`: the words of a path, written to `path` from its start as
-   32-bit numbers, low byte first. The answer is how many there are, and 0 exactly if the permission is not in the leak. The first is a block that
-   `rho` opens; each leads to the next by one rule (a block to its body, a term to a part, an apply to the body of a function that it may call, a
-   send to a block that it delivers to); the last is an exercise that proceeds and has the permission. No path has fewer words. `path` counts whole
-   words, and must have as many as the system; every other byte of it is as it was. Refused: 2^32 + number * 65536 + place, by 31 and 30 as above,
-   the numbers 1 to 12 of the table, 20 (for `rho`, and for a permission over 23), 51 (`path` has fewer words than the system); then all bytes of
-   `path` are as they were. For pointers the same holds as above: `path` must share no byte with `system`. */
-uint64_t wiphosega_why(const uint8_t *system, size_t system_bytes, uint32_t rho, uint32_t permission, uint8_t *path, size_t path_bytes);
-
-/* The calls from here on stand in libcapi_text.a. They too keep no pointer, take no memory but their stack, and always return. WIPHOSEGA_TEXT_STACK bytes of stack are enough for each: tests/c/text_stack.c measures 266,656 for
+/* The calls from here on are in another library, target/staticlib/libcapi_text.a, which `rt staticlib capi_text` makes. They too keep no pointer, take no
+   memory but their stack, and always return. WIPHOSEGA_TEXT_STACK bytes of stack are enough for each: tests/c/text_stack.c measures 266,656 for
    wiphosega_manifest, and at most 26,584 for the others. */
 #define WIPHOSEGA_TEXT_STACK 524288
 
@@ -107,12 +58,12 @@ uint64_t wiphosega_why(const uint8_t *system, size_t system_bytes, uint32_t rho,
 
    An answer below 2^32 is how many bytes were written to the output, from its start. Refused: 2^32 + number * 65536 + place, by the numbers
    1 to 12 of the table, 30 (the system's bytes are no whole words; the writer alone), 40 (a line that is no line of a listing, or has wrong
-   leading spaces; the place is its number, from 1, at most 21,846), 41 (a listing over 65,536 bytes), 42 (the output is too short). A refusal leaves all
+   leading spaces; the place is its number, from 1), 41 (a listing over 65,536 bytes), 42 (the output is too short). A refusal leaves all
    bytes of the output as they were, and any other answer those behind what was written. The reader's output counts whole words: 4,096 bytes
-   are enough for every system, and 65,536 for every listing that is written. For pointers the same holds as above. A wide table has no listing: the
-   writer refuses it with 1. */
-#define WIPHOSEGA_TABLE_BYTES 4096
-#define WIPHOSEGA_LISTING_BYTES 65536
+   are enough for every system, and 65,536 for every listing that is written. For pointers the same holds as above. */
+#define WIPHOSEGA_REFUSED(answer) (((answer) >> 32 & 1) != 0)
+#define WIPHOSEGA_NUMBER(answer) ((uint32_t)((answer) >> 16 & 0xffff))
+#define WIPHOSEGA_PLACE(answer) ((uint32_t)((answer) & 0xffff))
 
 /* The listing of a system's words, low byte first. */
 uint64_t wiphosega_listing_write(const uint8_t *system, size_t system_bytes, uint8_t *text, size_t text_bytes);
@@ -123,10 +74,11 @@ uint64_t wiphosega_listing_read(const uint8_t *text, size_t text_bytes, uint8_t 
 /* Manifests. The answer is set + version * 2^24 + count * 2^40: the permission set of a browser extension's
    manifest, its version (2 or 3), and how many strings of the lists read set nothing. Refused: 2^32 + number * 65536, by the numbers 43 (no
    JSON text of at most 16,384 bytes that nests at most 16 deep and is an object), 44 (a key twice), 45 (no version 2 or 3), 46 (a list that
-   is none of strings). A set is below 2^24, a version below 4 and a count below 2^24. */
-#define WIPHOSEGA_MANIFEST_SET(answer) WIPHOSEGA_AS(uint32_t, (answer) & 0xffffff)
-#define WIPHOSEGA_MANIFEST_VERSION(answer) WIPHOSEGA_AS(uint32_t, (answer) >> 24 & 0xff)
-#define WIPHOSEGA_MANIFEST_COUNT(answer) WIPHOSEGA_AS(uint32_t, (answer) >> 40)
+   is none of strings). A set is below 2^24 and a version below 4, so an answer has bit 32 exactly if the manifest is refused:
+   WIPHOSEGA_REFUSED, WIPHOSEGA_NUMBER and WIPHOSEGA_PLACE take it apart as any other. */
+#define WIPHOSEGA_MANIFEST_SET(answer) ((uint32_t)((answer) & 0xffffff))
+#define WIPHOSEGA_MANIFEST_VERSION(answer) ((uint32_t)((answer) >> 24 & 0xff))
+#define WIPHOSEGA_MANIFEST_COUNT(answer) ((uint32_t)((answer) >> 40))
 
 uint64_t wiphosega_manifest(const uint8_t *json, size_t json_bytes);
 
@@ -137,13 +89,13 @@ uint64_t wiphosega_manifest(const uint8_t *json, size_t json_bytes);
 
    wiphosega_lookup says where the block with this name and this set is, in the overlay if it is there, otherwise in the base: offset +
    length * 2^16, both in bytes, and 2^33 added where it is in the overlay. A table has at most 4,096 bytes, so offset and length have 16 bits
-   each with room to spare. Look-up and join refuse a wide table with 1, and 101 where it is the overlay.
+   each with room to spare, and an answer has bit 32 exactly if it is a refusal.
 
    wiphosega_join writes the base's blocks in its order, each replaced where the overlay has the same key, then the overlay's new ones in
    theirs, and answers how many bytes these are. The output counts whole words: 4,096 bytes are enough. A refusal leaves all bytes of the
    output as they were, and any other answer those behind what was written. */
-#define WIPHOSEGA_BLOCK_OFFSET(answer) WIPHOSEGA_AS(size_t, (answer) & 0xffff)
-#define WIPHOSEGA_BLOCK_BYTES(answer) WIPHOSEGA_AS(size_t, (answer) >> 16 & 0xffff)
+#define WIPHOSEGA_BLOCK_OFFSET(answer) ((size_t)((answer) & 0xffff))
+#define WIPHOSEGA_BLOCK_BYTES(answer) ((size_t)((answer) >> 16 & 0xffff))
 #define WIPHOSEGA_BLOCK_IN_OVERLAY(answer) (((answer) >> 33 & 1) != 0)
 
 uint64_t wiphosega_lookup(const uint8_t *base, size_t base_bytes, const uint8_t *overlay, size_t overlay_bytes, uint32_t name, uint32_t set);
@@ -163,77 +115,6 @@ uint64_t wiphosega_narrow(const uint8_t *system, size_t system_bytes, uint8_t *o
 /* The fingerprint of a system, as the report on a class has it: the published hash FNV-1a of 32 bits, of the bytes of
    its words. For the pointer the same holds as above. */
 uint32_t wiphosega_fingerprint(const uint8_t *system, size_t system_bytes);
-
-/* Every call once more where a pointer may be null if its length is 0: the call gets another one there, through which nothing is read or written. */
-
-static inline uint64_t wiphosega_verdict_nullable(const uint8_t *system, size_t system_bytes, uint32_t rho, uint32_t bound, uint8_t *estimate,
-                                                  size_t estimate_bytes, uint8_t *work, size_t work_bytes) {
-    uint8_t none[3] = {0};
-    return wiphosega_verdict(system_bytes ? system : &none[0], system_bytes, rho, bound, estimate_bytes ? estimate : &none[1], estimate_bytes,
-                             work_bytes ? work : &none[2], work_bytes);
-}
-
-static inline uint64_t wiphosega_check_nullable(const uint8_t *system, size_t system_bytes, uint32_t rho, const uint8_t *estimate,
-                                                size_t estimate_bytes) {
-    uint8_t none[2] = {0};
-    return wiphosega_check(system_bytes ? system : &none[0], system_bytes, rho, estimate_bytes ? estimate : &none[1], estimate_bytes);
-}
-
-static inline uint64_t wiphosega_judge_nullable(const uint8_t *system, size_t system_bytes, uint32_t rho, uint32_t bound, uint32_t ceiling,
-                                                uint8_t *estimate, size_t estimate_bytes, uint8_t *work, size_t work_bytes) {
-    uint8_t none[3] = {0};
-    return wiphosega_judge(system_bytes ? system : &none[0], system_bytes, rho, bound, ceiling, estimate_bytes ? estimate : &none[1], estimate_bytes,
-                           work_bytes ? work : &none[2], work_bytes);
-}
-
-static inline uint64_t wiphosega_why_nullable(const uint8_t *system, size_t system_bytes, uint32_t rho, uint32_t permission, uint8_t *path,
-                                              size_t path_bytes) {
-    uint8_t none[2] = {0};
-    return wiphosega_why(system_bytes ? system : &none[0], system_bytes, rho, permission, path_bytes ? path : &none[1], path_bytes);
-}
-
-static inline uint64_t wiphosega_listing_write_nullable(const uint8_t *system, size_t system_bytes, uint8_t *text, size_t text_bytes) {
-    uint8_t none[2] = {0};
-    return wiphosega_listing_write(system_bytes ? system : &none[0], system_bytes, text_bytes ? text : &none[1], text_bytes);
-}
-
-static inline uint64_t wiphosega_listing_read_nullable(const uint8_t *text, size_t text_bytes, uint8_t *system, size_t system_bytes) {
-    uint8_t none[2] = {0};
-    return wiphosega_listing_read(text_bytes ? text : &none[0], text_bytes, system_bytes ? system : &none[1], system_bytes);
-}
-
-static inline uint64_t wiphosega_manifest_nullable(const uint8_t *json, size_t json_bytes) {
-    uint8_t none[1] = {0};
-    return wiphosega_manifest(json_bytes ? json : &none[0], json_bytes);
-}
-
-static inline uint64_t wiphosega_lookup_nullable(const uint8_t *base, size_t base_bytes, const uint8_t *overlay, size_t overlay_bytes, uint32_t name,
-                                                 uint32_t set) {
-    uint8_t none[2] = {0};
-    return wiphosega_lookup(base_bytes ? base : &none[0], base_bytes, overlay_bytes ? overlay : &none[1], overlay_bytes, name, set);
-}
-
-static inline uint64_t wiphosega_join_nullable(const uint8_t *base, size_t base_bytes, const uint8_t *overlay, size_t overlay_bytes, uint8_t *out,
-                                               size_t out_bytes) {
-    uint8_t none[3] = {0};
-    return wiphosega_join(base_bytes ? base : &none[0], base_bytes, overlay_bytes ? overlay : &none[1], overlay_bytes, out_bytes ? out : &none[2],
-                          out_bytes);
-}
-
-static inline uint64_t wiphosega_widen_nullable(const uint8_t *system, size_t system_bytes, uint8_t *out, size_t out_bytes) {
-    uint8_t none[2] = {0};
-    return wiphosega_widen(system_bytes ? system : &none[0], system_bytes, out_bytes ? out : &none[1], out_bytes);
-}
-
-static inline uint64_t wiphosega_narrow_nullable(const uint8_t *system, size_t system_bytes, uint8_t *out, size_t out_bytes) {
-    uint8_t none[2] = {0};
-    return wiphosega_narrow(system_bytes ? system : &none[0], system_bytes, out_bytes ? out : &none[1], out_bytes);
-}
-
-static inline uint32_t wiphosega_fingerprint_nullable(const uint8_t *system, size_t system_bytes) {
-    uint8_t none[1] = {0};
-    return wiphosega_fingerprint(system_bytes ? system : &none[0], system_bytes);
-}
 
 #ifdef __cplusplus
 }

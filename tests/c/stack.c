@@ -1,10 +1,10 @@
-/* Measures the stack of a verdict, of a check of its estimate and of a search for a path. Prints the most that any of the systems took, and exits 1 if that is over
+/* Measures the stack of a verdict and of a check of its estimate. Prints the most that any of the systems took, and exits 1 if that is over
    WIPHOSEGA_STACK. */
 #define _GNU_SOURCE
 #include "stack.h"
 
-static uint32_t estimate[5888], work[1024], path[256];
-static size_t most_verdict, most_check, most_why;
+static uint32_t estimate[5888], work[1024];
+static size_t most_verdict, most_check;
 static uint64_t answer;
 
 static void *verdict(void *p) {
@@ -19,15 +19,9 @@ static void *check(void *p) {
     return p;
 }
 
-static void *why(void *p) {
-    answer = wiphosega_why((const uint8_t *)system_words, 4 * count, 0, 1, (uint8_t *)path, sizeof path);
-    return p;
-}
-
 static void both(void) {
     measure(verdict, &most_verdict);
     measure(check, &most_check);
-    if (!WIPHOSEGA_REFUSED(answer)) measure(why, &most_why);
     if (WIPHOSEGA_REFUSED(answer)) {
         printf("stack: a system is refused\n");
         exit(1);
@@ -61,6 +55,6 @@ int main(void) {
         for (uint32_t i = 0; i < handlers; i++) block(i, i + 1, 0), term((int)(240 / handlers) - 3, 1, 1);
         both();
     }
-    printf("stack: a verdict takes %zu bytes, a check %zu and a path %zu, of %d\n", most_verdict, most_check, most_why, WIPHOSEGA_STACK);
-    return most_verdict <= WIPHOSEGA_STACK && most_check <= WIPHOSEGA_STACK && most_why <= WIPHOSEGA_STACK ? 0 : 1;
+    printf("stack: a verdict takes %zu bytes and a check %zu, of %d\n", most_verdict, most_check, WIPHOSEGA_STACK);
+    return most_verdict <= WIPHOSEGA_STACK && most_check <= WIPHOSEGA_STACK ? 0 : 1;
 }

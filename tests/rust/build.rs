@@ -5,7 +5,7 @@ fn main() {
     println!("cargo:rerun-if-env-changed=WIPHOSEGA_LIBRARY");
     if let Ok(directory) = std::env::var("WIPHOSEGA_LIBRARY") {
         println!("cargo:rustc-link-search=native={directory}");
-        for name in ["capi", "capi_path", "capi_text"] {
+        for name in ["capi", "capi_text"] {
             let library = std::path::Path::new(&directory).join(format!("lib{name}.a"));
             assert!(library.exists(), "{} is not there", library.display());
             println!("cargo:rerun-if-changed={}", library.display());

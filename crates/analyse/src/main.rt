@@ -2,7 +2,7 @@
 use printout::program::print;
 
 fn answer(input: &[u8]) {
-    let mut out = [0u8; 6240];
+    let mut out = [0u8; 3168];
     let n = print(input, &mut out);
     streams::text(&out[..n]);
 }

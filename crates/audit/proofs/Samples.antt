@@ -1,6 +1,6 @@
 -- The answer to some estimates, computed from the definitions. Of *direct*: its own passes; a word less or more is 52; the flag of word 4, unit in C(4),
 -- the permissions of the block and the opponent in C(1) are each missed at the word whose rule asks for them; a bit more is 53 where it is stray, and
--- is allowed where it is not; a stray bit and a missed flag are 53. Of *relay*: its own passes; without the sender in the receiver's C(7) it is 54 at 7.
+-- is allowed where it is not. Of *relay*: its own passes; without the sender in the receiver's C(7) it is 54 at 7.
 use Prim.Native.Nat.{ℕ, ◌-◌, ◌^◌}
 use mathlib.Core.Path.{◌≡◌, refl}
 use mathlib.Core.List.{List, [], ◌∷◌, ◌++◌, map}
@@ -38,10 +38,10 @@ less ws k d = set (own ws) k (get_or (own ws) k 0 - 2 ^ d)
 pub samples-audited :
     (map (audited direct 0)
     (own direct ∷ take 34 (own direct) ∷ (own direct ++ 0 ∷ []) ∷ less direct 34 24 ∷ less direct 24 1 ∷ less direct 31 1 ∷ less direct 6 7
-    ∷ more direct 26 4 ∷ more direct 34 25 ∷ more direct 8 1 ∷ more direct 31 0 ∷ set (less direct 34 24) 26 16 ∷ [])
+    ∷ more direct 26 4 ∷ more direct 34 25 ∷ more direct 8 1 ∷ more direct 31 0 ∷ [])
     ++ map (audited (relay 8 0) 0) (own (relay 8 0) ∷ less (relay 8 0) 44 1 ∷ []))
     ≡ obeys 2 ∷ refused 52 0 ∷ refused 52 0 ∷ refused 54 1 ∷ refused 54 4 ∷ refused 54 1 ∷ refused 54 1
-    ∷ refused 53 26 ∷ refused 53 34 ∷ obeys 2 ∷ obeys 3 ∷ refused 53 26
+    ∷ refused 53 26 ∷ refused 53 34 ∷ obeys 2 ∷ obeys 3
     ∷ obeys 2 ∷ refused 54 7 ∷ []
 unfolding ones_in parts_by_kind limits_by_kind parts arity limit constant_number constant_of operation_of terms_by_kind term_of names_of first_of has tests
     fault missing keep under next scan reading code skip part trace tasks task_at term_node node_for scope_for home_for blocks_from within member union

@@ -1,5 +1,5 @@
-// Solves the system on standard input, of up to 1,024 words, as often as the first argument says, under the ceiling on facts that is the second
-// or without one, and prints its leak and facts.
+// Solves the system on standard input, of up to 1,024 words, as often as the first argument says, under the ceiling on facts that is the second,
+// and prints its leak and facts.
 ghost use Rattle.std.specs.Prelude.{◌≤◌};
 
 use calls::Fault;
@@ -9,7 +9,9 @@ use libc::{STDIN_FILENO, STDOUT_FILENO};
 use little_endian::words_of;
 use solver::Bounded;
 use solver::analyse::analyse_within;
-use solver::figure::most_facts;
+
+// More than any estimate has.
+const NO_CEILING: usize = 1000000000;
 
 // The number that refuses an input of this many bytes, and 0 where none does.
 fn feeder_fault(size: usize) -> u32 {
@@ -95,8 +97,7 @@ fn solve(
 fn run(words: &[u32], rho: u32, est: &mut [u32], work: &mut [u32]) {
     let times = argument(1, 1);
     let more = if times == 0 { 0 } else { times - 1 };
-    let ceiling = argument(2, most_facts(words));
-    answer(solve(words, rho, ceiling, est, work, more));
+    answer(solve(words, rho, argument(2, NO_CEILING), est, work, more));
 }
 
 fn with_slices(words: &[u32], rho: u32) {

@@ -10,7 +10,7 @@ use Rattle.calculus.specs.Layout.{row_words, estimate_words}
 use Rattle.calculus.specs.Estimate.{whole, estimate}
 use Rattle.calculus.specs.Answer.{Verdict, Answer, refused, verdict, bound_used, judge, caller_tests, analysis, answer}
 use Rattle.calculus.proofs.Firing.{whole_is}
-use Rattle.block_order.proofs.Sets.{Both, leak-same}
+use Rattle.block_order.proofs.Sets.{Both, same_names, leak-same}
 use Rattle.block_order.proofs.Facts.{facts-same}
 
 -- a verdict by leak, bound used and facts
@@ -28,7 +28,7 @@ module _ (π σ : ℕ → ℕ) (c d : Code) (b : Both π σ c d) (size : c.size 
 
   tests_same : (est work : ℕ) → caller_tests d ρ bound est work ≡ caller_tests c ρ bound est work
   unfolding caller_tests
-  tests_same est work = rw (words_same c d b.names size, size) refl
+  tests_same est work = rw (words_same c d (same_names π σ c d b) size, size) refl
 
   -- where no test refuses
   judged : (c : Code) → whole (estimate c ρ) (λ ws. verdict (judge c ρ bound ws)) ≡ verdict (judge c ρ bound (estimate c ρ))

@@ -284,14 +284,11 @@ module _ (k names : ℕ) (bs cs : List (List ℕ)) (x : Sound k names bs) (y : S
       block_listed ds y.reads (π b) (omega (arith, m.inside b (omega (arith, r.0, long-table k bs)), long-table k cs))
       (task-moved b r.0 ∙ ap (rename_task π) r.1)
 
-  pub names-kept : (code (table_of k bs)).names ≡ (code (table_of k cs)).names
-  unfolding code
-  names-kept = ap names_of (first_word k bs ∙ ap (word_of k) m.count ∙ sym (first_word k cs))
-
   pub rearranged-code : Renamed π (code (table_of k bs)) (code (table_of k cs))
   unfolding code
   rearranged-code =
       record {
+        names = le_of_eq (ap names_of (first_word k bs ∙ ap (word_of k) m.count ∙ sym (first_word k cs)));
         inside = λ q l. omega (arith, m.inside q (omega (arith, long-table k bs)), long-table k cs);
         node = node-renamed;
         scope = λ q l. ap scope_for (task-moved q l) ∙ scope-renamed π (task_at ws q);

@@ -9,8 +9,6 @@ pub mod Injections
 pub mod Facts
 pub mod Answers
 pub mod Reports
-pub mod Positions
-pub mod Replies
 pub mod Theorem
 pub mod Printed
 pub mod Samples

@@ -1,10 +1,7 @@
 -- Blocks in another order: there is a renumbering of their words that moves each block as a whole.
 use Prim.Native.Nat.{ℕ, suc, ◌+◌, ◌-◌, ◌≤◌, ◌<◌}
 use mathlib.Core.Path.{◌≡◌, refl, sym, ap, ap₂, ◌∙◌, subst}
-use mathlib.Core.Logic.{⊎_elim}
 use mathlib.Core.List.{List, [], ◌∷◌, ◌++◌, map, map-map, flatten, Permᴰ}
-use mathlib.Core.List.Memᴰ
-use mathlib.Core.List.{Memᴰ}
 use native.Mathlib.Omega.{arith}
 use lib.ListN.{length, length-append}
 use Rattle.blocks.specs.Blocks.{places, All}
@@ -142,14 +139,6 @@ perm-map f Permᴰ.nil = Permᴰ.nil
 perm-map f (Permᴰ.cons e p) = Permᴰ.cons (ap f e) (perm-map f p)
 perm-map f (Permᴰ.swap d e) = Permᴰ.swap (ap f d) (ap f e)
 perm-map f (Permᴰ.trans p q) = Permᴰ.trans (perm-map f p) (perm-map f q)
-
-pub perm-member : {A : Type 0} {a : A} {xs ys : List A} → Permᴰ xs ys → Memᴰ a xs → Memᴰ a ys
-perm-member Permᴰ.nil m = m
-perm-member (Permᴰ.cons e p) m = ⊎_elim (λ h. Memᴰ.head (h ∙ e)) (λ k. Memᴰ.tail (perm-member p k)) (Memᴰ.cases_cons m)
-perm-member (Permᴰ.swap d e) m =
-    ⊎_elim (λ h. Memᴰ.tail (Memᴰ.head (h ∙ d)))
-    (λ k. ⊎_elim (λ h. Memᴰ.head (h ∙ e)) (λ l. Memᴰ.tail (Memᴰ.tail l)) (Memᴰ.cases_cons k)) (Memᴰ.cases_cons m)
-perm-member (Permᴰ.trans p q) m = perm-member q (perm-member p m)
 
 -- ---- one after the other
 

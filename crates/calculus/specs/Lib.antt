@@ -3,12 +3,10 @@ pub mod Constraint
 pub mod Rules
 pub mod Layout
 pub mod Estimate
-pub mod Figure
 pub mod Answer
 pub mod Samples
 pub mod Values
 pub mod Machine
-pub mod Messages
 pub mod Run
 pub mod Runs
 pub mod Guarantee

@@ -151,12 +151,6 @@ going =
     ∷ gives (0x1d000000 ∷ 0x1c000000 ∷ 0x12000000 ∷ []) (0x10000000 ∷ [])
     ∷ true_of (0x1d000000 ∷ 0x1e000000 ∷ 0x1e000000 ∷ 0x1c000000 ∷ 0x12000000 ∷ 0x10000003 ∷ 0x12000000 ∷ 0x10000002 ∷ 0x12000000 ∷ [])
     ∷ gives (0x1d000000 ∷ 0x1f000000 ∷ 0x1e000000 ∷ 0x1c000000 ∷ 0x12000000 ∷ 0x10000002 ∷ 0x12000000 ∷ 0x12000000 ∷ []) (0x10000000 ∷ [])
-    -- the three parts of a set run in their order
-    ∷ example
-    (alone 0
-    (0x1e000000 ∷ 0x18000000 ∷ 0x24000001 ∷ 0x1c000000 ∷ 0x18000000 ∷ 0x24000002 ∷ 0x12000000 ∷ 0x18000000 ∷ 0x24000003 ∷ 0x10000001 ∷ [])) 0
-    (starts 1 unit ∷ times 40 0)
-    (3 ∷ 2 ∷ 1 ∷ []) 1
     -- an exercise gives unit, and that of the empty set proceeds
     ∷ between (0x1b000002 ∷ 0x24000002 ∷ 0x10000001 ∷ []) (2 ∷ 2 ∷ 1 ∷ [])
     ∷ between (0x24000000 ∷ []) (2 ∷ 0 ∷ 1 ∷ [])
@@ -225,12 +219,6 @@ examples =
     ∷ example (relays 3 0 twin) 0
     (starts 1 unit ∷ times 4 0 ++ steps 0 (some 7) ∷ steps 0 (some 11) ∷ times 1 1 ++ times 1 2)
     (2 ∷ []) 2
-    -- a sender without the receiver's guard: to choose the receiver changes nothing, and the send goes on without it
-    ∷ example
-    (0x01000002 ∷ 0x02000000 ∷ 0x03000001 ∷ 0x04000000 ∷ 0x18000000 ∷ 0x23000000 ∷ 0x13000001 ∷ 0x14000000 ∷ 0x24000001
-    ∷ 0x02000001 ∷ 0x03000002 ∷ 0x04000008 ∷ 0x24000002 ∷ []) 0
-    (starts 1 unit ∷ replicate 20 (steps 0 (some 9)) ++ times 3 1 ++ times 5 0)
-    (1 ∷ []) 1
     -- a field that is a function vanishes, and the send goes on: the receiver reads it as undefined
     ∷ carried (0x1e000000 ∷ 0x1c000000 ∷ 0x12000000 ∷ 0x15000000 ∷ 0x10000000 ∷ []) unit (0x1d000000 ∷ 0x14000000 ∷ 0x12000000 ∷ [])
     (1 ∷ 8 ∷ []) 2
@@ -287,9 +275,6 @@ examples =
     ∷ example (alone 0 (0x19000000 ∷ 0x1d000000 ∷ 0x14000000 ∷ 0x12000000 ∷ 0x24000001 ∷ 0x24000002 ∷ [])) 0
     (starts 1 (fields (field 0 (truth true) (field 0 (truth false) empty))) ∷ times 20 0)
     (1 ∷ []) 1
-    -- deleted, it is there no more
-    ∷ branched (fields (field 0 (truth true) (field 0 (truth false) empty)))
-    (0x1b000002 ∷ 0x1d000000 ∷ 0x1f000000 ∷ 0x14000000 ∷ 0x12000000 ∷ 0x12000000 ∷ 0x10000000 ∷ []) 1
     -- two fields set and the first deleted again: it reads undefined, and the other one true
     ∷ example (alone 0
     (0x18000000

@@ -1,6 +1,5 @@
 -- The starred samples of document 01 ("Samples on the wall"), from the words of a table to its refusal, or to its leak, facts and estimate,
--- and some more that tell apart readings which the starred ones do not, for each kind of term. One claim covers both lists:
--- crates/sample_claim/proofs/Claim.antt.
+-- and some more that tell apart readings which the starred ones do not. One claim covers the list: crates/sample_claim/proofs/Claim.antt.
 use Rattle.std.specs.Prelude.{ℕ, ◌+◌, List, [], ◌∷◌, ◌++◌, Bool, true, false, ◌&&◌, length, eqb}
 use Rattle.table.specs.Code.{code}
 use Rattle.calculus.specs.Layout.{estimate_words}
@@ -105,76 +104,3 @@ samples =
     ∷ record { words = 0x05000001 ∷ handler 0 0 (0x13000040 ∷ []); opponent = 0; expected = refusal 9 4 }
     ∷ record { words = single 0 (0x13000020 ∷ []); opponent = 0; expected = refusal 9 4 }
     ∷ []
-
--- ---- a system for each kind: leak and facts, where the opponent holds nothing, as an implementation says that shares nothing with this one
-
--- one handler with this body
-abbrev lone : List ℕ → (leak facts : ℕ) → Sample
-lone body l f = record { words = single 0 body; opponent = 0; expected = counts l f }
-
--- a handler that sends a message to name 1, and the handler of that name
-abbrev sent : (message body : List ℕ) (leak facts : ℕ) → Sample
-sent message body l f =
-    record {
-      words = 0x01000002 ∷ 0x02000000 ∷ 0x03000008 ∷ 0x04000000 ∷ 0x23000000 ∷ 0x13000001 ∷ message ++ handler 1 8 body;
-      opponent = 0;
-      expected = counts l f;
-    }
-
--- `term` as the condition of an if that exercises 1 where it is true, and 2 where it is false
-abbrev tested : (term : List ℕ) (leak facts : ℕ) → Sample
-tested term l f = lone (0x19000000 ∷ term ++ (0x24000001 ∷ 0x24000002 ∷ [])) l f
-
-unfoldable pub test_samples : List Sample
-test_samples =
-    -- while, on false and on the message
-    lone (0x1a000000 ∷ 0x10000003 ∷ 0x24000001 ∷ []) 0 70
-    ∷ lone (0x1a000000 ∷ 0x14000000 ∷ 0x24000001 ∷ []) 1 138
-    -- 5 + -5 less 0; 0 less 0; -1 less 1
-    ∷ tested (0x1b000001 ∷ 0x1b000000 ∷ 0x11000005 ∷ 0x11fffffb ∷ 0x11000000 ∷ []) 3 91
-    ∷ tested (0x1b000001 ∷ 0x11000000 ∷ 0x11000000 ∷ []) 2 79
-    ∷ tested (0x1b000001 ∷ 0x11ffffff ∷ 0x11000001 ∷ []) 1 79
-    -- a literal equal to itself; 3 and 4, of one sign; a record and a number, where the instance stops
-    ∷ tested (0x1b000002 ∷ 0x12000000 ∷ 0x12000000 ∷ []) 1 79
-    ∷ tested (0x1b000002 ∷ 0x11000003 ∷ 0x11000004 ∷ []) 3 85
-    ∷ tested (0x1b000002 ∷ 0x1c000000 ∷ 0x11000000 ∷ []) 0 72
-    ∷ []
-
-unfoldable pub record_samples : List Sample
-record_samples =
-    -- get: a missing field; one that was set to true; with a number for its key; of the message; after a delete
-    tested (0x1d000000 ∷ 0x1c000000 ∷ 0x12000000 ∷ []) 0 73
-    ∷ tested (0x1d000000 ∷ 0x1e000000 ∷ 0x1c000000 ∷ 0x12000000 ∷ 0x10000002 ∷ 0x12000000 ∷ []) 1 87
-    ∷ tested (0x1d000000 ∷ 0x1e000000 ∷ 0x1c000000 ∷ 0x12000000 ∷ 0x10000002 ∷ 0x11000000 ∷ []) 0 79
-    ∷ tested (0x1d000000 ∷ 0x14000000 ∷ 0x12000000 ∷ []) 3 210
-    ∷ tested (0x1d000000 ∷ 0x1f000000 ∷ 0x1e000000 ∷ 0x1c000000 ∷ 0x12000000 ∷ 0x10000002 ∷ 0x12000000 ∷ 0x12000000 ∷ []) 1 91
-    ∷ []
-
-unfoldable pub cell_samples : List Sample
-cell_samples =
-    -- what was put in is read; what is assigned later; a number that is assigned to
-    tested (0x21000000 ∷ 0x20000000 ∷ 0x10000003 ∷ []) 2 80
-    ∷ lone
-    (0x17000000 ∷ 0x20000000 ∷ 0x10000002 ∷ 0x18000000 ∷ 0x22000000 ∷ 0x14000000 ∷ 0x10000003
-    ∷ 0x19000000 ∷ 0x21000000 ∷ 0x14000000 ∷ 0x24000001 ∷ 0x24000002 ∷ []) 3 104
-    ∷ lone (0x18000000 ∷ 0x22000000 ∷ 0x11000001 ∷ 0x10000002 ∷ 0x24000001 ∷ []) 1 78
-    -- a function applied to true and to false; one that is kept in a cell and applied
-    ∷ lone
-    (0x17000000 ∷ 0x15000000 ∷ 0x19000000 ∷ 0x14000000 ∷ 0x24000001 ∷ 0x24000002
-    ∷ 0x18000000 ∷ 0x16000000 ∷ 0x14000000 ∷ 0x10000002 ∷ 0x16000000 ∷ 0x14000000 ∷ 0x10000003 ∷ []) 3 110
-    ∷ lone (0x17000000 ∷ 0x20000000 ∷ 0x15000000 ∷ 0x24000001 ∷ 0x16000000 ∷ 0x21000000 ∷ 0x14000000 ∷ 0x10000000 ∷ []) 1 89
-    ∷ []
-
-unfoldable pub message_samples : List Sample
-message_samples =
-    -- a record whose field is the condition of its receiver; a function, which starts nothing; a record that holds one; a number
-    sent (0x1e000000 ∷ 0x1c000000 ∷ 0x12000000 ∷ 0x10000002 ∷ [])
-    (0x19000000 ∷ 0x1d000000 ∷ 0x14000000 ∷ 0x12000000 ∷ 0x24000001 ∷ 0x24000002 ∷ []) 1 98
-    ∷ sent (0x15000000 ∷ 0x10000000 ∷ []) (0x24000001 ∷ []) 0 72
-    ∷ sent (0x1e000000 ∷ 0x1c000000 ∷ 0x12000000 ∷ 0x15000000 ∷ 0x10000000 ∷ []) (0x24000001 ∷ []) 1 88
-    ∷ sent (0x11000005 ∷ []) (0x19000000 ∷ 0x1b000002 ∷ 0x14000000 ∷ 0x11000005 ∷ 0x24000001 ∷ 0x24000002 ∷ []) 3 98
-    ∷ []
-
-unfoldable pub samples_by_kind : List Sample
-unfolding test_samples record_samples cell_samples message_samples
-samples_by_kind = test_samples ++ (record_samples ++ (cell_samples ++ message_samples))

@@ -1,13 +1,11 @@
 // What may be wrong with a call, in document 01's order.
-ghost use Rattle.std.specs.Prelude.{◌≡◌, ◌^◌, leb};
-ghost use Rattle.permset.specs.Sets.{width};
+ghost use Rattle.std.specs.Prelude.{◌≡◌};
 ghost use Rattle.table.specs.Scan.{accepted, reading};
 ghost use Rattle.table.specs.Code.{code};
 ghost use Rattle.calculus.specs.Layout.{estimate_words};
 ghost use Rattle.calls.specs.Calls.{stray_bound, CheckedAs};
 
 use crate::Fault;
-use permset::PermSet;
 use rows::layout::Layout;
 use table::Reading;
 
@@ -18,21 +16,11 @@ pub enum Checked {
     Wrong(Fault),
 }
 
-// The standing bound, which means the opponent's own set.
-pub const STANDING: u32 = 0x80000000;
-
-// Whether a number is no set: bits above the permissions.
-pub fn malformed(bits: u32) -> bool
-    ensures { result ≡ leb (2 ^ width) bits }
-{
-    !PermSet::of(bits).valid()
-}
-
-// A bound that is no set, save the standing bound.
+// A bound with bits above the permissions, save the standing bound, which means the empty set.
 fn stray_bound(bound: u32) -> bool
     ensures { result ≡ stray_bound bound }
 {
-    malformed(bound) && bound != STANDING
+    16777216 <= bound && bound != 0x80000000
 }
 
 // The words of an estimate of an accepted table.
@@ -48,7 +36,7 @@ fn check_call(words: &[u32], rho: u32, bound: u32, est: usize, work: usize) -> C
     requires { reading words.now ≡ accepted }
     ensures { CheckedAs words.now rho bound est work result }
 {
-    if malformed(rho) {
+    if 16777216 <= rho {
         return Checked::Wrong(Fault::Rho);
     }
     if stray_bound(bound) {

@@ -45,7 +45,7 @@ first-words ws ρ bs a =
     ∙ take_at (estimate (code ws) ρ) (words_of bs) (estimate_words (code ws)) w.long
 
 -- a verdict's leak is a set
-pub leak-small : (ws : List ℕ) (ρ bound est work : ℕ) (v : Verdict) → answer ws ρ bound est work ≡ verdict v → v.leak < 2 ^ width
+leak-small : (ws : List ℕ) (ρ bound est work : ℕ) (v : Verdict) → answer ws ρ bound est work ≡ verdict v → v.leak < 2 ^ width
 unfolding judge
 leak-small ws ρ bound est work v e =
     subst (λ (u : Verdict). u.leak < 2 ^ width) (answer-judged ws ρ bound est work v e).1 (leak-lt (code ws) ρ (estimate (code ws) ρ))
@@ -55,7 +55,7 @@ module _ (ws : List ℕ) (ρ bound est work : ℕ) (bs : List ℕ) where
   large : {A : Type 0} (n p : ℕ) → answer_number (refused n p) < 2 ^ 32 → A
   large n p h = absurd (omega (arith, refusal-large n p))
 
-  pub correct-number : (a : Answer) → a ≡ answer ws ρ bound est work → CorrectNumber ws ρ bound (estimate_bytes ws ρ a bs) (answer_number a)
+  correct-number : (a : Answer) → a ≡ answer ws ρ bound est work → CorrectNumber ws ρ bound (estimate_bytes ws ρ a bs) (answer_number a)
   unfolding CorrectNumber estimate_bytes Correct
   correct-number (refused n p) e = λ h. large n p h
   correct-number (verdict v) e =
@@ -67,7 +67,7 @@ module _ (ws : List ℕ) (ρ bound est work : ℕ) (bs : List ℕ) where
       λ h. subst₂ (λ (s : ℕ) (o : Bool). Least (code ws) ρ (take (estimate_words (code ws)) us) s × ((first : ℕ) × Compared s (bound_used bound) o first))
       (sym (verdict-leak v k)) (sym (over-number v k)) (d.0, (v.first, d.1))
 
-  pub guaranteed-number : (a : Answer) → a ≡ answer ws ρ bound est work → GuaranteedNumber ws ρ (answer_number a)
+  guaranteed-number : (a : Answer) → a ≡ answer ws ρ bound est work → GuaranteedNumber ws ρ (answer_number a)
   unfolding GuaranteedNumber Guaranteed
   guaranteed-number (refused n p) e = λ h. large n p h
   guaranteed-number (verdict v) e =

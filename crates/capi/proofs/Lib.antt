@@ -5,6 +5,3 @@ pub mod Systems
 pub mod Demands
 pub mod Audits
 pub mod Taken
-pub mod Macros
-pub mod Copies
-pub mod LargeDemands

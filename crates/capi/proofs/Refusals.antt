@@ -59,7 +59,7 @@ module _ (ws : List ℕ) (ρ bound est work : ℕ) where
       go accepted r h = room r (none found h)
       go (unreadable m q) r h = let z : ◌≡◌ {A = ℕ} 0 1 = cc in absurd (omega arith)
 
-  pub answer-place : (n p : ℕ) → answer ws ρ bound est work ≡ refused n p → p ≤ length ws
+  answer-place : (n p : ℕ) → answer ws ρ bound est work ≡ refused n p → p ≤ length ws
   unfolding answer analysis
   answer-place n p e = go (reading ws) refl e
     where

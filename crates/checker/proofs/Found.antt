@@ -22,7 +22,7 @@ use Rattle.rows.specs.declared.layout.Layout.{Layout}
 use Rattle.rows.specs.Laid.{LaidOut}
 use Rattle.rows.specs.Mask.{made_as}
 use Rattle.rows.proofs.Laws.{get_or-row}
-use Rattle.rows.specs.Numbered.{sort_at, thing_at}
+use Rattle.clauses.specs.Asks.{sort_at, thing_at}
 use Rattle.queries.specs.Passes.{Masked}
 use Rattle.queries.specs.Things.{both, Next, Searched}
 use Rattle.queries.proofs.Laws.{row_in, mask-in, has-is, C-sets}

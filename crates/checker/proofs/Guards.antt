@@ -1,45 +1,59 @@
--- Which words have a guard: a block's first word has, and no other.
-use Prim.Native.Nat.{ℕ, ◌+◌, ◌<◌}
-use mathlib.Core.Path.{◌≡◌, ap, sym, ◌∙◌, subst}
-use mathlib.Core.Bool.{Bool}
-use mathlib.Core.List.{List}
+-- The entry of a block by its guard: which words have one.
+use Prim.Native.Nat.{ℕ, ◌+◌, ◌≤◌, ◌<◌}
+use mathlib.Core.Path.{◌≡◌, sym, ap, ◌∙◌, subst}
+use mathlib.Core.Bool.{true, false}
+use mathlib.Core.List.{List, Memᴰ}
 use native.Mathlib.Omega.{arith}
 use lib.Dec.{T}
-use Rattle.table.specs.declared.Handler.{Handler}
+use lib.ListN.{length, get_or}
+use Rattle.permset.specs.Sets.{within}
 use Rattle.table.specs.declared.Item.{Item}
-use Rattle.table.specs.declared.Item.TheVariants as items
-use Rattle.table.specs.declared.Term.{Term}
-use Rattle.table.specs.Item.{item_at, item_guarded}
-use Rattle.table.specs.Code.{Code, Node, NodeLinked, gap, block, code}
+use Rattle.table.specs.Words.{kind, argument}
+use Rattle.table.specs.Item.{handler_at}
+use Rattle.table.specs.Scan.{names_at, Task}
+use Rattle.table.specs.Code.{Code, Node, NodeLinked, block, code}
 use Rattle.table.proofs.Linked.{linked as code-linked}
+use Rattle.table.proofs.Faults.{Stands}
+use Rattle.table.proofs.Stack.{reach}
+use Rattle.table.proofs.Parts.{place-stands}
+use Rattle.table.proofs.Items.{item-block}
 use Rattle.table.proofs.Nodes.{item_node, node_at, node-item}
+use Rattle.table.proofs.Blocks.{head-word, listed-block}
 use Rattle.calculus.specs.Rules.{guarded}
-use Rattle.calculus.proofs.Guards.{guarded-is}
+use Rattle.calculus.proofs.Masks.{T_false}
 use Rattle.rows.specs.declared.layout.Layout.{Layout}
+use Rattle.clauses.proofs.Asked.{listed-guarded}
 use Rattle.checker.specs.Words.{Accepted}
 
-module _ {ws : List ℕ} {l : Layout} (a : Accepted ws l) where
+module _ {ws : List ℕ} {l : Layout} (a : Accepted ws l) {p : ℕ} (h : p < l.size) where
   abbrev c : Code
   c = code ws
 
-  module _ (p : ℕ) where
-    node_of : {x : Item} → item_at ws p ≡ x → c.node p ≡ node_at ws a.readable ws (omega arith) x p
-    node_of i = node-item ws a.readable ws (omega arith) p ∙ ap (λ (z : Item). node_at ws a.readable ws (omega arith) z p) i
+  pub at-word : (p < length ws) × (length ws ≤ 1024) × (length ws ≡ l.size)
+  unfolding code
+  at-word = (omega (arith, a.laid.size), (head-word ws a.readable).sized, a.laid.size)
 
-    pub gap-node : item_at ws p ≡ items.Gap → c.node p ≡ gap
-    unfolding item_node
-    gap-node i = node_of i
+  -- only a block has a guard
+  guard-kind : (s : ℕ) → T (guarded (c.node p) s) → kind (get_or ws p 0) ≡ 2
+  unfolding code
+  guard-kind s g =
+      let m : Memᴰ p c.blocks = listed-guarded c (code-linked ws a.readable) (λ x v. true) p s g in
+      let x = listed-block ws a.readable p m in
+      (subst (λ (u : Task). Stands (names_at ws) (reach ws a.readable p x.0).keys (get_or ws p 0) u) x.1 (place-stands ws a.readable p x.0)).0
 
-    -- a term has no guard
-    pub no-guard : {t : Term} → item_at ws p ≡ items.Term t → (s : ℕ) → T (guarded (c.node p) s) → ⊥
-    unfolding item_guarded
-    no-guard i s g = subst (λ (x : Item). T (item_guarded x s)) i (subst T (sym (guarded-is ws a.readable p s)) g)
+  module _ (i : kind (get_or ws p 0) ≡ 2) where
+    pub block-node : c.node p ≡ block (argument (get_or ws p 0)) (argument (get_or ws (p + 1) 0)) (argument (get_or ws (p + 2) 0))
+    unfolding item_node handler_at
+    block-node = node-item ws a.readable ws (omega arith) p ∙ ap (λ (z : Item). node_at ws a.readable ws (omega arith) z p) (item-block ws p i)
 
-    module _ {h : Handler} (i : item_at ws p ≡ items.Block h) where
-      pub block-node : c.node p ≡ block h.name h.perms.bits h.guard.bits
-      unfolding item_node
-      block-node = node_of i
+    pub body-in : p + 3 < l.size
+    body-in =
+        omega (arith, (subst (NodeLinked c p) block-node ((code-linked ws a.readable).nodes p (omega (arith, a.laid.size)))).3.inside, a.laid.size)
 
-      pub body-in : p < l.size → p + 3 < l.size
-      body-in j =
-          omega (arith, (subst (NodeLinked c p) block-node ((code-linked ws a.readable).nodes p (omega (arith, a.laid.size)))).3.inside, a.laid.size)
+    pub guard-is : (s : ℕ) → guarded (c.node p) s ≡ within (argument (get_or ws (p + 2) 0)) s
+    unfolding guarded
+    guard-is s = ap (λ (n : Node). guarded n s) block-node
+
+  -- the guard that the words say
+  pub shut : (s : ℕ) → (kind (get_or ws p 0) ≡ 2 → ⊥) → false ≡ guarded (c.node p) s
+  shut s n = sym (T_false (guarded (c.node p) s) (λ t. n (guard-kind s t)))

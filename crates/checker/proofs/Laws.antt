@@ -19,7 +19,7 @@ use Rattle.calculus.proofs.Firing.{any-has, any_found}
 use Rattle.calculus.proofs.Folds.{found}
 use Rattle.calculus.proofs.Places.{span-lt}
 use Rattle.calculus.proofs.Rows.{sets-allowed}
-use Rattle.rows.specs.Numbered.{row_at}
+use Rattle.clauses.specs.Asks.{row_at}
 use Rattle.queries.proofs.Laws.{C-found}
 use Rattle.checker.specs.Decides.{Decides}
 use Rattle.checker.specs.Lowered.{Lowered}

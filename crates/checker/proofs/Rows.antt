@@ -33,8 +33,9 @@ use Rattle.rows.specs.Mask.{Mask}
 use Rattle.rows.specs.Rows.{lacking}
 use Rattle.rows.proofs.Full.{full-digit}
 use Rattle.rows.proofs.Laws.{length-row, get_or-row, length-masked-row}
-use Rattle.rows.specs.Numbered.{row_at}
-use Rattle.rows.proofs.Numbered.{row-C, row-B, base-row, content-row, value_row}
+use Rattle.clauses.specs.Asks.{row_at}
+use Rattle.clauses.proofs.Sorts.{row-C, row-B}
+use Rattle.clauses.proofs.Numbered.{base-row, content-row, value_row}
 use Rattle.queries.proofs.Laws.{row_in, has-is, C-sets}
 use Rattle.checker.specs.Decides.{Decides}
 

@@ -2,7 +2,7 @@
 use Rattle.std.specs.Prelude.{ℕ, suc, ◌<◌, ◌≡◌}
 use Rattle.calculus.specs.Constraint.{C, B, P, Rule, sub, ◌and◌}
 use Rattle.calculus.specs.Rules.{live}
-use Rattle.rows.specs.Numbered.{row_at}
+use Rattle.clauses.specs.Asks.{row_at}
 use Rattle.checker.specs.declared.things.Action.{Action}
 use Rattle.checker.specs.declared.things.Action.TheVariants as actions
 

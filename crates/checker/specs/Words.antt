@@ -1,9 +1,6 @@
 -- What the tests on the words of an accepted table decide.
 use Rattle.std.specs.Prelude.{ℕ, ◌≡◌, Bool}
 use mathlib.Core.List.{List, Memᴰ}
-use Rattle.permset.specs.declared.PermSet.{PermSet}
-use Rattle.table.specs.declared.Term.{Term}
-use Rattle.table.specs.declared.Term.TheVariants as terms
 use Rattle.table.specs.Scan.{accepted, reading}
 use Rattle.table.specs.Code.{Code, code}
 use Rattle.calculus.specs.Constraint.{L, Sets, Rule, Obeys, given, ◌and◌}
@@ -13,10 +10,6 @@ use Rattle.rows.specs.declared.layout.Layout.{Layout}
 use Rattle.rows.specs.Laid.{LaidOut}
 use Rattle.checker.specs.Decides.{Decides}
 use Rattle.checker.specs.Lowered.{Lowered}
-
--- what a send asks is looked at by itself
-abbrev pub NoSend : Term → Type 0
-NoSend t = (r : PermSet) → t ≡ terms.Send r → ⊥
 
 -- r decides a rule of the table on the words of an estimate
 abbrev pub Obeyed : (ws est : List ℕ) → (Code → Rule) → Bool → Type 0

@@ -4,16 +4,14 @@ mod terms;
 mod tests;
 mod things;
 
-ghost use Rattle.std.specs.Prelude.{◌≡◌, ℕ, ◌+◌, ◌<◌};
-ghost use Rattle.table.specs.declared.Item.TheVariants as items;
-ghost use Rattle.table.specs.Item.{item_at};
-ghost use Rattle.table.specs.Code.{code, block as Block};
-ghost use Rattle.calculus.specs.Rules.{flow as Flow};
+ghost use Rattle.std.specs.Prelude.{◌≡◌, ◌+◌, ◌<◌, get_or};
+ghost use Rattle.table.specs.Words.{kind as Kind};
+ghost use Rattle.table.specs.Code.{code};
+ghost use Rattle.calculus.specs.Rules.{guarded, flow as Flow, entry as Entry};
 ghost use Rattle.calculus.specs.Layout.{WellFormed};
 ghost use Rattle.queries.specs.Ready.{Ready, At};
-ghost use Rattle.checker.specs.Decides.{CheckedIf};
 ghost use Rattle.checker.specs.Obeyed.{first_broken};
-ghost use Rattle.checker.specs.Words.{NoSend, Obeyed, WordLowered, own_rule};
+ghost use Rattle.checker.specs.Words.{Accepted, Obeyed, WordLowered, own_rule};
 ghost use Rattle.rows.specs.Laid.{Sized};
 
 use crate::sends::send;
@@ -22,86 +20,97 @@ use crate::terms::{
     set,
 };
 use crate::tests::{full, in_value, lowered, part, passed};
+use clauses::make::{binder_of, constant_element, end, next_end, permissions_of, sign_element};
 use permset::PermSet;
 use queries::is_live;
-use rows::elements::{LITERALS, NAMES, OPPONENT_RECORD, constant_element, sign_element};
-use rows::layout::{Layout, held, value};
-use table::{Handler, Item, Term};
-use table_links::{binder_of, body_of, item_at, permissions_of, second_of, third_of};
+use rows::layout::Layout;
+use table::{argument_of, kind_of};
 
-// Whether what the term t at p, which is no send, asks where it is live is obeyed.
-fn term(
-    words: &[u32],
-    links: &[u32],
-    masks: &[u32],
-    est: &[u32],
-    l: Layout,
-    p: usize,
-    t: Term,
-) -> bool
-    requires { At words.now links.now masks.now est.now l p × (item_at words.now p ≡ items.Term t) × NoSend t }
+// Whether what the word p, which is no send, asks where it is live is obeyed.
+fn flow(words: &[u32], links: &[u32], masks: &[u32], est: &[u32], l: Layout, p: usize) -> bool
+    requires { At words.now links.now masks.now est.now l p × (Kind (get_or words.now p 0) ≡ 35 → ⊥) }
     ensures { Obeyed words.now est.now (λ c. Flow c p (c.node p)) result }
 {
-    match t {
-        Term::Constant(c) => in_value(est, l, p, constant_element(c)),
-        Term::Number(n) => in_value(est, l, p, sign_element(n)),
-        Term::Literal(n) => in_value(est, l, p, LITERALS + n as usize),
-        Term::Name(n) => in_value(est, l, p, NAMES + n as usize),
-        Term::Variable(_) => passed(est, l, held(binder_of(links, p)), value(p)),
-        Term::Function => in_value(est, l, p, 32 * l.lead + p),
-        Term::Apply => apply(est, masks, l, p, second_of(links, p)),
-        Term::Let => bind(est, l, p, second_of(links, p)),
-        Term::Sequence => sequence(est, l, p, second_of(links, p)),
-        Term::If => branch(est, l, p, second_of(links, p), third_of(links, p)),
-        Term::While => repeat(est, l, p, second_of(links, p)),
-        Term::Operation(o) => operation(est, l, p, second_of(links, p), o),
-        Term::Record => in_value(est, l, p, 32 * l.lead + p),
-        Term::Get => get(est, masks, l, p, second_of(links, p)),
-        Term::Set => set(est, masks, l, p, second_of(links, p), third_of(links, p)),
-        Term::Delete => delete(est, masks, l, p, second_of(links, p)),
-        Term::Cell => cell(est, l, p),
-        Term::Read => read(est, masks, l, p),
-        Term::Assign => assign(est, masks, l, p, second_of(links, p)),
-        Term::Send(_) => true,
-        Term::Exercise(r) => exercise(est, l, p, r, permissions_of(words, links, p)),
+    let w = words[p];
+    let a = argument_of(w);
+    match kind_of(w) {
+        2 => part(est, l, p, p + 3),
+        16 => in_value(est, l, p, constant_element(a)),
+        17 => in_value(est, l, p, sign_element(a)),
+        18 => in_value(est, l, p, 9 + a as usize),
+        19 => in_value(est, l, p, 32 + a as usize),
+        20 => passed(est, l, 2 * binder_of(links, p) + 1, 2 * p),
+        21 => in_value(est, l, p, 32 * l.lead + p),
+        22 => apply(est, masks, l, p, end(links, p + 1)),
+        23 => bind(est, l, p, end(links, p + 1)),
+        24 => sequence(est, l, p, end(links, p + 1)),
+        25 => branch(est, l, p, end(links, p + 1), next_end(links, p + 1)),
+        26 => repeat(est, l, p, end(links, p + 1)),
+        27 => operation(est, l, p, end(links, p + 1), a),
+        28 => in_value(est, l, p, 32 * l.lead + p),
+        29 => get(est, masks, l, p, end(links, p + 1)),
+        30 => set(est, masks, l, p, end(links, p + 1), next_end(links, p + 1)),
+        31 => delete(est, masks, l, p, end(links, p + 1)),
+        32 => cell(est, l, p),
+        33 => read(est, masks, l, p),
+        34 => assign(est, masks, l, p, end(links, p + 1)),
+        36 => exercise(
+            est,
+            l,
+            p,
+            PermSet { bits: a },
+            permissions_of(words, links, p),
+        ),
+        _ => true,
     }
 }
 
-// Whether the rule of the block h at p is obeyed but for its senders: its entry, where its guard lets in who has rho, and what it asks where it is live.
-fn block(est: &[u32], l: Layout, rho: PermSet, p: usize, h: Handler) -> bool
-    requires { Sized l est.now × (p + 3 < l.size) }
-    ensures { CheckedIf l est.now (λ c. c.node p ≡ Block h.name h.perms.bits h.guard.bits) (λ c. own_rule c rho.bits p) result }
+// Whether there is a block at p whose guard lets in who has rho.
+pub fn opens(words: &[u32], l: Layout, rho: PermSet, p: usize) -> bool
+    requires { Accepted words.now l × (p < l.size) }
+    ensures { result ≡ guarded ((code words.now).node p) rho.bits }
 {
-    let guard = h.guard;
-    let live = is_live(est, l, p);
-    let entered = live & (full(est, l, held(p)) & in_value(est, l, p, OPPONENT_RECORD));
-    (!guard.within(rho) | entered) & (!live | part(est, l, p, body_of(p)))
+    if kind_of(words[p]) != 2 {
+        return false;
+    }
+    let guard = PermSet::of(argument_of(words[p + 2]));
+    guard.within(rho)
 }
 
-// `below`, or the lowest word that does not obey what the term t at p asks: of itself its own rule, of a block to know its sender.
-fn of_term(
+// Whether the entry of a block by its guard is obeyed; there is none at another word.
+fn entry(words: &[u32], est: &[u32], l: Layout, rho: PermSet, p: usize) -> bool
+    requires { Accepted words.now l × Sized l est.now × WellFormed (code words.now) est.now × (p < l.size) }
+    ensures { Obeyed words.now est.now (λ c. Entry c rho.bits p) result }
+{
+    if !opens(words, l, rho, p) {
+        return true;
+    }
+    is_live(est, l, p) & (full(est, l, 2 * p + 1) & in_value(est, l, p, 7))
+}
+
+// Whether the rule of the word p, which is no send, is obeyed but for its senders.
+fn own(
     words: &[u32],
     links: &[u32],
     masks: &[u32],
     est: &[u32],
     l: Layout,
+    rho: PermSet,
     p: usize,
-    t: Term,
-    below: usize,
-) -> usize
-    requires { At words.now links.now masks.now est.now l p × (item_at words.now p ≡ items.Term t) }
-    ensures { (ρ : ℕ) → WordLowered words.now est.now ρ p below result }
+) -> bool
+    requires { At words.now links.now masks.now est.now l p × (Kind (get_or words.now p 0) ≡ 35 → ⊥) }
+    ensures { Obeyed words.now est.now (λ c. own_rule c rho.bits p) result }
 {
+    if !entry(words, est, l, rho, p) {
+        return false;
+    }
     if !is_live(est, l, p) {
-        return below;
+        return true;
     }
-    if let Term::Send(required) = t {
-        return send(words, links, masks, est, l, required, p, below);
-    }
-    lowered(below, p, term(words, links, masks, est, l, p, t))
+    flow(words, links, masks, est, l, p)
 }
 
-// `below`, or the lowest word that does not obey what the word p asks.
+// `below`, or the lowest word that does not obey what the word p asks: of itself its own rule, of a block to know its sender.
 fn word(
     words: &[u32],
     links: &[u32],
@@ -115,11 +124,10 @@ fn word(
     requires { At words.now links.now masks.now est.now l p }
     ensures { WordLowered words.now est.now rho.bits p below result }
 {
-    match item_at(words, p) {
-        Item::Gap => below,
-        Item::Block(h) => lowered(below, p, block(est, l, rho, p, h)),
-        Item::Term(t) => of_term(words, links, masks, est, l, p, t, below),
+    if kind_of(words[p]) == 35 {
+        return send(words, links, masks, est, l, p, below);
     }
+    lowered(below, p, own(words, links, masks, est, l, rho, p))
 }
 
 // The lowest word whose rule the estimate does not obey; the size of the table where it obeys all.

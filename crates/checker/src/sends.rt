@@ -1,12 +1,9 @@
 // What a send asks: of its own word, and of each block that it may start.
-ghost use Rattle.std.specs.Prelude.{◌≡◌, ℕ, ◌<◌, length, T};
-ghost use Rattle.table.specs.declared.Item.TheVariants as items;
-ghost use Rattle.table.specs.declared.Term.TheVariants as terms;
-ghost use Rattle.table.specs.Item.{item_at};
+ghost use Rattle.std.specs.Prelude.{◌≡◌, ℕ, ◌<◌, length, get_or};
+ghost use Rattle.table.specs.Words.{kind as Kind};
 ghost use Rattle.table.specs.Scan.{name};
 ghost use Rattle.table.specs.Code.{code, task_at};
 ghost use Rattle.table.specs.Links.{LinksOf};
-ghost use Rattle.calculus.specs.Constraint.{L};
 ghost use Rattle.calculus.specs.Layout.{sets};
 ghost use Rattle.queries.specs.Ready.{At};
 ghost use Rattle.checker.specs.Lowered.{Lowered};
@@ -15,12 +12,15 @@ ghost use Rattle.checker.specs.Words.{WordLowered};
 
 use crate::terms::parts;
 use crate::tests::{in_value, lifted, lowered, passed_by};
+use clauses::make::{end, permissions_of};
 use permset::PermSet;
 use queries::{has_some, is_live, starts};
-use rows::elements::UNIT;
 use rows::layout::Layout;
-use rows::sorts::MESSAGES;
-use table_links::{link_at, next_block, permissions_of, second_of};
+use table::argument_of;
+use table_links::link_at;
+
+// The mask of what may be sent.
+const MESSAGES: usize = 3;
 
 // The send at p, in the block at `home`, with its message at d: what it requires of a receiver, and the permissions of its block.
 #[derive(Drop)]
@@ -76,28 +76,32 @@ fn to_blocks(
     let mut b = 1;
     while b < words.len() {
         lowest = to_block(words, masks, est, l, s, b, lowest);
-        b = next_block(links, b);
+        b = link_at(links, b + 3).end;
     }
     lowest
 }
 
-// `below`, or the lowest word that does not obey what the live send at p asks of it, which requires a set of its receivers.
+// `below`, or the lowest word that does not obey what the send at p asks of it.
 pub fn send(
     words: &[u32],
     links: &[u32],
     masks: &[u32],
     est: &[u32],
     l: Layout,
-    required: PermSet,
     p: usize,
     below: usize,
 ) -> usize
-    requires { At words.now links.now masks.now est.now l p × (item_at words.now p ≡ items.Term (terms.Send required))
-        × T (sets (code words.now) est.now (L p) 0) }
+    requires { At words.now links.now masks.now est.now l p × (Kind (get_or words.now p 0) ≡ 35) }
     ensures { (ρ : ℕ) → WordLowered words.now est.now ρ p below result }
 {
-    let d = second_of(links, p);
+    if !is_live(est, l, p) {
+        return below;
+    }
+    let d = end(links, p + 1);
     let home = link_at(links, p).home;
+    let required = PermSet {
+        bits: argument_of(words[p]),
+    };
     let own = permissions_of(words, links, p);
     let s = Sending {
         p,
@@ -107,5 +111,5 @@ pub fn send(
         own,
     };
     let lowest = to_blocks(words, links, masks, est, l, s, below);
-    lowered(lowest, p, parts(est, l, p, d) & in_value(est, l, p, UNIT))
+    lowered(lowest, p, parts(est, l, p, d) & in_value(est, l, p, 1))
 }

@@ -1,6 +1,7 @@
 // What a term at p asks where it is live, by its kind: its first part is at p + 1, its second at d, its third at e.
 ghost use Rattle.std.specs.Prelude.{◌≡◌, ◌+◌, ◌*◌, ◌^◌, ◌<◌};
 ghost use Rattle.permset.specs.Sets.{width};
+ghost use Rattle.table.specs.Words.{operation_of};
 ghost use Rattle.table.specs.Code.{cell as Cell, read as Read, exercise as Exercise, one, two, bind as Bind, while, branch as Branch, update as Update};
 ghost use Rattle.table.specs.Code.{apply as Apply, sequence as Sequence, get as Get, delete as Delete, assign as Assign, operation as Op};
 ghost use Rattle.calculus.specs.Constraint.{◌and◌};
@@ -13,10 +14,15 @@ use crate::things::{Action, things};
 use permset::PermSet;
 use queries::{has_some, has_text};
 use results::operate_at;
-use rows::elements::{FALSE, OPPONENT_RECORD, TRUE, UNDEFINED, UNIT};
 use rows::layout::Layout;
-use rows::sorts::{CELLS, FUNCTIONS, RECORDS};
-use table::Operation;
+use table::operation_of;
+
+// The masks, by their numbers.
+const FUNCTIONS: usize = 0;
+
+const RECORDS: usize = 1;
+
+const CELLS: usize = 2;
 
 // Both parts are live, and their permissions are in P(p).
 pub fn parts(est: &[u32], l: Layout, p: usize, d: usize) -> bool
@@ -34,7 +40,7 @@ pub fn exercise(est: &[u32], l: Layout, p: usize, set: PermSet, own: PermSet) ->
         return true;
     }
     let at = l.flags(p);
-    set.within(PermSet::of(est[at])) & in_value(est, l, p, UNIT)
+    set.within(PermSet::of(est[at])) & in_value(est, l, p, 1)
 }
 
 pub fn apply(est: &[u32], masks: &[u32], l: Layout, p: usize, d: usize) -> bool
@@ -65,8 +71,8 @@ pub fn branch(est: &[u32], l: Layout, p: usize, d: usize, e: usize) -> bool
     part(est, l, p, p + 1)
         & (lifted(est, l, d, p)
             & (lifted(est, l, e, p)
-                & (wakes(est, l, p + 1, TRUE, d)
-                    & (wakes(est, l, p + 1, FALSE, e)
+                & (wakes(est, l, p + 1, 2, d)
+                    & (wakes(est, l, p + 1, 3, e)
                         & (passed(est, l, 2 * d, 2 * p) & passed(est, l, 2 * e, 2 * p))))))
 }
 
@@ -76,19 +82,24 @@ pub fn repeat(est: &[u32], l: Layout, p: usize, d: usize) -> bool
 {
     part(est, l, p, p + 1)
         & (lifted(est, l, d, p)
-            & (wakes(est, l, p + 1, TRUE, d)
-                & (!in_value(est, l, p + 1, FALSE) | in_value(est, l, p, UNDEFINED))))
+            & (wakes(est, l, p + 1, 2, d) & (!in_value(est, l, p + 1, 3) | in_value(est, l, p, 0))))
 }
 
 // The results of the operation on C(p + 1) and C(d) are in C(p).
-pub fn operation(est: &[u32], l: Layout, p: usize, d: usize, o: Operation) -> bool
+pub fn operation(est: &[u32], l: Layout, p: usize, d: usize, a: u32) -> bool
     requires { Term l est.now p × (d < l.size) }
-    ensures { Checked l est.now (λ c. flow c p (two (Op o) (p + 1) d)) result }
+    ensures { Checked l est.now (λ c. flow c p (two (Op (operation_of a)) (p + 1) d)) result }
 {
     let whole = parts(est, l, p, d);
     let to = 2 * p * l.row;
-    let results = operate_at(est, l.lead, o, 2 * (p + 1) * l.row, 2 * d * l.row);
-    whole & (results & est[to] == results)
+    let results = operate_at(
+        est,
+        l.lead,
+        operation_of(a),
+        2 * (p + 1) * l.row,
+        2 * d * l.row,
+    );
+    whole & PermSet::of(results).within(PermSet::of(est[to]))
 }
 
 // Where C(d) has a string: for 7 all plain elements, where C(p + 1) has a record undefined, and what each record holds is in C(p).
@@ -100,14 +111,13 @@ pub fn get(est: &[u32], masks: &[u32], l: Layout, p: usize, d: usize) -> bool
     if !has_text(est, l, 2 * d) {
         return whole;
     }
-    let filled = fills(est, l, p + 1, OPPONENT_RECORD, 2 * p);
+    let filled = fills(est, l, p + 1, 7, 2 * p);
     if !has_some(est, masks, l, 2 * (p + 1), RECORDS) {
         return whole & filled;
     }
     whole
         & (filled
-            & (in_value(est, l, p, UNDEFINED)
-                & things(est, masks, l, Action::Take, RECORDS, p, 2 * p)))
+            & (in_value(est, l, p, 0) & things(est, masks, l, Action::Take, RECORDS, p, 2 * p)))
 }
 
 // Where C(d) has a string: for 7 all plain elements are in B(p), and where C(p + 1) has a record or 7 the new record is in C(p), C(e) and what
@@ -121,7 +131,7 @@ pub fn set(est: &[u32], masks: &[u32], l: Layout, p: usize, d: usize, e: usize) 
     if !has_text(est, l, 2 * d) {
         return whole & third;
     }
-    let filled = fills(est, l, p + 1, OPPONENT_RECORD, 2 * p + 1);
+    let filled = fills(est, l, p + 1, 7, 2 * p + 1);
     if !has_some(est, masks, l, 2 * (p + 1), RECORDS) {
         return whole & (third & filled);
     }

@@ -3,7 +3,7 @@ ghost use Rattle.std.specs.Prelude.{◌≡◌, ◌+◌, ◌*◌, ◌<◌};
 ghost use Rattle.calculus.specs.Constraint.{C};
 ghost use Rattle.calculus.specs.Rules.{each_made};
 ghost use Rattle.rows.specs.Laid.{Sized};
-ghost use Rattle.rows.specs.Numbered.{thing_at};
+ghost use Rattle.clauses.specs.Asks.{thing_at};
 ghost use Rattle.checker.specs.Decides.{Checked, CheckedBy, MasksOf, Term};
 ghost use Rattle.checker.specs.Things.{asked, Suits};
 ghost use Rattle.checker.specs.declared.things.Action.TheVariants as actions;

@@ -1,7 +1,6 @@
-// The report on a class: a stream of systems on standard input, a line for each and the totals on standard output. Each line is written as
-// soon as its system has come: what there is to read is read, into one buffer.
+// The report on a class: a stream of systems on standard input, a line for each and the totals on standard output. The stream is read in pieces,
+// into one buffer.
 ghost use Rattle.std.specs.Prelude.{◌≤◌, length};
-ghost use Rattle.io.specs.Counts.{IsPrefixLen};
 
 use class_report::steps::step;
 use class_report::window::keep;
@@ -18,26 +17,17 @@ struct Window {
     done: bool,
 }
 
-// Reads what there is of standard input, at least a byte, and answers how many bytes it put at the start of a slice; 0 at its end.
-fn read(buffer: &mut [u8]) -> usize
-    ensures { IsPrefixLen result buffer.new }
-{
-    let got = libc::read(STDIN_FILENO, buffer);
-    io::count(got, buffer)
-}
-
 // Puts what comes next behind the bytes that are held, and answers where they end.
 fn refill(buffer: &mut [u8], at: usize, end: usize) -> usize
     ensures { result ≤ length buffer.old }
 {
     let kept = keep(buffer, at, end);
-    let got = read(&mut buffer[kept..]);
+    let got = io::read_full(STDIN_FILENO, &mut buffer[kept..]);
     kept + got
 }
 
-// A stream of which nothing more comes has ended.
+// A stream that does not fill the buffer has ended.
 fn filled(tally: Tally, buffer: &mut [u8], at: usize, end: usize) -> Window
-    requires { at ≤ end }
     ensures { (result.at ≤ result.end) × (result.end ≤ length buffer.old) }
 {
     let size = refill(buffer, at, end);
@@ -45,7 +35,7 @@ fn filled(tally: Tally, buffer: &mut [u8], at: usize, end: usize) -> Window
         tally,
         at: 0,
         end: size,
-        ended: size <= end - at,
+        ended: size < buffer.len(),
         done: false,
     }
 }
@@ -81,7 +71,7 @@ fn turn(w: Window, buffer: &mut [u8], out: &mut [u8; 2400]) -> Window
     }
 }
 
-// Every turn writes a line or reads a byte or more: a stream of the most systems, which has 10,320,000 bytes, takes less than 10,330,010 of them.
+// Every turn writes a line or fills the buffer: a stream of the most systems takes less than 10,200 of them.
 fn report(buffer: &mut [u8], out: &mut [u8; 2400]) {
     let mut w = Window {
         tally: empty_tally(),
@@ -90,7 +80,7 @@ fn report(buffer: &mut [u8], out: &mut [u8; 2400]) {
         ended: false,
         done: false,
     };
-    let mut turns: u32 = 16777216;
+    let mut turns: u32 = 65536;
     while 0 < turns {
         w = turn(w, buffer, out);
         if w.done {

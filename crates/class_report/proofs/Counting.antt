@@ -9,9 +9,10 @@ use lib.ListN.{length, get_or, set, take, drop, drop_of_length-le}
 use lib.Seq.{length-take-le, take_all, get_or-append-add, get_or-drop}
 use Rattle.little_endian.proofs.Laws.{copy_more}
 use Rattle.permset.specs.Sets.{member}
+use Rattle.permset.specs.declared.PermSet.{PermSet}
+use Rattle.class_report.specs.declared.Outcome.TheVariants.{Leak, Refused}
 use Rattle.class_report.specs.declared.Tally.{Tally}
 use Rattle.class_report.specs.Stream.{most_systems}
-use Rattle.class_report.specs.Report.{refusal, leak}
 use Rattle.class_report.specs.Tally.{raised, counted, tallied}
 
 pub raised-more : (n : ℕ) → n < most_systems → n + 1 ≡ raised true n
@@ -62,12 +63,12 @@ counted-all s ns next i e h =
     ∙ append-nil (counted 0 s ns)
 
 -- one system more, by its outcome
-pub tallied-leak : (t : Tally) (s a : ℕ) (ns : List ℕ) → a ≡ raised true t.accepted → ns ≡ counted 0 s t.leaks
-    → record { accepted = a; refused = t.refused; leaks = ns } ≡ tallied t (leak s)
+pub tallied-leak : (t : Tally) (s : PermSet) (a : ℕ) (ns : List ℕ) → a ≡ raised true t.accepted → ns ≡ counted 0 s.bits t.leaks
+    → record { accepted = a; refused = t.refused; leaks = ns } ≡ tallied t (Leak s)
 unfolding tallied
 tallied-leak t s a ns e f = ap₂ (λ (x : ℕ) (y : List ℕ). record { accepted = x; refused = t.refused; leaks = y }) e f
 
 pub tallied-refused : (t : Tally) (n at a : ℕ) → a ≡ raised true t.refused
-    → record { accepted = t.accepted; refused = a; leaks = t.leaks } ≡ tallied t (refusal n at)
+    → record { accepted = t.accepted; refused = a; leaks = t.leaks } ≡ tallied t (Refused n at)
 unfolding tallied
 tallied-refused t n at a e = ap (λ (x : ℕ). record { accepted = t.accepted; refused = x; leaks = t.leaks }) e

@@ -17,19 +17,19 @@ use Rattle.calculus.proofs.Least.{estimate-well}
 use Rattle.verdict.proofs.Room.{estimate-room, work-room, answer-enough}
 use Rattle.little_endian.specs.LittleEndian.{words_of}
 use Rattle.class_report.specs.Stream.{System}
-use Rattle.class_report.specs.Report.{told_of, answer_on, outcome}
+use Rattle.class_report.specs.Report.{outcome_of, answer_on, outcome}
 use Rattle.class_report.specs.Steps.{Sound}
 
 pub outcome-exact : (ws : List ℕ) (ρ est work : ℕ) → length ws ≤ 256 → est ≡ 5888 → work ≡ 1024
-    → told_of (answer ws ρ standing_bound est work) ≡ told_of (answer_on ws ρ)
+    → outcome_of (answer ws ρ standing_bound est work) ≡ outcome_of (answer_on ws ρ)
 unfolding answer_on code
 outcome-exact ws ρ est work h e w =
-    ap told_of (answer-enough ws ρ standing_bound est work (omega (arith, estimate-room ws h)) (omega (arith, work-room ws h)))
+    ap outcome_of (answer-enough ws ρ standing_bound est work (omega (arith, estimate-room ws h)) (omega (arith, work-room ws h)))
 
 -- ---- what a leak means
 
-sound-answer : (s : System) (a : Answer) → a ≡ answer_on (words_of s.bytes) s.rho → Sound s (told_of a)
-unfolding Sound told_of answer_on Correct Guaranteed
+sound-answer : (s : System) (a : Answer) → a ≡ answer_on (words_of s.bytes) s.rho → Sound s (outcome_of a)
+unfolding Sound outcome_of answer_on Correct Guaranteed
 sound-answer s (refused n at) e = tt
 sound-answer s (verdict v) e =
     let ws : List ℕ = words_of s.bytes in

@@ -14,12 +14,13 @@ use Rattle.report.specs.Lines.{refusal_line}
 use Rattle.class_report.specs.declared.Fault.{Fault}
 use Rattle.class_report.specs.declared.Fault.TheVariants.{TooMany, TooLong, CutShort}
 use Rattle.class_report.specs.declared.Front.TheVariants.{Nothing, Broken, Whole}
+use Rattle.class_report.specs.declared.Outcome.{Outcome}
 use Rattle.class_report.specs.declared.Tally.{Tally}
 use Rattle.class_report.specs.declared.Task.{Task}
 use Rattle.class_report.specs.declared.Task.TheVariants as tasks
 use Rattle.class_report.specs.declared.Status.TheVariants as statuses
 use Rattle.class_report.specs.Stream.{System, Ending, whole, broken, Cut, further, most_systems, number, span, front, system_at, after, full, cut}
-use Rattle.class_report.specs.Report.{Told, outcome, line, lines, totals_of, conclusion, report}
+use Rattle.class_report.specs.Report.{outcome, line, lines, totals_of, conclusion, report}
 use Rattle.class_report.specs.Tally.{fresh, position, tallied}
 use Rattle.class_report.specs.Steps.{at_end, broken_task, front_task, full_task, task_for, text_for, step_for, text, step, last, run, printed, joined}
 use Rattle.class_report.proofs.Prefixes.{Sized, by_tests, whole-kept, long_kept, system-kept, after_kept}
@@ -29,15 +30,15 @@ use Rattle.class_report.proofs.Tasks.{full-nothing, full-more, task-front, task-
 -- ---- the report from a system on
 
 -- what follows the lines of the systems ss, after those with the outcomes os
-finish : List Told → List System → Ending → List ℕ
+finish : List Outcome → List System → Ending → List ℕ
 finish os ss whole = totals_of (os ++ map outcome ss)
 finish os ss (broken f) = refusal_line (number f) (length os + length ss)
 
-cut_rest : List Told → Cut → List ℕ
+cut_rest : List Outcome → Cut → List ℕ
 cut_rest os c = lines (length os) c.systems ++ finish os c.systems c.ending
 
 -- the rest of the report, after systems with the outcomes os
-rest : List Told → List ℕ → List ℕ
+rest : List Outcome → List ℕ → List ℕ
 rest os stream = cut_rest os (cut (most_systems - length os) stream)
 
 from_start : (ss : List System) (e : Ending) → finish [] ss e ≡ conclusion ss e
@@ -52,7 +53,7 @@ rest-report stream =
     (from_start (cut most_systems stream).systems (cut most_systems stream).ending)
 
 -- one system is done
-finish-more : (os : List Told) (s : System) (ss : List System) (e : Ending) → finish os (s ∷ ss) e ≡ finish (os ++ outcome s ∷ []) ss e
+finish-more : (os : List Outcome) (s : System) (ss : List System) (e : Ending) → finish os (s ∷ ss) e ≡ finish (os ++ outcome s ∷ []) ss e
 unfolding finish
 finish-more os s ss whole = ap totals_of (sym (append_snoc os (outcome s) (map outcome ss)))
 finish-more os s ss (broken f) = ap (refusal_line (number f)) (omega (arith, length-append os (outcome s ∷ [])))
@@ -75,15 +76,15 @@ module _ (left : ℕ) (stream : List ℕ) where
   cut-whole n e = rw (e, cut)
 
 -- no system follows
-ends-whole : (os : List Told) → cut_rest os (record { systems = []; ending = whole }) ≡ totals_of os
+ends-whole : (os : List Outcome) → cut_rest os (record { systems = []; ending = whole }) ≡ totals_of os
 unfolding cut_rest finish lines
 ends-whole os = ap totals_of (append-nil os)
 
-ends-broken : (os : List Told) (f : Fault) → cut_rest os (record { systems = []; ending = broken f }) ≡ refusal_line (number f) (length os)
+ends-broken : (os : List Outcome) (f : Fault) → cut_rest os (record { systems = []; ending = broken f }) ≡ refusal_line (number f) (length os)
 unfolding cut_rest finish lines
 ends-broken os f = ap (refusal_line (number f)) (add-zero (length os))
 
-module _ (os : List Told) (stream : List ℕ) where
+module _ (os : List Outcome) (stream : List ℕ) where
   module _ (few : length os < most_systems) where
     left : most_systems - length os ≡ suc (most_systems - suc (length os))
     left = omega arith
@@ -166,10 +167,10 @@ run-task n t held pieces k e = ap (step_on n t held pieces) e ∙ step-on n t he
 -- in n steps, a caller prints the rest of the report
 Follows : ℕ → Type 0
 Follows n =
-    (t : Tally) (held : List ℕ) (pieces : List (List ℕ)) (os : List Told) → Counts t os → length os ≤ most_systems
+    (t : Tally) (held : List ℕ) (pieces : List (List ℕ)) (os : List Outcome) → Counts t os → length os ≤ most_systems
     → most_systems - length os + length pieces < n → run n t held pieces ≡ rest os (held ++ joined pieces)
 
-module _ (n : ℕ) (ih : Follows n) (t : Tally) (held : List ℕ) (os : List Told) (k : Counts t os) (most : length os ≤ most_systems) where
+module _ (n : ℕ) (ih : Follows n) (t : Tally) (held : List ℕ) (os : List Outcome) (k : Counts t os) (most : length os ≤ most_systems) where
   -- what is printed at the end of a stream
   end-totals : text_for t held tasks.Totals ≡ totals_of os
   unfolding text_for
@@ -208,7 +209,7 @@ module _ (n : ℕ) (ih : Follows n) (t : Tally) (held : List ℕ) (os : List Tol
       advances m z e =
           let x : List ℕ = joined pieces in
           let s : System = system_at held m in
-          let o : Told = outcome s in
+          let o : Outcome = outcome s in
           let c : Counts (tallied t o) (os ++ o ∷ []) = counts-more t os o k few in
           let l : length (os ++ o ∷ []) ≡ suc (length os) = omega (arith, length-append os (o ∷ [])) in
           run-task n t held pieces (tasks.System m) (by_front ∙ ap (front_task (last pieces)) e)

@@ -12,13 +12,14 @@ use Rattle.text.specs.Writing.{Wrote}
 use Rattle.report.specs.Lines.{refusal_line}
 use Rattle.class_report.specs.declared.Fault.{Fault}
 use Rattle.class_report.specs.declared.Fault.TheVariants.{TooMany, TooLong, CutShort}
+use Rattle.class_report.specs.declared.Outcome.{Outcome}
 use Rattle.class_report.specs.declared.Tally.{Tally}
 use Rattle.class_report.specs.declared.Task.{Task}
 use Rattle.class_report.specs.declared.Task.TheVariants as tasks
 use Rattle.class_report.specs.declared.Status.TheVariants as statuses
 use Rattle.class_report.specs.declared.Step.{Step}
 use Rattle.class_report.specs.Stream.{System, most_systems, number, word_at, span, front, system_at}
-use Rattle.class_report.specs.Report.{Told, outcome, line, totals}
+use Rattle.class_report.specs.Report.{outcome, line, totals}
 use Rattle.class_report.specs.Tally.{position, tallied}
 use Rattle.class_report.specs.Writing.{count_in}
 use Rattle.class_report.specs.Steps.{at_end, broken_task, front_task, full_task, task_for, text_for, step_for, text, step, room, Done, SoundFor}
@@ -57,7 +58,7 @@ module _ (t : Tally) (piece before after : List ℕ) (n : ℕ) (fits : n ≤ roo
       let m : span words - 8 ≡ 4 * words = omega arith in
       ap₂ (λ (x i : ℕ). record { rho = x; bytes = take i (drop 8 piece) }) e m
 
-  pub system-done : (words p h r : ℕ) (o : Told) (u : Tally) → p ≡ position t → h ≡ fnv1a (take (span words - 8) (drop 8 piece)) → r ≡ word_at 4 piece
+  pub system-done : (words p h r : ℕ) (o : Outcome) (u : Tally) → p ≡ position t → h ≡ fnv1a (take (span words - 8) (drop 8 piece)) → r ≡ word_at 4 piece
       → o ≡ outcome (record { rho = r; bytes = take (span words - 8) (drop 8 piece) }) → u ≡ tallied t o → Wrote before 0 (line p h o) after n
       → Done t piece (tasks.System words) before (record { status = statuses.Line; tally = u; used = span words; size = n }) after
   unfolding text_for step_for

@@ -7,9 +7,10 @@ use native.Mathlib.Nat.{zero-add, add-zero}
 use native.Mathlib.Omega.{arith}
 use lib.ListN.{length, get_or, get_or-replicate}
 use Rattle.permset.specs.Sets.{width, member}
+use Rattle.class_report.specs.declared.Outcome.{Outcome}
+use Rattle.class_report.specs.declared.Outcome.TheVariants.{Leak, Refused}
 use Rattle.class_report.specs.declared.Tally.{Tally}
 use Rattle.class_report.specs.Stream.{most_systems}
-use Rattle.class_report.specs.Report.{Told, refusal, leak}
 use Rattle.class_report.specs.Report.{is_accepted, is_refused, leaks_it, how_many, permission_line, permission_lines, count_line, totals, totals_of}
 use Rattle.class_report.specs.Tally.{fresh, position, raised, tallied}
 use Rattle.class_report.specs.Writing.{count_in}
@@ -26,13 +27,13 @@ unfolding one
 one_more true n = omega arith
 one_more false n = omega arith
 
-module _ (q : Told → Bool) where
-  many-cons : (o : Told) (os : List Told) → how_many q (o ∷ os) ≡ how_many q os + one (q o)
+module _ (q : Outcome → Bool) where
+  many-cons : (o : Outcome) (os : List Outcome) → how_many q (o ∷ os) ≡ how_many q os + one (q o)
   unfolding how_many
   many-cons o os = one_more (q o) (how_many q os)
 
   -- one outcome more
-  many-snoc : (os : List Told) (o : Told) → how_many q (os ++ o ∷ []) ≡ how_many q os + one (q o)
+  many-snoc : (os : List Outcome) (o : Outcome) → how_many q (os ++ o ∷ []) ≡ how_many q os + one (q o)
   many-snoc [] o = many-cons o []
   many-snoc (x ∷ os) o = omega (arith, many-cons x (os ++ o ∷ []), many-cons x os, many-snoc os o)
 
@@ -41,20 +42,20 @@ module _ (q : Told → Bool) where
   one-most true = omega arith
   one-most false = omega arith
 
-  many-most : (os : List Told) → how_many q os ≤ length os
+  many-most : (os : List Outcome) → how_many q os ≤ length os
   unfolding how_many
   many-most [] = omega arith
   many-most (x ∷ os) = omega (arith, many-cons x os, many-most os, one-most (q x))
 
-all-counted : (os : List Told) → how_many is_accepted os + how_many is_refused os ≡ length os
+all-counted : (os : List Outcome) → how_many is_accepted os + how_many is_refused os ≡ length os
 unfolding how_many is_accepted is_refused
 all-counted [] = refl
-all-counted (leak s ∷ os) = let e = all-counted os in omega arith
-all-counted (refusal n at ∷ os) = let e = all-counted os in omega arith
+all-counted (Leak s ∷ os) = let e = all-counted os in omega arith
+all-counted (Refused n at ∷ os) = let e = all-counted os in omega arith
 
 -- ---- counts that stand for outcomes
 
-pub record Counts (t : Tally) (os : List Told) : Type 0 where
+pub record Counts (t : Tally) (os : List Outcome) : Type 0 where
   pub accepts : t.accepted ≡ how_many is_accepted os
   pub refuses : t.refused ≡ how_many is_refused os
   pub wide : length t.leaks ≡ width
@@ -64,7 +65,7 @@ pub counts-fresh : Counts fresh []
 unfolding how_many
 counts-fresh = record { accepts = refl; refuses = refl; wide = refl; leaks = λ i h. get_or-replicate width i 0 0 h }
 
-pub counts-position : (t : Tally) (os : List Told) → Counts t os → position t ≡ length os
+pub counts-position : (t : Tally) (os : List Outcome) → Counts t os → position t ≡ length os
 counts-position t os k = ap₂ (λ (a b : ℕ). a + b) k.accepts k.refuses ∙ all-counted os
 
 -- one more, below the most systems of a stream
@@ -73,26 +74,26 @@ unfolding raised one
 raised-as true n m e h = sym (raised-more n (omega arith)) ∙ ap (λ (k : ℕ). k + 1) e
 raised-as false n m e h = omega arith
 
-unchanged : (q : Told → Bool) (os : List Told) (o : Told) → q o ≡ false → how_many q os ≡ how_many q (os ++ o ∷ [])
+unchanged : (q : Outcome → Bool) (os : List Outcome) (o : Outcome) → q o ≡ false → how_many q os ≡ how_many q (os ++ o ∷ [])
 unfolding one
 unchanged q os o e = sym (many-snoc q os o ∙ ap (λ (b : Bool). how_many q os + one b) e ∙ add-zero (how_many q os))
 
-pub counts-more : (t : Tally) (os : List Told) (o : Told) → Counts t os → length os < most_systems → Counts (tallied t o) (os ++ o ∷ [])
+pub counts-more : (t : Tally) (os : List Outcome) (o : Outcome) → Counts t os → length os < most_systems → Counts (tallied t o) (os ++ o ∷ [])
 unfolding tallied one is_accepted is_refused leaks_it
-counts-more t os (leak s) k h =
+counts-more t os (Leak s) k h =
     record {
-      accepts = raised-as true _ _ k.accepts (omega (arith, many-most is_accepted os)) ∙ sym (many-snoc is_accepted os (leak s));
-      refuses = k.refuses ∙ unchanged is_refused os (leak s) refl;
-      wide = length-counted 0 s t.leaks ∙ k.wide;
-      leaks = λ i w. counted-at 0 s t.leaks i (omega (arith, k.wide)) ∙ ap (λ (j : ℕ). raised (member s j) (get_or t.leaks i 0)) (zero-add i)
-          ∙ raised-as (member s i) _ _ (k.leaks i w) (omega (arith, many-most (leaks_it i) os)) ∙ sym (many-snoc (leaks_it i) os (leak s));
+      accepts = raised-as true _ _ k.accepts (omega (arith, many-most is_accepted os)) ∙ sym (many-snoc is_accepted os (Leak s));
+      refuses = k.refuses ∙ unchanged is_refused os (Leak s) refl;
+      wide = length-counted 0 s.bits t.leaks ∙ k.wide;
+      leaks = λ i w. counted-at 0 s.bits t.leaks i (omega (arith, k.wide)) ∙ ap (λ (j : ℕ). raised (member s.bits j) (get_or t.leaks i 0)) (zero-add i)
+          ∙ raised-as (member s.bits i) _ _ (k.leaks i w) (omega (arith, many-most (leaks_it i) os)) ∙ sym (many-snoc (leaks_it i) os (Leak s));
     }
-counts-more t os (refusal n at) k h =
+counts-more t os (Refused n at) k h =
     record {
-      accepts = k.accepts ∙ unchanged is_accepted os (refusal n at) refl;
-      refuses = raised-as true _ _ k.refuses (omega (arith, many-most is_refused os)) ∙ sym (many-snoc is_refused os (refusal n at));
+      accepts = k.accepts ∙ unchanged is_accepted os (Refused n at) refl;
+      refuses = raised-as true _ _ k.refuses (omega (arith, many-most is_refused os)) ∙ sym (many-snoc is_refused os (Refused n at));
       wide = k.wide;
-      leaks = λ i w. k.leaks i w ∙ unchanged (leaks_it i) os (refusal n at) refl;
+      leaks = λ i w. k.leaks i w ∙ unchanged (leaks_it i) os (Refused n at) refl;
     }
 
 -- ---- the totals
@@ -103,7 +104,7 @@ same_lines zero i of f g h = refl
 same_lines (suc n) i of f g h =
     ap₂ (λ (m : ℕ) (l : List ℕ). permission_line i m of ++ l) (h i (omega arith)) (same_lines n (suc i) of f g (λ j k. h j (omega arith)))
 
-pub counts-totals : (t : Tally) (os : List Told) → Counts t os → totals t.accepted t.refused (count_in t.leaks) ≡ totals_of os
+pub counts-totals : (t : Tally) (os : List Outcome) → Counts t os → totals t.accepted t.refused (count_in t.leaks) ≡ totals_of os
 unfolding totals totals_of
 counts-totals t os k =
     ap₂ (λ (n m : ℕ). count_line n m ++ permission_lines width 0 n (count_in t.leaks)) k.accepts k.refuses

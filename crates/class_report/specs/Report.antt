@@ -14,37 +14,27 @@ use Rattle.class_report.specs.Stream.{System, Ending, whole, broken, number, mos
 
 -- ---- the outcome of a system
 
--- what is told of a system: the number and the place of its refusal, or its leak
-pub data Told : Type 0 where
-  refusal : (number place : ℕ) → Told
-  leak : (set : ℕ) → Told
-
--- the values of each case
-unfoldable pub told_by : Outcome → Told
-told_by (Refused number place) = refusal number place
-told_by (Leak s) = leak s.bits
-
-unfoldable pub told_of : Answer → Told
-told_of (refused number place) = refusal number place
-told_of (verdict v) = leak v.leak
+unfoldable pub outcome_of : Answer → Outcome
+outcome_of (refused n at) = Refused n at
+outcome_of (verdict v) = Leak (record { bits = v.leak })
 
 -- the answer to the words of a system: its slices are never short, and no bound is asked about
 unfoldable pub answer_on : List ℕ → (ρ : ℕ) → Answer
 unfolding answer
 answer_on ws ρ = answer ws ρ standing_bound (estimate_words (code ws)) (work_words (length ws))
 
-unfoldable pub outcome : System → Told
-unfolding told_of answer_on
-outcome s = told_of (answer_on (words_of s.bytes) s.rho)
+unfoldable pub outcome : System → Outcome
+unfolding outcome_of answer_on
+outcome s = outcome_of (answer_on (words_of s.bytes) s.rho)
 
 -- ---- the line of a system
 
-unfoldable pub outcome_text : Told → List ℕ
-outcome_text (leak s) = (bytes "leak " ++ set s) ++ bytes "\n"
-outcome_text (refusal n at) = refusal_line n at
+unfoldable pub outcome_text : Outcome → List ℕ
+outcome_text (Leak s) = (bytes "leak " ++ set s.bits) ++ bytes "\n"
+outcome_text (Refused n at) = refusal_line n at
 
 -- position, fingerprint, outcome
-unfoldable pub line : (position fingerprint : ℕ) → Told → List ℕ
+unfoldable pub line : (position fingerprint : ℕ) → Outcome → List ℕ
 unfolding outcome_text
 line position fingerprint o = decimal position ++ (bytes " " ++ hex_word fingerprint) ++ bytes " " ++ outcome_text o
 
@@ -56,20 +46,20 @@ lines position (s ∷ ss) = line position (fnv1a s.bytes) (outcome s) ++ lines (
 
 -- ---- the totals
 
-unfoldable pub is_accepted : Told → Bool
-is_accepted (leak s) = true
-is_accepted (refusal n at) = false
+unfoldable pub is_accepted : Outcome → Bool
+is_accepted (Leak s) = true
+is_accepted (Refused n at) = false
 
-unfoldable pub is_refused : Told → Bool
-is_refused (leak s) = false
-is_refused (refusal n at) = true
+unfoldable pub is_refused : Outcome → Bool
+is_refused (Leak s) = false
+is_refused (Refused n at) = true
 
-unfoldable pub leaks_it : (permission : ℕ) → Told → Bool
-leaks_it i (leak s) = member s i
-leaks_it i (refusal n at) = false
+unfoldable pub leaks_it : (permission : ℕ) → Outcome → Bool
+leaks_it i (Leak s) = member s.bits i
+leaks_it i (Refused n at) = false
 
 -- how many pass a test
-unfoldable pub how_many : (Told → Bool) → List Told → ℕ
+unfoldable pub how_many : (Outcome → Bool) → List Outcome → ℕ
 how_many q [] = 0
 how_many q (o ∷ os) = elim (q o) [ true ↦ suc (how_many q os) | false ↦ how_many q os ]
 
@@ -90,7 +80,7 @@ unfoldable pub totals : (accepted refused : ℕ) → (ℕ → ℕ) → List ℕ
 unfolding count_line permission_lines
 totals n m leaks = count_line n m ++ permission_lines width 0 n leaks
 
-unfoldable pub totals_of : List Told → List ℕ
+unfoldable pub totals_of : List Outcome → List ℕ
 unfolding totals how_many is_accepted is_refused leaks_it
 totals_of os = totals (how_many is_accepted os) (how_many is_refused os) (λ i. how_many (leaks_it i) os)
 

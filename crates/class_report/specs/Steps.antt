@@ -12,13 +12,15 @@ use Rattle.class_report.specs.declared.Fault.{Fault}
 use Rattle.class_report.specs.declared.Fault.TheVariants.{TooMany, TooLong, CutShort}
 use Rattle.class_report.specs.declared.Front.{Front}
 use Rattle.class_report.specs.declared.Front.TheVariants.{Nothing, Broken, Whole}
+use Rattle.class_report.specs.declared.Outcome.{Outcome}
+use Rattle.class_report.specs.declared.Outcome.TheVariants.{Leak, Refused}
 use Rattle.class_report.specs.declared.Tally.{Tally}
 use Rattle.class_report.specs.declared.Task.{Task}
 use Rattle.class_report.specs.declared.Task.TheVariants as tasks
 use Rattle.class_report.specs.declared.Status.TheVariants as statuses
 use Rattle.class_report.specs.declared.Step.{Step}
 use Rattle.class_report.specs.Stream.{System, most_systems, number, span, front, system_at}
-use Rattle.class_report.specs.Report.{Told, refusal, leak, outcome, line, totals}
+use Rattle.class_report.specs.Report.{outcome, line, totals}
 use Rattle.class_report.specs.Tally.{fresh, position, tallied}
 use Rattle.class_report.specs.Writing.{count_in}
 
@@ -97,11 +99,11 @@ pub record Done (t : Tally) (piece : List ℕ) (k : Task) (before : List ℕ) (r
 -- ---- what a leak means
 
 -- demands 2 and 3 of an outcome: the leak is that of the least estimate, and covers every run
-unfoldable pub Sound : System → Told → Type 0
-Sound s (refusal n at) = Unit {0}
-Sound s (leak l) =
-    Least (code (words_of s.bytes)) s.rho (estimate (code (words_of s.bytes)) s.rho) l
-    × Covers (code (words_of s.bytes)) s.rho l
+unfoldable pub Sound : System → Outcome → Type 0
+Sound s (Refused n at) = Unit {0}
+Sound s (Leak l) =
+    Least (code (words_of s.bytes)) s.rho (estimate (code (words_of s.bytes)) s.rho) l.bits
+    × Covers (code (words_of s.bytes)) s.rho l.bits
 
 -- of the system at the front of a piece
 abbrev pub SoundFor : List ℕ → Type 0

@@ -1,9 +1,10 @@
 -- The counts that stand for the systems read so far.
 use Rattle.std.specs.Prelude.{ℕ, suc, ◌+◌, min, Bool, true, false, List, [], ◌∷◌, replicate}
 use Rattle.permset.specs.Sets.{width, member}
+use Rattle.class_report.specs.declared.Outcome.{Outcome}
+use Rattle.class_report.specs.declared.Outcome.TheVariants.{Leak, Refused}
 use Rattle.class_report.specs.declared.Tally.{Tally}
 use Rattle.class_report.specs.Stream.{most_systems}
-use Rattle.class_report.specs.Report.{Told, refusal, leak}
 
 -- before the first system
 abbrev pub fresh : Tally
@@ -25,7 +26,7 @@ counted i s [] = []
 counted i s (n ∷ ns) = raised (member s i) n ∷ counted (suc i) s ns
 
 -- one system more
-unfoldable pub tallied : Tally → Told → Tally
+unfoldable pub tallied : Tally → Outcome → Tally
 unfolding raised counted
-tallied t (leak s) = record { accepted = raised true t.accepted; refused = t.refused; leaks = counted 0 s t.leaks }
-tallied t (refusal n at) = record { accepted = t.accepted; refused = raised true t.refused; leaks = t.leaks }
+tallied t (Leak s) = record { accepted = raised true t.accepted; refused = t.refused; leaks = counted 0 s.bits t.leaks }
+tallied t (Refused n at) = record { accepted = t.accepted; refused = raised true t.refused; leaks = t.leaks }

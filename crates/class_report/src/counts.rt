@@ -1,6 +1,5 @@
 // The counts of the systems read so far.
 ghost use Rattle.std.specs.Prelude.{◌≡◌};
-ghost use Rattle.class_report.specs.Report.{told_by};
 ghost use Rattle.class_report.specs.Tally.{fresh, position as Tally·position};
 ghost use Rattle.class_report.specs.Tally.{raised as Tally·raised, counted as Tally·counted, tallied as Tally·tallied};
 
@@ -52,7 +51,7 @@ fn counted(leaks: [u32; 24], leak: PermSet) -> [u32; 24]
 
 // One system more.
 pub fn tallied(tally: Tally, outcome: Outcome) -> Tally
-    ensures { result ≡ Tally·tallied tally (told_by outcome) }
+    ensures { result ≡ Tally·tallied tally outcome }
 {
     let before = tally.leaks;
     match outcome {

@@ -9,7 +9,7 @@ pub mod window;
 pub use crate::counts::empty_tally;
 use permset::PermSet;
 
-// What an analysis says of a system. `told_by` of specs/Report.antt gives each its number and place, or its leak.
+// What an analysis says of a system. `outcome_of` of specs/Report.antt gives each its number, place or leak.
 #[derive(Drop)]
 pub enum Outcome {
     Leak(PermSet),

@@ -2,7 +2,7 @@
 ghost use Rattle.std.specs.Prelude.{◌≡◌, ◌+◌, ◌≤◌, length};
 ghost use Rattle.permset.specs.Sets.{width};
 ghost use Rattle.text.specs.Writing.{Wrote};
-ghost use Rattle.class_report.specs.Report.{leak as Told·leak, told_by, outcome_text, line, permission_line, permission_lines, count_line, totals};
+ghost use Rattle.class_report.specs.Report.{outcome_text, line, permission_line, permission_lines, count_line, totals};
 ghost use Rattle.class_report.specs.Writing.{count_in};
 
 use crate::Outcome;
@@ -13,7 +13,7 @@ use text::{hex_field, number_field, put, set_field};
 // The leak, and a line feed.
 fn put_leak(out: &mut [u8], at: usize, leak: PermSet) -> usize
     requires { at + 12 ≤ length out.old }
-    ensures { Wrote out.old at (outcome_text (Told·leak leak.bits)) out.new result }
+    ensures { Wrote out.old at (outcome_text (Outcome.Leak leak)) out.new result }
 {
     let next = set_field(out, at, b"leak ", leak.bits);
     put(out, next, b"\n")
@@ -22,7 +22,7 @@ fn put_leak(out: &mut [u8], at: usize, leak: PermSet) -> usize
 // What an analysis says of a system, and a line feed.
 fn put_outcome(out: &mut [u8], at: usize, outcome: Outcome) -> usize
     requires { at + 96 ≤ length out.old }
-    ensures { Wrote out.old at (outcome_text (told_by outcome)) out.new result }
+    ensures { Wrote out.old at (outcome_text outcome) out.new result }
 {
     match outcome {
         Outcome::Leak(s) => put_leak(out, at, s),
@@ -33,7 +33,7 @@ fn put_outcome(out: &mut [u8], at: usize, outcome: Outcome) -> usize
 // The line of a system, at the start of out.
 pub fn system_line(out: &mut [u8], position: usize, fingerprint: u32, outcome: Outcome) -> usize
     requires { 126 ≤ length out.old }
-    ensures { Wrote out.old 0 (line position fingerprint (told_by outcome)) out.new result }
+    ensures { Wrote out.old 0 (line position fingerprint outcome) out.new result }
 {
     let a = number_field(out, 0, b"", position as u64);
     let b = hex_field(out, a, b" ", fingerprint);

@@ -8,8 +8,7 @@ use Rattle.table.proofs.Outside.{NoneBelow, outside}
 use Rattle.clauses.specs.declared.Effect.{Effect}
 use Rattle.clauses.specs.declared.Clause.{Clause}
 use Rattle.clauses.specs.declared.Test.{Test}
-use Rattle.clauses.specs.declared.What.{What}
-use Rattle.clauses.specs.Clauses.{never, of, when}
+use Rattle.clauses.specs.Clauses.{never, when}
 
 pub arm : (xs : List Clause) (k j : ℕ) (r : Clause) → k ≡ j → r ≡ get_or xs j never → r ≡ get_or xs k never
 arm xs k j r e h = h ∙ ap (λ (i : ℕ). get_or xs i never) (sym e)
@@ -20,9 +19,5 @@ past xs k r e h = e ∙ sym (get_or-eq_default xs never (outside (length xs) k h
 pub when-of : (r : Clause) (t : Test) (d a v : ℕ) (e f : Effect) → r ≡ when t d a v e → e ≡ f → r ≡ when t d a v f
 when-of r t d a v e f p q = p ∙ ap (when t d a v) q
 
--- rows by their numbers
-pub of-rows : (e : Effect) (w : What) (x y z r s : ℕ) → e ≡ of w x y z → x ≡ r → y ≡ s → e ≡ of w r s z
-of-rows e w x y z r s p q t = rw (← q, ← t) p
-
 -- what `search` closes each need of such a function with
-pub ruleset arms = (arm, past, when-of, of-rows, rules)
+pub ruleset arms = (arm, past, when-of, rules)

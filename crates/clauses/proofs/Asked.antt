@@ -17,8 +17,7 @@ use Rattle.clauses.specs.declared.Test.{Test}
 use Rattle.clauses.specs.declared.Test.TheVariants as tests
 use Rattle.clauses.specs.declared.What.{What}
 use Rattle.clauses.specs.declared.What.TheVariants as whats
-use Rattle.rows.specs.Numbered.{thing_at}
-use Rattle.clauses.specs.Asks.{under, for_thing, things, blocks, effect, asks}
+use Rattle.clauses.specs.Asks.{thing_at, under, for_thing, things, blocks, effect, asks}
 use Rattle.clauses.specs.Clauses.{never}
 
 -- each clause of a list

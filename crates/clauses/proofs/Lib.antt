@@ -1,6 +1,7 @@
 pub mod Arms
 pub mod Asked
-pub mod ByItem
+pub mod ByKind
 pub mod Few
+pub mod Numbered
 pub mod OfWord
 pub mod Sorts

@@ -32,13 +32,11 @@ use Rattle.calculus.proofs.Ranges.{below_in}
 use Rattle.clauses.specs.declared.Clause.{Clause}
 use Rattle.clauses.specs.Clauses.{Site, never, of_block, of_term, site_at, of_item, clauses_at, clause_at, of_value, of_variable, of_permitted, of_exercise, of_apply}
 use Rattle.clauses.specs.Clauses.{of_let, of_sequence, of_if, of_while, of_operation, of_get, of_set, of_delete, of_cell, of_read, of_assign, of_send}
-use Rattle.rows.specs.Numbered.{sort_at, thing_at}
-use Rattle.clauses.specs.Asks.{under, for_thing, things, blocks, effect, asks}
+use Rattle.clauses.specs.Asks.{sort_at, thing_at, under, for_thing, things, blocks, effect, asks}
 use Rattle.calculus.proofs.Permissions.{permissions-are}
 use Rattle.calculus.proofs.Senders.{sent_from}
 use Rattle.clauses.proofs.Asked.{Every, every-at, at_every, Asked, asked-narrow}
-use Rattle.rows.proofs.Numbered.{row-C, row-B}
-use Rattle.clauses.proofs.Sorts.{cell-by, record-by, is_made_lem, is-record}
+use Rattle.clauses.proofs.Sorts.{row-C, row-B, cell-by, record-by, is_made_lem, is-record}
 
 -- a site says of the term t at p what the code says
 pub record Sited (c : Code) (p : ℕ) (t : Term) (s : Site) : Type 0 where

@@ -1,16 +1,27 @@
--- The elements of masks: what is made by a word, and back.
-use Prim.Native.Nat.{ℕ, ◌-◌, ◌≤◌, ◌<◌}
-use mathlib.Core.Path.{◌≡◌}
+-- Rows by their numbers, and the elements of masks: what is made by a word, and back.
+use Prim.Native.Nat.{ℕ, ◌+◌, ◌-◌, ◌*◌, ◌%◌, ◌≤◌, ◌<◌}
+use mathlib.Core.Path.{◌≡◌, ap}
 use mathlib.Core.Bool.{Bool, ◌&&◌}
 use mathlib.Core.Logic.{◌⊎◌, inl, inr, ⊎_elim}
 use native.Mathlib.Decide.{dec_lt}
 use native.Mathlib.Nat.{add-sub_cancel_left}
 use native.Mathlib.Omega.{arith}
+use borrow.Author.Tests.{eq-eqb, ne_eqb}
 use lib.Dec.{T, eqb, leb, eqb→eq, leb→le, le→leb}
 use Rattle.table.specs.Code.{Code, Linked}
 use Rattle.calculus.specs.Elements.{plain, made, opponent_record, Making, nothing, is_record, is_cell, makes, making, any_record}
+use Rattle.calculus.specs.Constraint.{C, B}
 use Rattle.calculus.proofs.Digits.{T-or, T-or-right, T_and, T-fst, T-snd}
 use Rattle.rows.specs.Mask.{made_as}
+use Rattle.clauses.specs.Asks.{row_at}
+
+pub row-C : (i : ℕ) → row_at (2 * i) ≡ C i
+unfolding row_at
+row-C i = rw (eq-eqb (2 * i % 2) 0 (omega arith), row_at) (ap C (omega arith))
+
+pub row-B : (i : ℕ) → row_at (2 * i + 1) ≡ B i
+unfolding row_at
+row-B i = rw (ne_eqb ((2 * i + 1) % 2) 0 (λ z. omega arith), row_at) (ap B (omega arith))
 
 module _ (c : Code) (k : Linked c) where
   -- the word that makes an element

@@ -1,17 +1,34 @@
 -- What a clause asks, as a rule: its guard is a condition on the sets, its effect what has to be in them.
-use Rattle.std.specs.Prelude.{ℕ, zero, suc, ◌+◌, not, eqb}
+use Rattle.std.specs.Prelude.{ℕ, zero, suc, ◌+◌, ◌/◌, ◌%◌, Bool, true, false, not, eqb}
 use Rattle.permset.specs.Sets.{width, member}
 use Rattle.table.specs.Words.{operation_of}
 use Rattle.table.specs.Code.{Code}
-use Rattle.calculus.specs.Elements.{plain, made, is_string, makes, sendable, results}
-use Rattle.calculus.specs.Constraint.{C, B, P, Rule, none, put, sub, given, some, only, each, every, ◌and◌}
+use Rattle.calculus.specs.Elements.{plain, made, is_string, Making, is_function, is_record, is_cell, makes, sendable, any_record, results}
+use Rattle.calculus.specs.Constraint.{Row, C, B, P, Rule, none, put, sub, given, some, only, each, every, ◌and◌}
 use Rattle.calculus.specs.Rules.{delivering, live, fill, pass, part, waiting}
-use Rattle.rows.specs.Numbered.{row_at, sort_at, thing_at}
+use Rattle.rows.specs.Mask.{made_as}
 use Rattle.clauses.specs.declared.Test.{Test}
 use Rattle.clauses.specs.declared.Test.TheVariants as tests
 use Rattle.clauses.specs.declared.What.{What}
 use Rattle.clauses.specs.declared.What.TheVariants as whats
 use Rattle.clauses.specs.declared.Clause.{Clause}
+
+-- the row with a number: 2i is C(i), 2i + 1 is B(i)
+unfoldable pub row_at : ℕ → Row
+row_at n = elim (eqb (n % 2) 0) [ true ↦ C (n / 2) | false ↦ B (n / 2) ]
+
+-- the elements of a mask, by its number: functions, records and 7, cells, what may be sent
+unfoldable pub sort_at : ℕ → Code → ℕ → Bool
+sort_at zero c v = made_as c is_function v
+sort_at (suc zero) c v = any_record c v
+sort_at (suc (suc zero)) c v = made_as c is_cell v
+sort_at (suc (suc (suc n))) c v = sendable c v
+
+-- the things of a mask, by its number
+unfoldable pub thing_at : ℕ → Making → Bool
+thing_at zero m = is_function m
+thing_at (suc zero) m = is_record m
+thing_at (suc (suc n)) m = is_cell m
 
 -- ---- guards
 

@@ -1,5 +1,5 @@
 -- The clauses of each word, in the order and the words of document 01, "Flow rules": what the words and links of a table make of them.
-use Rattle.std.specs.Prelude.{ℕ, ◌+◌, true, false, List, [], ◌∷◌, get_or}
+use Rattle.std.specs.Prelude.{ℕ, ◌+◌, ◌*◌, true, false, List, [], ◌∷◌, ltb, get_or}
 use Rattle.permset.specs.Sets.{within}
 use Rattle.table.specs.declared.Item.{Item}
 use Rattle.table.specs.declared.Item.TheVariants as items
@@ -9,7 +9,6 @@ use Rattle.table.specs.Words.{operation_number}
 use Rattle.table.specs.Item.{item_at, item_perms}
 use Rattle.table.specs.Links.{link_at}
 use Rattle.calculus.specs.Elements.{constant_element, literal_element, name_element, undefined, unit, truth, falsehood, opponent_record, sign}
-use Rattle.rows.specs.Numbered.{value, held, functions, records, cells, messages}
 use Rattle.clauses.specs.declared.Test.{Test}
 use Rattle.clauses.specs.declared.Test.TheVariants as tests
 use Rattle.clauses.specs.declared.What.{What}
@@ -24,6 +23,13 @@ of w x y z = record { what = w; x = x; y = y; z = z }
 
 abbrev pub when : Test → (d a v : ℕ) → Effect → Clause
 when t d a v e = record { guard = record { test = t; d = d; a = a; v = v }; effect = e }
+
+-- the rows of a word
+abbrev pub value : ℕ → ℕ
+value p = 2 * p
+
+abbrev pub held : ℕ → ℕ
+held p = 2 * p + 1
 
 abbrev pub alive : ℕ → Effect
 alive q = of whats.Live q 0 0
@@ -63,6 +69,19 @@ text_has d a v e = when tests.TextHas d a v e
 
 abbrev pub text_some : ℕ → ℕ → ℕ → Effect → Clause
 text_some d a v e = when tests.TextSome d a v e
+
+-- the masks, by their numbers
+abbrev pub functions : ℕ
+functions = 0
+
+abbrev pub records : ℕ
+records = 1
+
+abbrev pub cells : ℕ
+cells = 2
+
+abbrev pub messages : ℕ
+messages = 3
 
 -- ---- the clauses of a term at p, whose second and third parts are at d and e
 
@@ -164,6 +183,10 @@ of_send p d set = free (parts p d 0) ∷ free (put (value p) unit) ∷ some d me
 -- "A live b makes b+3 live. P(b+3) is in P(b)."
 unfoldable pub of_block : (b : ℕ) → List Clause
 of_block b = free (of whats.Part b (b + 3) 0) ∷ []
+
+-- a word of no kind of document 01
+unfoldable pub of_other : (p own kind : ℕ) → List Clause
+of_other p own kind = elim (ltb kind 16) [ true ↦ [] | false ↦ of_value p own ]
 
 -- What the clauses of a term take from elsewhere: its own element, its binder, its block's permissions, its second and third parts.
 pub record Site : Type 0 where

@@ -1,4 +1,4 @@
--- Laws of the text of `pack`.
+-- Laws of the command `pack`.
 use Prim.Native.Nat.{ℕ, ◌+◌, ◌-◌, ◌*◌, ◌≤◌, ◌<◌}
 use mathlib.Core.Path.{◌≡◌, sym, ap, ap₂, ◌∙◌}
 use mathlib.Core.List.{List, [], ◌∷◌, ◌++◌, append-nil, append_assoc}
@@ -10,8 +10,11 @@ use Rattle.text.specs.Text.{bytes}
 use Rattle.text.specs.Writing.{Wrote}
 use Rattle.little_endian.specs.LittleEndian.{bytes_of, whole_words}
 use Rattle.little_endian.proofs.Laws.{length-bytes_of, bytes_of-append}
+use Rattle.listing.specs.Listing.{Answered, done, refusal, left, read_as}
+use Rattle.listing.specs.Listing.{words_of as Listing·words_of}
+use Rattle.listing.proofs.Places.{read-words}
 use Rattle.report.specs.Lines.{refusal_line}
-use Rattle.commands.specs.Printed.{packed, system_text}
+use Rattle.commands.specs.Printed.{answer_text, packed, system_text, pack_text}
 
 -- ---- the bytes of a system, written in two parts
 
@@ -70,3 +73,14 @@ module _ (ρ : ℕ) (ws : List ℕ) where
   pub system-packed : length ws ≤ 256 → packed ρ ws ≡ system_text ρ ws
   unfolding system_text
   system-packed h = rw (system_text, le-ltb 256 (length ws) h)
+
+module _ (ρ : ℕ) (text : List ℕ) where
+  pub pack-refused : (n p : ℕ) → read_as text 1024 ≡ refusal n p → refusal_line n p ≡ pack_text ρ text
+  unfolding pack_text answer_text
+  pack-refused n p e = sym (ap (λ (a : Answered). answer_text a (system_text ρ (Listing·words_of text))) e)
+
+  pub pack-done : (words zeros : List ℕ) (n : ℕ) → read_as text 1024 ≡ done n → words ≡ left (read_as text 1024) (Listing·words_of text) zeros
+      → system_text ρ (take n words) ≡ pack_text ρ text
+  unfolding pack_text answer_text
+  pack-done words zeros n e q =
+      ap (system_text ρ) (read-words text words zeros n e q) ∙ sym (ap (λ (a : Answered). answer_text a (system_text ρ (Listing·words_of text))) e)

@@ -1,4 +1,4 @@
--- The meaning of each number of a refusal (document 02, all wishes that refuse).
+-- The meaning of each number of a refusal, and the help (document 02, all wishes that refuse).
 use Rattle.std.specs.Prelude.{ℕ, zero, suc, ◌-◌, ◌≤◌, ◌≡◌, true, false, List, [], ◌∷◌, ◌++◌, eqb, ltb, length, take, drop}
 use Rattle.text.specs.Text.{bytes}
 use Rattle.listing.specs.Decoding.{line_size}
@@ -91,3 +91,24 @@ meaning n = line_at (position n numbers) page
 unfoldable pub sentence : ℕ → List ℕ
 unfolding meaning
 sentence n = elim (ltb 100 n) [ true ↦ bytes "In the second system: " ++ meaning (n - 100) | false ↦ meaning n ]
+
+-- ---- the help
+
+unfoldable pub help : List ℕ
+help =
+    bytes "wiphosega text             words in, their listing out\n"
+    ++ bytes "wiphosega words            a listing in, its words out\n"
+    ++ bytes "wiphosega leak RHO BOUND CEILING   a listing in, its leak out; sets in hexadecimal digits, BOUND 0 if left out, CEILING on facts\n"
+    ++ bytes "wiphosega deliveries       a listing in, for each send and each handler whether it is delivered, and if not, why\n"
+    ++ bytes "wiphosega senders RHO      a listing in, for each handler who may have sent to it: handlers by position, opponent\n"
+    ++ bytes "wiphosega order RHO        a listing in, an order of its live handlers, each after all that may send to it, or else a loop: by position\n"
+    ++ bytes "wiphosega estimate RHO     a listing in, the words of its least estimate out\n"
+    ++ bytes "wiphosega audit RHO        words in: how many the system has, the system, an estimate; whether the estimate obeys every rule out\n"
+    ++ bytes "wiphosega check            a listing in, what is wrong with it out\n"
+    ++ bytes "wiphosega join             two listings in, the second laid over the first; the joined listing out\n"
+    ++ bytes "wiphosega block NAME SET   the same in, that handler's lines out, the second listing's if it has it\n"
+    ++ bytes "wiphosega manifest         a manifest in, its version and permission set out\n"
+    ++ bytes "wiphosega pack RHO         a listing in, a system of the stream of a class out; RHO in hexadecimal digits\n"
+    ++ bytes "wiphosega widen            the words of a narrow system in, those of the wide one out\n"
+    ++ bytes "wiphosega narrow           the words of a wide system in, those of the narrow one out\n"
+    ++ bytes "wiphosega explain NUMBER   the meaning of a refusal's number\n"

@@ -1,5 +1,5 @@
--- What commands print of the bytes of their input (document 02, wishes 1, 4, 5, 13 and 14).
-use Rattle.std.specs.Prelude.{ℕ, zero, suc, ◌+◌, ◌-◌, ◌%◌, Bool, true, false, ◌&&◌, List, [], ◌∷◌, ◌++◌, eqb, ltb, length, get_or, take, drop}
+-- What the program prints, from the bytes of its arguments and of its input (document 02, wishes 1, 4, 5, 13 and 14).
+use Rattle.std.specs.Prelude.{ℕ, zero, suc, ◌+◌, ◌-◌, ◌%◌, Bool, true, false, ◌&&◌, List, [], ◌∷◌, ◌++◌, eqb, leb, ltb, length, get_or, take, drop}
 use Rattle.text.specs.Text.{bytes, decimal, set}
 use Rattle.little_endian.specs.LittleEndian.{words_of, bytes_of}
 use Rattle.listing.specs.Spelling.{feed}
@@ -13,12 +13,25 @@ use Rattle.overlay.specs.Join as join
 use Rattle.widths.specs.Converters.{converted, convert_answer}
 use Rattle.widths.specs.Converters as widths
 use Rattle.report.specs.Lines.{refusal_line}
-use Rattle.commands.specs.Meanings.{lines_at}
+use Rattle.commands.specs.declared.arguments.Value.{Value}
+use Rattle.commands.specs.declared.arguments.Value.TheVariants.{Number, Other}
+use Rattle.commands.specs.Arguments.{value_of}
+use Rattle.commands.specs.Meanings.{lines_at, sentence, help}
+use Rattle.commands.specs.Checked.{check_text}
 
 -- a text, or the line of the refusal
 unfoldable pub answer_text : Answered → List ℕ → List ℕ
 answer_text (done n) text = text
 answer_text (refusal number place) text = refusal_line number place
+
+-- ---- explain NUMBER
+
+unfoldable pub value_text : Value → List ℕ
+value_text (Number n) = sentence n
+value_text Other = help
+
+abbrev pub explain_text : (number : List ℕ) → List ℕ
+explain_text number = value_text (value_of 10 number)
 
 -- ---- manifest
 
@@ -105,6 +118,15 @@ found_text name permissions input =
     (place_text (first_listing input) (second_listing input)
     (place_of (Listing·words_of (first_listing input)) (Listing·words_of (second_listing input)) name permissions))
 
+unfoldable pub key_text : (name permissions : Value) (input : List ℕ) → List ℕ
+unfolding found_text
+key_text (Number name) (Number permissions) input = found_text name permissions input
+key_text (Number name) Other input = help
+key_text Other permissions input = help
+
+abbrev pub block_text : (name permissions input : List ℕ) → List ℕ
+block_text name permissions input = key_text (value_of 10 name) (value_of 16 permissions) input
+
 -- ---- pack RHO: a listing in, a system of the stream of a class out
 
 -- the length, ρ and the words
@@ -114,6 +136,15 @@ packed ρ words = bytes_of (length words ∷ ρ ∷ words)
 -- a system of more than 256 words is none of a stream
 unfoldable pub system_text : (ρ : ℕ) (words : List ℕ) → List ℕ
 system_text ρ words = elim (ltb 256 (length words)) [ true ↦ refusal_line 59 0 | false ↦ packed ρ words ]
+
+unfoldable pub pack_text : (ρ : ℕ) (input : List ℕ) → List ℕ
+unfolding answer_text system_text
+pack_text ρ input = answer_text (read_as input 1024) (system_text ρ (Listing·words_of input))
+
+unfoldable pub packed_for : (ρ : Value) (input : List ℕ) → List ℕ
+unfolding pack_text
+packed_for (Number ρ) input = pack_text ρ input
+packed_for Other input = help
 
 -- ---- widen, narrow: the words of a system in, those of the converted system out
 
@@ -127,3 +158,67 @@ converted_text wide words =
 unfoldable pub convert_text : (wide : Bool) (input : List ℕ) → List ℕ
 unfolding converted_text
 convert_text wide input = elim (length input % 4) [ zero ↦ converted_text wide (words_of input) | suc n ↦ refusal_line 30 0 ]
+
+-- ---- the program
+
+-- so many bytes more than the input has are room for the text of every command
+abbrev pub room : ℕ
+room = 81920
+
+unfoldable pub same : List ℕ → List ℕ → Bool
+same [] [] = true
+same [] (b ∷ bs) = false
+same (a ∷ l) [] = false
+same (a ∷ l) (b ∷ bs) = eqb a b && same l bs
+
+-- the commands that stand after the others, and the help where none is named
+unfoldable pub other_text : (command first input : List ℕ) → List ℕ
+unfolding packed_for convert_text same
+other_text command first input =
+    elim (same command (bytes "pack")) [
+      | true ↦ packed_for (value_of 16 first) input
+      | false ↦ elim (same command (bytes "widen")) [
+        | true ↦ convert_text true input
+        | false ↦ elim (same command (bytes "narrow")) [ true ↦ convert_text false input | false ↦ help ]
+      ]
+    ]
+
+-- what is printed for a command, its two arguments and the input
+unfoldable pub printed : (command first second input : List ℕ) → List ℕ
+unfolding text_text words_text join_text key_text outcome_text value_text check_text same other_text
+printed command first second input =
+    elim (same command (bytes "text")) [
+      | true ↦ text_text input
+      | false ↦ elim (same command (bytes "words")) [
+        | true ↦ words_text input
+        | false ↦ elim (same command (bytes "join")) [
+          | true ↦ join_text input
+          | false ↦ elim (same command (bytes "block")) [
+            | true ↦ block_text first second input
+            | false ↦ elim (same command (bytes "manifest")) [
+              | true ↦ manifest_text input
+              | false ↦ elim (same command (bytes "explain")) [
+                | true ↦ explain_text first
+                | false ↦ elim (same command (bytes "check")) [ true ↦ check_text input | false ↦ other_text command first input ]
+              ]
+            ]
+          ]
+        ]
+      ]
+    ]
+
+-- ---- lent bytes
+
+-- the output has the room
+unfoldable pub fits : (input size : ℕ) → Bool
+fits input size = leb (room + input) size
+
+-- how many bytes are written, where the input and the output have so many
+unfoldable pub printed_size : List ℕ → (input size : ℕ) → ℕ
+unfolding fits
+printed_size text input size = elim (fits input size) [ true ↦ length text | false ↦ 0 ]
+
+-- the bytes of the output after the call, from those before it
+unfoldable pub out_after : List ℕ → (input : ℕ) → List ℕ → List ℕ
+unfolding fits
+out_after text input out = elim (fits input (length out)) [ true ↦ text ++ drop (length text) out | false ↦ out ]

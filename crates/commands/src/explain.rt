@@ -1,8 +1,8 @@
-// The meaning of a number.
+// The meaning of a number, and the help.
 ghost use Rattle.std.specs.Prelude.{◌≡◌, ◌+◌, ◌≤◌, length};
 ghost use Rattle.text.specs.Writing.{Wrote};
 ghost use Rattle.commands.specs.Meanings.{numbers, position, meaning as Meanings·meaning};
-ghost use Rattle.commands.specs.Meanings.{sentence as Meanings·sentence};
+ghost use Rattle.commands.specs.Meanings.{sentence as Meanings·sentence, help as Meanings·help};
 
 use crate::lines::put_line;
 use text::put;
@@ -89,4 +89,30 @@ pub fn sentence(out: &mut [u8], at: usize, n: u32) -> usize
         return meaning(out, next, n - 100);
     }
     meaning(out, at, n)
+}
+
+pub fn help(out: &mut [u8]) -> usize
+    requires { 4096 ≤ length out.old }
+    ensures { Wrote out.old 0 Meanings·help out.new result }
+{
+    put(
+        out,
+        0,
+        b"wiphosega text             words in, their listing out\n\
+           wiphosega words            a listing in, its words out\n\
+           wiphosega leak RHO BOUND CEILING   a listing in, its leak out; sets in hexadecimal digits, BOUND 0 if left out, CEILING on facts\n\
+           wiphosega deliveries       a listing in, for each send and each handler whether it is delivered, and if not, why\n\
+           wiphosega senders RHO      a listing in, for each handler who may have sent to it: handlers by position, opponent\n\
+           wiphosega order RHO        a listing in, an order of its live handlers, each after all that may send to it, or else a loop: by position\n\
+           wiphosega estimate RHO     a listing in, the words of its least estimate out\n\
+           wiphosega audit RHO        words in: how many the system has, the system, an estimate; whether the estimate obeys every rule out\n\
+           wiphosega check            a listing in, what is wrong with it out\n\
+           wiphosega join             two listings in, the second laid over the first; the joined listing out\n\
+           wiphosega block NAME SET   the same in, that handler's lines out, the second listing's if it has it\n\
+           wiphosega manifest         a manifest in, its version and permission set out\n\
+           wiphosega pack RHO         a listing in, a system of the stream of a class out; RHO in hexadecimal digits\n\
+           wiphosega widen            the words of a narrow system in, those of the wide one out\n\
+           wiphosega narrow           the words of a wide system in, those of the narrow one out\n\
+           wiphosega explain NUMBER   the meaning of a refusal's number\n",
+    )
 }

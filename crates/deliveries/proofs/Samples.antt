@@ -1,13 +1,14 @@
 -- The text of some systems, computed from the definition.
 use Prim.Native.Nat.{ℕ}
 use mathlib.Core.Path.{◌≡◌, refl}
-use mathlib.Core.Bool.{true, false}
 use mathlib.Core.List.{List, [], ◌∷◌, ◌++◌, map}
 use Rattle.permset.specs.Sets.{within, difference}
 use Rattle.delivery.specs.Delivery.{judged}
 use Rattle.table.specs.Item.{handler_at}
+use Rattle.table.specs.Links.{block_at}
 use Rattle.text.specs.Text.{bytes, decimal, set}
-use Rattle.deliveries.specs.Text.{text_by, text}
+use Rattle.deliveries.specs.Positions.{counted, each_word}
+use Rattle.deliveries.specs.Text.{outcome, line, name_for, answer_at, receiver, receivers, lines_of, sends, text}
 
 -- relay with this send and target
 abbrev relay : (perms send target : ℕ) → List ℕ
@@ -30,26 +31,12 @@ systems =
 
 pub texts :
     map text systems
-    ≡ (bytes "send 4 from 0 to 0 other name  line 5 to line 2\n" ++ bytes "send 4 from 0 to 1 delivered  line 5 to line 8\n")
-    ∷ (bytes "send 4 from 0 to 0 other name  line 5 to line 2\n" ++ bytes "send 4 from 0 to 1 lacks 000004  line 5 to line 8\n")
-    ∷ (bytes "send 4 from 0 to 0 other name  line 5 to line 2\n" ++ bytes "send 4 from 0 to 1 needs 000008  line 5 to line 8\n")
-    ∷ (bytes "send 4 from 0 to 0 lacks 000004  line 5 to line 2\n" ++ bytes "send 4 from 0 to 1 lacks 000004  line 5 to line 8\n")
-    ∷ (bytes "send 4 from 0 to 0 other name  line 5 to line 2\n" ++ bytes "send 4 from 0 to 1 lacks 000004  line 5 to line 8\n"
-    ++ bytes "send 4 from 0 to 2 delivered  line 5 to line 12\n")
+    ≡ (bytes "send 4 from 0 to 0 other name\n" ++ bytes "send 4 from 0 to 1 delivered\n")
+    ∷ (bytes "send 4 from 0 to 0 other name\n" ++ bytes "send 4 from 0 to 1 lacks 000004\n")
+    ∷ (bytes "send 4 from 0 to 0 other name\n" ++ bytes "send 4 from 0 to 1 needs 000008\n")
+    ∷ (bytes "send 4 from 0 to 0 lacks 000004\n" ++ bytes "send 4 from 0 to 1 lacks 000004\n")
+    ∷ (bytes "send 4 from 0 to 0 other name\n" ++ bytes "send 4 from 0 to 1 lacks 000004\n" ++ bytes "send 4 from 0 to 2 delivered\n")
     ∷ []
     ∷ []
-unfolding within difference judged handler_at decimal set text_by
+unfolding within difference judged handler_at decimal set outcome line name_for counted each_word answer_at receiver receivers lines_of block_at sends text
 texts = refl
-
--- quiet about other names, where no word is live
-pub texts-quiet :
-    map (λ ws. text_by ws true (λ p. false)) systems
-    ≡ bytes "send 4 from 0 to 1 not live  line 5 to line 8\n"
-    ∷ bytes "send 4 from 0 to 1 lacks 000004  line 5 to line 8\n"
-    ∷ bytes "send 4 from 0 to 1 needs 000008  line 5 to line 8\n"
-    ∷ (bytes "send 4 from 0 to 0 lacks 000004  line 5 to line 2\n" ++ bytes "send 4 from 0 to 1 lacks 000004  line 5 to line 8\n")
-    ∷ (bytes "send 4 from 0 to 1 lacks 000004  line 5 to line 8\n" ++ bytes "send 4 from 0 to 2 not live  line 5 to line 12\n")
-    ∷ []
-    ∷ []
-unfolding within difference judged handler_at decimal set text_by
-texts-quiet = refl

@@ -16,7 +16,7 @@ use Rattle.table.specs.Item.{handler_at}
 use Rattle.table.specs.Links.{block_at}
 use Rattle.table.specs.Words.{kind, argument}
 use Rattle.deliveries.specs.Positions.{counted}
-use Rattle.deliveries.specs.Text.{name_for, line, hides, shown, answer_at, receiver, receivers, lines_of, sends}
+use Rattle.deliveries.specs.Text.{name_for, line, answer_at, receiver, receivers, lines_of, sends}
 use Rattle.deliveries.proofs.Positions.{past_end}
 
 -- the name that is compared
@@ -40,50 +40,35 @@ answer-is ws p home q h g w a v n r d e f i j k l m o =
     ∙ ap (λ (z : Handler). judged (name_for (get_or ws (p + 1) 0) h.name) (argument (get_or ws p 0)) z.perms.bits h) f
     ∙ ap (λ (z : Handler). judged (name_for (get_or ws (p + 1) 0) z.name) (argument (get_or ws p 0)) (handler_at ws home).perms.bits z) e
 
-module _ (quiet : Bool) (d : Delivery) (l : List ℕ) where
-  pub hidden : hides quiet d ≡ true → shown quiet d l ≡ []
-  unfolding shown
-  hidden e = rw (e, shown)
-
-  pub unhidden : hides quiet d ≡ false → shown quiet d l ≡ l
-  unfolding shown
-  unhidden e = rw (e, shown)
-
 module _ (ws : List ℕ) where
-  module _ (quiet : Bool) where
-    module _ (live : Bool) (p home from q to : ℕ) where
-      pub receiver-block : kind (get_or ws q 0) ≡ 2
-          → receiver ws quiet live p home from q to (get_or ws q 0) ≡ shown quiet (answer_at ws p home q) (line p q from to live (answer_at ws p home q))
-      unfolding receiver
-      receiver-block k = rw (eq-eqb (kind (get_or ws q 0)) 2 k, receiver)
+  pub receiver-block : (p home from q to : ℕ) → kind (get_or ws q 0) ≡ 2 → receiver ws p home from q to (get_or ws q 0) ≡ line p from to (answer_at ws p home q)
+  unfolding receiver
+  receiver-block p home from q to k = rw (eq-eqb (kind (get_or ws q 0)) 2 k, receiver)
 
-      pub receiver-none : (kind (get_or ws q 0) ≡ 2 → ⊥) → receiver ws quiet live p home from q to (get_or ws q 0) ≡ []
-      unfolding receiver
-      receiver-none k = rw (ne_eqb (kind (get_or ws q 0)) 2 k, receiver)
+  pub receiver-none : (p home from q to : ℕ) → (kind (get_or ws q 0) ≡ 2 → ⊥) → receiver ws p home from q to (get_or ws q 0) ≡ []
+  unfolding receiver
+  receiver-none p home from q to k = rw (ne_eqb (kind (get_or ws q 0)) 2 k, receiver)
 
-    module _ (live : ℕ → Bool) where
-      pub lines-send : (p home from : ℕ) → kind (get_or ws p 0) ≡ 35
-          → lines_of ws quiet live p home from (get_or ws p 0) ≡ receivers ws quiet (live p) p home from
-      unfolding lines_of
-      lines-send p home from k = rw (eq-eqb (kind (get_or ws p 0)) 35 k, lines_of)
+  pub lines-send : (p home from : ℕ) → kind (get_or ws p 0) ≡ 35 → lines_of ws p home from (get_or ws p 0) ≡ receivers ws p home from
+  unfolding lines_of
+  lines-send p home from k = rw (eq-eqb (kind (get_or ws p 0)) 35 k, lines_of)
 
-      pub lines_none : (p home from : ℕ) → (kind (get_or ws p 0) ≡ 35 → ⊥) → lines_of ws quiet live p home from (get_or ws p 0) ≡ []
-      unfolding lines_of
-      lines_none p home from k = rw (ne_eqb (kind (get_or ws p 0)) 35 k, lines_of)
+  pub lines_none : (p home from : ℕ) → (kind (get_or ws p 0) ≡ 35 → ⊥) → lines_of ws p home from (get_or ws p 0) ≡ []
+  unfolding lines_of
+  lines_none p home from k = rw (ne_eqb (kind (get_or ws p 0)) 35 k, lines_of)
 
-      -- the lines that are left of all words
-      abbrev pub sent : (p home count : ℕ) → List ℕ
-      sent p home count = sends ws quiet live p home count (drop p ws)
+  -- the lines that are left of all words
+  abbrev pub sent : (p home count : ℕ) → List ℕ
+  sent p home count = sends ws p home count (drop p ws)
 
-      pub sent-end : (p home count : ℕ) → length ws ≤ p → sent p home count ≡ []
-      unfolding sends
-      sent-end p home count h = ap (sends ws quiet live p home count) (past_end ws p h)
+  pub sent-end : (p home count : ℕ) → length ws ≤ p → sent p home count ≡ []
+  unfolding sends
+  sent-end p home count h = ap (sends ws p home count) (past_end ws p h)
 
-      pub sent-here : (p home count : ℕ) → p < length ws
-          → sent p home count
-          ≡ lines_of ws quiet live p home (count - 1) (get_or ws p 0) ++ sent (p + 1) (block_at (get_or ws p 0) p home) (counted (get_or ws p 0) count)
-      unfolding sends
-      sent-here p home count h = ap (sends ws quiet live p home count) (drop-cons ws p 0 h) ∙ rw add-one refl
+  pub sent-here : (p home count : ℕ) → p < length ws
+      → sent p home count ≡ lines_of ws p home (count - 1) (get_or ws p 0) ++ sent (p + 1) (block_at (get_or ws p 0) p home) (counted (get_or ws p 0) count)
+  unfolding sends
+  sent-here p home count h = ap (sends ws p home count) (drop-cons ws p 0 h) ∙ rw add-one refl
 
 pub block_in : (w p home n : ℕ) → p < n → home < n → block_at w p home < n
 unfolding block_at

@@ -1,17 +1,15 @@
 // For each send of a system and each block a line of text: whether the send is delivered, and if not, why.
 mod lines;
-mod live;
 
 ghost use Rattle.std.specs.Prelude.{◌≡◌, ◌+◌, ◌*◌, ◌≤◌, ◌<◌, ◌-◌, length, get_or};
 ghost use Rattle.table.specs.Scan.{accepted, reading};
 ghost use Rattle.listing.specs.Answer.{answered};
-ghost use Rattle.deliveries.specs.Text.{name_for, answer_at, receiver, receivers, lines_of, text_by, alive, written_by, written, written_live, text_after, live_after};
+ghost use Rattle.deliveries.specs.Text.{name_for, answer_at, receiver, receivers, lines_of, written, text_after};
 ghost use Rattle.deliveries.specs.Positions.{counted as Positions·counted};
-ghost use Rattle.deliveries.specs.Answers.{bytes_after};
+ghost use Rattle.deliveries.specs.Text.{text as Text·text};
 ghost use Rattle.text.specs.Added.{Added};
 
-use crate::lines::add_shown;
-use crate::live::is_live;
+use crate::lines::add_line;
 use delivery::{Delivery, judge};
 use listing::{Answer, Refusal};
 use permset::PermSet;
@@ -60,8 +58,6 @@ pub fn counted(w: u32, count: usize) -> usize
 // The line of the send at p for the word at q, if a block starts there and the line has room, and the place after it.
 fn put_receiver(
     words: &[u32],
-    quiet: bool,
-    live: bool,
     p: usize,
     home: usize,
     from: usize,
@@ -70,14 +66,12 @@ fn put_receiver(
     out: &mut [u8],
     at: usize,
 ) -> usize
-    requires { (p < 1024) × (home < length words.now) × (q < length words.now) × (length words.now ≤ 1024) × (at ≤ 800000000) }
-    ensures added { Added out.old at (receiver words.now quiet live p home from q to (get_or words.now q 0))
-        out.new result }
-    ensures upper_bound { result ≤ at + 385 }
+    requires { (p < 1024) × (home < length words.now) × (q < length words.now) × (at ≤ 1000000000) }
+    ensures added { Added out.old at (receiver words.now p home from q to (get_or words.now q 0)) out.new result }
+    ensures upper_bound { result ≤ at + 96 }
 {
     if kind_of(words[q]) == 2 {
-        let d = answer(words, p, home, q);
-        add_shown(out, at, p, q, from, to, quiet, live, d)
+        add_line(out, at, p, from, to, answer(words, p, home, q))
     } else {
         at
     }
@@ -86,72 +80,58 @@ fn put_receiver(
 // The lines of the send at p, as far as there is room from `at` on, and the place after them.
 fn put_receivers(
     words: &[u32],
-    quiet: bool,
-    live: bool,
     p: usize,
     home: usize,
     from: usize,
     out: &mut [u8],
     at: usize,
 ) -> usize
-    requires { (p < length words.now) × (home < length words.now) × (length words.now ≤ 1024) × (at ≤ 404000000) }
-    ensures added { Added out.old at (receivers words.now quiet live p home from) out.new result }
-    ensures upper_bound { result ≤ at + 385 * length words.now }
+    requires { (p < length words.now) × (home < length words.now) × (length words.now ≤ 1024) × (at ≤ 200000000) }
+    ensures added { Added out.old at (receivers words.now p home from) out.new result }
+    ensures upper_bound { result ≤ at + 96 * length words.now }
 {
     let mut next = at;
     let mut to = 0;
     let mut q = 0;
     while q < words.len() {
-        next = put_receiver(words, quiet, live, p, home, from, q, to, out, next);
+        next = put_receiver(words, p, home, from, q, to, out, next);
         to = counted(words[q], to);
         q += 1;
     }
     next
 }
 
-// The lines of the word at p, as far as there is room, and the place after them. The text of a system is that of its words, one after the other: `sends` of
-// specs/Text.antt. A caller may write them word by word, where there is not room for all.
-pub fn put_word(
-    words: &[u32],
-    est: &[u32],
-    asked: bool,
-    p: usize,
-    home: usize,
-    from: usize,
-    out: &mut [u8],
-    at: usize,
-) -> usize
-    requires { (p < length words.now) × (home < length words.now) × (length words.now ≤ 1024) × (at ≤ 404000000) }
-    ensures added { Added out.old at (lines_of words.now asked (alive words.now est.now asked)
-        p home from (get_or words.now p 0)) out.new result }
-    ensures upper_bound { result ≤ at + 394240 }
+// The lines of the word at p, as far as there is room, and the place after them.
+fn put_word(words: &[u32], p: usize, home: usize, from: usize, out: &mut [u8], at: usize) -> usize
+    requires { (p < length words.now) × (home < length words.now) × (length words.now ≤ 1024) × (at ≤ 200000000) }
+    ensures added { Added out.old at (lines_of words.now p home from (get_or words.now p 0)) out.new result }
+    ensures upper_bound { result ≤ at + 98304 }
 {
     if kind_of(words[p]) == 35 {
-        let live = is_live(words, est, asked, p);
-        put_receivers(words, asked, live, p, home, from, out, at)
+        put_receivers(words, p, home, from, out, at)
     } else {
         at
     }
 }
 
 // The position of the last of so many blocks.
-pub fn last(count: usize) -> usize
+fn last(count: usize) -> usize
     ensures { result ≡ count - 1 }
 {
     if count == 0 { 0 } else { count - 1 }
 }
 
 // The lines of all words, as far as there is room, and their length.
-fn put_words(words: &[u32], est: &[u32], asked: bool, out: &mut [u8]) -> usize
+fn put_words(words: &[u32], out: &mut [u8]) -> usize
     requires { length words.now ≤ 1024 }
-    ensures { Added out.old 0 (text_by words.now asked (alive words.now est.now asked)) out.new result }
+    ensures { Added out.old 0 (Text·text words.now) out.new result }
 {
     let mut next = 0;
     let mut home = 0;
     let mut count = 0;
     let mut p = 0;
     while p < words.len() {
-        next = put_word(words, est, asked, p, home, last(count), out, next);
+        next = put_word(words, p, home, last(count), out, next);
         home = block_of(words[p], p, home);
         count = counted(words[p], count);
         p += 1;
@@ -160,32 +140,17 @@ fn put_words(words: &[u32], est: &[u32], asked: bool, out: &mut [u8]) -> usize
 }
 
 // The text, at the start of out, and its length: measured first, since a text without room changes nothing.
-fn write_accepted(words: &[u32], est: &[u32], asked: bool, out: &mut [u8]) -> Answer
+fn write_accepted(words: &[u32], out: &mut [u8]) -> Answer
     requires { reading words.now ≡ accepted }
-    ensures answer { answered result ≡ written_by words.now (text_by words.now asked
-        (alive words.now est.now asked)) (length out.old) }
-    ensures text { out.new ≡ bytes_after (reading words.now) (text_by words.now asked
-        (alive words.now est.now asked)) out.old }
+    ensures answer { answered result ≡ written words.now (length out.old) }
+    ensures text { out.new ≡ text_after words.now out.old }
 {
-    let n = put_words(words, est, asked, &mut out[..0]);
+    let n = put_words(words, &mut out[..0]);
     if out.len() < n {
         return Answer::Refused(Refusal::NoRoom);
     }
-    put_words(words, est, asked, out);
+    put_words(words, out);
     Answer::Done(n)
-}
-
-// The text of any table.
-fn write_by(words: &[u32], est: &[u32], asked: bool, out: &mut [u8]) -> Answer
-    ensures answer { answered result ≡ written_by words.now (text_by words.now asked
-        (alive words.now est.now asked)) (length out.old) }
-    ensures text { out.new ≡ bytes_after (reading words.now) (text_by words.now asked
-        (alive words.now est.now asked)) out.old }
-{
-    if let Reading::Refused(r) = table::read::read(words) {
-        return Answer::Refused(Refusal::Table(r));
-    }
-    write_accepted(words, est, asked, out)
 }
 
 // The deliveries of a system as text, at the start of out, and its length.
@@ -193,13 +158,8 @@ pub fn write(words: &[u32], out: &mut [u8]) -> Answer
     ensures answer { answered result ≡ written words.now (length out.old) }
     ensures text { out.new ≡ text_after words.now out.old }
 {
-    write_by(words, words, false, out)
-}
-
-// The deliveries by the words of an estimate: without other names, and a send that is not live in it is not delivered.
-pub fn write_live(words: &[u32], est: &[u32], out: &mut [u8]) -> Answer
-    ensures answer { answered result ≡ written_live words.now est.now (length out.old) }
-    ensures text { out.new ≡ live_after words.now est.now out.old }
-{
-    write_by(words, est, true, out)
+    if let Reading::Refused(r) = table::read::read(words) {
+        return Answer::Refused(Refusal::Table(r));
+    }
+    write_accepted(words, out)
 }

@@ -1,111 +1,53 @@
 // The line of one send and one block, written into a lent slice where it has room.
-ghost use Rattle.std.specs.Prelude.{◌≡◌, ◌+◌, ◌≤◌, ◌<◌};
+ghost use Rattle.std.specs.Prelude.{◌+◌, ◌≤◌, length};
+ghost use Rattle.text.specs.Writing.{Wrote, Line};
+ghost use Rattle.deliveries.specs.Text.{field, outcome, line as Text·line};
 ghost use Rattle.text.specs.Added.{Added};
-ghost use Rattle.deliveries.specs.Text.{front, outcome, places, line, hides, shown};
 
 use delivery::Delivery;
-use handler_lines::{add_number, add_set};
 use text::room::put_room;
+use text::{number_field, put, set_field};
 
-// The word of the send, and the positions of its block and of the receiver.
-fn add_front(out: &mut [u8], at: usize, p: usize, from: usize, to: usize) -> usize
-    requires { at ≤ 900000000 }
-    ensures added { Added out.old at (front p from to) out.new result }
-    ensures upper_bound { result ≤ at + 192 }
+// A label, a set and a line feed.
+fn set_line(out: &mut [u8], at: usize, label: &[u8], s: u32) -> usize
+    requires { at + length label.now + 7 ≤ length out.old }
+    ensures { Wrote out.old at (field label.now s) out.new result }
 {
-    let a = add_number(out, at, b"send ", p);
-    let b = add_number(out, a, b" from ", from);
-    add_number(out, b, b" to ", to)
+    let next = set_field(out, at, label, s);
+    put(out, next, b"\n")
 }
 
-// What became of a send that is delivered by its sets.
-fn add_delivered(out: &mut [u8], at: usize, live: bool) -> usize
-    requires { at ≤ 900000000 }
-    ensures added { Added out.old at (outcome live Delivery.Delivered) out.new result }
-    ensures upper_bound { result ≤ at + 64 }
-{
-    if live {
-        put_room(out, at, b" delivered")
-    } else {
-        put_room(out, at, b" not live")
-    }
-}
-
-// What became of the send.
-fn add_outcome(out: &mut [u8], at: usize, live: bool, d: Delivery) -> usize
-    requires { at ≤ 900000000 }
-    ensures added { Added out.old at (outcome live d) out.new result }
-    ensures upper_bound { result ≤ at + 64 }
+// What became of the send, and a line feed.
+fn put_outcome(out: &mut [u8], at: usize, d: Delivery) -> usize
+    requires { at + 14 ≤ length out.old }
+    ensures { Wrote out.old at (outcome d) out.new result }
 {
     match d {
-        Delivery::OtherName => put_room(out, at, b" other name"),
-        Delivery::ReceiverLacks(s) => add_set(out, at, b" lacks ", s.bits),
-        Delivery::SenderLacks(s) => add_set(out, at, b" needs ", s.bits),
-        Delivery::Delivered => add_delivered(out, at, live),
+        Delivery::OtherName => put(out, at, b" other name\n"),
+        Delivery::ReceiverLacks(s) => set_line(out, at, b" lacks ", s.bits),
+        Delivery::SenderLacks(s) => set_line(out, at, b" needs ", s.bits),
+        Delivery::Delivered => put(out, at, b" delivered\n"),
     }
 }
 
-// The lines of a listing that have the send and the receiver's first word.
-fn add_places(out: &mut [u8], at: usize, p: usize, q: usize) -> usize
-    requires { (p < 1024) × (q < 1024) × (at ≤ 900000000) }
-    ensures added { Added out.old at (places p q) out.new result }
-    ensures upper_bound { result ≤ at + 129 }
+// The line, at the start of out, and its length.
+fn delivery_line(out: &mut [u8; 96], p: usize, from: usize, to: usize, d: Delivery) -> usize
+    ensures line { Line out.old (Text·line p from to d) out.new result }
+    ensures upper_bound { result ≤ 96 }
 {
-    let a = add_number(out, at, b"  line ", p + 1);
-    let b = add_number(out, a, b" to line ", q + 1);
-    put_room(out, b, b"\n")
+    let a = number_field(out, 0, b"send ", p as u64);
+    let b = number_field(out, a, b" from ", from as u64);
+    let c = number_field(out, b, b" to ", to as u64);
+    put_outcome(out, c, d)
 }
 
 // The line, where it has room, and the place after it.
-fn add_line(
-    out: &mut [u8],
-    at: usize,
-    p: usize,
-    q: usize,
-    from: usize,
-    to: usize,
-    live: bool,
-    d: Delivery,
-) -> usize
-    requires { (p < 1024) × (q < 1024) × (at ≤ 800000000) }
-    ensures added { Added out.old at (line p q from to live d) out.new result }
-    ensures upper_bound { result ≤ at + 385 }
+pub fn add_line(out: &mut [u8], at: usize, p: usize, from: usize, to: usize, d: Delivery) -> usize
+    requires { at ≤ 1000000000 }
+    ensures added { Added out.old at (Text·line p from to d) out.new result }
+    ensures upper_bound { result ≤ at + 96 }
 {
-    let a = add_front(out, at, p, from, to);
-    let b = add_outcome(out, a, live, d);
-    add_places(out, b, p, q)
-}
-
-// Whether nothing is said of an answer.
-fn is_hidden(quiet: bool, d: Delivery) -> bool
-    ensures { result ≡ hides quiet d }
-{
-    match d {
-        Delivery::OtherName => quiet,
-        Delivery::ReceiverLacks(_) => false,
-        Delivery::SenderLacks(_) => false,
-        Delivery::Delivered => false,
-    }
-}
-
-// The line, unless it is of another name and that is not to be said.
-pub fn add_shown(
-    out: &mut [u8],
-    at: usize,
-    p: usize,
-    q: usize,
-    from: usize,
-    to: usize,
-    quiet: bool,
-    live: bool,
-    d: Delivery,
-) -> usize
-    requires { (p < 1024) × (q < 1024) × (at ≤ 800000000) }
-    ensures added { Added out.old at (shown quiet d (line p q from to live d)) out.new result }
-    ensures upper_bound { result ≤ at + 385 }
-{
-    if is_hidden(quiet, d) {
-        return at;
-    }
-    add_line(out, at, p, q, from, to, live, d)
+    let mut line = [0u8; 96];
+    let n = delivery_line(&mut line, p, from, to, d);
+    put_room(out, at, &line[..n])
 }

@@ -1,2 +1,1 @@
 pub mod Delivery
-pub mod Cases

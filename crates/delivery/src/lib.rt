@@ -2,14 +2,13 @@
 ghost use Rattle.std.specs.Prelude.{◌≡◌};
 ghost use Rattle.delivery.specs.Delivery.{judged};
 ghost use Rattle.delivery.specs.Delivery.{delivered as Delivered·so};
-ghost use Rattle.delivery.specs.Cases.{Says};
 
 use permset::PermSet;
 use table::Handler;
 
 // The receiver has another name; it lacks these permissions of the required set; the sender lacks these permissions of the receiver's
-// guard; or delivered. `Says` of specs/Cases.antt says what each case and its permissions mean, and `judged` of specs/Delivery.antt which
-// case it is.
+// guard; or delivered. `judged` of specs/Delivery.antt says which case it is, with which
+// permissions, and `delivered` what each case means.
 #[derive(Drop)]
 pub enum Delivery {
     OtherName,
@@ -34,8 +33,7 @@ impl Delivery {
 
 // What becomes of a send to a name, with a set required of the receiver, from a sender with these permissions: the first cause that applies.
 pub fn judge(name: u32, required: PermSet, sender: PermSet, receiver: Handler) -> Delivery
-    ensures answer { result ≡ judged name required.bits sender.bits receiver }
-    ensures says { Says name required.bits sender.bits receiver result }
+    ensures { result ≡ judged name required.bits sender.bits receiver }
 {
     let perms = receiver.perms;
     let guard = receiver.guard;

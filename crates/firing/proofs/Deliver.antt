@@ -31,10 +31,9 @@ use Rattle.calculus.proofs.Firing.{fire-well}
 use Rattle.calculus.proofs.Folds.{fire-only-not, fire-present, fire-absent}
 use Rattle.rows.specs.declared.layout.Layout.{Layout}
 use Rattle.clauses.specs.declared.Effect.{Effect}
-use Rattle.rows.specs.Numbered.{row_at, sort_at}
-use Rattle.clauses.specs.Asks.{at_block, blocks}
+use Rattle.clauses.specs.Asks.{row_at, sort_at, at_block, blocks}
 use Rattle.clauses.proofs.Asked.{admitted-listed}
-use Rattle.rows.proofs.Numbered.{row-C, row-B}
+use Rattle.clauses.proofs.Sorts.{row-C, row-B}
 use Rattle.queries.specs.Starts.{starts_at}
 use Rattle.queries.proofs.Given.{linked-code}
 use Rattle.queries.proofs.Home.{sender, sender-home, sender-inside}

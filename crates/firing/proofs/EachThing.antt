@@ -23,8 +23,7 @@ use Rattle.rows.specs.Laid.{LaidOut, Sized}
 use Rattle.rows.specs.Mask.{made_as}
 use Rattle.clauses.specs.declared.What.{What}
 use Rattle.clauses.specs.declared.Effect.{Effect}
-use Rattle.rows.specs.Numbered.{sort_at, thing_at}
-use Rattle.clauses.specs.Asks.{for_thing, at_thing}
+use Rattle.clauses.specs.Asks.{sort_at, thing_at, for_thing, at_thing}
 use Rattle.clauses.proofs.Asked.{gap-thing}
 use Rattle.queries.specs.Passes.{Masked}
 use Rattle.queries.specs.Things.{both, Next, Searched}

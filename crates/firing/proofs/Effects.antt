@@ -14,8 +14,7 @@ use Rattle.clauses.specs.declared.Test.{Test}
 use Rattle.clauses.specs.declared.Test.TheVariants as tests
 use Rattle.clauses.specs.declared.Effect.{Effect}
 use Rattle.clauses.specs.declared.Clause.{Clause}
-use Rattle.rows.specs.Numbered.{sort_at}
-use Rattle.clauses.specs.Asks.{under, at_thing, at_block, things, blocks, effect, asks}
+use Rattle.clauses.specs.Asks.{sort_at, under, at_thing, at_block, things, blocks, effect, asks}
 use Rattle.queries.specs.Passes.{passes}
 use Rattle.firing.specs.Fired.{Fired, FiredFor}
 

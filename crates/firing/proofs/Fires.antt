@@ -25,8 +25,8 @@ use Rattle.rows.specs.Mask.{Mask}
 use Rattle.rows.specs.Rows.{Poured}
 use Rattle.rows.proofs.Full.{full, full-bit, full-words, full-short}
 use Rattle.rows.proofs.Laws.{facts-most}
-use Rattle.rows.specs.Numbered.{row_at}
-use Rattle.rows.proofs.Numbered.{Numbered, in-C, in-B, numbered, base-row, content-row, value_row}
+use Rattle.clauses.specs.Asks.{row_at}
+use Rattle.clauses.proofs.Numbered.{Numbered, in-C, in-B, numbered, base-row, content-row, value_row}
 use Rattle.firing.specs.Fired.{FiredFor, FiredIn}
 
 -- ---- where rows stand, and words of permissions and flag

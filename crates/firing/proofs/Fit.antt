@@ -26,10 +26,10 @@ use Rattle.clauses.specs.declared.Test.TheVariants as tests
 use Rattle.clauses.specs.declared.What.{What}
 use Rattle.clauses.specs.declared.What.TheVariants as whats
 use Rattle.clauses.specs.declared.Clause.{Clause}
-use Rattle.rows.specs.Numbered.{row_at, thing_at}
-use Rattle.clauses.specs.Asks.{under, for_thing, at_block, things, blocks, effect, asks}
+use Rattle.clauses.specs.Asks.{row_at, thing_at, under, for_thing, at_block, things, blocks, effect, asks}
 use Rattle.clauses.specs.Clauses.{of}
-use Rattle.rows.proofs.Numbered.{row-C, row-B, Numbered, in-C, in-B, numbered, value_row}
+use Rattle.clauses.proofs.Sorts.{row-C, row-B}
+use Rattle.clauses.proofs.Numbered.{Numbered, in-C, in-B, numbered, value_row}
 use Rattle.clauses.proofs.Asked.{gap-thing, admitted-listed}
 use Rattle.queries.specs.Ready.{Ready}
 use Rattle.queries.proofs.Given.{linked-code}

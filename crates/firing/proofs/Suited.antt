@@ -29,8 +29,8 @@ use Rattle.clauses.specs.declared.What.{What}
 use Rattle.clauses.specs.declared.What.TheVariants as whats
 use Rattle.clauses.specs.declared.Effect.{Effect}
 use Rattle.clauses.specs.declared.Clause.{Clause}
-use Rattle.rows.specs.Numbered.{thing_at, functions}
-use Rattle.clauses.specs.Clauses.{Site, of, when, of_term, site_at, of_item, clauses_at, clause_at}
+use Rattle.clauses.specs.Asks.{thing_at}
+use Rattle.clauses.specs.Clauses.{Site, of, when, functions, of_term, site_at, of_item, clauses_at, clause_at}
 use Rattle.clauses.specs.Clauses.{of_value, of_variable, of_permitted, of_exercise, of_apply, of_let, of_sequence, of_if, of_while, of_operation}
 use Rattle.clauses.specs.Clauses.{of_get, of_set, of_delete, of_cell, of_read, of_assign, of_send, of_block}
 use Rattle.clauses.proofs.Asked.{Every}

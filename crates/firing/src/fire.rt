@@ -20,7 +20,7 @@ fn add(
     links: &[u32],
     masks: &[u32],
     est: &mut [u32],
-    memory: &mut [u32],
+    h: &mut [u32],
     l: Layout,
     e: Effect,
     f: usize,
@@ -35,18 +35,18 @@ fn add(
     let y = e.y;
     let z = e.z;
     match what {
-        What::Live => wake(est, memory, l, x),
-        What::Put => put(est, memory, l, x, y),
-        What::Fill => fill(est, memory, l, x),
-        What::Flow => flow(est, memory, l, x, y),
-        What::Pass => pass(est, masks, memory, l, x, z, y),
-        What::Permit => permit(est, memory, l, x, y as u32),
-        What::Operate => operate_at(est, memory, l, x, y, z),
-        What::Part => part(est, memory, l, x, y),
-        What::Parts => parts(est, memory, l, x, y, z),
-        What::Branches => branches(est, memory, l, x, y, z),
-        What::Send => send(words, links, masks, est, memory, l, e, f),
-        _ => fire_things(est, masks, memory, l, e, f),
+        What::Live => wake(est, h, l, x),
+        What::Put => put(est, h, l, x, y),
+        What::Fill => fill(est, h, l, x),
+        What::Flow => flow(est, h, l, x, y),
+        What::Pass => pass(est, masks, h, l, x, z, y),
+        What::Permit => permit(est, h, l, x, y as u32),
+        What::Operate => operate_at(est, h, l, x, y, z),
+        What::Part => part(est, h, l, x, y),
+        What::Parts => parts(est, h, l, x, y, z),
+        What::Branches => branches(est, h, l, x, y, z),
+        What::Send => send(words, links, masks, est, h, l, e, f),
+        _ => fire_things(est, masks, h, l, e, f),
     }
 }
 
@@ -56,7 +56,7 @@ pub fn fire(
     links: &[u32],
     masks: &[u32],
     est: &mut [u32],
-    memory: &mut [u32],
+    h: &mut [u32],
     l: Layout,
     k: Clause,
     f: usize,
@@ -67,7 +67,7 @@ pub fn fire(
     let guard = k.guard;
     let effect = k.effect;
     if holds(est, masks, l, guard) {
-        add(words, links, masks, est, memory, l, effect, f)
+        add(words, links, masks, est, h, l, effect, f)
     } else {
         0
     }

@@ -6,8 +6,7 @@ ghost use Rattle.calculus.specs.Constraint.{P, L, put as Put, sub, each, ◌and�
 ghost use Rattle.calculus.specs.Rules.{pass as Pass};
 ghost use Rattle.calculus.specs.Layout.{WellFormed};
 ghost use Rattle.rows.specs.Laid.{Sized};
-ghost use Rattle.rows.specs.Numbered.{row_at, sort_at};
-ghost use Rattle.clauses.specs.Asks.{at_block, blocks};
+ghost use Rattle.clauses.specs.Asks.{row_at, sort_at, at_block, blocks};
 ghost use Rattle.queries.specs.Passes.{Masked};
 ghost use Rattle.queries.specs.Ready.{Ready};
 ghost use Rattle.firing.specs.Fired.{Fired, FiredFor};
@@ -15,12 +14,12 @@ ghost use Rattle.firing.specs.Sending.{Sends, Sending};
 
 use crate::targets::{lift, mark, pass, wake};
 use clauses::Effect;
+use clauses::make::permissions_of;
 use permset::PermSet;
 use queries::starts;
 use rows::layout::Layout;
-use rows::sorts::MESSAGES;
-use table::is_block;
-use table_links::{link_at, next_block, permissions_of};
+use table::kind_of;
+use table_links::link_at;
 
 // The block of a send: its permissions and its first word.
 #[derive(Drop)]
@@ -33,7 +32,7 @@ pub struct Sender {
 fn deliver(
     est: &mut [u32],
     masks: &[u32],
-    memory: &mut [u32],
+    h: &mut [u32],
     l: Layout,
     p: usize,
     d: usize,
@@ -45,9 +44,9 @@ fn deliver(
         (λ c. (Put (L b) 0 and Pass c (row_at (2 * d)) (sort_at 3 c) (row_at (2 * b + 1)) and sub (P b) (P p)) and Put (row_at (2 * b))
         (32 * l.lead + home)) est.old est.new result }
 {
-    let started = wake(est, memory, l, b);
-    let passed = pass(est, masks, memory, l, 2 * d, MESSAGES, 2 * b + 1);
-    let delivered = started + (passed + lift(est, memory, l, b, p));
+    let started = wake(est, h, l, b);
+    let passed = pass(est, masks, h, l, 2 * d, 3, 2 * b + 1);
+    let delivered = started + (passed + lift(est, h, l, b, p));
     delivered + mark(est, l, 2 * b, 32 * l.lead + home)
 }
 
@@ -56,7 +55,7 @@ fn send_to(
     words: &[u32],
     est: &mut [u32],
     masks: &[u32],
-    memory: &mut [u32],
+    h: &mut [u32],
     l: Layout,
     e: Effect,
     own: Sender,
@@ -70,7 +69,7 @@ fn send_to(
     if !starts(words, est, l, x, required, own.perms, b) {
         return 0;
     }
-    deliver(est, masks, memory, l, x, e.y, own.home, b)
+    deliver(est, masks, h, l, x, e.y, own.home, b)
 }
 
 // What a send does for each block in turn.
@@ -79,7 +78,7 @@ fn send_all(
     links: &[u32],
     est: &mut [u32],
     masks: &[u32],
-    memory: &mut [u32],
+    h: &mut [u32],
     l: Layout,
     e: Effect,
     own: Sender,
@@ -91,8 +90,8 @@ fn send_all(
     let mut added = 0;
     let mut b = 1;
     while b < words.len() {
-        added += send_to(words, est, masks, memory, l, e, own, b);
-        b = next_block(links, b);
+        added += send_to(words, est, masks, h, l, e, own, b);
+        b = link_at(links, b + 3).end;
     }
     added
 }
@@ -103,7 +102,7 @@ pub fn send(
     links: &[u32],
     masks: &[u32],
     est: &mut [u32],
-    memory: &mut [u32],
+    h: &mut [u32],
     l: Layout,
     e: Effect,
     f: usize,
@@ -115,13 +114,13 @@ pub fn send(
     let perms = permissions_of(words, links, e.x);
     let own = Sender { perms, home };
     if f == 0 {
-        return send_all(words, links, est, masks, memory, l, e, own);
+        return send_all(words, links, est, masks, h, l, e, own);
     }
     if words.len() <= f {
         return 0;
     }
-    if is_block(words[f]) {
-        send_to(words, est, masks, memory, l, e, own, f)
+    if kind_of(words[f]) == 2 {
+        send_to(words, est, masks, h, l, e, own, f)
     } else {
         0
     }

@@ -18,7 +18,7 @@ pub fn step(
     links: &[u32],
     masks: &[u32],
     est: &mut [u32],
-    memory: &mut [u32],
+    h: &mut [u32],
     l: Layout,
     p: usize,
     k: usize,
@@ -26,11 +26,11 @@ pub fn step(
 ) -> usize
     requires { Ready words.now links.now masks.now l × WellFormed (code words.now) est.old × (p < l.size) }
     ensures fired { Fired (code words.now) (step_at words.now links.now p k f) est.old est.new result }
-    ensures kept { Kept memory.old memory.new }
+    ensures kept { Kept h.old h.new }
 {
     if !is_live(est, l, p) {
         return 0;
     }
     let asked = clause(words, links, 32 * l.lead, p, k);
-    fire(words, links, masks, est, memory, l, asked, f)
+    fire(words, links, masks, est, h, l, asked, f)
 }

@@ -1,5 +1,4 @@
-// One row, or one word of permissions and flag, that grows. A row is lent from its own start, as a middle part of the estimate: here, or by `join` and
-// `join_masked` of rows, which read another row of it too.
+// One row, or one word of permissions and flag, that grows. A row is lent from its own start, as a middle part of the estimate.
 ghost use Rattle.std.specs.Prelude.{not, [], ◌∷◌, ◌+◌, ◌*◌, ◌^◌, ◌<◌, ◌≤◌, eqb, length};
 ghost use Rattle.permset.specs.Sets.{width, member};
 ghost use Rattle.calculus.specs.Constraint.{P, L, put as Put, sub as Sub, only as Only, every};
@@ -7,12 +6,12 @@ ghost use Rattle.calculus.specs.Rules.{fill as Fill, pass as Pass, part as Part}
 ghost use Rattle.calculus.specs.Layout.{WellFormed};
 ghost use Rattle.rows.specs.Laid.{Sized};
 ghost use Rattle.rows.specs.Rows.{Poured};
-ghost use Rattle.rows.specs.Numbered.{row_at, sort_at};
+ghost use Rattle.clauses.specs.Asks.{row_at, sort_at};
 ghost use Rattle.queries.specs.Passes.{Masked};
 ghost use Rattle.worklist.specs.Memory.{Kept};
 ghost use Rattle.firing.specs.Fired.{FiredFor, FiredIn};
 
-use rows::layout::{FLAG, Layout};
+use rows::layout::Layout;
 use rows::row;
 use worklist::notes::{note_live, note_perms, note_row};
 
@@ -38,21 +37,21 @@ fn gain(est: &mut [u32], l: Layout, p: usize, bits: u32) -> usize
 
 // ---- what grows is noted
 
-pub fn grew_row(memory: &mut [u32], r: usize, added: usize) {
+pub fn grew_row(h: &mut [u32], r: usize, added: usize) {
     if added != 0 {
-        note_row(memory, r);
+        note_row(h, r);
     }
 }
 
-fn grew_perms(memory: &mut [u32], p: usize, added: usize) {
+fn grew_perms(h: &mut [u32], p: usize, added: usize) {
     if added != 0 {
-        note_perms(memory, p);
+        note_perms(h, p);
     }
 }
 
-fn grew_live(memory: &mut [u32], q: usize, added: usize) {
+fn grew_live(h: &mut [u32], q: usize, added: usize) {
     if added != 0 {
-        note_live(memory, q);
+        note_live(h, q);
     }
 }
 
@@ -67,40 +66,40 @@ pub fn mark(est: &mut [u32], l: Layout, r: usize, v: usize) -> usize
 }
 
 // Element v in the row r, and the row is noted.
-pub fn put(est: &mut [u32], memory: &mut [u32], l: Layout, r: usize, v: usize) -> usize
+pub fn put(est: &mut [u32], h: &mut [u32], l: Layout, r: usize, v: usize) -> usize
     requires { (r * l.row + l.row ≤ length est.old) × (v < 32 * l.row) }
     ensures { FiredIn l (Put (row_at r) v) est.old est.new result }
 {
     let added = mark(est, l, r, v);
-    grew_row(memory, r, added);
+    grew_row(h, r, added);
     added
 }
 
 // The row a in the row b.
-pub fn flow(est: &mut [u32], memory: &mut [u32], l: Layout, a: usize, b: usize) -> usize
+pub fn flow(est: &mut [u32], h: &mut [u32], l: Layout, a: usize, b: usize) -> usize
     requires { (a * l.row + l.row ≤ length est.old) × (b * l.row + l.row ≤ length est.old) × (l.row ≤ 36) }
     ensures { FiredIn l (Sub (row_at a) (row_at b)) est.old est.new result }
 {
     let added = row::join(est, l.row, a, b);
-    grew_row(memory, b, added);
+    grew_row(h, b, added);
     added
 }
 
 // All plain elements in the row r: so many full words.
-pub fn fill(est: &mut [u32], memory: &mut [u32], l: Layout, r: usize) -> usize
+pub fn fill(est: &mut [u32], h: &mut [u32], l: Layout, r: usize) -> usize
     requires { Sized l est.old × (r < 2 * l.size) }
     ensures fired_for { FiredFor l (λ c. WellFormed c est.old) (λ c. Fill c (row_at r)) est.old est.new result }
-    ensures kept { Kept memory.old memory.new }
+    ensures kept { Kept h.old h.new }
 {
     let row = l.row;
     let lead = l.lead;
     let mut added = 0;
     let mut k = 0;
     while k < lead {
-        added += put_bits(est, row, r, k, row::FULL);
+        added += put_bits(est, row, r, k, 4294967295);
         k += 1;
     }
-    grew_row(memory, r, added);
+    grew_row(h, r, added);
     added
 }
 
@@ -108,7 +107,7 @@ pub fn fill(est: &mut [u32], memory: &mut [u32], l: Layout, r: usize) -> usize
 pub fn pass(
     est: &mut [u32],
     masks: &[u32],
-    memory: &mut [u32],
+    h: &mut [u32],
     l: Layout,
     a: usize,
     m: usize,
@@ -121,30 +120,30 @@ pub fn pass(
     let row = l.row;
     let at = m * row;
     let added = row::join_masked(est, &masks[at..at + row], row, a, b);
-    grew_row(memory, b, added);
+    grew_row(h, b, added);
     added
 }
 
 // The permissions `bits` in P(p).
-pub fn permit(est: &mut [u32], memory: &mut [u32], l: Layout, p: usize, bits: u32) -> usize
+pub fn permit(est: &mut [u32], h: &mut [u32], l: Layout, p: usize, bits: u32) -> usize
     requires { Sized l est.old × (p < l.size) × (bits < 2 ^ width) }
     ensures { FiredFor l (λ c. WellFormed c est.old) (λ c. every width (λ i. Only (member bits i) (Put (P p) i))) est.old
         est.new result }
 {
     let added = gain(est, l, p, bits);
-    grew_perms(memory, p, added);
+    grew_perms(h, p, added);
     added
 }
 
 // P(q) in P(p).
-pub fn lift(est: &mut [u32], memory: &mut [u32], l: Layout, q: usize, p: usize) -> usize
+pub fn lift(est: &mut [u32], h: &mut [u32], l: Layout, q: usize, p: usize) -> usize
     requires { Sized l est.old × (q < l.size) × (p < l.size) }
     ensures { FiredIn l (Sub (P q) (P p)) est.old est.new result }
 {
     let at = l.flags(q);
-    let bits = est[at] % FLAG;
+    let bits = est[at] % 16777216;
     let added = gain(est, l, p, bits);
-    grew_perms(memory, p, added);
+    grew_perms(h, p, added);
     added
 }
 
@@ -158,43 +157,43 @@ fn start(est: &mut [u32], l: Layout, q: usize) -> usize
 }
 
 // q is live, and is noted.
-pub fn wake(est: &mut [u32], memory: &mut [u32], l: Layout, q: usize) -> usize
+pub fn wake(est: &mut [u32], h: &mut [u32], l: Layout, q: usize) -> usize
     requires { Sized l est.old × (q < l.size) }
     ensures fired_in { FiredIn l (Put (L q) 0) est.old est.new result }
-    ensures kept { Kept memory.old memory.new }
+    ensures kept { Kept h.old h.new }
 {
     let added = start(est, l, q);
-    grew_live(memory, q, added);
+    grew_live(h, q, added);
     added
 }
 
 // The part q is live with p, and its permissions are in P(p).
-pub fn part(est: &mut [u32], memory: &mut [u32], l: Layout, p: usize, q: usize) -> usize
+pub fn part(est: &mut [u32], h: &mut [u32], l: Layout, p: usize, q: usize) -> usize
     requires { Sized l est.old × (p < l.size) × (q < l.size) }
     ensures { FiredIn l (Part p q) est.old est.new result }
 {
     let started = start(est, l, q);
-    started + lift(est, memory, l, q, p)
+    started + lift(est, h, l, q, p)
 }
 
 // The same where q is a part, and not 0.
-pub fn part_if(est: &mut [u32], memory: &mut [u32], l: Layout, p: usize, q: usize) -> usize
+pub fn part_if(est: &mut [u32], h: &mut [u32], l: Layout, p: usize, q: usize) -> usize
     requires { Sized l est.old × (p < l.size) × (q < l.size) }
     ensures { FiredIn l (Only (not (eqb q 0)) (Part p q)) est.old est.new result }
 {
     if q == 0 {
         return 0;
     }
-    part(est, memory, l, p, q)
+    part(est, h, l, p, q)
 }
 
 // P(q) in P(p) where q is a part, and not 0.
-pub fn lift_if(est: &mut [u32], memory: &mut [u32], l: Layout, q: usize, p: usize) -> usize
+pub fn lift_if(est: &mut [u32], h: &mut [u32], l: Layout, q: usize, p: usize) -> usize
     requires { Sized l est.old × (q < l.size) × (p < l.size) }
     ensures { FiredIn l (Only (not (eqb q 0)) (Sub (P q) (P p))) est.old est.new result }
 {
     if q == 0 {
         return 0;
     }
-    lift(est, memory, l, q, p)
+    lift(est, h, l, q, p)
 }

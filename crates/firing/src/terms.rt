@@ -13,42 +13,28 @@ use rows::layout::Layout;
 use table::operation_of;
 
 // The parts p + 1, b and d, which are live with p; b and d may be 0.
-pub fn parts(est: &mut [u32], memory: &mut [u32], l: Layout, p: usize, b: usize, d: usize) -> usize
+pub fn parts(est: &mut [u32], h: &mut [u32], l: Layout, p: usize, b: usize, d: usize) -> usize
     requires { Sized l est.old × (p + 1 < l.size) × (b < l.size) × (d < l.size) }
     ensures { FiredIn l (Part p (p + 1) and only (not (eqb b 0)) (Part p b) and only (not (eqb d 0)) (Part p d)) est.old
         est.new result }
 {
-    let first = part(est, memory, l, p, p + 1);
-    let second = part_if(est, memory, l, p, b);
-    first + (second + part_if(est, memory, l, p, d))
+    let first = part(est, h, l, p, p + 1);
+    let second = part_if(est, h, l, p, b);
+    first + (second + part_if(est, h, l, p, d))
 }
 
 // The part p + 1, which is live with p, and the branches b and d, which wait; d may be 0.
-pub fn branches(
-    est: &mut [u32],
-    memory: &mut [u32],
-    l: Layout,
-    p: usize,
-    b: usize,
-    d: usize,
-) -> usize
+pub fn branches(est: &mut [u32], h: &mut [u32], l: Layout, p: usize, b: usize, d: usize) -> usize
     requires { Sized l est.old × (p + 1 < l.size) × (b < l.size) × (d < l.size) }
     ensures { FiredIn l (Part p (p + 1) and waiting p b and only (not (eqb d 0)) (waiting p d)) est.old est.new result }
 {
-    let first = part(est, memory, l, p, p + 1);
-    let second = lift(est, memory, l, b, p);
-    first + (second + lift_if(est, memory, l, d, p))
+    let first = part(est, h, l, p, p + 1);
+    let second = lift(est, h, l, b, p);
+    first + (second + lift_if(est, h, l, d, p))
 }
 
 // The results of the operation o on C(p + 1) and C(d) in C(p).
-pub fn operate_at(
-    est: &mut [u32],
-    memory: &mut [u32],
-    l: Layout,
-    p: usize,
-    d: usize,
-    o: usize,
-) -> usize
+pub fn operate_at(est: &mut [u32], h: &mut [u32], l: Layout, p: usize, d: usize, o: usize) -> usize
     requires { Sized l est.old × (p + 1 < l.size) × (d < l.size) × (d ≡ p → ⊥) × (o < 4294967296) }
     ensures { FiredFor l (λ c. WellFormed c est.old) (λ c. two_rule c p (operation (operation_of o)) (p + 1) d) est.old
         est.new result }
@@ -57,6 +43,6 @@ pub fn operate_at(
     let a = 2 * (p + 1);
     let bits = results::operate_at(est, l.lead, operation_of(o as u32), a * row, 2 * d * row);
     let added = put_bits(est, row, 2 * p, 0, bits);
-    grew_row(memory, 2 * p, added);
+    grew_row(h, 2 * p, added);
     added
 }

@@ -16,7 +16,7 @@ use rows::layout::Layout;
 // What is asked at the word x, and of the row y, for the thing f.
 fn for_thing(
     est: &mut [u32],
-    memory: &mut [u32],
+    h: &mut [u32],
     l: Layout,
     what: What,
     x: usize,
@@ -27,17 +27,17 @@ fn for_thing(
     ensures { FiredIn l (for_thing what x y f) est.old est.new result }
 {
     match what {
-        What::Enter => wake(est, memory, l, f + 1),
-        What::Lower => lift(est, memory, l, f + 1, x),
-        What::Hand => flow(est, memory, l, y, 2 * f + 1),
-        What::Take => flow(est, memory, l, 2 * f + 1, y),
-        What::Back => flow(est, memory, l, 2 * (f + 1), y),
+        What::Enter => wake(est, h, l, f + 1),
+        What::Lower => lift(est, h, l, f + 1, x),
+        What::Hand => flow(est, h, l, y, 2 * f + 1),
+        What::Take => flow(est, h, l, 2 * f + 1, y),
+        What::Back => flow(est, h, l, 2 * (f + 1), y),
         _ => 0,
     }
 }
 
 // The effect for each thing of the mask z in C(x + 1).
-fn each_thing(est: &mut [u32], masks: &[u32], memory: &mut [u32], l: Layout, e: Effect) -> usize
+fn each_thing(est: &mut [u32], masks: &[u32], h: &mut [u32], l: Layout, e: Effect) -> usize
     requires { Sized l est.old × Each l masks.now e }
     ensures { FiredFor l (λ c. Masked c l masks.now) (λ c. every c.size (at_thing c e.what e.x e.y e.z))
         est.old est.new result }
@@ -51,7 +51,7 @@ fn each_thing(est: &mut [u32], masks: &[u32], memory: &mut [u32], l: Layout, e: 
     let mut added = 0;
     let mut f = next_thing(est, masks, l, r, z, 0);
     while f < size {
-        added += for_thing(est, memory, l, what, x, y, f);
+        added += for_thing(est, h, l, what, x, y, f);
         f = next_thing(est, masks, l, r, z, f + 1);
     }
     added
@@ -61,7 +61,7 @@ fn each_thing(est: &mut [u32], masks: &[u32], memory: &mut [u32], l: Layout, e: 
 pub fn fire_things(
     est: &mut [u32],
     masks: &[u32],
-    memory: &mut [u32],
+    h: &mut [u32],
     l: Layout,
     e: Effect,
     f: usize,
@@ -71,7 +71,7 @@ pub fn fire_things(
         est.new result }
 {
     if f == 0 {
-        return each_thing(est, masks, memory, l, e);
+        return each_thing(est, masks, h, l, e);
     }
     if l.size <= f {
         return 0;
@@ -80,7 +80,7 @@ pub fn fire_things(
     let x = e.x;
     let y = e.y;
     if has_thing(est, masks, l, 2 * (x + 1), e.z, f) {
-        for_thing(est, memory, l, what, x, y, f)
+        for_thing(est, h, l, what, x, y, f)
     } else {
         0
     }

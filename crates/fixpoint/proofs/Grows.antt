@@ -24,8 +24,8 @@ use Rattle.calculus.proofs.Folds.{fire-and, fire-only, fire-only-not}
 use Rattle.rows.specs.declared.layout.Layout.{Layout}
 use Rattle.rows.specs.Laid.{Sized}
 use Rattle.rows.proofs.Laws.{facts-most}
-use Rattle.rows.specs.Numbered.{row_at}
-use Rattle.rows.proofs.Numbered.{row-B, row-C}
+use Rattle.clauses.specs.Asks.{row_at}
+use Rattle.clauses.proofs.Sorts.{row-B, row-C}
 use Rattle.checker.specs.Words.{Accepted}
 use Rattle.firing.specs.Fired.{Fired, FiredFor, FiredIn}
 use Rattle.fixpoint.specs.Grown.{Grown, Tried}

@@ -1,3 +1,3 @@
 pub mod Grows
 pub mod Tried
-pub mod Memories
+pub mod Rooms

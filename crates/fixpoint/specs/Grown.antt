@@ -44,7 +44,7 @@ AllSpent ws links size list est = (i : ℕ) → i < get_or list 0 0 → Spent ws
 abbrev pub Exhausted : (ws links : List ℕ) → ℕ → (list old new : List ℕ) → ℕ → Type 0
 Exhausted ws links size list old new added = (ρ : ℕ) → Tried (code ws) ρ (AllSpent ws links size list) old new added
 
--- sound steps to an estimate that obeys every rule, unless they added more facts than the budget
-pub record Closed (c : Code) (ρ budget : ℕ) (old new : List ℕ) (added : ℕ) : Type 0 where
+-- sound steps to an estimate that obeys every rule, unless they added more facts than there was room for
+pub record Closed (c : Code) (ρ room : ℕ) (old new : List ℕ) (added : ℕ) : Type 0 where
   pub grown : Grown c ρ old new added
-  pub obeyed : added ≤ budget → Estimate c ρ (sets c new)
+  pub obeyed : added ≤ room → Estimate c ρ (sets c new)

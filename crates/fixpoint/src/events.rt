@@ -11,13 +11,12 @@ use choices::{choice_at, choice_clause, choice_place, choice_target, choice_word
 use firing::step::step;
 use permset::PermSet;
 use rows::layout::Layout;
-use table_links::body_of;
 use worklist::next::{NOTHING, next};
 use worklist::past;
 use worklist::plan::prepare;
 
 // So many events are followed at most, so that it ends whatever the memory of the worklist holds.
-const EVENTS: usize = 1 << 24;
+const EVENTS: usize = 16777216;
 
 // No word has more clauses.
 const CLAUSES: usize = 5;
@@ -30,16 +29,16 @@ fn within(p: usize, size: usize) -> usize
     if p < size { p } else { 0 }
 }
 
-// All choices of a list, until more than `budget` facts are added.
+// All choices of a list, until more than `room` facts are added.
 fn drain(
     words: &[u32],
     links: &[u32],
     masks: &[u32],
     est: &mut [u32],
-    memory: &mut [u32],
+    h: &mut [u32],
     list: &[u32],
     l: Layout,
-    budget: usize,
+    room: usize,
 ) -> usize
     requires { Ready words.now links.now masks.now l × WellFormed (code words.now) est.old }
     ensures { Exhausted words.now links.now l.size list.now est.old est.new result }
@@ -47,27 +46,27 @@ fn drain(
     let last = count(list);
     let mut added = 0;
     let mut i = 0;
-    while i < last && added <= budget {
+    while i < last && added <= room {
         let w = choice_at(list, i + 1);
         let p = within(choice_place(w), l.size);
         let k = choice_clause(w);
         let f = choice_target(w);
-        added += step(words, links, masks, est, memory, l, p, k, f);
+        added += step(words, links, masks, est, h, l, p, k, f);
         i += 1;
     }
     added
 }
 
-// The choices of a list, then what the worklist chooses, until nothing waits or more than `budget` facts are added.
+// The choices of a list, then what the worklist chooses, until nothing waits or more than `room` facts are added.
 fn events(
     words: &[u32],
     links: &[u32],
     masks: &[u32],
     est: &mut [u32],
-    memory: &mut [u32],
+    h: &mut [u32],
     out: &mut [u32],
     l: Layout,
-    budget: usize,
+    room: usize,
 ) -> usize
     requires { Ready words.now links.now masks.now l × WellFormed (code words.now) est.old }
     ensures { Exhausted words.now links.now l.size out.old est.old est.new result }
@@ -75,54 +74,54 @@ fn events(
     let mut added = 0;
     let mut turn = 0;
     let mut left = EVENTS;
-    while 0 < left && turn != NOTHING && added <= budget {
-        added += drain(words, links, masks, est, memory, out, l, budget - added);
-        turn = next(words, links, masks, est, memory, out, l, turn);
+    while 0 < left && turn != NOTHING && added <= room {
+        added += drain(words, links, masks, est, h, out, l, room - added);
+        turn = next(words, links, masks, est, h, out, l, turn);
         left -= 1;
     }
     added
 }
 
-// The entries of all blocks, and what follows from them, until nothing waits or more than `budget` facts are added.
+// The entries of all blocks, and what follows from them, until nothing waits or more than `room` facts are added.
 pub fn follow(
     words: &[u32],
     links: &[u32],
     masks: &[u32],
     est: &mut [u32],
-    memory: &mut [u32],
+    h: &mut [u32],
     out: &mut [u32],
     l: Layout,
     rho: PermSet,
-    budget: usize,
+    room: usize,
 ) -> usize
     requires { Ready words.now links.now masks.now l × WellFormed (code words.now) est.old }
     ensures { Grown (code words.now) rho.bits est.old est.new result }
 {
-    prepare(words, links, memory);
+    prepare(words, links, h);
     let size = l.size;
     let mut added = 0;
     let mut p = 1;
     while p < size {
-        added += enter(words, est, memory, l, rho, p);
-        p = past(links, body_of(p));
+        added += enter(words, est, h, l, rho, p);
+        p = past(links, p + 3);
     }
-    if budget < added {
+    if room < added {
         return added;
     }
-    added + events(words, links, masks, est, memory, out, l, budget - added)
+    added + events(words, links, masks, est, h, out, l, room - added)
 }
 
-// The entries and clauses of all words, and what follows from them, until more than `budget` facts are added.
+// The entries and clauses of all words, and what follows from them, until more than `room` facts are added.
 pub fn sweep(
     words: &[u32],
     links: &[u32],
     masks: &[u32],
     est: &mut [u32],
-    memory: &mut [u32],
+    h: &mut [u32],
     out: &mut [u32],
     l: Layout,
     rho: PermSet,
-    budget: usize,
+    room: usize,
 ) -> usize
     requires { Ready words.now links.now masks.now l × WellFormed (code words.now) est.old × (1 < length out.old) }
     ensures { Tried (code words.now) rho.bits (λ e. Estimate (code words.now) rho.bits (sets (code words.now) e))
@@ -131,12 +130,12 @@ pub fn sweep(
     let last = CLAUSES * l.size;
     let mut added = 0;
     let mut i = 0;
-    while i < last && added <= budget {
+    while i < last && added <= room {
         let p = i / CLAUSES;
         out[0] = 1;
         out[1] = choice_word(i % CLAUSES, p, 0);
-        added += enter(words, est, memory, l, rho, p)
-            + events(words, links, masks, est, memory, out, l, budget);
+        added += enter(words, est, h, l, rho, p)
+            + events(words, links, masks, est, h, out, l, room);
         i += 1;
     }
     added

@@ -3,4 +3,4 @@
 mod closing;
 mod entry;
 mod events;
-pub mod memory;
+pub mod room;

@@ -8,6 +8,4 @@ pub mod Orders
 pub mod Theorem
 pub mod Writing
 pub mod Answers
-pub mod Same
-pub mod Alike
 pub mod Samples

@@ -9,7 +9,6 @@ ghost use Rattle.interface.specs.Places.{PlaceFits};
 use calls::Fault;
 use calls::numbers::{fault_number, fault_place};
 use comparison::Verdict;
-use fields::refusal;
 
 // The number that refuses a system of this many bytes before it is read, and 0 where none does.
 pub fn system_fault(size: usize) -> u32
@@ -25,7 +24,7 @@ fn fault_answer(f: Fault) -> u64
     requires { fault_place f < 65536 }
     ensures { result ≡ 2 ^ 32 + fault_number f * 65536 + fault_place f }
 {
-    refusal(fault_number(f), fault_place(f))
+    4294967296 + fault_number(f) as u64 * 65536 + fault_place(f) as u64
 }
 
 // An answer as one number.

@@ -1,41 +1,46 @@
--- What `leak RHO BOUND CEILING` and `within RHO BOUND` print of a system of either width (document 02, wish 7).
-use Rattle.std.specs.Prelude.{ℕ, true, false, List, ◌++◌, length}
-use Rattle.permset.specs.Sets.{difference}
+-- What `leak RHO BOUND CEILING` prints of a listing (document 02, wishes 1 and 7): the lines of document 01's program, or the refusal.
+use Rattle.std.specs.Prelude.{ℕ, ◌-◌, ◌^◌, List, [], ◌∷◌, length}
 use Rattle.table.specs.Code.{code}
 use Rattle.calculus.specs.Layout.{estimate_words}
-use Rattle.calculus.specs.Answer.{Answer, refused, verdict, answer, work_words}
-use Rattle.solver.specs.Ceiling.{under}
-use Rattle.text.specs.Text.{bytes, set}
-use Rattle.report.specs.Lines.{refusal_line}
-use Rattle.printout.specs.Program.{answer_text}
-use Rattle.arguments.specs.declared.values.Value.{Value}
-use Rattle.arguments.specs.declared.values.Value.TheVariants.{Number, Other}
+use Rattle.calculus.specs.Answer.{refused, work_words}
+use Rattle.verdict.specs.Limits.{answer_under}
+use Rattle.printout.specs.Program.{answer_text, unless_wide}
+use Rattle.listing.specs.Listing.{words_of, read_as}
+use Rattle.commands.specs.declared.arguments.Value.{Value}
+use Rattle.commands.specs.declared.arguments.Value.TheVariants.{Number, Other}
+use Rattle.commands.specs.Arguments.{value_of}
+use Rattle.commands.specs.Meanings.{help}
+use Rattle.commands.specs.Printed as printed
 
--- the answer for a system, whose slices are never short
-abbrev pub answered : (ρ bound : ℕ) → List ℕ → Answer
-answered ρ bound ws = answer ws ρ bound (estimate_words (code ws)) (work_words (length ws))
+-- a system's text under the ceiling n: its slices are never short
+unfoldable pub system_leak : (ρ bound n : ℕ) → List ℕ → List ℕ
+unfolding answer_text unless_wide
+system_leak ρ bound n ws =
+    answer_text ρ ws (unless_wide ws (refused 1 0) (answer_under ws ρ bound n (estimate_words (code ws)) (work_words (length ws))))
 
--- under a ceiling on facts, which may be left out
-unfoldable pub limited_to : Value → Answer → Answer
-limited_to (Number n) a = under n a
-limited_to Other a = a
+-- a listing's, or its refusal
+unfoldable pub listing_leak : (ρ bound n : ℕ) (input : List ℕ) → List ℕ
+unfolding system_leak printed.answer_text
+listing_leak ρ bound n input = printed.answer_text (read_as input 1024) (system_leak ρ bound n (words_of input))
 
--- the lines of document 01's program
-unfoldable pub leak_text : (ρ bound : ℕ) → Value → List ℕ → List ℕ
-unfolding answer_text limited_to
-leak_text ρ bound ceiling ws = answer_text ρ ws (limited_to ceiling (answered ρ bound ws))
+-- a number in a base, which may be left out
+unfoldable pub value_or : (base default : ℕ) → List ℕ → Value
+value_or base default [] = Number default
+value_or base default (b ∷ bs) = value_of base (b ∷ bs)
 
--- ---- one line for a build step
+-- a ceiling that refuses nothing
+abbrev pub unlimited : ℕ
+unlimited = 2 ^ 32 - 1
 
--- the members of the leak outside the bound
-unfoldable pub over_line : (leak bound : ℕ) → List ℕ
-over_line leak bound = (bytes "over " ++ set (difference leak bound)) ++ bytes "\n"
+-- the text for a number, or the help
+unfoldable pub given : Value → (ℕ → List ℕ) → List ℕ
+given (Number n) text = text n
+given Other text = help
 
-unfoldable pub bound_text : Answer → List ℕ
-unfolding over_line
-bound_text (refused number place) = refusal_line number place
-bound_text (verdict v) = elim v.over [ true ↦ over_line v.leak v.bound | false ↦ bytes "within\n" ]
+unfoldable pub values_text : (rho bound ceiling : Value) (input : List ℕ) → List ℕ
+unfolding given listing_leak
+values_text rho bound ceiling input = given rho (λ ρ. given bound (λ b. given ceiling (λ n. listing_leak ρ b n input)))
 
-unfoldable pub within_text : (ρ bound : ℕ) → List ℕ → List ℕ
-unfolding bound_text answer
-within_text ρ bound ws = bound_text (answered ρ bound ws)
+-- the bound is the empty set where it is left out, and the ceiling none
+abbrev pub leak_text : (rho bound ceiling input : List ℕ) → List ℕ
+leak_text rho bound ceiling input = values_text (value_of 16 rho) (value_or 16 0 bound) (value_or 10 unlimited ceiling) input

@@ -1,123 +1,84 @@
-// What `leak` and `within` print of a system, over slices of their own.
+// What `leak RHO BOUND CEILING` prints of a listing, written into lent bytes.
+mod systems;
+
 ghost use Rattle.std.specs.Prelude.{◌≡◌, ◌≤◌, length};
 ghost use Rattle.text.specs.Writing.{Wrote};
-ghost use Rattle.comparison.specs.Values.{answer_of};
-ghost use Rattle.printout.specs.Program.{room};
-ghost use Rattle.leaks.specs.Leak.{leak_text, over_line, bound_text, within_text};
-ghost use Rattle.arguments.specs.declared.values.Value.TheVariants.{Number, Other};
+ghost use Rattle.commands.specs.Printed.{printed_size, out_after};
+ghost use Rattle.leaks.specs.Leak.{listing_leak, value_or, values_text, leak_text};
 
-use arguments::values::Value;
-use calls::numbers::{fault_number, fault_place};
-use comparison::{Report, Verdict};
-use printout::limit::tell_within;
-use printout::tell_either;
+use crate::systems::system_leak;
+use commands::arguments::{Value, value_of};
+use commands::help;
+use listing::Answer;
+use listing::numbers::{refusal_number, refusal_place};
+use listing::read::read;
 use report::refusal_line;
-use text::{put, set_field};
-use verdict::judge::verdict;
 
-// The leak without a ceiling, over slices with room for every system.
-fn sized_leak(
-    words: &[u32],
-    rho: u32,
-    bound: u32,
-    est: &mut [u32],
-    work: &mut [u32],
-    out: &mut [u8],
-) -> usize
-    requires { (length words.now ≤ 1024) × (length est.old ≡ 72704) × (length work.old ≡ 4096) × (room ≤ length out.old) }
-    ensures { Wrote out.old 0 (leak_text rho bound Other words.now) out.new result }
+// The text of a listing's system, or its refusal.
+fn listing_leak(rho: u32, bound: u32, ceiling: u32, input: &[u8], out: &mut [u8]) -> usize
+    requires { 4096 ≤ length out.old }
+    ensures { Wrote out.old 0 (listing_leak rho bound ceiling input.now) out.new result }
 {
-    tell_either(words, rho, bound, est, work, out)
-}
-
-// The same under a ceiling on facts.
-fn sized_limited(
-    words: &[u32],
-    rho: u32,
-    bound: u32,
-    ceiling: u32,
-    est: &mut [u32],
-    work: &mut [u32],
-    out: &mut [u8],
-) -> usize
-    requires { (length words.now ≤ 1024) × (length est.old ≡ 72704) × (length work.old ≡ 4096) × (room ≤ length out.old) }
-    ensures { Wrote out.old 0 (leak_text rho bound (Number ceiling) words.now) out.new result }
-{
-    tell_within(words, rho, bound, ceiling as usize, est, work, out)
-}
-
-fn unlimited(words: &[u32], rho: u32, bound: u32, out: &mut [u8]) -> usize
-    requires { (length words.now ≤ 1024) × (room ≤ length out.old) }
-    ensures { Wrote out.old 0 (leak_text rho bound Other words.now) out.new result }
-{
-    let mut est = [0u32; 72704];
-    let mut work = [0u32; 4096];
-    sized_leak(words, rho, bound, &mut est, &mut work, out)
-}
-
-fn limited(words: &[u32], rho: u32, bound: u32, ceiling: u32, out: &mut [u8]) -> usize
-    requires { (length words.now ≤ 1024) × (room ≤ length out.old) }
-    ensures { Wrote out.old 0 (leak_text rho bound (Number ceiling) words.now) out.new result }
-{
-    let mut est = [0u32; 72704];
-    let mut work = [0u32; 4096];
-    sized_limited(words, rho, bound, ceiling, &mut est, &mut work, out)
-}
-
-// The verdict and a line for each handler.
-pub fn leak(words: &[u32], rho: u32, bound: u32, ceiling: Value, out: &mut [u8]) -> usize
-    requires { (length words.now ≤ 1024) × (room ≤ length out.old) }
-    ensures { Wrote out.old 0 (leak_text rho bound ceiling words.now) out.new result }
-{
-    match ceiling {
-        Value::Number(n) => limited(words, rho, bound, n, out),
-        Value::Other => unlimited(words, rho, bound, out),
+    let mut words = [0u32; 1024];
+    match read(input, &mut words) {
+        Answer::Done(n) => system_leak(&words[..n], rho, bound, ceiling, out),
+        Answer::Refused(r) => refusal_line(out, 0, refusal_number(r), refusal_place(r)),
     }
 }
 
-// The members of the leak outside the bound.
-fn over_line(r: Report, out: &mut [u8]) -> usize
-    requires { room ≤ length out.old }
-    ensures { Wrote out.old 0 (over_line r.leak.bits r.bound.bits) out.new result }
+// A number in a base, which may be left out.
+fn value_or(digits: &[u8], base: u32, default: u32) -> Value
+    requires { base ≤ 16 }
+    ensures { result ≡ value_or base default digits.now }
 {
-    let leak = r.leak;
-    let outside = leak.difference(r.bound);
-    let a = set_field(out, 0, b"over ", outside.bits);
-    put(out, a, b"\n")
+    if digits.len() == 0 {
+        return Value::Number(default);
+    }
+    value_of(digits, base)
 }
 
-// The one line of a verdict.
-fn bound_line(v: Verdict, out: &mut [u8]) -> usize
-    requires { room ≤ length out.old }
-    ensures { Wrote out.old 0 (bound_text (answer_of v)) out.new result }
+// The text for three numbers, or the help.
+fn values_text(rho: Value, bound: Value, ceiling: Value, input: &[u8], out: &mut [u8]) -> usize
+    requires { 4096 ≤ length out.old }
+    ensures { Wrote out.old 0 (values_text rho bound ceiling input.now) out.new result }
 {
-    match v {
-        Verdict::Refused(f) => refusal_line(out, 0, fault_number(f), fault_place(f)),
-        Verdict::Within(_) => put(out, 0, b"within\n"),
-        Verdict::Over(r, _) => over_line(r, out),
+    match rho {
+        Value::Number(p) => match bound {
+            Value::Number(b) => match ceiling {
+                Value::Number(n) => listing_leak(p, b, n, input, out),
+                Value::Other => help(out),
+            },
+            Value::Other => help(out),
+        },
+        Value::Other => help(out),
     }
 }
 
-fn sized_within(
-    words: &[u32],
-    rho: u32,
-    bound: u32,
-    est: &mut [u32],
-    work: &mut [u32],
-    out: &mut [u8],
-) -> usize
-    requires { (length words.now ≤ 1024) × (length est.old ≡ 72704) × (length work.old ≡ 4096) × (room ≤ length out.old) }
-    ensures { Wrote out.old 0 (within_text rho bound words.now) out.new result }
+fn leak_text(rho: &[u8], bound: &[u8], ceiling: &[u8], input: &[u8], out: &mut [u8]) -> usize
+    requires { 4096 ≤ length out.old }
+    ensures { Wrote out.old 0 (leak_text rho.now bound.now ceiling.now input.now)
+        out.new result }
 {
-    bound_line(verdict(words, rho, bound, est, work), out)
+    let p = value_of(rho, 16);
+    let b = value_or(bound, 16, 0);
+    let n = value_or(ceiling, 10, 4294967295);
+    values_text(p, b, n, input, out)
 }
 
-// Whether the leak is within the bound, in one line.
-pub fn within(words: &[u32], rho: u32, bound: u32, out: &mut [u8]) -> usize
-    requires { (length words.now ≤ 1024) × (room ≤ length out.old) }
-    ensures { Wrote out.old 0 (within_text rho bound words.now) out.new result }
+// The text for three arguments and an input, at the start of the output, and how many bytes it has. Nothing is written where the output has not
+// 81,920 bytes more than the input, as for the other commands.
+pub fn run(rho: &[u8], bound: &[u8], ceiling: &[u8], input: &[u8], out: &mut [u8]) -> usize
+    ensures size { result ≡ printed_size (leak_text rho.now bound.now ceiling.now input.now)
+        (length input.now) (length out.old) }
+    ensures out { out.new ≡ out_after (leak_text rho.now bound.now ceiling.now input.now)
+        (length input.now) out.old }
+    ensures fits { result ≤ length out.old }
 {
-    let mut est = [0u32; 72704];
-    let mut work = [0u32; 4096];
-    sized_within(words, rho, bound, &mut est, &mut work, out)
+    if out.len() < 81920 {
+        return 0;
+    }
+    if out.len() - 81920 < input.len() {
+        return 0;
+    }
+    leak_text(rho, bound, ceiling, input, out)
 }

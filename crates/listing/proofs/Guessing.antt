@@ -228,19 +228,3 @@ spells-sound l n = kinds (guessed_kind l) refl
     kinds zero e = absurd (n (sym (spells-none l 0 (sym e) refl)))
     kinds (suc j) e =
         judge (suc j) (same (spelled (guessed (suc j) l)) l) (ap (spells l) e ∙ spells-step l (suc j) (λ z. omega arith)) refl
-
--- the word of a line is the one that was guessed
-pub spells-guess : (l : List ℕ) → (line_word l ≡ 0 → ⊥) → (guessed_kind l ≡ 0 → ⊥) × (line_word l ≡ guessed (guessed_kind l) l)
-unfolding line_word
-spells-guess l n = kinds (guessed_kind l) refl
-  where
-    judge : (k : ℕ) (b : Bool) → spells l (guessed_kind l) ≡ judged b (guessed k l) → spells l (guessed_kind l) ≡ guessed k l
-    judge k true e = e ∙ judged-true (guessed k l)
-    judge k false e = absurd (n (e ∙ judged-false (guessed k l)))
-
-    kinds : (k : ℕ) → guessed_kind l ≡ k → (guessed_kind l ≡ 0 → ⊥) × (spells l (guessed_kind l) ≡ guessed (guessed_kind l) l)
-    kinds zero e = absurd (n (sym (spells-none l 0 (sym e) refl)))
-    kinds (suc j) e = (
-      λ z. omega arith,
-      judge (suc j) (same (spelled (guessed (suc j) l)) l) (ap (spells l) e ∙ spells-step l (suc j) (λ z. omega arith)) ∙ ap (λ (k : ℕ). guessed k l) (sym e),
-    )

@@ -1,10 +1,8 @@
 pub mod Answers
 pub mod Guessing
-pub mod ExactLines
 pub mod Cutting
 pub mod Letters
 pub mod Places
-pub mod LineNumbers
 pub mod Texts
 pub mod Theorems
 pub mod Undone

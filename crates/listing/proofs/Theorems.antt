@@ -1,19 +1,16 @@
 -- What writer and reader are for: an accepted system has one text, reading it gives the same words, and the reader accepts no other text.
 use Prim.Native.Nat.{ℕ, zero, suc, ◌≤◌}
-use mathlib.Core.Path.{◌≡◌, refl, sym, ap, ap₂, ◌∙◌, subst, subst₂}
+use mathlib.Core.Path.{◌≡◌, refl, sym, ap, ap₂, ◌∙◌}
 use mathlib.Core.Bool.{Bool, true, false}
-use mathlib.Core.List.{List, [], ◌∷◌, ◌++◌}
+use mathlib.Core.List.{List, [], ◌∷◌}
 use native.Mathlib.Omega.{arith}
 use lib.Dec.{ltb}
-use lib.ListN.{length, take, drop, length-append}
-use lib.Seq.{take_at}
+use lib.ListN.{length}
 use borrow.Author.Tests.{ltb-false}
 use Rattle.table.specs.Scan.{Outcome, accepted, refused, first_of, narrow_reading}
-use Rattle.listing.specs.Listing.{Answered, done, refusal, most, left, tested, depths, listing, written, text_after}
-use Rattle.listing.specs.Listing.{words_of, indents, misspelled, misplaced, placed, tabled, spelt, read_as, words_after}
-use Rattle.listing.specs.RoundTrip.{Makes, Takes, WrittenIsRead, ReadIsWritten, OneText}
+use Rattle.listing.specs.Listing.{Answered, done, refusal, most, tested, depths, listing, written, words_of, indents, misspelled, misplaced, placed, tabled, spelt, read_as}
 use Rattle.listing.proofs.Depths.{depths-length}
-use Rattle.listing.proofs.Answers.{write_done, read-spelt, spelt-table, place-done}
+use Rattle.listing.proofs.Answers.{read-spelt, spelt-table, place-done}
 use Rattle.listing.proofs.Texts.{doubled, words-undone, spaces-undone, none-misspelled, none-misplaced, all_known, text-sound}
 
 module _ (ws : List ℕ) (e : narrow_reading ws ≡ accepted) where
@@ -102,6 +99,10 @@ module _ (text : List ℕ) (room n : ℕ) (q : read_as text room ≡ done n) whe
   pub read_count : n ≡ length (words_of text)
   read_count = (placed-fine (words_of text) (indents text) room n table.1).1
 
+-- two accepted texts of one system are the same
+pub one-text : (text other : List ℕ) (room room' n n' : ℕ) → read_as text room ≡ done n → read_as other room' ≡ done n' → words_of text ≡ words_of other → text ≡ other
+one-text text other room room' n n' q q' e = sym (read-written text room n q) ∙ ap listing e ∙ read-written other room' n' q'
+
 -- ---- an answer that tells a count has room for it
 
 last-refused : (n : ℕ) → tested ((true, 42) ∷ []) n ≡ refusal 42 0
@@ -147,116 +148,3 @@ write-fits ws room n q = go (narrow_reading ws) q
     ]) (done n) → n ≤ room
     go accepted f = tests (ltb most (length (listing ws))) (ltb room (length (listing ws))) refl f
     go (refused a b) f = absurd (not_done f)
-
--- ---- the two calls after each other
-
-few-read : (text : List ℕ) (room n : ℕ) → read_as text room ≡ done n → length text ≤ most
-unfolding read_as
-few-read text room n q = go (ltb most (length text)) refl q
-  where
-    go : (t : Bool) → ltb most (length text) ≡ t
-        → ◌≡◌ {A = Answered} (elim t [ true ↦ refusal 41 0 | false ↦ spelt (words_of text) (indents text) room ]) (done n) → length text ≤ most
-    go true e f = absurd (not_done f)
-    go false e f = ltb-false most (length text) e
-
--- an accepted system whose text is not too long
-record Written (ws : List ℕ) (n : ℕ) : Type 0 where
-  reads : narrow_reading ws ≡ accepted
-  short : length (listing ws) ≤ most
-  count : n ≡ length (listing ws)
-
-write-fine : (ws : List ℕ) (room n : ℕ) → written ws room ≡ done n → Written ws n
-unfolding written
-write-fine ws room n q = go (narrow_reading ws) refl q
-  where
-    tests : (a b : Bool) → narrow_reading ws ≡ accepted → ltb most (length (listing ws)) ≡ a
-        → tested ((a, 41) ∷ (b, 42) ∷ []) (length (listing ws)) ≡ done n → Written ws n
-    tests true b r e f = absurd (not_done (sym (first-refused b (length (listing ws))) ∙ f))
-    tests false true r e f = absurd (not_done (sym (second-refused (length (listing ws))) ∙ f))
-    tests false false r e f =
-        record { reads = r; short = ltb-false most (length (listing ws)) e; count = sym (none-refused (length (listing ws)) n f) }
-
-    go : (o : Outcome) → narrow_reading ws ≡ o → ◌≡◌ {A = Answered} (elim o [
-      | refused a b ↦ refusal a b
-      | accepted ↦ tested ((ltb most (length (listing ws)), 41) ∷ (ltb room (length (listing ws)), 42) ∷ []) (length (listing ws))
-    ]) (done n) → Written ws n
-    go accepted r f = tests (ltb most (length (listing ws))) (ltb room (length (listing ws))) r refl f
-    go (refused a b) r f = absurd (not_done f)
-
-module _ (ws : List ℕ) (e : narrow_reading ws ≡ accepted) (short : length (listing ws) ≤ most) where
-  listing-made : Makes ws (listing ws)
-  unfolding left
-  listing-made =
-      record {
-        answer = λ out h. write_done ws (length out) e short h;
-        output = λ out h. ap (λ (a : Answered). left a (listing ws) out) (write_done ws (length out) e short h);
-      }
-
-  listing-taken : Takes (listing ws) ws
-  unfolding left
-  listing-taken =
-      record {
-        answer = λ out h. read-listing ws e (length out) short h;
-        output = λ out h.
-            ap (λ (a : Answered). left a (words_of (listing ws)) out) (read-listing ws e (length out) short h)
-            ∙ ap (λ (l : List ℕ). l ++ drop (length ws) out) (words-of-listing ws e);
-      }
-
--- what was written is read
-pub written_read : WrittenIsRead
-unfolding left
-written_read ws out n q =
-    let w = write-fine ws (length out) n q in
-    let same : take n (text_after ws out) ≡ listing ws =
-    ap (λ (a : Answered). take n (left a (listing ws) out)) q ∙ take_at (listing ws) (drop n out) n (sym w.count) in (
-      subst (Makes ws) (sym same) (listing-made ws w.reads w.short),
-      subst (λ (l : List ℕ). Takes l ws) (sym same) (listing-taken ws w.reads w.short),
-    )
-
--- what was read is written
-pub read-written-back : ReadIsWritten
-unfolding left
-read-written-back text out n q =
-    let ws = words_of text in
-    let e = read-accepted text (length out) n q in
-    let back = read-written text (length out) n q in
-    let short : length (listing ws) ≤ most = omega (arith, few-read text (length out) n q, ap length back) in
-    let same : take n (words_after text out) ≡ ws =
-    ap (λ (a : Answered). take n (left a ws out)) q ∙ take_at ws (drop n out) n (sym (read_count text (length out) n q)) in (
-      subst₂ Takes back (sym same) (listing-taken ws e short),
-      subst₂ Makes (sym same) back (listing-made ws e short),
-    )
-
--- ---- each is what the other undoes
-
-taken-whole : (text ws : List ℕ) → Takes text ws → take (length ws) (words_after text ws) ≡ ws
-taken-whole text ws t =
-    ap (take (length ws)) (t.output ws (omega arith)) ∙ take_at ws (drop (length ws) ws) (length ws) refl
-
-made-whole : (ws text : List ℕ) → Makes ws text → take (length text) (text_after ws text) ≡ text
-made-whole ws text m =
-    ap (take (length text)) (m.output text (omega arith)) ∙ take_at text (drop (length text) text) (length text) refl
-
--- the writer makes a text of the words exactly if the reader takes the words from the text
-pub made-taken : (ws text : List ℕ) → Makes ws text → Takes text ws
-made-taken ws text m =
-    subst (λ (l : List ℕ). Takes l ws) (made-whole ws text m) (written_read ws text (length text) (m.answer text (omega arith))).1
-
-pub taken_made : (text ws : List ℕ) → Takes text ws → Makes ws text
-taken_made text ws t =
-    subst (λ (l : List ℕ). Makes l text) (taken-whole text ws t) (read-written-back text ws (length ws) (t.answer ws (omega arith))).1
-
--- two texts of the same words are the same
-pub one-text : OneText
-one-text text other ws t u =
-    let m = taken_made text ws t in
-    let v = taken_made other ws u in
-    let out = text ++ other in
-    let h : length text ≤ length out = omega (arith, length-append text other) in
-    let k : length other ≤ length out = omega (arith, length-append text other) in
-    let p = m.answer out h in
-    let q = v.answer out k in
-    let same : length other ≡ length text = cc in
-    sym (take_at text (drop (length text) out) (length text) refl)
-    ∙ ap (take (length text)) (sym (m.output out h) ∙ v.output out k)
-    ∙ take_at other (drop (length other) out) (length text) same

@@ -15,7 +15,7 @@ use Rattle.table.proofs.Constants.{at}
 use Rattle.text.specs.Text.{digits, value, glyph, numeral, decimal, set}
 use Rattle.text.proofs.Digits.{Below, digits-below, digits_value}
 use Rattle.listing.specs.Keywords.{Style, omitted, hex, whole, signed, Entry, unused, entries, entry_of, used}
-use Rattle.listing.specs.Spelling.{space, feed, minus, spelled_argument, line_of, spelled, Kept, Known, prefix, kind_from, guessed_kind, digit_of, folded, guessed_argument, guessed, line_word}
+use Rattle.listing.specs.Spelling.{space, feed, minus, spelled_argument, line_of, spelled, prefix, kind_from, guessed_kind, digit_of, folded, guessed_argument, guessed, line_word}
 use Rattle.listing.proofs.Styles.{signed_low, signed_high}
 use Rattle.listing.proofs.Guessing.{argument-minus, argument-plus, guessed-as, spells-yes}
 
@@ -121,6 +121,13 @@ no_sign : (l bs : List ℕ) → High l → get_or (l ++ feed ∷ bs) 0 0 ≡ min
 no_sign [] bs h e = omega arith
 no_sign (b ∷ l) bs h e = omega (arith, h.0)
 
+-- the arguments that a style writes: what is left out is 0
+abbrev pub Kept : Style → ℕ → Type 0
+Kept omitted a = a ≡ 0
+Kept hex a = a < 2 ^ 24
+Kept whole a = a < 2 ^ 24
+Kept signed a = a < 2 ^ 24
+
 signed-undone : (a : ℕ) (b : Bool) → ltb a (2 ^ 23) ≡ b → a < 2 ^ 24 → guessed_argument signed (spelled_argument signed a ++ feed ∷ []) ≡ a
 signed-undone a true t h =
     ap (λ (l : List ℕ). guessed_argument signed (l ++ feed ∷ [])) (sym (signed_low a (ltb-true a (2 ^ 23) t)))
@@ -157,6 +164,12 @@ unfolding Found
 found_at [] i f k a h t = absurd (omega arith)
 found_at (e ∷ es) i f zero a h t = f.0 a t ∙ sym (add-zero i)
 found_at (e ∷ es) i f (suc k) a h t = found_at es (suc i) f.1 k a (omega arith) t ∙ suc-add i k ∙ sym (add-suc i k)
+
+-- a word of document 01's kinds with an argument that its line keeps
+pub record Known (w : ℕ) : Type 0 where
+  pub small : kind w ≤ 36
+  pub named : T (used (entry_of (kind w)))
+  pub kept : Kept (entry_of (kind w)).style (argument w)
 
 inside : {k : ℕ} → k ≤ 36 → k < length entries
 unfolding entries

@@ -1,7 +1,6 @@
 pub mod Keywords
 pub mod Spelling
 pub mod Listing
-pub mod RoundTrip
 pub mod Answer
 pub mod Depths
 pub mod Decoding

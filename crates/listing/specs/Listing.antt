@@ -13,10 +13,6 @@ pub data Answered : Type 0 where
 abbrev pub most : ℕ
 most = 65536
 
--- the largest number of a line that is refused: 21,845 lines `if`, and one byte more
-abbrev pub last_line : ℕ
-last_line = 21846
-
 -- what a call leaves in the output slice, where it writes `l` if it accepts
 unfoldable pub left : Answered → List ℕ → List ℕ → List ℕ
 left (done n) l out = l ++ drop n out

@@ -1,5 +1,5 @@
 -- How a word is spelled, and the word that a line spells.
-use Rattle.std.specs.Prelude.{ℕ, zero, suc, ◌+◌, ◌-◌, ◌*◌, ◌/◌, ◌%◌, ◌^◌, ◌<◌, ◌≤◌, ◌≡◌, Bool, true, false, ◌&&◌, List, [], ◌∷◌, ◌++◌, eqb, ltb, T, length, drop, get_or}
+use Rattle.std.specs.Prelude.{ℕ, zero, suc, ◌+◌, ◌-◌, ◌*◌, ◌/◌, ◌%◌, ◌^◌, Bool, true, false, ◌&&◌, List, [], ◌∷◌, ◌++◌, eqb, ltb, length, drop, get_or}
 use Rattle.table.specs.Words.{kind, argument, word_of}
 use Rattle.text.specs.Text.{decimal, set}
 use Rattle.listing.specs.Keywords.{Style, omitted, hex, whole, signed, Entry, entries, entry_of, used}
@@ -33,19 +33,6 @@ line_of e a = e.keyword ++ spelled_argument e.style a ++ feed ∷ []
 unfoldable pub spelled : ℕ → List ℕ
 unfolding entry_of line_of
 spelled w = line_of (entry_of (kind w)) (argument w)
-
--- the arguments that a style tells: one that is left out is 0
-abbrev pub Kept : Style → ℕ → Type 0
-Kept omitted a = a ≡ 0
-Kept hex a = a < 2 ^ 24
-Kept whole a = a < 2 ^ 24
-Kept signed a = a < 2 ^ 24
-
--- a word that has a line: of a kind of document 01, with an argument of 24 bits, in range or not, that the line tells
-pub record Known (w : ℕ) : Type 0 where
-  pub small : kind w ≤ 36
-  pub named : T (used (entry_of (kind w)))
-  pub kept : Kept (entry_of (kind w)).style (argument w)
 
 -- ---- the one word that a line can be the spelling of
 

@@ -4,14 +4,10 @@ ghost use Rattle.table.specs.Scan.{accepted, narrow_reading};
 ghost use Rattle.listing.specs.Listing.{depths as Listing·depths};
 ghost use Rattle.listing.specs.Depths.{leaves};
 
-use table::sizes::MOST_WORDS;
-use table::{argument_of, arity_of, kind_of, kinds};
+use table::{argument_of, arity_of, kind_of};
 
-// The last place of the stack.
-const LAST: usize = MOST_WORDS - 1;
-
-// The levels of a depth, as a number.
-pub fn levels(x: u8) -> usize
+// A depth as a number of words.
+pub fn wide(x: u8) -> usize
     ensures { (result ≡ x) × (result < 256) }
 {
     x as usize
@@ -40,14 +36,14 @@ fn push_left(stack: &mut [u8], top: usize, w: u32, d: u8) -> usize
     ensures stack_after { drop result stack.new ≡ leaves w d ++ drop top stack.old }
 {
     let kind = kind_of(w);
-    if kind == kinds::SYSTEM {
+    if kind == 1 {
         return push(stack, top, argument_of(w) as usize, 0);
     }
-    if kind == kinds::HANDLER {
+    if kind == 2 {
         let body = push(stack, top, 1, 1);
         return push(stack, body, 2, 0);
     }
-    if kind < kinds::FIRST {
+    if kind < 16 {
         return top;
     }
     push(stack, top, arity_of(w), d + 1)
@@ -58,8 +54,8 @@ pub fn find_depths(words: &[u32], depths: &mut [u8])
     requires { (narrow_reading words.now ≡ accepted) × (length words.now ≤ length depths.old) }
     ensures { take (length words.now) depths.new ≡ Listing·depths words.now }
 {
-    let mut stack = [0u8; MOST_WORDS];
-    let mut top = LAST;
+    let mut stack = [0u8; 1024];
+    let mut top = 1023;
     let mut i = 0;
     while i < words.len() {
         let d = stack[top];

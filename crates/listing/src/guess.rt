@@ -7,7 +7,6 @@ ghost use Rattle.listing.specs.Spelling.{prefix, guessed_kind, digit_of, guessed
 ghost use Rattle.listing.specs.Spelling.{folded as Spelling·folded};
 
 use crate::spell::{keyword_size, spell, style_at};
-use table::sizes::ARGUMENTS;
 
 fn starts_with(l: &[u8], word: &[u8]) -> bool
     ensures { result ≡ prefix word.now l.now }
@@ -72,7 +71,7 @@ fn folded(l: &[u8], at: usize, base: u32) -> u32
         if b == 10 {
             return v;
         }
-        v = (v * base + digit(b)) % ARGUMENTS;
+        v = (v * base + digit(b)) % 16777216;
         i += 1;
     }
     v
@@ -85,7 +84,7 @@ fn signed_argument(l: &[u8], at: usize) -> u32
     let first = at + 1;
     if first < l.len() {
         if l[first] == 45 {
-            return (ARGUMENTS - folded(l, at + 2, 10)) % ARGUMENTS;
+            return (16777216 - folded(l, at + 2, 10)) % 16777216;
         }
     }
     folded(l, first, 10)
@@ -116,7 +115,7 @@ pub fn line_word(letters: &[u8], l: &[u8]) -> u32
     }
     let n = keyword_size(letters, k);
     let style = style_at(letters, k);
-    let w = k as u32 * ARGUMENTS + guessed_argument(l, n, style);
+    let w = k as u32 * 16777216 + guessed_argument(l, n, style);
     let mut line = [0u8; 48];
     let size = spell(letters, w, &mut line);
     if size != l.len() {

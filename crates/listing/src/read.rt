@@ -10,12 +10,11 @@ ghost use Rattle.listing.specs.Listing.{misplaced as Listing·misplaced};
 ghost use Rattle.listing.specs.Decoding.{line_size, DecodedAs, Taken};
 ghost use Rattle.listing.specs.Answer.{answered};
 
-use crate::depth::{find_depths, levels};
+use crate::depth::{find_depths, wide};
 use crate::guess::line_word;
 use crate::keywords::LETTERS;
 use crate::{Answer, Refusal};
-use table::sizes::MOST_WORDS;
-use table::{Reading, kind_of, kinds};
+use table::{Reading, kind_of};
 
 // The number of the first line that spells no word; or how many lines were read, and the place after them.
 #[derive(Drop)]
@@ -77,7 +76,7 @@ fn decode(letters: &[u8], text: &[u8], words: &mut [u32], spaces: &mut [usize]) 
 {
     let mut n = 0;
     let mut at = 0;
-    while n < MOST_WORDS {
+    while n < 1024 {
         if text.len() <= at {
             return Decoded::Lines(n, at);
         }
@@ -125,7 +124,7 @@ fn misplaced(depths: &[u8], spaces: &[usize]) -> usize
         if spaces.len() <= i {
             return 0;
         }
-        if spaces[i] != 2 * levels(depths[i]) {
+        if spaces[i] != 2 * wide(depths[i]) {
             return i + 1;
         }
         i += 1;
@@ -151,7 +150,7 @@ fn place_accepted(words: &[u32], spaces: &[usize], out: &mut [u32]) -> Answer
     ensures out_after { out.new ≡ left (answered result) words.now out.old }
 {
     let n = words.len();
-    let mut depths = [0u8; MOST_WORDS];
+    let mut depths = [0u8; 1024];
     find_depths(words, &mut depths);
     let line = misplaced(&depths[..n], spaces);
     if line != 0 {
@@ -179,7 +178,7 @@ fn place(words: &[u32], spaces: &[usize], out: &mut [u32]) -> Answer
 fn too_many(w: u32) -> table::Refusal
     ensures { (ws : List ℕ) → 1024 < length ws → get_or ws 0 0 ≡ w → narrow_reading ws ≡ refused (number result) (Table·place result) }
 {
-    if kind_of(w) == kinds::SYSTEM {
+    if kind_of(w) == 1 {
         table::Refusal::TooManyWords
     } else {
         table::Refusal::NotTable
@@ -221,8 +220,8 @@ pub fn read(text: &[u8], out: &mut [u32]) -> Answer
         return Answer::Refused(Refusal::TooLong);
     }
     let letters = LETTERS;
-    let mut words = [0u32; MOST_WORDS];
-    let mut spaces = [0usize; MOST_WORDS];
+    let mut words = [0u32; 1024];
+    let mut spaces = [0usize; 1024];
     match decode(&letters, text, &mut words, &mut spaces) {
         Decoded::Misspelled(n) => Answer::Refused(Refusal::Line(n)),
         Decoded::Lines(n, at) => finish(&letters, text, &words, &spaces, n, at, out),

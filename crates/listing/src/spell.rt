@@ -6,7 +6,6 @@ ghost use Rattle.listing.specs.Keywords.{Style, style_letter, entry_of};
 ghost use Rattle.listing.specs.Keywords.{letters as Keywords·letters};
 ghost use Rattle.listing.specs.Spelling.{spelled_argument, spelled};
 
-use table::sizes::{ARGUMENTS, NEGATIVES};
 use table::{argument_of, kind_of};
 use text::{number_field, put, set_field};
 
@@ -16,10 +15,10 @@ fn signed_field(out: &mut [u8], at: usize, a: u32) -> usize
     ensures wrote { Wrote out.old at (spelled_argument Style.signed a) out.new result }
     ensures upper_bound { result ≤ at + 22 }
 {
-    if a < NEGATIVES {
+    if a < 8388608 {
         number_field(out, at, b" ", a as u64)
     } else {
-        number_field(out, at, b" -", (ARGUMENTS - a) as u64)
+        number_field(out, at, b" -", (16777216 - a) as u64)
     }
 }
 

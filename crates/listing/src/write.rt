@@ -9,12 +9,11 @@ ghost use Rattle.listing.specs.Listing.{indented, listing, written, left, text_a
 ghost use Rattle.listing.specs.Listing.{depths as Listing·depths};
 ghost use Rattle.listing.specs.Answer.{answered};
 
-use crate::depth::{find_depths, levels};
+use crate::depth::{find_depths, wide};
 use crate::keywords::LETTERS;
 use crate::spell::spell;
 use crate::{Answer, Refusal};
 use table::Reading;
-use table::sizes::MOST_WORDS;
 use text::put;
 
 // So many spaces.
@@ -37,7 +36,7 @@ fn put_line(letters: &[u8], w: u32, d: u8, out: &mut [u8], at: usize) -> usize
 {
     let mut line = [0u8; 48];
     let n = spell(letters, w, &mut line);
-    let next = put_spaces(out, at, 2 * levels(d));
+    let next = put_spaces(out, at, 2 * wide(d));
     put(out, next, &line[..n])
 }
 
@@ -51,7 +50,7 @@ fn text_size(letters: &[u8], words: &[u32], depths: &[u8]) -> usize
     let mut n = 0;
     let mut i = 0;
     while i < words.len() {
-        n += 2 * levels(depths[i]) + spell(letters, words[i], &mut line);
+        n += 2 * wide(depths[i]) + spell(letters, words[i], &mut line);
         i += 1;
     }
     n
@@ -78,7 +77,7 @@ fn write_accepted(words: &[u32], out: &mut [u8]) -> Answer
     ensures out_after { out.new ≡ left (answered result) (listing words.now) out.old }
 {
     let letters = LETTERS;
-    let mut depths = [0u8; MOST_WORDS];
+    let mut depths = [0u8; 1024];
     find_depths(words, &mut depths);
     let n = text_size(&letters, words, &depths);
     if 65536 < n {

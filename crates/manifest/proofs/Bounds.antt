@@ -13,8 +13,7 @@ use Rattle.permset.proofs.Laws.{union-lt}
 use Rattle.json.specs.Bytes.{head, tail, Rest, nothing, rest}
 use Rattle.json.specs.Strings.{units}
 use Rattle.json.specs.Units.{matches}
-use Rattle.manifest.specs.Strings.{ascii, name_bits, is_host, name_set, host_set, set_of}
-use Rattle.names.specs.Table.{names, named}
+use Rattle.manifest.specs.Strings.{ascii, names, named, is_host, name_set, host_set, set_of}
 use Rattle.manifest.specs.Members.{members, repeated, find, Count, not_strings, strings}
 use Rattle.manifest.specs.Manifest.{Source, sources, total, goes_on, version, Outcome, refused, accepted, is_object, counts, judged_from, judged}
 use Rattle.manifest.proofs.Judged.{judged-repeated, judged-unversioned, judged-versioned}
@@ -35,17 +34,17 @@ unfolding top
 bit-top [] bit = le_refl bit
 bit-top (n ∷ ns) bit = let h : 2 * bit ≤ top ns (2 * bit) = bit-top ns (2 * bit) in omega arith
 
-named-top : (passes : List ℕ → Bool) (ns : List (List ℕ)) (bit : ℕ) → named passes ns bit ≤ top ns bit
+named-top : (ns : List (List ℕ)) (bit : ℕ) (us : List ℕ) → named ns bit us ≤ top ns bit
 unfolding top named
-named-top passes [] bit = zero≤
-named-top passes (n ∷ ns) bit =
-    pick (λ (x : ℕ). x ≤ top ns (2 * bit)) (passes n) bit (named passes ns (2 * bit))
-    (let h : 2 * bit ≤ top ns (2 * bit) = bit-top ns (2 * bit) in omega arith) (named-top passes ns (2 * bit))
+named-top [] bit us = zero≤
+named-top (n ∷ ns) bit us =
+    pick (λ (x : ℕ). x ≤ top ns (2 * bit)) (matches true n us) bit (named ns (2 * bit) us)
+    (let h : 2 * bit ≤ top ns (2 * bit) = bit-top ns (2 * bit) in omega arith) (named-top ns (2 * bit) us)
 
 name-small : (b : Bool) (us : List ℕ) → name_set b us < 2 ^ 24
 unfolding name_set top
 name-small false us = omega arith
-name-small true us = let h : name_bits us ≤ 1024 = named-top (λ n. matches true n us) names 1 in omega arith
+name-small true us = let h : named names 1 us ≤ 1024 = named-top names 1 us in omega arith
 
 host-small : (b : Bool) (us : List ℕ) → host_set b us < 2 ^ 24
 unfolding host_set

@@ -1,11 +1,24 @@
--- Names and hosts, where they count.
+-- The names of permissions, one by one, and hosts.
 -- Assumes nothing.
-use Prim.Native.Nat.{ℕ, ◌^◌}
+use Prim.Native.Nat.{ℕ, ◌*◌, ◌^◌}
 use mathlib.Core.Path.{◌≡◌, refl, ap, ◌∙◌}
 use mathlib.Core.Bool.{Bool, true, false}
-use mathlib.Core.List.{List}
+use mathlib.Core.List.{List, [], ◌∷◌}
 use Rattle.json.specs.Units.{matches, contains}
-use Rattle.manifest.specs.Strings.{ascii, name_bits, is_host, name_set, host_set}
+use Rattle.manifest.specs.Strings.{ascii, names, named, is_host, name_set, host_set}
+
+module _ (n : List ℕ) (ns : List (List ℕ)) (bit : ℕ) (us : List ℕ) where
+  pub named-yes : matches true n us ≡ true → named (n ∷ ns) bit us ≡ bit
+  unfolding named
+  named-yes e = rw (e, named)
+
+  pub named-no : matches true n us ≡ false → named (n ∷ ns) bit us ≡ named ns (2 * bit) us
+  unfolding named
+  named-no e = rw (e, named)
+
+pub named_none : (bit : ℕ) (us : List ℕ) → named [] bit us ≡ 0
+unfolding named
+named_none bit us = refl
 
 host-there : (us : List ℕ) → is_host us ≡ true → host_set true us ≡ 2 ^ 23
 unfolding host_set
@@ -25,7 +38,7 @@ module _ (us : List ℕ) where
   host-other e = rw (e, is_host)
 
   module _ (counts : Bool) where
-    pub name-counts : counts ≡ true → name_set counts us ≡ name_bits us
+    pub name-counts : counts ≡ true → name_set counts us ≡ named names 1 us
     unfolding name_set
     name-counts e = ap (λ (b : Bool). name_set b us) e
 

@@ -9,8 +9,7 @@ use Rattle.json.specs.Numbers.{digits, some_digits, minus, int, frac, sign, exp,
 use Rattle.json.specs.Strings.{hex_of, hexed, hex_unit, escape_of, escaped, continued, low, high, second, point_of, units_of, pointed, character}
 use Rattle.json.specs.Units.{matches, contains}
 use Rattle.json.specs.Values.{literal, start, closing, mark, name, separated, item, items, first, starts_from, parts, value, is_text}
-use Rattle.manifest.specs.Strings.{ascii, is_host, name_set, host_set, set_of}
-use Rattle.names.specs.Table.{named}
+use Rattle.manifest.specs.Strings.{ascii, named, is_host, name_set, host_set, set_of}
 use Rattle.manifest.specs.Members.{members, has, repeated, find, counted, listed}
 use Rattle.manifest.specs.Manifest.{sources, total, version, is_object, refused, accepted, judged_from, judged}
 

@@ -1,35 +1,44 @@
 // What a string of a list says: the set of a name or of a host pattern. A place is behind the first quotation mark.
-ghost use Rattle.std.specs.Prelude.{◌≡◌, true, drop};
+ghost use Rattle.std.specs.Prelude.{◌≡◌, drop};
 ghost use Rattle.json.specs.Strings.{units};
-ghost use Rattle.json.specs.Units.{matches};
-ghost use Rattle.names.specs.Table.{name_of};
-ghost use Rattle.manifest.specs.Strings.{name_bits, is_host, name_set, host_set, set_of};
+ghost use Rattle.manifest.specs.Strings.{names, named, is_host, name_set, host_set, set_of};
 
 use json::units::{contains, spells};
-use names::name::name;
 use permset::PermSet;
-
-// Whether the string at a place is the name of permission i.
-fn is_name(text: &[u8], at: usize, i: u32) -> bool
-    ensures { result ≡ matches true (name_of i) (units (drop at text.now)) }
-{
-    let mut word = [0u8; 32];
-    let size = name(&mut word, i);
-    spells(text, at, &word[..size])
-}
 
 // The set of the name that stands at a place, and 0 where it is no permission's.
 fn name_set(text: &[u8], at: usize) -> u32
-    ensures { result ≡ name_bits (units (drop at text.now)) }
+    ensures { result ≡ named names 1 (units (drop at text.now)) }
 {
-    let mut bit = 1;
-    let mut i = 0;
-    while i < 10 {
-        if is_name(text, at, i) {
-            return bit;
-        }
-        bit *= 2;
-        i += 1;
+    if spells(text, at, b"storage") {
+        return 1;
+    }
+    if spells(text, at, b"tabs") {
+        return 2;
+    }
+    if spells(text, at, b"cookies") {
+        return 4;
+    }
+    if spells(text, at, b"history") {
+        return 8;
+    }
+    if spells(text, at, b"downloads") {
+        return 16;
+    }
+    if spells(text, at, b"bookmarks") {
+        return 32;
+    }
+    if spells(text, at, b"notifications") {
+        return 64;
+    }
+    if spells(text, at, b"webRequest") {
+        return 128;
+    }
+    if spells(text, at, b"management") {
+        return 256;
+    }
+    if spells(text, at, b"proxy") {
+        return 512;
     }
     0
 }

@@ -2,13 +2,13 @@
 use Prim.Native.Nat.{ℕ, zero, suc, ◌+◌, ◌-◌, ◌*◌, ◌/◌, ◌%◌, ◌^◌, ◌≤◌, ◌<◌}
 use mathlib.Core.Path.{◌≡◌, refl, sym, ap, ap₂, ◌∙◌}
 use mathlib.Core.Bool.{Bool, true, false, not, ◌&&◌, ◌||◌}
-use mathlib.Core.List.{List, [], ◌∷◌}
+use mathlib.Core.List.{List, [], ◌∷◌, map}
 use mathlib.Core.Logic.{⊎_elim}
 use native.Mathlib.Decide.{dec_lt, ℕ_discrete}
 use native.Mathlib.Omega.{arith}
 use borrow.Author.Tests.{ne_eqb, lt-ltb, le-ltb, le-leb, lt-leb}
 use lib.Dec.{T, eqb, leb, ltb}
-use lib.ListN.{length, get_or, take, drop, length-drop}
+use lib.ListN.{length, get_or, take, drop, length-drop, get_or-map}
 use lib.Seq.{get_or-take, get_or-drop, length-take-le}
 use Rattle.permset.specs.Sets.{member}
 use Rattle.table.specs.declared.Item.{Item}
@@ -21,7 +21,7 @@ use Rattle.table.specs.Words.{kind, argument, first_kind, terms_by_kind, term_of
 use Rattle.table.specs.Item.{handler_at, item_at}
 use Rattle.table.proofs.Items.{item-block, item-gap, item-term}
 use Rattle.table.proofs.Nodes.{item_node, node-item}
-use Rattle.calculus.specs.Elements.{Making, nothing, a_function, a_record, a_cell, leaf_makes, makes, making, plain, elements, is_function, is_record, is_cell}
+use Rattle.calculus.specs.Elements.{Making, nothing, a_function, a_record, a_cell, leaf_makes, one_makes, makes, making, plain, elements, is_function, is_record, is_cell}
 use Rattle.calculus.specs.Elements.{sendable, any_record}
 use Rattle.calculus.specs.Layout.{bit, mark, pour, row_words, Words}
 use Rattle.calculus.proofs.Digits.{T_true}
@@ -29,7 +29,7 @@ use Rattle.calculus.proofs.Slices.{length-mark, mark-words, mark-adds, mark-new,
 use Rattle.masks.specs.declared.Sort.{Sort}
 use Rattle.masks.specs.declared.Sort.TheVariants as sorts
 use Rattle.rows.specs.Mask.{Mask}
-use Rattle.masks.specs.Masks.{property, making_number, word_makes, sort_has, mark_if}
+use Rattle.masks.specs.Masks.{property, making_number, makes_by_kind, word_makes, sort_has, mark_if}
 
 -- ---- what the item of a word makes
 
@@ -68,22 +68,34 @@ item-makes : (ws : List ℕ) → reading ws ≡ accepted → (p : ℕ) (x : Item
 item-makes ws e p x h =
     sym (ap makes (node-item ws e ws (omega arith) p) ∙ item-parts (item_at ws p) _ _ _ ∙ ap (λ (y : Item). makes (item_node y 0 0 0)) h)
 
--- a word that is no term makes nothing
-other_word : (w : ℕ) → kind w < 16 → word_makes w ≡ 0
-unfolding word_makes term_of terms_by_kind term_node makes leaf_makes making_number
-other_word w h =
-    let e : kind w - first_kind ≡ 0 = omega arith in
-    ap (λ (k : ℕ). making_number (makes (term_node (get_or (terms_by_kind (argument w)) k terms.Record) 0 0 0))) e
+-- by the kind of its word
+term_makes : Term → ℕ
+term_makes t = making_number (makes (term_node t 0 0 0))
+
+term-table : (a : ℕ) → map term_makes (terms_by_kind a) ≡ makes_by_kind
+unfolding term_makes terms_by_kind makes_by_kind making_number makes leaf_makes one_makes term_node
+term-table a = refl
+
+term-word : (w : ℕ) → word_makes w ≡ term_makes (term_of w)
+unfolding word_makes term_of term_makes making_number makes leaf_makes term_node
+term-word w =
+    ap (λ (xs : List ℕ). get_or xs (kind w - first_kind) 2) (sym (term-table (argument w)))
+    ∙ get_or-map term_makes (terms_by_kind (argument w)) (kind w - first_kind) terms.Record
+
+pub other_word : (w : ℕ) → kind w < 16 → word_makes w ≡ 0
+unfolding word_makes makes_by_kind
+other_word w h = let e : kind w - first_kind ≡ 0 = omega arith in ap (λ (k : ℕ). get_or makes_by_kind k 2) e
 
 pub word-making : (ws : List ℕ) → reading ws ≡ accepted → (p : ℕ) → word_makes (get_or ws p 0) ≡ making_number (makes ((code ws).node p))
-unfolding item_node makes making_number word_makes
+unfolding item_node makes making_number term_makes
 word-making ws e p = go (dec_lt (kind (get_or ws p 0)) 16) (ℕ_discrete (kind (get_or ws p 0)) 2)
   where
     go : Dec (kind (get_or ws p 0) < 16) → Dec (kind (get_or ws p 0) ≡ 2) → word_makes (get_or ws p 0) ≡ making_number (makes ((code ws).node p))
     go (yes h) (yes k) = other_word (get_or ws p 0) h ∙ ap making_number (item-makes ws e p (items.Block (handler_at ws p)) (item-block ws p k))
     go (yes h) (no k) = other_word (get_or ws p 0) h ∙ ap making_number (item-makes ws e p items.Gap (item-gap ws p k h))
     go (no h) k =
-        ap making_number (item-makes ws e p (items.Term (term_of (get_or ws p 0))) (item-term ws p (omega arith)))
+        term-word (get_or ws p 0)
+        ∙ ap making_number (item-makes ws e p (items.Term (term_of (get_or ws p 0))) (item-term ws p (omega arith)))
 
 -- ---- the property of a sort, by tests
 

@@ -1,8 +1,8 @@
 -- The four masks: the sorts of elements that the rules ask for, and the digits of the elements of a sort set in a list of words.
-use Rattle.std.specs.Prelude.{ℕ, ◌+◌, ◌*◌, ◌<◌, ◌≡◌, Bool, true, false, not, ◌&&◌, ◌||◌, List, [], ◌∷◌, eqb, ltb, get_or, take, drop, replicate}
-use Rattle.table.specs.Words.{term_of}
-use Rattle.table.specs.Code.{Code, term_node}
-use Rattle.calculus.specs.Elements.{Making, nothing, a_function, a_record, a_cell, makes, is_function, is_cell, sendable, any_record, elements}
+use Rattle.std.specs.Prelude.{ℕ, ◌+◌, ◌-◌, ◌*◌, ◌<◌, ◌≡◌, Bool, true, false, not, ◌&&◌, ◌||◌, List, [], ◌∷◌, eqb, ltb, get_or, take, drop, replicate}
+use Rattle.table.specs.Words.{kind, first_kind}
+use Rattle.table.specs.Code.{Code}
+use Rattle.calculus.specs.Elements.{Making, nothing, a_function, a_record, a_cell, is_function, is_cell, sendable, any_record, elements}
 use Rattle.calculus.specs.Layout.{bit, mark, pour, Words}
 use Rattle.masks.specs.declared.Sort.{Sort}
 use Rattle.masks.specs.declared.Sort.TheVariants as sorts
@@ -29,9 +29,22 @@ making_number a_function = 1
 making_number a_record = 2
 making_number a_cell = 3
 
--- what a word makes, as its term does
+-- what the words of kinds 16 to 36 make
+unfoldable pub makes_by_kind : List ℕ
+makes_by_kind =
+    0 ∷ 0 ∷ 0 ∷ 0 ∷ 0
+    ∷ 1  -- 21 function
+    ∷ 0 ∷ 0 ∷ 0 ∷ 0 ∷ 0 ∷ 0
+    ∷ 2  -- 28 empty record
+    ∷ 0
+    ∷ 2  -- 30 set
+    ∷ 0
+    ∷ 3  -- 32 new cell
+    ∷ 0 ∷ 0 ∷ 0 ∷ 0 ∷ []
+
+-- what a word makes, by its kind
 unfoldable pub word_makes : ℕ → ℕ
-word_makes w = making_number (makes (term_node (term_of w) 0 0 0))
+word_makes w = get_or makes_by_kind (kind w - first_kind) 2
 
 -- whether what is made is of a sort
 unfoldable pub sort_has : Sort → ℕ → Bool

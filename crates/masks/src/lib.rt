@@ -8,10 +8,9 @@ ghost use Rattle.rows.specs.Laid.{LaidOut};
 ghost use Rattle.masks.specs.Masks.{word_makes, sort_has, mark_if, mark_word, plain_masks, Filled, FilledIn};
 
 use results::digit;
-use rows::elements::OPPONENT_RECORD;
 use rows::layout::Layout;
-use rows::row::{FULL, set};
-use table::{Term, term_of};
+use rows::row::set;
+use table::kind_of;
 
 // The sorts of elements, in the order of their masks.
 #[derive(Drop)]
@@ -41,25 +40,20 @@ pub fn set_if(masks: &mut [u32], n: usize, told: bool)
     }
 }
 
-// What a word makes, by its number.
-const NOTHING: u32 = 0;
-
-const FUNCTION: u32 = 1;
-
-const RECORD: u32 = 2;
-
-const CELL: u32 = 3;
+// What a word makes, two bits for the place of its kind among those of terms: 1 a function, 2 a record, 3 a cell.
+const MAKES: u64 = 13455328256;
 
 pub fn word_makes(w: u32) -> u32
     ensures { result ≡ word_makes w }
 {
-    match term_of(w) {
-        Term::Function => FUNCTION,
-        Term::Record => RECORD,
-        Term::Set => RECORD,
-        Term::Cell => CELL,
-        _ => NOTHING,
+    let kind = kind_of(w);
+    if kind < 16 {
+        return 0;
     }
+    if 36 < kind {
+        return 2;
+    }
+    ((MAKES >> (2 * (kind - 16))) % 4) as u32
 }
 
 // Whether what a word makes is of a sort.
@@ -67,10 +61,10 @@ fn made_has(s: Sort, m: u32) -> bool
     ensures { result ≡ sort_has s m }
 {
     match s {
-        Sort::Function => m == FUNCTION,
-        Sort::Record => m == RECORD,
-        Sort::Cell => m == CELL,
-        Sort::Message => m != FUNCTION && m != CELL,
+        Sort::Function => m == 1,
+        Sort::Record => m == 2,
+        Sort::Cell => m == 3,
+        Sort::Message => m != 1 && m != 3,
     }
 }
 
@@ -115,7 +109,7 @@ fn set_words(masks: &mut [u32], at: usize, n: usize)
 {
     let mut k = 0;
     while k < n {
-        set(masks, at + k, FULL);
+        set(masks, at + k, 4294967295);
         k += 1;
     }
 }
@@ -125,7 +119,7 @@ fn fill_plain(masks: &mut [u32], row: usize, lead: usize)
     requires { (1 ≤ lead) × (lead ≤ row) × (4 * row ≤ length masks.old) × (length masks.old ≤ 256) }
     ensures { masks.new ≡ plain_masks row lead masks.old }
 {
-    set_digit(masks, 32 * row + OPPONENT_RECORD);
+    set_digit(masks, 32 * row + 7);
     set_words(masks, 3 * row, lead);
 }
 

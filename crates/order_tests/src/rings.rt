@@ -2,7 +2,7 @@
 ghost use Rattle.std.specs.Prelude.{◌≤◌, ◌<◌};
 
 use crate::line;
-use reading_order::unlimited::order_unlimited;
+use reading_order::order;
 use test_tables::tables::{put, word};
 
 // The handler of a name, without permissions or guard, which sends its message to another name.
@@ -29,7 +29,7 @@ fn put_ring(words: &mut [u32], step: usize)
     }
 }
 
-// The ring's line, with so many positions and no ceiling.
+// The ring's line, with so many positions.
 fn show_in(step: usize, positions: &mut [u32])
     requires { step ≤ 64 }
 {
@@ -37,7 +37,7 @@ fn show_in(step: usize, positions: &mut [u32])
     let mut est = [0u32; 12705];
     let mut work = [0u32; 1540];
     put_ring(&mut words, step);
-    let reply = order_unlimited(&words, 0, &mut est, &mut work, positions);
+    let reply = order(&words, 0, 1000000, &mut est, &mut work, positions);
     line(reply, positions);
 }
 

@@ -1,4 +1,2 @@
-pub mod Listed
 pub mod Laws
-pub mod Rooms
 pub mod Samples

@@ -1,6 +1,4 @@
-// What a call for an order of reading replied: its line, and below it the handlers in that order.
-pub mod handlers;
-
+// The line that says what a call for an order of reading replied.
 ghost use Rattle.std.specs.Prelude.{◌≡◌, ◌+◌, ◌*◌, ◌≤◌, ltb, length, take};
 ghost use Rattle.text.specs.Writing.{Wrote};
 ghost use Rattle.reading_order.specs.Reply.{reply_of};

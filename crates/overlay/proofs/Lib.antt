@@ -8,4 +8,3 @@ pub mod Appended
 pub mod Joins
 pub mod Picks
 pub mod Theorems
-pub mod JoinedTables

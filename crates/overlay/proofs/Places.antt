@@ -1,19 +1,15 @@
--- Where a block of the two tables is, by what is found in each, that its words stand there, and that they are none exactly where it is refused.
+-- Where a block of the two tables is, by what is found in each, and that its words stand there.
 use mathlib.Core.Path.{◌≡◌, refl, sym, ap, ap₂, ◌∙◌, subst}
-use mathlib.Core.Bool.{false}
 use mathlib.Core.List.{List, []}
 use Prim.Native.Nat.{ℕ, ◌+◌, ◌≤◌}
 use native.Mathlib.Omega.{arith}
-use borrow.Author.Tests.{ne_eqb}
-use lib.Dec.{eqb}
 use lib.ListN.{length}
-use Rattle.table.specs.Scan.{Outcome, accepted, refused, narrow_reading}
+use Rattle.table.specs.Scan.{Outcome, accepted, refused}
 use Rattle.overlay.specs.declared.search.Span.TheVariants as spans
-use Rattle.overlay.specs.Lookup.{tables_read, Sought, nothing, found, sought, Place, in_base, in_overlay, refusal, is_refused}
-use Rattle.overlay.specs.Lookup.{place_in, words_in, place_of, looked_up}
+use Rattle.overlay.specs.Lookup.{tables_read, Sought, nothing, found, sought, Place, in_base, in_overlay, refusal, place_in, words_in, place_of, looked_up}
 use Rattle.overlay.specs.Parts.{part, span_of}
 use Rattle.overlay.proofs.Refusals.{tables-accepted}
-use Rattle.overlay.proofs.Seek.{sought-part, sought-long}
+use Rattle.overlay.proofs.Seek.{sought-part}
 
 -- what the span of a search says of it
 pub at-span : (q : Sought) (a e : ℕ) → span_of q ≡ spans.At a e → (b : List ℕ) × (q ≡ found a b) × (e ≡ a + length b)
@@ -70,27 +66,3 @@ module _ (base overlay : List ℕ) (n s : ℕ) where
           subst Stands (sym (place_found t (found a w) nothing eb eo)) (omega arith, q.0, q.1 ∙ sym (looked-found t (found a w) nothing eb eo))
       go accepted nothing nothing t eb eo =
           subst Stands (sym (place_found t nothing nothing eb eo)) (looked-found t nothing nothing eb eo)
-
-  -- no words are given exactly where the look-up is refused
-  pub none-refused : eqb (length (looked_up base overlay n s)) 0 ≡ is_refused (place_of base overlay n s)
-  unfolding is_refused
-  none-refused = go (tables_read base overlay) (sought base n s) (sought overlay n s) refl refl refl
-    where
-      told : (p : Place) (ws : List ℕ) → place_of base overlay n s ≡ p → looked_up base overlay n s ≡ ws → eqb (length ws) 0 ≡ is_refused p
-          → eqb (length (looked_up base overlay n s)) 0 ≡ is_refused (place_of base overlay n s)
-      told p ws e l q = ap (λ (xs : List ℕ). eqb (length xs) 0) l ∙ q ∙ sym (ap is_refused e)
-
-      some : (ws : List ℕ) → narrow_reading ws ≡ accepted → (a : ℕ) (w : List ℕ) → sought ws n s ≡ found a w → eqb (length w) 0 ≡ false
-      some ws r a w e = let l = sought-long n s ws r a w e in ne_eqb (length w) 0 (λ z. omega arith)
-
-      go : (t : Outcome) (b o : Sought) → tables_read base overlay ≡ t → sought base n s ≡ b → sought overlay n s ≡ o
-          → eqb (length (looked_up base overlay n s)) 0 ≡ is_refused (place_of base overlay n s)
-      go (refused k p) b o t eb eo = told (refusal k p) [] (place-refused k p t) (looked-refused k p t) refl
-      go accepted b (found a w) t eb eo =
-          told (in_overlay a (a + length w)) w (place_found t b (found a w) eb eo) (looked-found t b (found a w) eb eo)
-          (some overlay (tables-accepted base overlay t).1 a w eo)
-      go accepted (found a w) nothing t eb eo =
-          told (in_base a (a + length w)) w (place_found t (found a w) nothing eb eo) (looked-found t (found a w) nothing eb eo)
-          (some base (tables-accepted base overlay t).0 a w eb)
-      go accepted nothing nothing t eb eo =
-          told (refusal 47 0) [] (place_found t nothing nothing eb eo) (looked-found t nothing nothing eb eo) refl

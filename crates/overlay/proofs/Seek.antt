@@ -2,7 +2,7 @@
 use mathlib.Core.Path.{◌≡◌, refl, sym, ap, ap₂, ◌∙◌, subst}
 use mathlib.Core.List.{List, [], ◌∷◌}
 use mathlib.Core.Bool.{Bool, true, false, ◌&&◌}
-use Prim.Native.Nat.{ℕ, zero, suc, ◌+◌, ◌-◌, ◌≤◌, ◌<◌}
+use Prim.Native.Nat.{ℕ, zero, suc, ◌+◌, ◌-◌, ◌≤◌}
 use native.Mathlib.Nat.{add-zero}
 use native.Mathlib.Numerals.{sub-one}
 use native.Mathlib.Omega.{arith}
@@ -11,10 +11,9 @@ use lib.ListN.{length, get_or, take, drop}
 use lib.Seq.{get_or-drop, get_or-take}
 use Rattle.table.specs.Words.{narrow, argument}
 use Rattle.table.specs.Scan.{accepted, narrow_reading}
-use Rattle.blocks.specs.Blocks.{cut, blocks, All, Good}
+use Rattle.blocks.specs.Blocks.{cut, blocks, All}
 use Rattle.blocks.proofs.Tables.{Cuts}
-use Rattle.blocks.proofs.Narrow.{table, blocks-good}
-use Rattle.blocks.proofs.Block.{good-long}
+use Rattle.blocks.proofs.Narrow.{table}
 use Rattle.blocks.proofs.Places.{Here, here}
 use Rattle.overlay.specs.Lookup.{keyed, nothing, found, seek, sought}
 use Rattle.overlay.specs.Parts.{part}
@@ -97,8 +96,3 @@ module _ (n s : ℕ) where
       let t = table ws r in
       let f = seek-part ws (argument (get_or ws 0 0)) 1 a b t.inside t.cuts e in
       (f.0, ap (λ (k : ℕ). take k (drop a ws)) (let k : a + length b - a ≡ length b = omega arith in k) ∙ f.1)
-
-  -- and it has words
-  pub sought-long : (ws : List ℕ) → narrow_reading ws ≡ accepted → (a : ℕ) (b : List ℕ) → sought ws n s ≡ found a b → 0 < length b
-  sought-long ws r a b e =
-      let l = good-long narrow b (seek-good (Good narrow) 1 (blocks ws) (blocks-good ws r) a b e) in omega arith

@@ -2,4 +2,3 @@ pub mod Lookup
 pub mod Join
 pub mod Answers
 pub mod Parts
-pub mod JoinedTables

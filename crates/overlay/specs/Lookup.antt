@@ -35,11 +35,6 @@ pub data Place : Type 0 where
   in_overlay : (start end : ℕ) → Place
   refusal : (number place : ℕ) → Place
 
-unfoldable pub is_refused : Place → Bool
-is_refused (in_base start end) = false
-is_refused (in_overlay start end) = false
-is_refused (refusal number place) = true
-
 abbrev pub place_in : (base overlay : Sought) → Place
 place_in base (found a b) = in_overlay a (a + length b)
 place_in (found a b) nothing = in_base a (a + length b)

@@ -1,6 +1,6 @@
 // A block of one of two tables: where it is, and its words as a part of the caller's own slice.
-ghost use Rattle.std.specs.Prelude.{◌≡◌, eqb, length};
-ghost use Rattle.overlay.specs.Lookup.{place_of, is_refused, looked_up};
+ghost use Rattle.std.specs.Prelude.{◌≡◌};
+ghost use Rattle.overlay.specs.Lookup.{place_of, looked_up};
 ghost use Rattle.overlay.specs.Answers.{found_as};
 
 use crate::search::{Span, seek};
@@ -22,10 +22,9 @@ pub fn find(base: &[u32], overlay: &[u32], name: u32, perms: u32) -> Found
     }
 }
 
-// Its words, as a part of the slice that has them; an empty part exactly where it is refused.
+// Its words, as a part of the slice that has them; an empty part where it is refused.
 pub fn lookup<'a>(base: &'a [u32], overlay: &'a [u32], name: u32, perms: u32) -> &'a [u32]
-    ensures words { result.now ≡ looked_up base.now overlay.now name perms }
-    ensures empty { eqb (length result.now) 0 ≡ is_refused (place_of base.now overlay.now name perms) }
+    ensures { result.now ≡ looked_up base.now overlay.now name perms }
 {
     match find(base, overlay, name, perms) {
         Found::Overlay(start, end) => &overlay[start..end],

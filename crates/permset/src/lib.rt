@@ -2,9 +2,6 @@
 ghost use Rattle.std.specs.Prelude.{◌≡◌, ◌^◌, eqb, ltb};
 ghost use Rattle.permset.specs.Sets.{width, member, union, difference, within, lowest};
 
-// The first number that is no set: 2 to the number of permissions.
-pub const LIMIT: u32 = 16777216;
-
 #[derive(Drop)]
 pub struct PermSet {
     pub bits: u32,
@@ -74,6 +71,12 @@ impl PermSet {
     pub fn valid(self) -> bool
         ensures { result ≡ ltb self.bits (2 ^ width) }
     {
-        self.bits < LIMIT
+        self.bits < 16777216
+    }
+
+    pub fn same(self, other: PermSet) -> bool
+        ensures { result ≡ eqb self.bits other.bits }
+    {
+        self.bits == other.bits
     }
 }

@@ -46,6 +46,7 @@ fn two(first: u32, second: u32) {
     set(b" union ", s.union(t));
     set(b" difference ", s.difference(t));
     answer(b" within ", s.within(t));
+    answer(b" same ", s.same(t));
     end();
 }
 

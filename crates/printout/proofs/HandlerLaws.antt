@@ -16,6 +16,7 @@ use Rattle.table.specs.declared.Item.TheVariants as items
 use Rattle.table.specs.declared.Handler.{Handler}
 use Rattle.table.specs.declared.Term.{Term}
 use Rattle.table.specs.Item.{handler_at, item_at}
+use Rattle.table.specs.Words.{narrow, names_of}
 use Rattle.table.specs.Scan.{Task, head, name, perms, guard, term, accepted, names_at, reading}
 use Rattle.table.specs.Code.{Code, Node, code, node_for, tasks, task_at, blocks_from}
 use Rattle.table.proofs.Faults.{Stands}
@@ -24,12 +25,11 @@ use Rattle.table.proofs.Stack.{reach}
 use Rattle.table.proofs.Parts.{tasks-length, place-stands}
 use Rattle.table.proofs.Blocks.{blocks_end}
 use Rattle.table.proofs.Limits.{size-le, blocks-le}
-use Rattle.table.proofs.Widths.{names-most}
 use Rattle.calculus.specs.Constraint.{P, L}
 use Rattle.calculus.specs.Rules.{name_of, guarded}
 use Rattle.calculus.specs.Layout.{row_words, estimate_words, base, shift, owner, span, place, allowed, sets, bit, content}
 use Rattle.calculus.specs.Estimate.{permissions_at}
-use Rattle.rows.proofs.Bounds.{words-bound}
+use Rattle.calls.proofs.Bounds.{words-bound}
 use Rattle.text.specs.Writing.{Wrote}
 use Rattle.text.proofs.Writing.{wrote_nothing, wrote-length, reworded, then}
 use Rattle.report.specs.Lines.{handler_line}
@@ -194,10 +194,10 @@ module _ (ws : List ℕ) (e : reading ws ≡ accepted) (ρ : ℕ) (est out : Lis
   abbrev lines : ℕ → List ℕ → List ℕ
   lines position bs = handler_lines (code ws) ρ est position bs
 
-  pub listed_start : start ≤ length out → Listed ws ρ est out start 0 out start 0
+  pub listed_start : names_of (get_or ws 0 0) ≡ narrow → start ≤ length out → Listed ws ρ est out start 0 out start 0
   unfolding onward code
-  listed_start h =
-      record { done = []; wrote = wrote_nothing out start h; rest = refl; few = omega (arith, blocks-le ws e, names-most (get_or ws 0 0)); most = omega arith }
+  listed_start n h =
+      record { done = []; wrote = wrote_nothing out start h; rest = refl; few = omega (arith, blocks-le ws e); most = omega arith }
 
   module _ (p : ℕ) (out' : List ℕ) (at position : ℕ) (l : Listed ws ρ est out start p out' at position) where
     pub listed-length : length out' ≡ length out
@@ -214,10 +214,10 @@ module _ (ws : List ℕ) (e : reading ws ≡ accepted) (ρ : ℕ) (est out : Lis
       counts : length (onward ws p) ≡ length (here ws p) + length (onward ws (suc p))
       counts = ap length (onward-step ws e p h) ∙ length-append (here ws p) (onward ws (suc p))
 
-      pub listed-few : position ≤ 64
+      pub listed-few : position ≤ 32
       listed-few = omega (arith, l.few)
 
-      pub listed-room : start + 6144 ≤ length out → at + 96 * length (here ws p) ≤ length out'
+      pub listed-room : start + 3072 ≤ length out → at + 96 * length (here ws p) ≤ length out'
       listed-room r = omega (arith, l.few, l.most, counts, listed-length)
 
       pub listed-step : (out'' : List ℕ) (at' position' : ℕ) → Stepped ws ρ est out' p at position out'' at' position'

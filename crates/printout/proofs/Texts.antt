@@ -7,12 +7,13 @@ use native.Mathlib.Omega.{arith}
 use lib.Dec.{eqb, ltb}
 use lib.ListN.{length, get_or, take, drop, length-append}
 use lib.Seq.{take_at}
-use borrow.Author.Tests.{lt-ltb, le-ltb, ltb-false}
+use borrow.Author.Tests.{lt-ltb, le-ltb, ltb-false, eqb-false}
 use Rattle.little_endian.specs.LittleEndian.{words_of}
 use Rattle.table.specs.Words.{kind}
 use Rattle.table.specs.Scan.{accepted, reading, first_of}
 use Rattle.table.specs.Code.{code}
 use Rattle.table.proofs.Linked.{linked}
+use Rattle.table.proofs.Widths.{narrow-names}
 use Rattle.calculus.specs.Layout.{estimate_words}
 use Rattle.calculus.specs.Estimate.{estimate}
 use Rattle.calculus.specs.Answer.{Verdict, Answer, refused, verdict, answer, estimate_after}
@@ -30,27 +31,28 @@ use Rattle.printout.specs.Answers.{HeldFor}
 
 -- ---- the slice that a call leaves
 
-pub held_after : (ws : List ℕ) (ρ bound : ℕ) (est work est' : List ℕ) → (a : Answer) → a ≡ answer ws ρ bound (length est) (length work)
+pub held_after : (ws : List ℕ) (ρ bound : ℕ) (est work est' : List ℕ) → eqb (kind (get_or ws 0 0)) 5 ≡ false → (a : Answer) → a ≡ answer ws ρ bound (length est) (length work)
     → est' ≡ estimate_after ws ρ bound est work → HeldFor ws ρ est' a
-held_after ws ρ bound est work est' (refused number place) e u = tt
-held_after ws ρ bound est work est' (verdict v) e u =
+held_after ws ρ bound est work est' n (refused number place) e u = tt
+held_after ws ρ bound est work est' f (verdict v) e u =
     let r : reading ws ≡ accepted = (answer-judged ws ρ bound (length est) (length work) v (sym e)).0 in
     let n : length (estimate (code ws) ρ) ≡ estimate_words (code ws) = (estimate-well (code ws) (linked ws r) ρ).long in
     let rest : List ℕ = drop (estimate_words (code ws)) est in
     let s : est' ≡ estimate (code ws) ρ ++ rest = u ∙ sym (after-solved ws ρ bound est work v (sym e)).0 in
     record {
       readable = r;
+      names = narrow-names (get_or ws 0 0) (eqb-false (kind (get_or ws 0 0)) 5 f);
       long = omega (arith, ap length s, length-append (estimate (code ws) ρ) rest);
       starts = ap (take (estimate_words (code ws))) s ∙ take_at (estimate (code ws) ρ) rest (estimate_words (code ws)) n;
     }
 
 -- the same under the ceiling n
-pub held-under : (ws : List ℕ) (ρ bound n : ℕ) (est work est' : List ℕ) → (a : Answer) → a ≡ answer_under ws ρ bound n (length est) (length work)
+pub held-under : (ws : List ℕ) (ρ bound n : ℕ) (est work est' : List ℕ) → eqb (kind (get_or ws 0 0)) 5 ≡ false → (a : Answer) → a ≡ answer_under ws ρ bound n (length est) (length work)
     → est' ≡ estimate_under ws ρ bound n est work → HeldFor ws ρ est' a
-held-under ws ρ bound n est work est' (refused number place) e u = tt
-held-under ws ρ bound n est work est' (verdict v) e u =
+held-under ws ρ bound n est work est' f (refused number place) e u = tt
+held-under ws ρ bound n est work est' f (verdict v) e u =
     let q = under-verdict ws ρ bound n est work v est' e u in
-    held_after ws ρ bound est work est' (verdict v) q.0 q.1
+    held_after ws ρ bound est work est' f (verdict v) q.0 q.1
 
 -- ---- an answer's text
 

@@ -1,14 +1,16 @@
 -- The lines of the handlers, written a word of the table at a time.
-use Rattle.std.specs.Prelude.{ℕ, ◌+◌, ◌*◌, ◌≤◌, ◌≡◌, List, [], ◌∷◌, ◌++◌, length, drop}
+use Rattle.std.specs.Prelude.{ℕ, ◌+◌, ◌*◌, ◌≤◌, ◌≡◌, List, [], ◌∷◌, ◌++◌, length, get_or, drop}
+use Rattle.table.specs.Words.{narrow, names_of}
 use Rattle.table.specs.Scan.{accepted, reading}
 use Rattle.table.specs.Code.{code, tasks, task_at, blocks_from}
 use Rattle.calculus.specs.Layout.{estimate_words}
 use Rattle.text.specs.Writing.{Wrote}
 use Rattle.printout.specs.Program.{handler_lines}
 
--- an accepted table, of either width, and the words of an estimate of it
+-- an accepted narrow table and the words of an estimate of it
 pub record Printable (ws est : List ℕ) : Type 0 where
   pub readable : reading ws ≡ accepted
+  pub names : names_of (get_or ws 0 0) ≡ narrow
   pub long : length est ≡ estimate_words (code ws)
 
 -- the block that starts at the place p, if one does, and those from there on
@@ -29,5 +31,5 @@ pub record Listed (ws : List ℕ) (ρ : ℕ) (est out : List ℕ) (start p : ℕ
   pub done : List ℕ
   pub wrote : Wrote out start done out' at
   pub rest : done ++ handler_lines (code ws) ρ est position (onward ws p) ≡ handler_lines (code ws) ρ est 0 (code ws).blocks
-  pub few : position + length (onward ws p) ≤ 64
+  pub few : position + length (onward ws p) ≤ 32
   pub most : at ≤ start + 96 * position

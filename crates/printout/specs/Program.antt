@@ -53,9 +53,9 @@ printed input =
 
 -- ---- lent bytes
 
--- room for the text of every system, of either width: 65 lines of at most 96 bytes
+-- room for the text of every system: 33 lines of at most 96 bytes
 abbrev pub room : ℕ
-room = 6240
+room = 3168
 
 -- what a call on a slice of so many bytes leaves: nothing changes where it has less room
 unfoldable pub with_room : {A : Type 0} → (size : ℕ) (before after : A) → A

@@ -12,7 +12,7 @@ ghost use Rattle.printout.specs.Handlers.{Printable, here, Stepped};
 
 use permset::PermSet;
 use report::handler_line;
-use rows::layout::{FLAG, Layout};
+use rows::layout::Layout;
 use table::{Handler, Item};
 use table_links::item_at;
 
@@ -43,13 +43,13 @@ fn block_line(
     let w = est[at];
     let guard = h.guard;
     let entry = guard.within(PermSet { bits: rho });
-    let live = w / FLAG % 2 == 1;
-    handler_line(out, c.at, c.position, h.name, entry, live, w % FLAG)
+    let live = w / 16777216 % 2 == 1;
+    handler_line(out, c.at, c.position, h.name, entry, live, w % 16777216)
 }
 
 // The line of the handler at p, if one stands there.
 fn handler_at(words: &[u32], rho: u32, est: &[u32], out: &mut [u8], p: usize, c: Cursor) -> Cursor
-    requires printable { Printable words.now est.now × (p < length words.now) × (c.position ≤ 64) }
+    requires printable { Printable words.now est.now × (p < length words.now) × (c.position ≤ 32) }
     requires p_in_bounds { c.at + 96 * length (here words.now p) ≤ length out.old }
     ensures { Stepped words.now rho est.now out.old p c.at c.position out.new result.at result.position }
 {
@@ -68,7 +68,7 @@ fn handler_at(words: &[u32], rho: u32, est: &[u32], out: &mut [u8], p: usize, c:
 
 // The lines of all handlers, from the place `start` on.
 pub fn handler_lines(words: &[u32], rho: u32, est: &[u32], out: &mut [u8], start: usize) -> usize
-    requires { Printable words.now est.now × (start + 6144 ≤ length out.old) }
+    requires { Printable words.now est.now × (start + 3072 ≤ length out.old) }
     ensures { Wrote out.old start (handler_lines (code words.now) rho est.now 0
         (code words.now).blocks) out.new result }
 {

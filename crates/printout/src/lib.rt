@@ -4,4 +4,4 @@ pub mod limit;
 pub mod program;
 mod system;
 
-pub use crate::system::{answer_line, tell_either};
+pub use crate::system::answer_line;

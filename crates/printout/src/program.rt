@@ -77,14 +77,14 @@ fn input_text(input: &[u8], out: &mut [u8]) -> usize
     lent_text(input, out, &mut words)
 }
 
-// What the program prints for the bytes of its standard input, at the start of `out`, and how long it is. A slice of less than 6,240 bytes gets
+// What the program prints for the bytes of its standard input, at the start of `out`, and how long it is. A slice of less than 3,168 bytes gets
 // nothing.
 pub fn print(input: &[u8], out: &mut [u8]) -> usize
     ensures size { result ≡ text_size (printed input.now) (length out.old) }
     ensures text { out.new ≡ text_after (printed input.now) out.old }
     ensures fits { result ≤ length out.old }
 {
-    if out.len() < 6240 {
+    if out.len() < 3168 {
         return 0;
     }
     input_text(input, out)

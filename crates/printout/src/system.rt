@@ -1,12 +1,13 @@
 // The text of a system: the first line of its answer, and a line for each handler.
-ghost use Rattle.std.specs.Prelude.{◌+◌, ◌≤◌, length};
+ghost use Rattle.std.specs.Prelude.{◌≡◌, false, ◌+◌, ◌≤◌, eqb, length, get_or};
+ghost use Rattle.table.specs.Words.{kind};
 ghost use Rattle.table.specs.Code.{code};
 ghost use Rattle.calculus.specs.Estimate.{estimate};
 ghost use Rattle.comparison.specs.Values.{answer_of};
 ghost use Rattle.text.specs.Writing.{Wrote};
 ghost use Rattle.report.specs.Lines.{verdict_line};
 ghost use Rattle.printout.specs.Program.{handler_lines, first_line, answer_text, room};
-ghost use Rattle.printout.specs.Answers.{Held, HeldFor, Told, ToldEither};
+ghost use Rattle.printout.specs.Answers.{Held, HeldFor, Told};
 
 use crate::handlers::handler_lines;
 use calls::checks::words_needed;
@@ -47,7 +48,7 @@ pub fn answer_line(v: Verdict, out: &mut [u8], at: usize) -> usize
 
 // The lines of the handlers, by the estimate in the first words of a slice.
 fn handlers_of(words: &[u32], rho: u32, est: &[u32], out: &mut [u8], at: usize) -> usize
-    requires { Held words.now rho est.now × (at + 6144 ≤ length out.old) }
+    requires { Held words.now rho est.now × (at + 3072 ≤ length out.old) }
     ensures { Wrote out.old at (handler_lines (code words.now) rho (estimate (code words.now) rho) 0
         (code words.now).blocks) out.new result }
 {
@@ -68,8 +69,8 @@ pub fn answer_text(v: Verdict, words: &[u32], rho: u32, est: &[u32], out: &mut [
     }
 }
 
-// The verdict on a system of either width, told at the start of `out`.
-pub fn tell_either(
+// The verdict on a system that is no wide table, told at the start of `out`.
+fn tell_narrow(
     words: &[u32],
     rho: u32,
     bound: u32,
@@ -77,8 +78,8 @@ pub fn tell_either(
     work: &mut [u32],
     out: &mut [u8],
 ) -> usize
-    requires { room ≤ length out.old }
-    ensures { ToldEither words.now rho bound est.old work.old out.old result est.new
+    requires { (room ≤ length out.old) × (eqb (kind (get_or words.now 0 0)) 5 ≡ false) }
+    ensures { Told words.now rho bound est.old work.old out.old result est.new
         work.new out.new }
 {
     let v = verdict(words, rho, bound, est, work);
@@ -101,5 +102,5 @@ pub fn tell(
     if is_wide(words) {
         return refusal_line(out, 0, 1, 0);
     }
-    tell_either(words, rho, bound, est, work, out)
+    tell_narrow(words, rho, bound, est, work, out)
 }

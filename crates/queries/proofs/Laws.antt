@@ -21,8 +21,9 @@ use Rattle.rows.specs.Laid.{LaidOut, Sized}
 use Rattle.rows.specs.Mask.{Mask}
 use Rattle.rows.specs.Rows.{meets}
 use Rattle.rows.proofs.Laws.{meets-nonzero}
-use Rattle.rows.specs.Numbered.{row_at}
-use Rattle.rows.proofs.Numbered.{row-C, by_number, base-row, content-row, value_row, row_inside}
+use Rattle.clauses.specs.Asks.{row_at}
+use Rattle.clauses.proofs.Sorts.{row-C}
+use Rattle.clauses.proofs.Numbered.{by_number, base-row, content-row, value_row, row_inside}
 
 -- ---- where rows stand
 

@@ -12,7 +12,7 @@ use Rattle.calculus.specs.Elements.{name_element}
 use Rattle.calculus.specs.Constraint.{C}
 use Rattle.calculus.specs.Rules.{name_of, delivery_to}
 use Rattle.calculus.specs.Layout.{sets}
-use Rattle.rows.proofs.Numbered.{row-C}
+use Rattle.clauses.proofs.Sorts.{row-C}
 use Rattle.queries.specs.Starts.{starts_at}
 
 both_so : (x y : Bool) → x && y ≡ true → (x ≡ true) × (y ≡ true)

@@ -11,7 +11,7 @@ use Rattle.rows.specs.Mask.{Mask}
 use Rattle.clauses.specs.declared.Test.{Test}
 use Rattle.clauses.specs.declared.Test.TheVariants as tests
 use Rattle.clauses.specs.declared.Guard.{Guard}
-use Rattle.rows.specs.Numbered.{row_at, sort_at}
+use Rattle.clauses.specs.Asks.{row_at, sort_at}
 
 unfoldable pub passes : Code → List ℕ → Test → (d a v : ℕ) → Bool
 passes c ws tests.Never d a v = false

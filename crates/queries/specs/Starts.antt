@@ -5,7 +5,7 @@ use Rattle.table.specs.Words.{argument}
 use Rattle.table.specs.Item.{handler_at}
 use Rattle.table.specs.Code.{Code}
 use Rattle.calculus.specs.Layout.{sets}
-use Rattle.rows.specs.Numbered.{row_at}
+use Rattle.clauses.specs.Asks.{row_at}
 
 -- the send at x, with r required and the sender's permissions s, has the name of the block at b in C(x + 1), and is delivered to it
 abbrev pub starts_at : Code → (ws est : List ℕ) → (x r s b : ℕ) → Bool

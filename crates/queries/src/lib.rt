@@ -7,7 +7,7 @@ ghost use Rattle.calculus.specs.Constraint.{L};
 ghost use Rattle.calculus.specs.Layout.{sets, WellFormed};
 ghost use Rattle.calculus.specs.Estimate.{found};
 ghost use Rattle.rows.specs.Laid.{LaidOut, Sized};
-ghost use Rattle.rows.specs.Numbered.{row_at};
+ghost use Rattle.clauses.specs.Asks.{row_at};
 ghost use Rattle.queries.specs.Passes.{FoundBy, PassedBy, Looks};
 ghost use Rattle.queries.specs.Starts.{starts_at};
 ghost use Rattle.queries.specs.Things.{Searched, common, both, Next};
@@ -15,13 +15,10 @@ ghost use Rattle.queries.specs.Things.{Searched, common, both, Next};
 use clauses::{Guard, Test};
 use delivery::judge;
 use permset::PermSet;
-use rows::elements::NAMES;
-use rows::layout::{FLAG, Layout, value};
+use rows::layout::Layout;
 use rows::row::{any, next_common};
+use table::argument_of;
 use table_links::handler_at;
-
-// The strings among the elements of a row's first word, 8 to 31.
-const STRINGS: u32 = 0xffffff00;
 
 // Whether p is live.
 pub fn is_live(est: &[u32], l: Layout, p: usize) -> bool
@@ -29,7 +26,7 @@ pub fn is_live(est: &[u32], l: Layout, p: usize) -> bool
     ensures { (c : Code) → LaidOut c l → result ≡ sets c est.now (L p) 0 }
 {
     let at = l.flags(p);
-    est[at] / FLAG % 2 == 1
+    (est[at] >> 24) % 2 == 1
 }
 
 // Whether the row r has the element v.
@@ -47,7 +44,7 @@ pub fn has_text(est: &[u32], l: Layout, r: usize) -> bool
     ensures { (c : Code) → LaidOut c l → WellFormed c est.now → result ≡ found c est.now (row_at r) is_string }
 {
     let at = r * l.row;
-    est[at] & STRINGS != 0
+    est[at] & 4294967040 != 0
 }
 
 // Whether the row r has something of the mask m.
@@ -149,9 +146,8 @@ pub fn starts(
     requires { (b < length words.now) × Sized l est.now × (x + 1 < l.size) × (32 + argument (get_or words.now b 0) < 32 * l.lead) }
     ensures { (c : Code) → LaidOut c l → result ≡ starts_at c words.now est.now x required.bits sender.bits b }
 {
-    // Its name first: most blocks have another.
-    let name = handler_at(words, b).name;
-    if !has(est, l, value(x + 1), NAMES + name as usize) {
+    let name = argument_of(words[b]);
+    if !has(est, l, 2 * (x + 1), 32 + name as usize) {
         return false;
     }
     let receiver = handler_at(words, b);

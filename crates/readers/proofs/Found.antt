@@ -1,6 +1,6 @@
 -- The leak of an estimate, read a block at a time.
 use Prim.Native.Nat.{ℕ, ◌+◌, ◌%◌, ◌^◌, ◌<◌, ◌≤◌}
-use mathlib.Core.Path.{◌≡◌, sym, ap, ◌∙◌}
+use mathlib.Core.Path.{◌≡◌, sym, ap, ◌∙◌, subst}
 use mathlib.Core.Logic.{⊎_elim}
 use mathlib.Core.Bool.{Bool, true, false}
 use mathlib.Core.List.{List, [], ◌∷◌}
@@ -9,14 +9,21 @@ use lib.Bits.{bit_or, or_zero_l, or_zero_r}
 use lib.ListN.{length, get_or}
 use Rattle.permset.specs.Sets.{width, union}
 use Rattle.permset.proofs.Laws.{within-refl, within-trans, within-antisym, within-union-left, within-union-right, union-within, union-mono}
-use Rattle.table.specs.Scan.{name, accepted, reading}
-use Rattle.table.specs.Code.{Code, code, task_at, end_of}
+use Rattle.table.specs.declared.Item.{Item}
+use Rattle.table.specs.Item.{handler_at, item_at}
+use Rattle.table.specs.Scan.{names_at, Task, name, accepted, reading}
+use Rattle.table.specs.Code.{Code, Node, code, task_at, node_for, end_of}
+use Rattle.table.proofs.Faults.{Stands}
+use Rattle.table.proofs.Items.{item-block}
+use Rattle.table.proofs.Stack.{reach}
+use Rattle.table.proofs.Parts.{place-stands}
 use Rattle.table.proofs.Blocks.{Follows, blocks-first, blocks-next, blocks_end}
 use Rattle.calculus.specs.Constraint.{P}
 use Rattle.calculus.specs.Rules.{guarded}
 use Rattle.calculus.specs.Layout.{base, content}
 use Rattle.calculus.specs.Estimate.{permissions_at, leak_among, leak}
 use Rattle.table.proofs.BlockLoop.{blocks_on}
+use Rattle.readers.specs.Reading.{item_guarded}
 
 -- ---- the leak
 
@@ -50,6 +57,20 @@ module _ (c : Code) (ρ : ℕ) (est : List ℕ) where
   among-open b g =
       ap (λ (u : Bool). elim u [ true ↦ union (permissions_at c ρ est b) 0 | false ↦ 0 ]) g
       ∙ or_zero_r (permissions_at c ρ est b)
+
+pub guarded-of : (x y z : Item) (ρ : ℕ) → x ≡ z → x ≡ y → item_guarded y ρ ≡ item_guarded z ρ
+guarded-of x y z ρ f g = ap (λ (i : Item). item_guarded i ρ) (sym g ∙ f)
+
+-- a block's guard, as the item that stands there has it
+pub guarded-is : (ws : List ℕ) → reading ws ≡ accepted → (b ρ : ℕ) → b < length ws → task_at ws b ≡ name
+    → item_guarded (item_at ws b) ρ ≡ guarded ((code ws).node b) ρ
+unfolding code node_for item_guarded guarded handler_at
+guarded-is ws e b ρ i t =
+    let s : Stands (names_at ws) (reach ws e b i).keys (get_or ws b 0) name =
+    subst (λ (u : Task). Stands (names_at ws) (reach ws e b i).keys (get_or ws b 0) u) t (place-stands ws e b i)
+    in
+    ap (λ (x : Item). item_guarded x ρ) (item-block ws b s.0)
+    ∙ sym (ap (λ (n : Node). guarded n ρ) (ap (node_for ws b) t))
 
 -- the loop over the blocks: what is found so far, and what the blocks from b on leak
 module _ (ws : List ℕ) (e : reading ws ≡ accepted) (ρ : ℕ) (est : List ℕ) where

@@ -1,24 +1,41 @@
 // The leak, read from an estimate.
 ghost use Rattle.std.specs.Prelude.{◌≡◌, [], ◌∷◌, ◌<◌, length};
+ghost use Rattle.table.specs.Item.{item_at};
 ghost use Rattle.table.specs.Scan.{name};
 ghost use Rattle.table.specs.Code.{code, task_at};
 ghost use Rattle.calculus.specs.Estimate.{leak_among, leak as estimateLeak};
-ghost use Rattle.readers.specs.Reading.{Readable};
+ghost use Rattle.readers.specs.Reading.{item_guarded, Readable};
 
 use permset::PermSet;
-use rows::layout::{FLAG, Layout};
-use table_links::{next_block, opens};
+use rows::layout::Layout;
+use table::Item;
+
+// Whether the opponent may enter what stands at b.
+fn entered(words: &[u32], rho: PermSet, b: usize) -> bool
+    ensures { result ≡ item_guarded (item_at words.now b) rho.bits }
+{
+    match table_links::item_at(words, b) {
+        Item::Gap => false,
+        Item::Block(h) => {
+            let guard = h.guard;
+            guard.within(rho)
+        }
+        Item::Term(_) => false,
+    }
+}
 
 // What the block at b adds to the leak.
 fn leak_at(words: &[u32], links: &[u32], est: &[u32], l: Layout, rho: PermSet, b: usize) -> PermSet
     requires { Readable words.now links.now est.now l × (b < length words.now) × (task_at words.now b ≡ name) }
     ensures { result.bits ≡ leak_among (code words.now) rho.bits est.now (b ∷ []) }
 {
-    if !opens(words, rho, b) {
-        return PermSet::empty();
+    if !entered(words, rho, b) {
+        return PermSet { bits: 0 };
     }
     let at = l.flags(b);
-    PermSet::of(est[at] % FLAG)
+    PermSet {
+        bits: est[at] % 16777216,
+    }
 }
 
 // The leak: the permissions of the blocks that the opponent may enter.
@@ -26,11 +43,11 @@ pub fn leak(words: &[u32], links: &[u32], est: &[u32], l: Layout, rho: PermSet) 
     requires { Readable words.now links.now est.now l }
     ensures { result.bits ≡ estimateLeak (code words.now) rho.bits est.now }
 {
-    let mut found = PermSet::empty();
+    let mut bits = 0;
     let mut b = 1;
     while b < words.len() {
-        found = found.union(leak_at(words, links, est, l, rho, b));
-        b = next_block(links, b);
+        bits = bits | leak_at(words, links, est, l, rho, b).bits;
+        b = table_links::link_at(links, b + 3).end;
     }
-    found
+    PermSet { bits }
 }

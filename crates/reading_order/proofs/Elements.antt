@@ -16,8 +16,8 @@ use Rattle.calculus.specs.Constraint.{C}
 use Rattle.calculus.specs.Layout.{sets, row_words, estimate_words}
 use Rattle.rows.specs.declared.layout.Layout.{Layout}
 use Rattle.rows.specs.Laid.{LaidOut, Sized}
-use Rattle.rows.specs.Numbered.{row_at}
-use Rattle.rows.proofs.Numbered.{row-C}
+use Rattle.clauses.specs.Asks.{row_at}
+use Rattle.clauses.proofs.Sorts.{row-C}
 use Rattle.graph.specs.declared.Arrangement.{Arrangement}
 use Rattle.graph.specs.Answer.{written, starting_with, Means}
 use Rattle.graph.specs.Answer as graph
@@ -30,7 +30,7 @@ sender-is c l o est b s x f =
     f
     ∙ ap₂ (sets c est) (row-C b) (let e : 32 * l.lead + s ≡ made c s = omega (arith, o.lead) in e)
 
-pub listed_at : (xs : List ℕ) (i : ℕ) → i < length xs → Memᴰ (get_or xs i 0) xs
+listed_at : (xs : List ℕ) (i : ℕ) → i < length xs → Memᴰ (get_or xs i 0) xs
 listed_at [] i h = absurd (omega arith)
 listed_at (x ∷ xs) zero h = Memᴰ.head refl
 listed_at (x ∷ xs) (suc i) h = Memᴰ.tail (listed_at xs i (omega arith))

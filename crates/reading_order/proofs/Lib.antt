@@ -2,5 +2,4 @@ pub mod Places
 pub mod Elements
 pub mod Replies
 pub mod Meaning
-pub mod Ceilings
 pub mod Samples

@@ -1,5 +1,4 @@
--- The rows of digits of the least estimate say what `LiveAt` and `MaySend` say of the blocks, since a senders' set has live blocks alone, and none where
--- its own block is not live; so there is an order of the live blocks exactly if there is no loop of blocks.
+-- The rows of digits say what `LiveAt` and `MaySend` say of the blocks; so there is an order of the live blocks exactly if there is no loop of them.
 use Prim.Native.Nat.{ℕ, zero, suc, ◌<◌}
 use mathlib.Core.Path.{◌≡◌, refl, sym, subst}
 use mathlib.Core.Bool.{Bool}
@@ -11,20 +10,16 @@ use lib.Dec.{T, ltb}
 use lib.ListN.{length, get_or, length-map}
 use Rattle.permset.specs.Sets.{member}
 use Rattle.permset.proofs.Digits.{T_and, T-snd}
-use Rattle.table.specs.Code.{Code, Linked}
+use Rattle.table.specs.Code.{Code}
 use Rattle.calculus.specs.Elements.{made}
-use Rattle.calculus.specs.Constraint.{C, L, Sets}
+use Rattle.calculus.specs.Constraint.{C, L}
 use Rattle.calculus.specs.Layout.{sets}
-use Rattle.calculus.specs.Estimate.{estimate}
-use Rattle.calculus.proofs.Living.{receiver-live, senders-live}
 use Rattle.graph.specs.Relation.{Live, Sends}
-use Rattle.graph.specs.Order.{Order, OrderBy}
-use Rattle.graph.specs.Loop.{Loop, Shortest, ShortestBy}
+use Rattle.graph.specs.Order.{Order}
+use Rattle.graph.specs.Loop.{Loop}
 use Rattle.graph.proofs.Theorem.{order-or-loop}
-use Rattle.graph.proofs.Same.{order_same, shortest-same}
 use Rattle.reading_order.specs.Relation.{block_at, LiveAt, MaySend, places_with, senders_to, live_among, sender_rows, live_blocks}
 use Rattle.reading_order.proofs.Places.{places-member}
-use Rattle.reading_order.proofs.Elements.{listed_at}
 
 -- a place of a list whose number passes
 module _ (q : ℕ → Bool) (bs : List ℕ) (i : ℕ) where
@@ -55,59 +50,25 @@ module _ (c : Code) (est : List ℕ) where
   unfolding sender_rows senders_to
   row_is t h = row_at (senders_to c est c.blocks) c.blocks t h
 
-  -- where both are live
-  sends-live : (s t : ℕ) → Sends (sender_rows c est) (live_blocks c est) s t ↔ (LiveAt c (sets c est) s × LiveAt c (sets c est) t × MaySend c (sets c est) s t)
-  sends-live s t = (
-    λ m. let from = (live-means s).0 m.sender in let to = (live-means t).0 m.receiver in (
-      from,
-      to,
-      record {
-        sender = from.0;
-        receiver = to.0;
-        element =
-            member-at (λ x. sets c est (C (block_at c t)) (made c x)) c.blocks s from.0
-            (subst (λ (r : ℕ). T (member r s)) (row_is t to.0) m.bit);
-      },
-    ),
+  pub sends-means : (s t : ℕ) → Sends (sender_rows c est) (live_blocks c est) s t ↔ MaySend c (sets c est) s t
+  sends-means s t = (
+    λ m. let from = (live-means s).0 m.sender in let to = (live-means t).0 m.receiver in
+        record {
+          sender = from;
+          receiver = to;
+          element =
+              member-at (λ x. sets c est (C (block_at c t)) (made c x)) c.blocks s from.0
+              (subst (λ (r : ℕ). T (member r s)) (row_is t to.0) m.bit);
+        },
     λ m. record {
-      sender = (live-means s).1 m.0;
-      receiver = (live-means t).1 m.1;
+      sender = (live-means s).1 m.sender;
+      receiver = (live-means t).1 m.receiver;
       bit =
-          subst (λ (r : ℕ). T (member r s)) (sym (row_is t m.1.0))
-          (at-member (λ x. sets c est (C (block_at c t)) (made c x)) c.blocks s m.0.0 m.2.element);
+          subst (λ (r : ℕ). T (member r s)) (sym (row_is t m.receiver.0))
+          (at-member (λ x. sets c est (C (block_at c t)) (made c x)) c.blocks s m.sender.0 m.element);
     },
   )
 
--- ---- the least estimate
-
-module _ (c : Code) (k : Linked c) (ρ : ℕ) where
-  abbrev least : Sets
-  least = sets c (estimate c ρ)
-
-  abbrev rows : List ℕ
-  rows = sender_rows c (estimate c ρ)
-
-  abbrev live : ℕ
-  live = live_blocks c (estimate c ρ)
-
-  -- "may send" with nothing left out: both are live
-  pub both-live : (s t : ℕ) → MaySend c least s t → LiveAt c least s × LiveAt c least t
-  both-live s t m =
-      let is = (k.listed (block_at c t) (listed_at c.blocks t m.receiver)).1 in (
-        (m.sender, senders-live c k ρ (block_at c t) (block_at c s) is m.element),
-        (m.receiver, receiver-live c k ρ (block_at c t) (made c (block_at c s)) is m.element),
-      )
-
-  pub sends-means : (s t : ℕ) → Sends rows live s t ↔ MaySend c least s t
-  sends-means s t =
-      let e = sends-live c (estimate c ρ) s t in
-      (λ m. (e.0 m).2, λ m. let b = both-live s t m in e.1 (b.0, b.1, m))
-
-  pub order-means : (order : List ℕ) → Order rows live order → OrderBy (LiveAt c least) (MaySend c least) order
-  order-means = order_same (Sends rows live) (MaySend c least) sends-means (Live rows live) (LiveAt c least) (live-means c (estimate c ρ))
-
-  pub loop-means : (loop : List ℕ) → Shortest rows live loop → ShortestBy (MaySend c least) loop
-  loop-means = shortest-same (Sends rows live) (MaySend c least) sends-means
-
-  pub order-exactly : ((order : List ℕ) × Order rows live order) ↔ ((loop : List ℕ) → Loop rows live loop → ⊥)
-  order-exactly = order-or-loop rows live
+  pub order-exactly : ((order : List ℕ) × Order (sender_rows c est) (live_blocks c est) order)
+      ↔ ((loop : List ℕ) → Loop (sender_rows c est) (live_blocks c est) loop → ⊥)
+  order-exactly = order-or-loop (sender_rows c est) (live_blocks c est)

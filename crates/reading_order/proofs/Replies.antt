@@ -8,7 +8,6 @@ use borrow.Author.Tests.{lt-ltb, le-ltb}
 use lib.Dec.{ltb}
 use lib.ListN.{length, take, drop, length-map}
 use lib.Seq.{take_at}
-use Rattle.table.specs.Scan.{accepted, reading}
 use Rattle.table.specs.Code.{code}
 use Rattle.reading_order.proofs.Elements.{blocks-few}
 use Rattle.table.proofs.Linked.{linked}
@@ -35,15 +34,13 @@ use Rattle.reading_order.specs.declared.Ordering.TheVariants as orderings
 use Rattle.reading_order.specs.Relation.{senders_to, sender_rows}
 use Rattle.reading_order.specs.Reply.{Reply, refused, reply_of, arranged, rows, live, reply_within, reply, estimate_after_order, work_after_order, positions_after, ReplyMeans}
 use Rattle.reading_order.specs.Parts.{ArrangedBy, OrderedIn}
-use Rattle.reading_order.proofs.Meaning.{order-means, loop-means}
 
 -- what an arrangement means, as a reply
-means-reply : (ws : List ℕ) → reading ws ≡ accepted → (ρ : ℕ) (a : Arrangement) (new : List ℕ) → Means (rows ws ρ) (live ws ρ) a new
-    → ReplyMeans ws ρ (arranged a) new
+means-reply : (ws : List ℕ) (ρ : ℕ) (a : Arrangement) (new : List ℕ) → Means (rows ws ρ) (live ws ρ) a new → ReplyMeans ws ρ (arranged a) new
 unfolding arranged
-means-reply ws e ρ arrangements.Short new m = tt
-means-reply ws e ρ (arrangements.Ordered count) new m = order-means (code ws) (linked ws e) ρ (take count new) m
-means-reply ws e ρ (arrangements.Looped count) new m = loop-means (code ws) (linked ws e) ρ (take count new) m
+means-reply ws ρ arrangements.Short new m = tt
+means-reply ws ρ (arrangements.Ordered count) new m = m
+means-reply ws ρ (arrangements.Looped count) new m = m
 
 module _ (ws : List ℕ) (ρ n : ℕ) (est work positions : List ℕ) (f : Fits ws ρ standing_bound (length est) (length work)) where
   abbrev v : answers.Verdict
@@ -143,7 +140,7 @@ module _ (ws : List ℕ) (ρ n : ℕ) (est work positions : List ℕ) (f : Fits 
             estimates = est-is;
             works = work-is;
             writes = b.writes ∙ ap (λ (x : Arrangement). starting_with (written (rows ws ρ) (live ws ρ) x) positions) b.says ∙ sym w.1;
-            means = subst (λ (x : Reply). ReplyMeans ws ρ x positions') (sym q) (means-reply ws f.fit.readable ρ a positions' b.means);
+            means = subst (λ (x : Reply). ReplyMeans ws ρ x positions') (sym q) (means-reply ws ρ a positions' b.means);
           }
 
 -- ---- a refusal of document 01

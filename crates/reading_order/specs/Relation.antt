@@ -16,13 +16,13 @@ block_at c p = get_or c.blocks p 0
 abbrev pub LiveAt : Code → Sets → ℕ → Type 0
 LiveAt c e p = (p < length c.blocks) × T (e (L (block_at c p)) 0)
 
--- the block at s stands in the senders' set of the block at t
+-- both are live, and s is among the senders of t
 pub record MaySend (c : Code) (e : Sets) (s t : ℕ) : Type 0 where
-  pub sender : s < length c.blocks
-  pub receiver : t < length c.blocks
+  pub sender : LiveAt c e s
+  pub receiver : LiveAt c e t
   pub element : T (e (C (block_at c t)) (made c (block_at c s)))
 
--- ---- the same as rows of digits, from the words of an estimate (proofs/Meaning.antt: of the least one it is the same)
+-- ---- the same as rows of digits, from the words of an estimate (proofs/Meaning.antt: it is the same)
 
 unfoldable pub digit : Bool → ℕ
 digit true = 1

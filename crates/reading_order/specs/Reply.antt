@@ -2,8 +2,6 @@
 use Rattle.std.specs.Prelude.{ℕ, Bool, List, ltb, length, take}
 use Rattle.std.proofs.Math.Bool.{true, false}
 use Rattle.table.specs.Code.{code}
-use Rattle.calculus.specs.Constraint.{Sets}
-use Rattle.calculus.specs.Layout.{sets}
 use Rattle.calculus.specs.Estimate.{estimate}
 use Rattle.calculus.specs.Answer.{Answer, verdict, standing_bound, answer, work_after}
 use Rattle.calculus.specs.Answer as answers
@@ -13,11 +11,11 @@ use Rattle.graph.specs.declared.Arrangement.{Arrangement}
 use Rattle.graph.specs.declared.Arrangement.TheVariants as arrangements
 use Rattle.graph.specs.Answer.{written, starting_with}
 use Rattle.graph.specs.Answer as graph
-use Rattle.graph.specs.Order.{OrderBy}
-use Rattle.graph.specs.Loop.{ShortestBy}
+use Rattle.graph.specs.Order.{Order}
+use Rattle.graph.specs.Loop.{Shortest}
 use Rattle.reading_order.specs.declared.Ordering.{Ordering}
 use Rattle.reading_order.specs.declared.Ordering.TheVariants as orderings
-use Rattle.reading_order.specs.Relation.{LiveAt, MaySend, sender_rows, live_blocks}
+use Rattle.reading_order.specs.Relation.{sender_rows, live_blocks}
 
 -- a refusal's number and place; or that there is an order, or else a loop, of so many positions
 pub data Reply : Type 0 where
@@ -89,13 +87,8 @@ module _ (ws : List ℕ) (ρ : ℕ) where
 
   -- ---- the meaning
 
-  -- the sets of the least estimate
-  abbrev pub least : Sets
-  least = sets (code ws) (estimate (code ws) ρ)
-
-  -- what a reply says of the positions that it counts: they are the order, or the first of the shortest loops, of the live blocks and of who may send to
-  -- whom by the senders' sets of the least estimate
+  -- what a reply says of the positions that it counts: by the least estimate they are the order, or the first of the shortest loops
   abbrev pub ReplyMeans : Reply → (positions : List ℕ) → Type 0
   ReplyMeans (refused number place) positions = Unit {0}
-  ReplyMeans (ordered count) positions = OrderBy (LiveAt (code ws) least) (MaySend (code ws) least) (take count positions)
-  ReplyMeans (looped count) positions = ShortestBy (MaySend (code ws) least) (take count positions)
+  ReplyMeans (ordered count) positions = Order rows live (take count positions)
+  ReplyMeans (looped count) positions = Shortest rows live (take count positions)

@@ -1,7 +1,6 @@
 // An order of reading: a system's live blocks so that each follows all that may send to it, or else a loop of them.
 mod firsts;
 mod relation;
-pub mod unlimited;
 
 ghost use Rattle.std.specs.Prelude.{◌≡◌, ◌≤◌, length, take};
 ghost use Rattle.table.specs.Scan.{accepted, reading};

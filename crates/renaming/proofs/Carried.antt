@@ -1,4 +1,4 @@
--- Sets that obey the rules of c, read along a renaming of words and for any number of names, obey those of d.
+-- Sets that obey the rules of c, read along a renaming of words, obey those of d.
 use Prim.Native.Nat.{ℕ, zero, suc, ◌+◌, ◌<◌}
 use mathlib.Core.Path.{◌≡◌, refl, sym, ap, ap₂, ◌∙◌, subst}
 use mathlib.Core.List.{List, [], ◌∷◌, map, Memᴰ}
@@ -7,7 +7,6 @@ use lib.Dec.{T}
 use lib.ListN.{length, get_or}
 use Rattle.permset.specs.Sets.{width, member, within}
 use Rattle.delivery.specs.Delivery.{delivered}
-use Rattle.table.specs.declared.Operation.{Operation}
 use Rattle.table.specs.Code.{Code, Node, Leaf, One, Two, gap, block, leaf, one, two, bind, while, branch, update, Linked, LeafLinked, NodeLinked}
 use Rattle.table.specs.Code.{constant, number, literal, named, variable, function, empty, exercise, cell, read}
 use Rattle.table.specs.Code.{apply, sequence, get, delete, assign, operation, send}
@@ -16,15 +15,13 @@ use Rattle.calculus.specs.Elements.{plain, made, sign, is_string, is_function, i
 use Rattle.calculus.specs.Constraint.{C, B, P, L, Sets, Rule, put, sub, only, each, every, given, ◌and◌}
 use Rattle.calculus.specs.Rules.{name_of, perms_of, guarded, is_block, permissions, delivery_to, live, pass, delivering, part}
 use Rattle.calculus.specs.Rules.{leaf_rule, one_rule, two_rule, flow, entry, two_sender, sender, senders, rule, Estimate}
-use Rattle.calculus.proofs.Ranges.{below_in, in-below}
 use Rattle.calculus.proofs.Fitting.{constant-lt, sign-lt, results-lt}
 use Rattle.calculus.proofs.Makers.{is_block_lem}
 use Rattle.renaming.specs.Renaming.{Renamed, rename_node, rename_row, carried}
 use Rattle.renaming.proofs.Nodes.{renamed-alike}
-use Rattle.renaming.proofs.Origins.{has-origin, origin-plain, strings-kept, sendable-kept, records-kept}
-use Rattle.renaming.proofs.Results.{results-given}
-use Rattle.renaming.proofs.Shapes.{Carries, nothing, both, onlys, eachs, each_below, puts, puts_low, puts-made, givens, givens-low}
-use Rattle.renaming.proofs.Shapes.{subs, somes, parts, fills, passes, mades}
+use Rattle.renaming.proofs.Elements.{el-sendable, el-record, el-string, results-of}
+use Rattle.renaming.proofs.Shapes.{Carries, nothing, puts_plain, puts-made, subs, givens-plain, somes, onlys, both, eachs, each_below}
+use Rattle.renaming.proofs.Shapes.{fills, passes, mades, parts}
 
 get_d_map : (σ : ℕ → ℕ) (xs : List ℕ) (n : ℕ) → n < length xs → get_or (map σ xs) n 0 ≡ σ (get_or xs n 0)
 get_d_map σ [] n h = absurd (omega arith)
@@ -44,7 +41,7 @@ name-lt d b (while a x) i t = absurd t
 name-lt d b (branch a x y) i t = absurd t
 name-lt d b (update a x y) i t = absurd t
 
-module _ (σ : ℕ → ℕ) (d c : Code) (m : Renamed σ d c) (k : Linked d) (g : Linked c) (e : Sets) where
+module _ (σ : ℕ → ℕ) (d c : Code) (m : Renamed σ d c) (k : Linked d) (e : Sets) where
   abbrev By : Rule → Rule → Type 0
   By j l = Carries σ d c e j l
 
@@ -95,48 +92,33 @@ module _ (σ : ℕ → ℕ) (d c : Code) (m : Renamed σ d c) (k : Linked d) (g 
         ap₂ (λ (x y : ℕ). delivery_to x r y (c.node (σ h))) named perms-of
         ∙ ap (delivery_to (name_of (d.node h)) r (permissions d p)) (m.node h)
         ∙ s.deliveries (name_of (d.node h)) r (permissions d p) in
-        let own : name_of (d.node h) < d.names = name-lt d h (d.node h) (k.nodes h n) t in
-        let other : name_of (c.node (σ h)) < c.names =
-        name-lt c (σ h) (c.node (σ h)) (g.nodes (σ h) (m.inside h n)) (subst T (sym (ap is_block (m.node h) ∙ s.heads)) t) in
         onlys _ _ (ap delivered same)
         (λ u. subst (λ (x : ℕ). By (given (C (σ a)) (name_element x) j) (given (C a) (name_element (name_of (d.node h))) i)) (sym named)
-        (givens (C a) (name_element (name_of (d.node h))) (omega arith) (omega arith) f))
+        (givens-plain (C a) (name_element (name_of (d.node h))) (let g = name-lt d h (d.node h) (k.nodes h n) t in omega arith) f))
 
-    leaf-carried : (x : Leaf) → LeafLinked d p x → LeafLinked c (σ p) x → By (leaf_rule c (σ p) x) (leaf_rule d p x)
+    leaf-carried : (x : Leaf) → LeafLinked d p x → By (leaf_rule c (σ p) x) (leaf_rule d p x)
     unfolding leaf_rule rename_row
-    leaf-carried (constant j) i n = puts_low (C p) (constant_element j) (omega (arith, constant-lt j))
-    leaf-carried (number x) i n = puts_low (C p) (sign x) (omega (arith, sign-lt x))
-    leaf-carried (literal x) i n = puts_low (C p) (literal_element x) (omega arith)
-    leaf-carried (named x) i n = puts (C p) (name_element x) (omega arith) (omega arith)
-    leaf-carried (variable n) i h =
+    leaf-carried (constant j) i = puts_plain (C p) (constant_element j) (omega (arith, constant-lt j))
+    leaf-carried (number n) i = puts_plain (C p) (sign n) (omega (arith, sign-lt n))
+    leaf-carried (literal n) i = puts_plain (C p) (literal_element n) (omega arith)
+    leaf-carried (named n) i = puts_plain (C p) (name_element n) (omega arith)
+    leaf-carried (variable n) i =
         subst (λ (x : ℕ). By (sub (B x) (C (σ p))) (sub (B (get_or (d.scope p) n 0)) (C p)))
         (sym (ap (λ (xs : List ℕ). get_or xs n 0) (m.scope p l) ∙ get_d_map σ (d.scope p) n i))
         (subs (B (get_or (d.scope p) n 0)) (C p))
-    leaf-carried function i n = puts-made (C p) p
-    leaf-carried empty i n = puts-made (C p) p
-    leaf-carried (exercise r) i h =
+    leaf-carried function i = puts-made (C p) p
+    leaf-carried empty i = puts-made (C p) p
+    leaf-carried (exercise r) i =
         onlys (within r (permissions c (σ p))) (within r (permissions d p)) (ap (within r) perms-of)
         (λ t. both
         (each_below width width (λ x. only (member r x) (put (P (σ p)) x)) (λ x. only (member r x) (put (P p) x)) (λ x. x)
-        (λ x n. (n, onlys (member r x) (member r x) refl (λ t. puts_low (P p) x (omega arith)))))
-        (puts_low (C p) unit (omega arith)))
+        (λ x n. (n, onlys (member r x) (member r x) refl (λ t. puts_plain (P p) x (omega arith)))))
+        (puts_plain (C p) unit (omega arith)))
 
     one-carried : (o : One) (a : ℕ) → By (one_rule c (σ p) o (σ a)) (one_rule d p o a)
     unfolding one_rule rename_row
     one-carried cell a = both (puts-made (C p) p) (subs (C a) (B p))
     one-carried read a = mades m is_cell (C a) (λ q. sub (B q) (C (σ p))) (λ q. sub (B q) (C p)) (λ q t. subs (B q) (C p))
-
-    operates : (a b : ℕ) (o : Operation) → By (two_rule c (σ p) (operation o) (σ a) (σ b)) (two_rule d p (operation o) a b)
-    unfolding two_rule rename_row
-    operates a b o =
-        record {
-          go = λ j x mx tx y my ty z mz.
-              let r = results-given σ d c o x y z (in-below mx) (in-below my) mz in
-              let low : z < 7 = results-lt d o x y z mz in
-              (puts_low (C p) z (omega arith)).go
-              (j r.left (below_in (origin-plain σ d c (in-below mx) r.of_left)) (has-origin σ d c e (C a) r.of_left tx)
-              r.right (below_in (origin-plain σ d c (in-below my) r.of_right)) (has-origin σ d c e (C b) r.of_right ty) z r.gives);
-        }
 
     two-carried : (t : Two) (a b : ℕ) → By (two_rule c (σ p) t (σ a) (σ b)) (two_rule d p t a b)
     unfolding two_rule rename_row
@@ -144,22 +126,41 @@ module _ (σ : ℕ → ℕ) (d c : Code) (m : Renamed σ d c) (k : Linked d) (g 
         mades m is_function (C a) _ _
         (λ f t. subst (λ (s : ℕ). By (live s and sub (C (σ b)) (B (σ f)) and sub (C s) (C (σ p)) and sub (P s) (P (σ p)))
         (live (suc f) and sub (C b) (B f) and sub (C (suc f)) (C p) and sub (P (suc f)) (P p))) (body_of f t)
-        (both (puts_low (L (suc f)) 0 (omega arith))
+        (both (puts_plain (L (suc f)) 0 (omega arith))
         (both (subs (C b) (B f))
         (both (subs (C (suc f)) (C p)) (subs (P (suc f)) (P p))))))
     two-carried sequence a b = subs (C b) (C p)
     two-carried get a b =
-        somes (C b) is_string is_string (strings-kept σ d c)
+        somes (C b) is_string is_string (el-string σ d c m)
         (both
-        (mades m is_record (C a) _ _ (λ q t. both (subs (B q) (C p)) (puts_low (C p) undefined (omega arith))))
-        (givens-low (C a) opponent_record (omega arith) (fills (C p))))
+        (mades m is_record (C a) _ _ (λ q t. both (subs (B q) (C p)) (puts_plain (C p) undefined (omega arith))))
+        (givens-plain (C a) opponent_record (omega arith) (fills m (C p))))
     two-carried delete a b =
-        somes (C b) is_string is_string (strings-kept σ d c) (passes m (C a) (C p) (any_record c) (any_record d) (records-kept σ d c m))
+        somes (C b) is_string is_string (el-string σ d c m) (passes m (C a) (C p) (any_record c) (any_record d) (el-record σ d c m))
     two-carried assign a b = mades m is_cell (C a) _ _ (λ q t. both (subs (C b) (C p)) (subs (C b) (B q)))
-    two-carried (operation o) a b = operates a b o
+    two-carried (operation o) a b =
+        each_below (plain c) (plain d) _ _ (λ x. x) (λ x n. (low x n, givens-plain (C a) x n (seconds x n)))
+      where
+        low : (x : ℕ) → x < plain d → x < plain c
+        low x n = let s = m.names in omega arith
+
+        given_back : (x y : ℕ) → x < plain d → y < plain d
+            → By (each (results c o x y) (λ z. put (C (σ p)) z)) (each (results d o x y) (λ z. put (C p) z))
+        given_back x y i j =
+            eachs (results c o x y) (results d o x y) _ _ (λ z. z)
+            (λ z w. (
+              subst (λ (zs : List ℕ). Memᴰ z zs) (sym (results-of σ d c m o x y i j)) w,
+              puts_plain (C p) z (omega (arith, results-lt d o x y z w)),
+            ))
+
+        seconds : (x : ℕ) → x < plain d
+            → By (every (plain c) (λ y. given (C (σ b)) y (each (results c o x y) (λ z. put (C (σ p)) z))))
+            (every (plain d) (λ y. given (C b) y (each (results d o x y) (λ z. put (C p) z))))
+        seconds x i =
+            each_below (plain c) (plain d) _ _ (λ y. y) (λ y n. (low y n, givens-plain (C b) y n (given_back x y i n)))
     two-carried (send r) a b =
-        both (puts_low (C p) unit (omega arith))
-        (somes (C b) (sendable c) (sendable d) (sendable-kept σ d c m)
+        both (puts_plain (C p) unit (omega arith))
+        (somes (C b) (sendable c) (sendable d) (el-sendable σ d c m)
         (eachs c.blocks d.blocks _ _ σ
         (λ h w. (m.blocks h w, sent h w))))
       where
@@ -169,49 +170,49 @@ module _ (σ : ℕ → ℕ) (d c : Code) (m : Renamed σ d c) (k : Linked d) (g 
         sent h w =
             let i = k.listed h w in
             deliverings r a h i.0 (is_block_lem (d.node h) i.1)
-            (both (puts_low (L h) 0 (omega arith))
-            (both (passes m (C b) (B h) (sendable c) (sendable d) (sendable-kept σ d c m)) (subs (P h) (P p))))
+            (both (puts_plain (L h) 0 (omega arith))
+            (both (passes m (C b) (B h) (sendable c) (sendable d) (el-sendable σ d c m)) (subs (P h) (P p))))
 
-    flow-carried : (n : Node) → NodeLinked d p n → NodeLinked c (σ p) (rename_node σ n) → d.node p ≡ n → By (flow c (σ p) (rename_node σ n)) (flow d p n)
+    flow-carried : (n : Node) → NodeLinked d p n → d.node p ≡ n → By (flow c (σ p) (rename_node σ n)) (flow d p n)
     unfolding flow rename_node rename_row
-    flow-carried gap i j h = nothing
-    flow-carried (block n s g) i j h =
+    flow-carried gap i h = nothing
+    flow-carried (block n s g) i h =
         subst (λ (x : ℕ). By (part (σ p) x) (part p (p + 3))) (m.starts p n s g h) (parts p (p + 3))
-    flow-carried (leaf x) i j h = leaf-carried x i j
-    flow-carried (one o a) i j h = both (parts p a) (one-carried o a)
-    flow-carried (two t a b) i j h = both (parts p a) (both (parts p b) (two-carried t a b))
-    flow-carried (bind a b) i j h =
+    flow-carried (leaf x) i h = leaf-carried x i
+    flow-carried (one o a) i h = both (parts p a) (one-carried o a)
+    flow-carried (two t a b) i h = both (parts p a) (both (parts p b) (two-carried t a b))
+    flow-carried (bind a b) i h =
         both (parts p a)
         (both (parts p b) (both (subs (C a) (B p)) (subs (C b) (C p))))
-    flow-carried (while a b) i j h =
+    flow-carried (while a b) i h =
         both (parts p a)
         (both (subs (P b) (P p))
-        (both (givens-low (C a) truth (omega arith) (puts_low (L b) 0 (omega arith)))
-        (givens-low (C a) falsehood (omega arith) (puts_low (C p) undefined (omega arith)))))
-    flow-carried (branch a b x) i j h =
+        (both (givens-plain (C a) truth (omega arith) (puts_plain (L b) 0 (omega arith)))
+        (givens-plain (C a) falsehood (omega arith) (puts_plain (C p) undefined (omega arith)))))
+    flow-carried (branch a b x) i h =
         both (parts p a)
         (both (subs (P b) (P p))
         (both (subs (P x) (P p))
-        (both (givens-low (C a) truth (omega arith) (puts_low (L b) 0 (omega arith)))
-        (both (givens-low (C a) falsehood (omega arith) (puts_low (L x) 0 (omega arith)))
+        (both (givens-plain (C a) truth (omega arith) (puts_plain (L b) 0 (omega arith)))
+        (both (givens-plain (C a) falsehood (omega arith) (puts_plain (L x) 0 (omega arith)))
         (both (subs (C b) (C p)) (subs (C x) (C p)))))))
-    flow-carried (update a b x) i j h =
+    flow-carried (update a b x) i h =
         both (parts p a)
         (both (parts p b)
         (both (parts p x)
-        (somes (C b) is_string is_string (strings-kept σ d c)
+        (somes (C b) is_string is_string (el-string σ d c m)
         (both
-        (somes (C a) (any_record c) (any_record d) (records-kept σ d c m) (both (puts-made (C p) p) (subs (C x) (B p))))
+        (somes (C a) (any_record c) (any_record d) (el-record σ d c m) (both (puts-made (C p) p) (subs (C x) (B p))))
         (both (mades m is_record (C a) _ _ (λ q t. subs (B q) (B p)))
-        (givens-low (C a) opponent_record (omega arith) (fills (B p))))))))
+        (givens-plain (C a) opponent_record (omega arith) (fills m (B p))))))))
 
     entry-carried : (ρ : ℕ) → By (entry c ρ (σ p)) (entry d ρ p)
     unfolding entry rename_row
     entry-carried ρ =
         onlys (guarded (c.node (σ p)) ρ) (guarded (d.node p) ρ)
         (ap (λ (n : Node). guarded n ρ) (m.node p) ∙ (renamed-alike σ (d.node p)).guards ρ)
-        (λ t. both (puts_low (L p) 0 (omega arith))
-        (both (fills (B p)) (puts_low (C p) opponent_record (omega arith))))
+        (λ t. both (puts_plain (L p) 0 (omega arith))
+        (both (fills m (B p)) (puts_plain (C p) opponent_record (omega arith))))
 
   -- what the send at p asks of the block b
   module _ (b : ℕ) (h : b < d.size) (t : T (is_block (d.node b))) (p : ℕ) (l : p < d.size) where
@@ -224,8 +225,8 @@ module _ (σ : ℕ → ℕ) (d c : Code) (m : Renamed σ d c) (k : Linked d) (g 
     two-sender assign a x = nothing
     two-sender (operation o) a x = nothing
     two-sender (send r) a x =
-        givens-low (L p) 0 (omega arith)
-        (somes (C x) (sendable c) (sendable d) (sendable-kept σ d c m)
+        givens-plain (L p) 0 (omega arith)
+        (somes (C x) (sendable c) (sendable d) (el-sendable σ d c m)
         (deliverings p l r a b h t
         (subst (λ (y : ℕ). By (put (C (σ b)) (made c y)) (put (C b) (made d (d.home p)))) (sym (m.home p l)) (puts-made (C b) (d.home p)))))
 
@@ -254,10 +255,9 @@ module _ (σ : ℕ → ℕ) (d c : Code) (m : Renamed σ d c) (k : Linked d) (g 
   rule-carried : (ρ p : ℕ) → p < d.size → By (rule c ρ (σ p)) (rule d ρ p)
   unfolding rule rename_row
   rule-carried ρ p l =
-      let there : NodeLinked c (σ p) (rename_node σ (d.node p)) = subst (NodeLinked c (σ p)) (m.node p) (g.nodes (σ p) (m.inside p l)) in
       both (both (entry-carried p l ρ) (senders-carried p l))
-      (givens-low (L p) 0 (omega arith)
-      (subst (λ (n : Node). By (flow c (σ p) n) (flow d p (d.node p))) (sym (m.node p)) (flow-carried p l (d.node p) (k.nodes p l) there refl)))
+      (givens-plain (L p) 0 (omega arith)
+      (subst (λ (n : Node). By (flow c (σ p) n) (flow d p (d.node p))) (sym (m.node p)) (flow-carried p l (d.node p) (k.nodes p l) refl)))
 
   pub carried-obeys : (ρ : ℕ) → Estimate c ρ e → Estimate d ρ (carried σ d c e)
   carried-obeys ρ o p l = (rule-carried ρ p l).go (o (σ p) (m.inside p l))

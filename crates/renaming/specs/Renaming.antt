@@ -1,5 +1,5 @@
--- A code whose words stand for words of another code, with as many names or with another number, and the sets of the one read from those of the other.
-use Rattle.std.specs.Prelude.{ℕ, zero, suc, ◌+◌, ◌-◌, ◌<◌, ◌≡◌, Bool, true, false, ◌&&◌, ltb}
+-- A code whose words stand for words of another code with at least as many names, and the sets of the one read from those of the other.
+use Rattle.std.specs.Prelude.{ℕ, suc, ◌+◌, ◌-◌, ◌≤◌, ◌<◌, ◌≡◌, true, false, ltb}
 use mathlib.Core.List.{map, Memᴰ}
 use Rattle.table.specs.Code.{Code, Node, gap, block, leaf, one, two, bind, while, branch, update, function}
 use Rattle.calculus.specs.Elements.{plain, made}
@@ -17,9 +17,10 @@ rename_node σ (while a b) = while (σ a) (σ b)
 rename_node σ (branch a b d) = branch (σ a) (σ b) (σ d)
 rename_node σ (update a b d) = update (σ a) (σ b) (σ d)
 
--- Word q of d stands for word σ q of c: the same node, scope and block there, apart from the renaming, and a function's body and a block's body
--- renamed with it.
+-- Word q of d stands for word σ q of c, which has no fewer names: the same node, scope and block there, apart from the renaming, and a
+-- function's body and a block's body renamed with it.
 pub record Renamed (σ : ℕ → ℕ) (d c : Code) : Type 0 where
+  pub names : d.names ≤ c.names
   pub inside : (q : ℕ) → q < d.size → σ q < c.size
   pub node : (q : ℕ) → c.node (σ q) ≡ rename_node σ (d.node q)
   pub scope : (q : ℕ) → q < d.size → c.scope (σ q) ≡ map σ (d.scope q)
@@ -38,17 +39,7 @@ rename_row σ (L i) = L (σ i)
 unfoldable pub rename_element : (ℕ → ℕ) → (d c : Code) → ℕ → ℕ
 rename_element σ d c v = elim (ltb v (plain d)) [ true ↦ v | false ↦ made c (σ (v - plain d)) ]
 
--- the test holds of each number below n
-unfoldable pub all_below : ℕ → (ℕ → Bool) → Bool
-all_below zero q = true
-all_below (suc n) q = q n && all_below n q
-
--- The sets of d, read from sets of c. Plain data that both have: what c has of it. A name that c has not: where all plain data of c is. What a word
--- makes: what the word that it stands for makes.
+-- the sets of d, read from sets of c
 unfoldable pub carried : (ℕ → ℕ) → (d c : Code) → Sets → Sets
-unfolding rename_row all_below
-carried σ d c e r v =
-    elim (ltb v (plain d)) [
-      | true ↦ elim (ltb v (plain c)) [ true ↦ e (rename_row σ r) v | false ↦ all_below (plain c) (e (rename_row σ r)) ]
-      | false ↦ e (rename_row σ r) (made c (σ (v - plain d)))
-    ]
+unfolding rename_row rename_element
+carried σ d c e r v = e (rename_row σ r) (rename_element σ d c v)

@@ -1,31 +1,36 @@
-// The results of operations, as bits of the first word of a row.
+// What a word gives by itself, as bits of the first word of a row: constants, the signs of numbers, and the results of operations.
 ghost use Rattle.std.specs.Prelude.{◌≡◌, ◌∷◌, ◌+◌, ◌^◌, ◌<◌, ◌≤◌, length, get_or, take, drop};
 ghost use Rattle.permset.specs.Sets.{member};
+ghost use Rattle.calculus.specs.Elements.{constant_element, sign};
 ghost use Rattle.calculus.specs.Estimate.{same, facts};
 ghost use Rattle.calculus.specs.ResultWords.{sign_entry, signs_below, nonzero, same_mask, apart, apart_mask, equal_mask, operation_mask};
 ghost use Rattle.results.specs.Signs.{sign_table};
 
-use rows::elements;
 use rows::row::{any, some};
-use table::Operation;
+use table::{Constant, Operation};
 
-// Elements of the first word of a row, as bits.
-const TRUE: u32 = 4;
+fn constant_bit(k: Constant) -> u32
+    ensures { result ≡ 2 ^ constant_element k }
+{
+    match k {
+        Constant::Undefined => 1,
+        Constant::Unit => 2,
+        Constant::True => 4,
+        Constant::False => 8,
+    }
+}
 
-const FALSE: u32 = 8;
-
-const TRUTHS: u32 = 12;
-
-const NEGATIVE: u32 = 16;
-
-// Negative, zero and positive.
-const SIGNS: u32 = 112;
-
-// What stands for more than one value, and so may differ from itself: negative and positive numbers, other strings.
-const MANIFOLD: u32 = 336;
-
-// All but the opponent's record.
-const COMPARED: u32 = 0xffffff7f;
+fn sign_bit(n: u32) -> u32
+    ensures { result ≡ 2 ^ sign n }
+{
+    if n == 0 {
+        32
+    } else if n < 8388608 {
+        64
+    } else {
+        16
+    }
+}
 
 // Digit i of a word.
 fn has_digit(x: u32, i: u32) -> bool
@@ -54,18 +59,18 @@ fn sign_result(sum: bool, i: usize) -> u32
     if sum {
         // equal signs stay, zero is neutral, opposite signs give all three
         if x == y {
-            return NEGATIVE << x;
+            return 16 << x;
         }
         if x == 1 {
-            return NEGATIVE << y;
+            return 16 << y;
         }
-        return if y == 1 { NEGATIVE << x } else { SIGNS };
+        return if y == 1 { 16 << x } else { 112 };
     }
     // negative, zero, positive in that order; equal non-zero signs give both truths, zero with zero false
     if x == y {
-        return if x == 1 { FALSE } else { TRUTHS };
+        return if x == 1 { 8 } else { 12 };
     }
-    if x < y { TRUE } else { FALSE }
+    if x < y { 4 } else { 8 }
 }
 
 // The entry of pair i if both rows have its signs.
@@ -73,10 +78,10 @@ fn sign_entry(sum: bool, x: u32, y: u32, i: usize) -> u32
     requires { i < 9 }
     ensures { result ≡ sign_entry (sign_table sum) x y i }
 {
-    if !has_digit(x, (elements::NEGATIVE + i / 3) as u32) {
+    if !has_digit(x, (4 + i / 3) as u32) {
         return 0;
     }
-    if !has_digit(y, (elements::NEGATIVE + i % 3) as u32) {
+    if !has_digit(y, (4 + i % 3) as u32) {
         return 0;
     }
     sign_result(sum, i)
@@ -137,9 +142,9 @@ fn same_bits(x: u32, y: u32, a: &[u32], d: &[u32]) -> u32
     ensures { result ≡ same_mask (x ∷ a.now) (y ∷ d.now) }
 {
     if x & y != 0 {
-        return TRUE;
+        return 4;
     }
-    if any(d, a) { TRUE } else { 0 }
+    if any(d, a) { 4 } else { 0 }
 }
 
 // Whether the sides give two different values: 4, 6 and 8 stand for more than one.
@@ -147,7 +152,7 @@ fn differ(x: u32, y: u32, a: &[u32], d: &[u32]) -> bool
     requires { (length a.now ≡ length d.now) × (length a.now ≤ 36) }
     ensures { result ≡ apart (x ∷ a.now) (y ∷ d.now) }
 {
-    if x & y & MANIFOLD != 0 {
+    if x & y & 336 != 0 {
         return true;
     }
     if x != y {
@@ -163,7 +168,7 @@ fn differ_bits(x: u32, y: u32, a: &[u32], d: &[u32]) -> u32
     requires { (length a.now ≡ length d.now) × (length a.now ≤ 36) }
     ensures { result ≡ apart_mask (x ∷ a.now) (y ∷ d.now) }
 {
-    if differ(x, y, a, d) { FALSE } else { 0 }
+    if differ(x, y, a, d) { 8 } else { 0 }
 }
 
 // Equal, where 7 is left out: same gives true, different gives false.
@@ -188,7 +193,7 @@ fn operate(o: Operation, x: u32, y: u32, a: &[u32], d: &[u32]) -> u32
     match o {
         Operation::Add => signs(true, x, y),
         Operation::Less => signs(false, x, y),
-        Operation::Equal => compare(x & COMPARED, y & COMPARED, a, d),
+        Operation::Equal => compare(x & 4294967167, y & 4294967167, a, d),
     }
 }
 

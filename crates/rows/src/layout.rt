@@ -2,12 +2,8 @@
 ghost use Rattle.std.specs.Prelude.{◌≡◌, ◌+◌, ◌*◌, ◌<◌, ◌≤◌};
 ghost use Rattle.table.specs.Code.{code};
 ghost use Rattle.rows.specs.Laid.{LaidOut};
-ghost use Rattle.rows.specs.Numbered.{value as Value, held as Held};
 
 use table::names_in;
-
-// The word of P(p) has the permissions in its bits below this one, which is p's live flag.
-pub const FLAG: u32 = permset::LIMIT;
 
 // The words of the table, the words of a row, and how many of those the plain elements fill.
 #[derive(Drop)]
@@ -46,19 +42,4 @@ impl Layout {
     {
         2 * self.size * self.row + self.size
     }
-}
-
-// The rows of the word p, by their numbers: C(p), its value set, and B(p), its held set.
-pub fn value(p: usize) -> usize
-    requires { p < 2048 }
-    ensures { result ≡ Value p }
-{
-    2 * p
-}
-
-pub fn held(p: usize) -> usize
-    requires { p < 2048 }
-    ensures { result ≡ Held p }
-{
-    2 * p + 1
 }

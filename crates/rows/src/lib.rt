@@ -1,5 +1,3 @@
-// The rows of an estimate: their elements, where they stand, and what a rule does to them, a row at a time.
-pub mod elements;
+// The rows of an estimate: what a rule does to them, a row at a time.
 pub mod layout;
 pub mod row;
-pub mod sorts;

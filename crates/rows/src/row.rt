@@ -4,9 +4,6 @@ ghost use Rattle.calculus.specs.Layout.{masked};
 ghost use Rattle.calculus.specs.ResultWords.{nonzero};
 ghost use Rattle.rows.specs.Rows.{Poured, NextCommon, meets, lacking};
 
-// A word with all its bits.
-pub const FULL: u32 = 4294967295;
-
 // Sets bits of the word k, and answers how many that added.
 pub fn set(row: &mut [u32], k: usize, bits: u32) -> usize
     requires { k < length row.old }

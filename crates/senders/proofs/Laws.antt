@@ -7,7 +7,7 @@ use native.Mathlib.Omega.{arith}
 use borrow.Author.Tests.{eq-eqb, ne_eqb}
 use lib.ListN.{length, get_or}
 use Rattle.permset.specs.Sets.{member}
-use Rattle.table.specs.Words.{kind}
+use Rattle.table.specs.Words.{kind, argument}
 use Rattle.table.specs.Code.{code}
 use Rattle.table.proofs.Widths.{names-most}
 use Rattle.calculus.specs.Elements.{made, elements, opponent_record}
@@ -18,7 +18,7 @@ use Rattle.rows.specs.Laid.{LaidOut}
 use Rattle.text.specs.Text.{bytes, decimal, choice}
 use Rattle.text.specs.Added.{Added}
 use Rattle.text.proofs.Adding.{added_then, added-as}
-use Rattle.senders.specs.Text.{or_nobody, handler_line, holds, sender, opponent, senders, block_line}
+use Rattle.senders.specs.Text.{or_nobody, line, holds, sender, opponent, senders, block_line}
 
 -- the layout of a short table, accepted or not: it has as many words, and a row has less than 64
 pub laid-size : (ws : List ℕ) → length ws ≤ 1024 → (l : Layout) → LaidOut (code ws) l → l.size ≤ 1024
@@ -76,7 +76,7 @@ module _ (ws est : List ℕ) where
     block_none k = rw (ne_eqb (kind (get_or ws b 0)) 2 k, block_line)
 
     pub block_here : kind (get_or ws b 0) ≡ 2
-        → block_line ws est b position (get_or ws b 0) ≡ handler_line ws est b position
+        → block_line ws est b position (get_or ws b 0) ≡ line position (argument (get_or ws b 0)) (senders ws est b)
     unfolding block_line
     block_here k = rw (eq-eqb (kind (get_or ws b 0)) 2 k, block_line)
 

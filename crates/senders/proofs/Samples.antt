@@ -14,7 +14,7 @@ use Rattle.calculus.specs.Rules.{two_sender, sender as sender_rule, senders as s
 use Rattle.calculus.specs.Layout.{row_words, estimate_words, sets}
 use Rattle.calculus.specs.Estimate.{whole, estimate}
 use Rattle.calculus.specs.Samples.{single, relay, twins}
-use Rattle.text.specs.Text.{bytes, decimal, set}
+use Rattle.text.specs.Text.{bytes, decimal}
 use Rattle.senders.specs.Text.{text}
 
 abbrev told : ℕ → List ℕ → List ℕ
@@ -32,18 +32,17 @@ pub texts :
     -- an estimate of no words
     ∷ text (relay 8 0) [] ∷ []
     ≡ []
-    ∷ bytes "handler 0 name 0 from opponent  line 2 permissions 000003\n"
-    ∷ bytes "handler 0 name 0 from -  line 2 permissions 000003\n"
-    ∷ (bytes "handler 0 name 0 from opponent  line 2 permissions 000008\n" ++ bytes "handler 1 name 1 from 0  line 8 permissions 000002\n")
-    ∷ (bytes "handler 0 name 0 from opponent  line 2 permissions 000008\n" ++ bytes "handler 1 name 1 from 0 opponent  line 8 permissions 000002\n")
-    ∷ (bytes "handler 0 name 0 from opponent  line 2 permissions 000008\n" ++ bytes "handler 1 name 1 from -  line 8 permissions 000002\n")
-    ∷ (bytes "handler 0 name 0 from opponent  line 2 permissions 000008\n" ++ bytes "handler 1 name 1 from -  line 8 permissions 000002\n"
-    ++ bytes "handler 2 name 1 from 0  line 12 permissions 000004\n")
-    ∷ (bytes "handler 0 name 0 from 0 1 opponent  line 2 permissions 000001\n" ++ bytes "handler 1 name 0 from 0  line 8 permissions 000002\n")
-    ∷ (bytes "handler 0 name 0 from -  line 2 permissions 000008\n" ++ bytes "handler 1 name 1 from -  line 8 permissions 000002\n")
+    ∷ bytes "handler 0 name 0 from opponent\n"
+    ∷ bytes "handler 0 name 0 from -\n"
+    ∷ (bytes "handler 0 name 0 from opponent\n" ++ bytes "handler 1 name 1 from 0\n")
+    ∷ (bytes "handler 0 name 0 from opponent\n" ++ bytes "handler 1 name 1 from 0 opponent\n")
+    ∷ (bytes "handler 0 name 0 from opponent\n" ++ bytes "handler 1 name 1 from -\n")
+    ∷ (bytes "handler 0 name 0 from opponent\n" ++ bytes "handler 1 name 1 from -\n" ++ bytes "handler 2 name 1 from 0\n")
+    ∷ (bytes "handler 0 name 0 from 0 1 opponent\n" ++ bytes "handler 1 name 0 from 0\n")
+    ∷ (bytes "handler 0 name 0 from -\n" ++ bytes "handler 1 name 1 from -\n")
     ∷ []
 unfolding parts_by_kind limits_by_kind parts arity limit constant_number constant_of operation_of terms_by_kind term_of names_of under next code skip part trace tasks
     task_at term_node node_for scope_for home_for blocks_from within member union difference lowest constant_element leaf_makes one_makes makes is_function
     is_record is_cell making sendable range name_of perms_of guarded is_block permissions delivery_to judged delivered leaf_rule one_rule two_rule flow entry
-    two_sender sender_rule senders_rule rule row_words estimate_words sets estimate whole decimal set text
+    two_sender sender_rule senders_rule rule row_words estimate_words sets estimate whole decimal text
 texts = refl

@@ -1,7 +1,7 @@
 -- The text that says for each block of a system who may have sent to it, read from the words of an estimate (document 02, wish 8).
 use Rattle.std.specs.Prelude.{ℕ, Bool, ◌&&◌, eqb, get_or}
 use mathlib.Core.List.{List, [], ◌∷◌, ◌++◌}
-use Rattle.table.specs.Words.{kind}
+use Rattle.table.specs.Words.{kind, argument}
 use Rattle.table.specs.Scan.{reading}
 use Rattle.table.specs.Code.{code}
 use Rattle.calculus.specs.Elements.{made, opponent_record}
@@ -9,7 +9,6 @@ use Rattle.calculus.specs.Constraint.{C}
 use Rattle.calculus.specs.Layout.{sets}
 use Rattle.text.specs.Text.{bytes, decimal, choice}
 use Rattle.listing.specs.Listing.{Answered}
-use Rattle.handler_lines.specs.Parts.{head, tail, head_at, tail_at}
 use Rattle.deliveries.specs.Positions.{each_word}
 use Rattle.deliveries.specs.Answers.{answer_for, bytes_after}
 
@@ -20,13 +19,10 @@ unfoldable pub or_nobody : List ℕ → List ℕ
 or_nobody [] = bytes " -"
 or_nobody (x ∷ xs) = x ∷ xs
 
-unfoldable pub line : (head senders tail : List ℕ) → List ℕ
+unfoldable pub line : (position name : ℕ) (senders : List ℕ) → List ℕ
 unfolding or_nobody
-line head senders tail = head ++ bytes " from" ++ or_nobody senders ++ tail
-
--- room for the text of any accepted table: 64 lines of at most 261 bytes
-abbrev pub text_room : ℕ
-text_room = 16704
+line position name senders =
+    (bytes "handler " ++ decimal position) ++ (bytes " name " ++ decimal name) ++ bytes " from" ++ or_nobody senders ++ bytes "\n"
 
 -- ---- of the table ws and the words est of an estimate; words past their end count as zero
 
@@ -58,11 +54,11 @@ module _ (ws est : List ℕ) where
 
   -- the line of the block at b, which has this position
   abbrev pub handler_line : (b position : ℕ) → List ℕ
-  handler_line b position = line (head_at ws b position) (senders b) (tail_at ws b)
+  handler_line b position = line position (argument (get_or ws b 0)) (senders b)
 
   -- the line of the word w at b, if a block starts there
   unfoldable pub block_line : (b position w : ℕ) → List ℕ
-  unfolding line senders head tail
+  unfolding line senders
   block_line b position w = choice (eqb (kind w) 2) (handler_line b position) []
 
   abbrev pub line_at : (b position : ℕ) → List ℕ

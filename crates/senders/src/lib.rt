@@ -1,4 +1,6 @@
 // For each block of a system a line of text: who may have sent to it, read from the words of an estimate.
+mod lines;
+
 ghost use Rattle.std.specs.Prelude.{◌≡◌, ◌+◌, ◌*◌, ◌≤◌, ◌<◌, length};
 ghost use Rattle.table.specs.Scan.{accepted, reading};
 ghost use Rattle.table.specs.Code.{code};
@@ -9,11 +11,11 @@ ghost use Rattle.senders.specs.Text.{or_nobody, sender_at, opponent, blocks, sen
 ghost use Rattle.senders.specs.Text.{holds as Text·holds};
 ghost use Rattle.senders.specs.Text.{text as Text·text};
 
+use crate::lines::add_number;
 use deliveries::{counted, word_at};
-use handler_lines::{add_number, put_head, put_tail};
 use listing::{Answer, Refusal};
 use rows::layout::Layout;
-use table::{Reading, kind_of};
+use table::{Reading, argument_of, kind_of};
 use text::room::put_room;
 
 // Whether the element v is in C(b).
@@ -109,10 +111,12 @@ fn put_line(
     ensures added { Added out.old at (handler_line words.now est.now b position) out.new result }
     ensures upper_bound { result ≤ at + 66000 }
 {
-    let a = put_head(words, b, position, out, at);
-    let d = put_room(out, a, b" from");
+    let name = argument_of(words[b]);
+    let a = add_number(out, at, b"handler ", position);
+    let c = add_number(out, a, b" name ", name as usize);
+    let d = put_room(out, c, b" from");
     let e = put_all(words, est, b, out, d);
-    put_tail(words, b, out, e)
+    put_room(out, e, b"\n")
 }
 
 // The line of the word at b, if a block starts there.

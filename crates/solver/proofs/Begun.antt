@@ -14,7 +14,7 @@ use Rattle.rows.specs.declared.layout.Layout.{Layout}
 use Rattle.masks.specs.Masks.{Masked}
 use Rattle.rows.specs.Laid.{LaidOut}
 use Rattle.rows.specs.Mask.{Mask, made_as}
-use Rattle.rows.specs.Numbered.{sort_at}
+use Rattle.clauses.specs.Asks.{sort_at}
 use Rattle.queries.specs.Passes.{mask_at}
 use Rattle.queries.specs.Ready.{Ready}
 use Rattle.readers.specs.Reading.{Readable}

@@ -1,4 +1,5 @@
--- What an analysis under a ceiling answers and leaves, and that it is sound: demands 2 and 3. A larger ceiling gives the same estimate.
+-- What an analysis under a ceiling answers and leaves, and that it is sound: demands 2 and 3. A larger ceiling gives the same estimate, and the
+-- figure that calls without a ceiling use refuses nothing.
 use Prim.Native.Nat.{ℕ, ◌≤◌, ◌<◌}
 use mathlib.Core.Path.{◌≡◌, refl, sym, ap, ap₂, ◌∙◌, subst}
 use mathlib.Core.Bool.{Bool, true, false}
@@ -12,14 +13,17 @@ use Rattle.table.specs.Code.{code}
 use Rattle.table.proofs.Linked.{linked}
 use Rattle.calculus.specs.Layout.{estimate_words}
 use Rattle.calculus.specs.Estimate.{estimate, leak, facts, most_facts}
-use Rattle.calculus.specs.Answer.{Answer, verdict, standing_bound, judge, answer}
+use Rattle.calculus.specs.Answer.{Answer, verdict, standing_bound, judge, answer, estimate_after}
 use Rattle.calculus.specs.Answer as answers
+use Rattle.calculus.specs.Correct.{Correct}
+use Rattle.calculus.proofs.Correct.{call-correct}
 use Rattle.calculus.proofs.Least.{estimate-well, facts-bound}
 use Rattle.calls.proofs.Answers.{after-solved}
 use Rattle.comparison.specs.declared.Findings.{Findings}
 use Rattle.solver.specs.declared.Bounded.TheVariants as bounded
-use Rattle.solver.specs.Analysis.{Outcome, refused, solved, outcome, Sound}
-use Rattle.solver.specs.Ceiling.{under, answer_within, words_within, estimate_within, outcome_of, SolvedIn, BoundedIn}
+use Rattle.solver.specs.Analysis.{summary}
+use Rattle.solver.specs.Analysis as analysis
+use Rattle.solver.specs.Ceiling.{under, answer_within, words_within, estimate_within, Outcome, refused, solved, outcome, outcome_of, SoundWithin, SolvedIn, BoundedIn}
 use Rattle.solver.proofs.Least.{words-whole}
 use Rattle.solver.proofs.Sound.{sound}
 
@@ -95,20 +99,24 @@ module _ (ws : List ℕ) (ρ n : ℕ) (est work us : List ℕ) where
 
   pub sound-fine : answer ws ρ standing_bound (length est) (length work) ≡ found
       → us ≡ words_within (code ws) ρ n ++ drop (estimate_words (code ws)) est
-      → (o : Outcome) → o ≡ saying ws ρ n (ltb n (facts (estimate (code ws) ρ))) → Sound ws ρ us o
-  unfolding Sound outcome judge
-  sound-fine e u o q = subst (Sound ws ρ us) (sym q) (go (ltb n (facts (estimate (code ws) ρ))) refl)
+      → (o : Outcome) → o ≡ saying ws ρ n (ltb n (facts (estimate (code ws) ρ))) → SoundWithin ws ρ us o
+  unfolding SoundWithin Correct summary judge
+  sound-fine e u o q = subst (SoundWithin ws ρ us) (sym q) (go (ltb n (facts (estimate (code ws) ρ))) refl)
     where
-      go : (b : Bool) → ltb n (facts (estimate (code ws) ρ)) ≡ b → Sound ws ρ us (saying ws ρ n b)
+      go : (b : Bool) → ltb n (facts (estimate (code ws) ρ)) ≡ b → SoundWithin ws ρ us (saying ws ρ n b)
       go true t = tt
       go false t =
-          sound ws ρ est work us (saying ws ρ n false) (ap outcome (sym e))
-          (u ∙ ap (λ (xs : List ℕ). xs ++ drop (estimate_words (code ws)) est) (words-whole (code ws) ρ n t)
-          ∙ (after-solved ws ρ standing_bound est work (judge (code ws) ρ standing_bound (estimate (code ws) ρ)) e).0)
+          let a : us ≡ estimate_after ws ρ standing_bound est work =
+          u ∙ ap (λ (xs : List ℕ). xs ++ drop (estimate_words (code ws)) est) (words-whole (code ws) ρ n t)
+          ∙ (after-solved ws ρ standing_bound est work (judge (code ws) ρ standing_bound (estimate (code ws) ρ)) e).0
+          in (
+            sound ws ρ est work us (analysis.solved (leak (code ws) ρ (estimate (code ws) ρ))) (ap summary (sym e)) a,
+            (call-correct ws ρ standing_bound est work us found (sym e) a).2,
+          )
 
-  pub sound-refused : (k at : ℕ) (o : Outcome) → o ≡ refused k at → Sound ws ρ us o
-  unfolding Sound
-  sound-refused k at o q = subst (Sound ws ρ us) (sym q) tt
+  pub sound-refused : (k at : ℕ) (o : Outcome) → o ≡ refused k at → SoundWithin ws ρ us o
+  unfolding SoundWithin
+  sound-refused k at o q = subst (SoundWithin ws ρ us) (sym q) tt
 
 -- ---- ceilings compared
 
@@ -128,3 +136,9 @@ more_room ws ρ n m est work h i = go (answer ws ρ standing_bound (length est) 
         (elim a [ answers.refused k at ↦ est | verdict v ↦ words_within (code ws) ρ m ++ drop (estimate_words (code ws)) est ])
     go (answers.refused k at) = refl
     go (verdict v) = ap (λ (xs : List ℕ). xs ++ drop (estimate_words (code ws)) est) same
+
+-- the figure of a table refuses nothing
+pub never-over : (ws : List ℕ) → reading ws ≡ accepted → (ρ : ℕ) → ltb (most_facts (code ws)) (facts (estimate (code ws) ρ)) ≡ false
+never-over ws r ρ =
+    le-ltb (most_facts (code ws)) (facts (estimate (code ws) ρ))
+    (facts-bound (code ws) (estimate (code ws) ρ) (estimate-well (code ws) (linked ws r) ρ))

@@ -21,6 +21,8 @@ use Rattle.calculus.proofs.Slices.{bit-zero}
 use Rattle.calculus.proofs.Rows.{sets-bit}
 use Rattle.calculus.proofs.Facts.{facts-le}
 use Rattle.calculus.proofs.Least.{lies-adds, estimate-well, estimate-obeys, estimate-unique, facts-bound}
+use Rattle.rows.specs.declared.layout.Layout.{Layout}
+use Rattle.rows.specs.Laid.{LaidOut}
 use Rattle.comparison.specs.declared.Findings.{Findings}
 use Rattle.fixpoint.specs.Grown.{Closed}
 use Rattle.solver.specs.Analysis.{FoundIn}
@@ -116,3 +118,7 @@ module _ (ws : List ℕ) (r : reading ws ≡ accepted) (ρ n : ℕ) (h : most_fa
       go : Dec (n < s.facts) → s.facts ≡ facts (estimate (code ws) ρ)
       go (yes i) = absurd (omega (arith, d.over i, few))
       go (no i) = d.within (omega arith)
+
+pub most-is : (c : Code) (l : Layout) → LaidOut c l → most_facts c ≡ l.size * (2 * (32 * l.lead + l.size) + 25)
+unfolding most_facts
+most-is c l o = ap₂ (λ (n p : ℕ). n * (2 * (p + n) + 25)) o.size o.lead

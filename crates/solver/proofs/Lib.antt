@@ -3,4 +3,3 @@ pub mod Least
 pub mod Begun
 pub mod Sound
 pub mod Bound
-pub mod Unlimited

@@ -8,16 +8,16 @@ use Rattle.calculus.specs.Answer as answers
 use Rattle.calculus.specs.Correct.{Correct, Guaranteed}
 use Rattle.calculus.proofs.Correct.{call-correct}
 use Rattle.calculus.proofs.Covers.{answer-guaranteed}
-use Rattle.solver.specs.Analysis.{Outcome, outcome, Sound}
+use Rattle.solver.specs.Analysis.{Summary, summary, Sound}
 
-of-answer : (ws : List ℕ) (ρ bound : ℕ) (us : List ℕ) (a : Answer) → Correct ws ρ bound us a → Guaranteed ws ρ a → Sound ws ρ us (outcome a)
-unfolding Correct Guaranteed Sound outcome
+of-answer : (ws : List ℕ) (ρ bound : ℕ) (us : List ℕ) (a : Answer) → Correct ws ρ bound us a → Guaranteed ws ρ a → Sound ws ρ us (summary a)
+unfolding Correct Guaranteed Sound summary
 of-answer ws ρ bound us (answers.refused number place) d g = tt
-of-answer ws ρ bound us (verdict v) d g = (d.0, g, d.2)
+of-answer ws ρ bound us (verdict v) d g = (d.0, g)
 
-pub sound : (ws : List ℕ) (ρ : ℕ) (est work us : List ℕ) (o : Outcome) → o ≡ outcome (answer ws ρ standing_bound (length est) (length work))
-    → us ≡ estimate_after ws ρ standing_bound est work → Sound ws ρ us o
-sound ws ρ est work us o e u =
+pub sound : (ws : List ℕ) (ρ : ℕ) (est work us : List ℕ) (s : Summary) → s ≡ summary (answer ws ρ standing_bound (length est) (length work))
+    → us ≡ estimate_after ws ρ standing_bound est work → Sound ws ρ us s
+sound ws ρ est work us s e u =
     let a = answer ws ρ standing_bound (length est) (length work) in
     subst (Sound ws ρ us) (sym e)
     (of-answer ws ρ standing_bound us a (call-correct ws ρ standing_bound est work us a refl u)

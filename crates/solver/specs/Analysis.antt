@@ -1,4 +1,4 @@
--- What an analysis says, for all inputs, and what it leaves in the slices.
+-- What an analysis says beside the answer for all inputs, and what it leaves in the slices.
 use Rattle.std.specs.Prelude.{ℕ, ◌≡◌, List, ◌++◌, length, take, drop, replicate}
 use Rattle.table.specs.Code.{code}
 use Rattle.calculus.specs.Layout.{estimate_words}
@@ -12,27 +12,25 @@ use Rattle.comparison.specs.declared.Findings.{Findings}
 use Rattle.solver.specs.declared.Analysis.{Analysis}
 use Rattle.solver.specs.declared.Analysis.TheVariants as analyses
 
--- a refusal's number and place, or the leak and the facts
-pub data Outcome : Type 0 where
-  refused : (number place : ℕ) → Outcome
-  solved : (leak facts : ℕ) → Outcome
+-- an answer without what depends on a bound or is read from the estimate later: a refusal's number and place, or the leak
+pub data Summary : Type 0 where
+  refused : (number place : ℕ) → Summary
+  solved : (leak : ℕ) → Summary
 
--- an answer without what depends on a bound
-unfoldable pub outcome : Answer → Outcome
-outcome (answers.refused n at) = refused n at
-outcome (verdict v) = solved v.leak v.facts
+unfoldable pub summary : Answer → Summary
+summary (answers.refused n at) = refused n at
+summary (verdict v) = solved v.leak
 
-unfoldable pub said : Analysis → Outcome
+unfoldable pub said : Analysis → Summary
 unfolding fault_number fault_place
 said (analyses.Refused f) = refused (fault_number f) (fault_place f)
-said (analyses.Solved s) = solved s.leak.bits s.facts
+said (analyses.Solved s) = solved s.bits
 
 -- Demands 2 and 3 of an analysis of the table ws, where est is the estimate slice after the call: its first words are the least estimate, the leak
--- is that of this estimate, and it covers every run; and the facts are the set bits of these words.
-unfoldable pub Sound : List ℕ → ℕ → (est : List ℕ) → Outcome → Type 0
+-- is that of this estimate, and it covers every run.
+unfoldable pub Sound : List ℕ → ℕ → (est : List ℕ) → Summary → Type 0
 Sound ws ρ est (refused number place) = Unit {0}
-Sound ws ρ est (solved s n) =
-    Least (code ws) ρ (take (estimate_words (code ws)) est) s × Covers (code ws) ρ s × (n ≡ facts (take (estimate_words (code ws)) est))
+Sound ws ρ est (solved s) = Least (code ws) ρ (take (estimate_words (code ws)) est) s × Covers (code ws) ρ s
 
 -- the least estimate in the first words of one slice, zeros in those of the other, the leak and the facts
 pub record FoundIn (ws : List ℕ) (ρ : ℕ) (est work est' work' : List ℕ) (r : Findings) : Type 0 where

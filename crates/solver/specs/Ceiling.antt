@@ -1,5 +1,5 @@
 -- An analysis under a ceiling n on facts (document 02, wish 7): it is refused with 23, at n, exactly where the least estimate has more than n facts.
-use Rattle.std.specs.Prelude.{ℕ, ◌<◌, ◌≤◌, ◌≡◌, true, false, List, ◌++◌, ltb, length, drop, replicate}
+use Rattle.std.specs.Prelude.{ℕ, ◌<◌, ◌≤◌, ◌≡◌, true, false, List, ◌++◌, ltb, length, take, drop, replicate}
 use Rattle.table.specs.Code.{Code, code}
 use Rattle.calculus.specs.Layout.{estimate_words}
 use Rattle.calculus.specs.Estimate.{estimate, leak, facts}
@@ -9,7 +9,8 @@ use Rattle.calls.specs.Faults.{fault_number, fault_place}
 use Rattle.comparison.specs.declared.Findings.{Findings}
 use Rattle.solver.specs.declared.Bounded.{Bounded}
 use Rattle.solver.specs.declared.Bounded.TheVariants as bounded
-use Rattle.solver.specs.Analysis.{Outcome, refused, solved}
+use Rattle.solver.specs.Analysis.{Sound}
+use Rattle.solver.specs.Analysis as analysis
 
 -- ---- the answer and the slices after the call
 
@@ -35,11 +36,25 @@ estimate_within ws ρ n est work =
 
 -- ---- what a call says
 
+-- a refusal's number and place, or the leak and the facts
+pub data Outcome : Type 0 where
+  refused : (number place : ℕ) → Outcome
+  solved : (leak facts : ℕ) → Outcome
+
+unfoldable pub outcome : Answer → Outcome
+outcome (answers.refused k at) = refused k at
+outcome (verdict v) = solved v.leak v.facts
+
 unfoldable pub outcome_of : Bounded → Outcome
 unfolding fault_number fault_place
 outcome_of (bounded.Refused f) = refused (fault_number f) (fault_place f)
 outcome_of (bounded.Over n) = refused 23 n
 outcome_of (bounded.Solved s) = solved s.leak.bits s.facts
+
+-- demands 2 and 3, and that the count is the number of set bits
+unfoldable pub SoundWithin : List ℕ → ℕ → (est : List ℕ) → Outcome → Type 0
+SoundWithin ws ρ est (refused number place) = Unit {0}
+SoundWithin ws ρ est (solved s n) = Sound ws ρ est (analysis.solved s) × (n ≡ facts (take (estimate_words (code ws)) est))
 
 -- ---- what the parts of a call promise
 

@@ -1,16 +1,16 @@
 // The analysis of any words, refused or not.
-ghost use Rattle.std.specs.Prelude.{◌≡◌, length};
+ghost use Rattle.std.specs.Prelude.{◌≡◌, ◌+◌, ◌*◌, ◌≤◌, length};
 ghost use Rattle.calculus.specs.Answer.{standing_bound, answer as Answer·answer, estimate_after, work_after};
-ghost use Rattle.solver.specs.Analysis.{said, outcome, Sound, FoundIn};
-ghost use Rattle.solver.specs.Ceiling.{SolvedIn, outcome_of, answer_within, estimate_within, BoundedIn};
+ghost use Rattle.solver.specs.Analysis.{said, summary, Sound, FoundIn};
+ghost use Rattle.solver.specs.Ceiling.{SolvedIn, outcome_of, outcome, answer_within, estimate_within, BoundedIn, SoundWithin};
 ghost use Rattle.calls.specs.Calls.{Fit};
 
-use crate::figure::most_facts;
 use crate::solve::solve;
 use crate::{Analysis, Bounded};
 use calls::checks::{Checked, check, words_needed};
 use comparison::Findings;
 use permset::PermSet;
+use rows::layout::Layout;
 
 // The least estimate in the first words of its slice, or zeros where it has more than `ceiling` facts, and zeros in those of the work slice,
 // where both are long enough.
@@ -29,26 +29,38 @@ pub fn solve_in(
     solve(words, rho, ceiling, &mut est[..need], &mut work[..room])
 }
 
+// No estimate has more facts.
+fn most_facts(l: Layout) -> usize
+    requires { (l.size ≤ 1024) × (l.lead ≤ 36) }
+    ensures { result ≡ l.size * (2 * (32 * l.lead + l.size) + 25) }
+{
+    l.size * (2 * (32 * l.lead + l.size) + 25)
+}
+
 // The same without a ceiling.
 pub fn find(words: &[u32], rho: PermSet, est: &mut [u32], work: &mut [u32]) -> Findings
     requires { Fit words.now (length est.old) (length work.old) }
     ensures { FoundIn words.now rho.bits est.old work.old est.new work.new result }
 {
-    let most = most_facts(words);
+    let most = most_facts(Layout::of(words));
     solve_in(words, rho, most, est, work)
 }
 
 // The least estimate of a table where the opponent holds rho. Of the slices, est gets the estimate in its first words, and the first words
 // of work are zeroed; a refusal leaves both as they were.
 pub fn analyse(words: &[u32], rho: u32, est: &mut [u32], work: &mut [u32]) -> Analysis
-    ensures answer { said result ≡ outcome (Answer·answer words.now rho standing_bound (length est.old) (length work.old)) }
+    ensures answer { said result ≡ summary (Answer·answer words.now rho standing_bound (length est.old) (length work.old)) }
     ensures estimate { est.new ≡ estimate_after words.now rho standing_bound est.old work.old }
     ensures work { work.new ≡ work_after words.now rho standing_bound est.old work.old }
     ensures sound { Sound words.now rho est.new (said result) }
 {
     match check(words, rho, 0x80000000, est.len(), work.len()) {
         Checked::Wrong(f) => Analysis::Refused(f),
-        Checked::Fine => Analysis::Solved(find(words, PermSet { bits: rho }, est, work)),
+        Checked::Fine => {
+            let found = find(words, PermSet { bits: rho }, est, work);
+            let leak = found.leak;
+            Analysis::Solved(leak)
+        }
     }
 }
 
@@ -82,7 +94,7 @@ pub fn analyse_within(
     ensures answer { outcome_of result ≡ outcome (answer_within words.now rho ceiling (length est.old) (length work.old)) }
     ensures estimate { est.new ≡ estimate_within words.now rho ceiling est.old work.old }
     ensures work { work.new ≡ work_after words.now rho standing_bound est.old work.old }
-    ensures sound { Sound words.now rho est.new (outcome_of result) }
+    ensures sound { SoundWithin words.now rho est.new (outcome_of result) }
 {
     match check(words, rho, 0x80000000, est.len(), work.len()) {
         Checked::Wrong(f) => Bounded::Refused(f),

@@ -1,18 +1,17 @@
-// The least estimate of an accepted table, its leak and its facts.
+// The least estimate of an accepted table, and its leak.
 pub mod analyse;
-pub mod figure;
 mod memory;
 mod solve;
 
 use calls::Fault;
 use comparison::Findings;
+use permset::PermSet;
 
-// The answer to a call: refused, or the leak and the facts of the least estimate. `said` of specs/Analysis.antt gives each its number, place and
-// values.
+// The answer to a call: refused, or the leak of the least estimate.
 #[derive(Drop)]
 pub enum Analysis {
     Refused(Fault),
-    Solved(Findings),
+    Solved(PermSet),
 }
 
 // The answer to a call with a ceiling on facts: refused, over the ceiling, or the leak and the facts of the least estimate. `outcome_of` of

@@ -12,7 +12,7 @@ ghost use Rattle.solver.specs.Ceiling.{cleared_over, Counted};
 
 use crate::memory::clear;
 use comparison::Findings;
-use fixpoint::memory::run;
+use fixpoint::room::run;
 use masks::fill_masks;
 use permset::PermSet;
 use rows::layout::Layout;

@@ -10,7 +10,7 @@ use Rattle.table.specs.Code.{Code, code}
 use Rattle.calculus.specs.Elements.{elements}
 use Rattle.calculus.specs.Layout.{row_words}
 use Rattle.rows.specs.declared.layout.Layout.{Layout}
-use Rattle.rows.proofs.Bounds.{size_small, row_small, words_are, words-bound}
+use Rattle.calls.proofs.Bounds.{size_small, row_small, words_are, words-bound}
 use Rattle.stray.specs.declared.Holding.{Holding}
 use Rattle.stray.specs.declared.Holding.TheVariants as holdings
 use Rattle.stray.specs.Stray.{of_block, holding, stray}

@@ -9,8 +9,7 @@ ghost use Rattle.stray.specs.Allowed.{word_named, Leading, Allowed};
 use crate::Holding;
 use masks::{set_if, word_makes};
 use rows::layout::Layout;
-use rows::row::FULL;
-use table::is_block;
+use table::kind_of;
 
 // Whether the element of a word may stand in a row.
 fn named(h: Holding, w: u32) -> bool
@@ -18,7 +17,7 @@ fn named(h: Holding, w: u32) -> bool
 {
     match h {
         Holding::Things => word_makes(w) != 0,
-        Holding::Blocks => is_block(w),
+        Holding::Blocks => kind_of(w) == 2,
     }
 }
 
@@ -30,7 +29,7 @@ fn set_plain(row: &mut [u32], lead: usize)
 {
     let mut k = 0;
     while k < lead {
-        row[k] = FULL;
+        row[k] = 4294967295;
         k += 1;
     }
 }

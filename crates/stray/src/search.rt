@@ -8,11 +8,8 @@ ghost use Rattle.stray.specs.Allowed.{inside, clean, Slice, Rows};
 
 use crate::Holding;
 use crate::allowed::allow;
-use rows::layout::{FLAG, Layout};
-use table::is_block;
-
-// The first bit above permissions and flag.
-const UNUSED: u32 = 2 * FLAG;
+use rows::layout::Layout;
+use table::kind_of;
 
 // The first of so many words from `at` on that has a digit outside a row; the place after them where there is none.
 fn outside(est: &[u32], row: &[u32], at: usize, count: usize) -> usize
@@ -35,7 +32,7 @@ fn of_block(words: &[u32], r: usize) -> bool
     requires { (reading words.now ≡ accepted) × (r < 2 * length words.now) }
     ensures { result ≡ of_block (code words.now) r }
 {
-    r % 2 == 0 && is_block(words[r / 2])
+    r % 2 == 0 && kind_of(words[r / 2]) == 2
 }
 
 // The first word of row r with a stray digit.
@@ -75,7 +72,7 @@ fn in_flags(words: &[u32], est: &[u32], l: Layout) -> usize
 {
     let mut k = l.flags(0);
     while k < est.len() {
-        if UNUSED <= est[k] {
+        if 33554432 <= est[k] {
             return k;
         }
         k += 1;

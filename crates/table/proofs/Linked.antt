@@ -12,7 +12,7 @@ use Rattle.table.specs.Words.{argument, first_kind, parts_by_kind, limits_by_kin
 use Rattle.table.specs.Scan.{Task, head, name, perms, guard, term, accepted, under, reading}
 use Rattle.table.specs.Code.{part, tasks, task_at, blocks_from, term_node, node_for, scope_for, home_for, code, Within, Part, Bound, NodeLinked}
 use Rattle.table.specs.Code.{IsSet24, IsBlock, IsTerm, Linked}
-use Rattle.table.proofs.TermWords.{Rows, done, ◌▸◌, by-kind, argument-lt}
+use Rattle.table.proofs.TermWords.{Rows, done, ◌▸◌, by_kind, argument-lt}
 use Rattle.table.proofs.Parts.{part-zero, part-inside, part-task, tasks-length, term-stands}
 use Rattle.table.proofs.Scopes.{scoped}
 use Rattle.table.proofs.Blocks.{Block, block, block_listed, listed-block}
@@ -144,7 +144,7 @@ module _ (ws : List ℕ) (e : reading ws ≡ accepted) where
   term-linked p d h s l t =
       let w = get_or ws p 0 in
       let f = term-stands ws e p d h s l t in
-      by-kind (RowLinked ws p (argument w)) w f.0 f.1 (rows ws p (argument w)) f.2
+      by_kind (RowLinked ws p (argument w)) w f.0 f.1 (rows ws p (argument w)) f.2
       (λ k. subst (λ (u : Task). argument w < length (scope_for u)) (sym t) (f.3 k)) f.5 (home-listed p d h s l t) (part-within p d h s l t)
 
   node-linked : (p : ℕ) → p < length ws → (t : Task) → task_at ws p ≡ t → NodeLinked (code ws) p (node_for ws p t)

@@ -22,7 +22,7 @@ use Rattle.table.specs.Code.{part, end_of, task_at, term_node, node_for, scope_f
 use Rattle.table.specs.Item.{handler_at, item_at}
 use Rattle.table.specs.Links.{link_at, linked}
 use Rattle.table.proofs.Items.{item-block, item-gap, item-term}
-use Rattle.table.proofs.TermWords.{Rows, done, ◌▸◌, by-kind}
+use Rattle.table.proofs.TermWords.{Rows, done, ◌▸◌, by_kind}
 use Rattle.table.proofs.Faults.{Stands}
 use Rattle.table.proofs.Stack.{reach}
 use Rattle.table.proofs.Parts.{part-zero, part-suc, part-inside, place-stands, term-stands}
@@ -83,7 +83,7 @@ module _ (a b d a' b' d' : ℕ) where
   pub parts-alike : (w : ℕ) → 16 ≤ kind w → kind w ≤ 36 → (T (ltb 0 (length (parts w))) → a ≡ a') → (T (ltb 1 (length (parts w))) → b ≡ b')
       → (T (ltb 2 (length (parts w))) → d ≡ d') → term_node (term_of w) a b d ≡ term_node (term_of w) a' b' d'
   unfolding PartsAt
-  parts-alike w low high = by-kind (PartsAt a b d a' b' d') w low high (rows (argument w))
+  parts-alike w low high = by_kind (PartsAt a b d a' b' d') w low high (rows (argument w))
 
 -- ---- items apart
 
@@ -160,7 +160,7 @@ module _ (a n : ℕ) where
 
 variable-word : (w n : ℕ) → 16 ≤ kind w → kind w ≤ 36 → term_of w ≡ terms.Variable n → (kind w ≡ 20) × (argument w ≡ n)
 unfolding VariableAt variable_of
-variable-word w n low high h = by-kind (VariableAt (argument w) n) w low high (variable-rows (argument w) n) (ap variable_of h)
+variable-word w n low high h = by_kind (VariableAt (argument w) n) w low high (variable-rows (argument w) n) (ap variable_of h)
 
 -- ---- nodes, homes and binders
 

@@ -53,10 +53,10 @@ row P k ts ls bs (◌▸◌ {ts = ts'} {ls = ls'} {bs = bs'} p r) (suc j) h =
     subst (λ (n : ℕ). P n (get_or ts' j terms.Record) (get_or ls' j 0) (get_or bs' j [])) (let e : suc k + j ≡ k + suc j = omega arith in e)
     (row P (suc k) ts' ls' bs' r j (le_of_suc-le-suc h))
 
-pub by-kind : (P : ℕ → Term → ℕ → List Bool → Type 0) (w : ℕ) → 16 ≤ kind w → kind w ≤ 36
+pub by_kind : (P : ℕ → Term → ℕ → List Bool → Type 0) (w : ℕ) → 16 ≤ kind w → kind w ≤ 36
     → Rows P first_kind (terms_by_kind (argument w)) limits_by_kind parts_by_kind → P (kind w) (term_of w) (limit w) (parts w)
 unfolding term_of limit parts terms_by_kind
-by-kind P w low high rows =
+by_kind P w low high rows =
     subst (λ (n : ℕ). P n (term_of w) (limit w) (parts w)) (let e : 16 + (kind w - 16) ≡ kind w = omega arith in e)
     (row P first_kind (terms_by_kind (argument w)) limits_by_kind parts_by_kind rows (kind w - 16) (omega arith))
 
@@ -112,7 +112,7 @@ worded a =
 
 pub word-term_of : (w : ℕ) → 16 ≤ kind w → kind w ≤ 36 → argument w < limit w → word (term_of w) ≡ w
 unfolding Worded
-word-term_of w low high h = by-kind (Worded (argument w)) w low high (worded (argument w)) h ∙ word_of-parts w
+word-term_of w low high h = by_kind (Worded (argument w)) w low high (worded (argument w)) h ∙ word_of-parts w
 
 -- the term of a kind and an argument
 pub term_of-word_of : (k a : ℕ) → a < 2 ^ 24 → term_of (word_of k a) ≡ get_or (terms_by_kind a) (k - first_kind) terms.Record

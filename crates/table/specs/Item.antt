@@ -1,6 +1,5 @@
 -- What stands at a word of an accepted table, by its kind.
-use Rattle.std.specs.Prelude.{ℕ, ◌+◌, Bool, true, false, List, eqb, ltb, get_or}
-use Rattle.permset.specs.Sets.{within}
+use Rattle.std.specs.Prelude.{ℕ, ◌+◌, true, false, List, eqb, ltb, get_or}
 use Rattle.permset.specs.declared.PermSet.{PermSet}
 use Rattle.table.specs.declared.Handler.{Handler}
 use Rattle.table.specs.declared.Item.{Item}
@@ -27,9 +26,3 @@ unfoldable pub item_perms : Item → ℕ
 item_perms items.Gap = 0
 item_perms (items.Block h) = h.perms.bits
 item_perms (items.Term t) = 0
-
--- the guard of a block is within a set of permissions
-unfoldable pub item_guarded : Item → ℕ → Bool
-item_guarded items.Gap ρ = false
-item_guarded (items.Block h) ρ = within h.guard.bits ρ
-item_guarded (items.Term t) ρ = false

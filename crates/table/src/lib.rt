@@ -1,14 +1,10 @@
 // The reading of a system table: the terms and the refusals. What the layers above see of an accepted table is in table_links.
-pub mod kinds;
 pub mod numbers;
 mod packing;
 pub mod read;
-pub mod sizes;
 mod words;
 
-pub use crate::words::{
-    argument_of, arity_of, binds, is_block, kind_of, names_in, operation_of, term_of,
-};
+pub use crate::words::{argument_of, arity_of, binds, kind_of, names_in, operation_of, term_of};
 use permset::PermSet;
 
 #[derive(Drop)]

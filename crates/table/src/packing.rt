@@ -3,22 +3,16 @@ ghost use Rattle.std.specs.Prelude.{◌≡◌};
 ghost use Rattle.table.specs.Links.{pack as packed, unpack};
 
 use crate::Link;
-use crate::sizes::MOST_WORDS;
-
-// The first number that is no end, and the place of the block in a word, after end and binder.
-const ENDS: usize = 2 * MOST_WORDS;
-
-const HOME: usize = ENDS * MOST_WORDS;
 
 impl Link {
     // A link in one word.
     pub fn pack(self) -> u32
         ensures { result ≡ packed self }
     {
-        let end = self.end % ENDS;
-        let binder = self.binder % MOST_WORDS;
-        let home = self.home % MOST_WORDS;
-        (end + binder * ENDS + home * HOME) as u32
+        let end = self.end % 2048;
+        let binder = self.binder % 1024;
+        let home = self.home % 1024;
+        (end + binder * 2048 + home * 2097152) as u32
     }
 
     pub fn unpack(x: u32) -> Link
@@ -26,9 +20,9 @@ impl Link {
     {
         let all = x as usize;
         Link {
-            end: all % ENDS,
-            binder: all / ENDS % MOST_WORDS,
-            home: all / HOME % MOST_WORDS,
+            end: all % 2048,
+            binder: all / 2048 % 1024,
+            home: all / 2097152 % 1024,
         }
     }
 }

@@ -5,9 +5,8 @@ ghost use Rattle.table.specs.Scan.{Task, name, term, has, key, fault, scan, read
 ghost use Rattle.table.specs.Answer.{outcome};
 ghost use Rattle.table.specs.Rest.{judged, after_step, FoundAt, after_block};
 
-use crate::sizes::{ARGUMENTS, MOST_DEPTH, MOST_HANDLERS, MOST_WORDS};
 use crate::words::{argument_of, arity_of, binds, kind_of, limit_of, names_of};
-use crate::{Reading, Refusal, kinds};
+use crate::{Reading, Refusal};
 
 // Where reading goes on.
 #[derive(Drop)]
@@ -34,7 +33,7 @@ enum Found {
 fn unbound(kind: u32, argument: u32, binders: usize) -> bool
     ensures { result ≡ (eqb kind 20 && leb binders argument) }
 {
-    if kind == kinds::VARIABLE {
+    if kind == 20 {
         binders <= argument as usize
     } else {
         false
@@ -45,11 +44,7 @@ fn unbound(kind: u32, argument: u32, binders: usize) -> bool
 fn unnamed(kind: u32, argument: u32, names: u32) -> bool
     ensures { result ≡ (eqb kind 19 && leb names argument) }
 {
-    if kind == kinds::NAME {
-        names <= argument
-    } else {
-        false
-    }
+    if kind == 19 { names <= argument } else { false }
 }
 
 // Whether a word may stand for a term at a depth under so many binders.
@@ -58,10 +53,10 @@ fn term_word(w: u32, at: usize, depth: usize, binders: usize, names: u32) -> Rea
 {
     let kind = kind_of(w);
     let argument = argument_of(w);
-    if kind < kinds::FIRST {
+    if kind < 16 {
         return Reading::Refused(Refusal::NotTerm(at));
     }
-    if kinds::LAST < kind {
+    if 36 < kind {
         return Reading::Refused(Refusal::NotTerm(at));
     }
     if limit_of(w) <= argument {
@@ -73,7 +68,7 @@ fn term_word(w: u32, at: usize, depth: usize, binders: usize, names: u32) -> Rea
     if unbound(kind, argument, binders) {
         return Reading::Refused(Refusal::NoBinder(at));
     }
-    if MOST_DEPTH < depth {
+    if 64 < depth {
         return Reading::Refused(Refusal::TooDeep(at));
     }
     Reading::Accepted
@@ -140,20 +135,20 @@ fn block(words: &[u32], at: usize, keys: &[u32], start: usize, names: u32) -> Bl
     ensures { (ts : List Task) → scan names (drop at words.now) (drop start keys.now) at (name ∷ ts)
         ≡ after_block result names words.now (drop start keys.now) ts }
 {
-    let Found::Argument(name) = block_word(words, at, kinds::HANDLER) else {
+    let Found::Argument(name) = block_word(words, at, 2) else {
         return BlockStep::Refused(Refusal::NotBlock(at));
     };
     if names <= name {
         return BlockStep::Refused(Refusal::NameRange(at));
     }
-    let Found::Argument(perms) = block_word(words, at + 1, kinds::PERMISSIONS) else {
+    let Found::Argument(perms) = block_word(words, at + 1, 3) else {
         return BlockStep::Refused(Refusal::NotBlock(at + 1));
     };
-    let key = name * ARGUMENTS + perms;
+    let key = name * 16777216 + perms;
     if used(keys, start, key) {
         return BlockStep::Refused(Refusal::KeyUsed(at + 1));
     }
-    let Found::Argument(_) = block_word(words, at + 2, kinds::GUARD) else {
+    let Found::Argument(_) = block_word(words, at + 2, 4) else {
         return BlockStep::Refused(Refusal::NotBlock(at + 2));
     };
     match term(words, at + 3, 1, 1, names) {
@@ -167,8 +162,8 @@ fn blocks(words: &[u32], count: usize, names: u32) -> Reading
     requires { (count ≤ 64) × (names ≤ 64) }
     ensures { outcome result ≡ scan names (drop 1 words.now) [] 1 (replicate count name) }
 {
-    let mut keys = [0u32; MOST_HANDLERS];
-    let mut start = MOST_HANDLERS;
+    let mut keys = [0u32; 64];
+    let mut start = 64;
     let mut left = count;
     let mut at = 1;
     while 0 < left {
@@ -193,7 +188,7 @@ fn blocks(words: &[u32], count: usize, names: u32) -> Reading
 fn starts_table(kind: u32) -> bool
     ensures { result ≡ (eqb kind 1 || eqb kind 5) }
 {
-    kind == kinds::SYSTEM || kind == kinds::WIDE_SYSTEM
+    kind == 1 || kind == 5
 }
 
 // The whole table.
@@ -207,7 +202,7 @@ pub fn read(words: &[u32]) -> Reading
     if !starts_table(kind_of(w)) {
         return Reading::Refused(Refusal::NotTable);
     }
-    if MOST_WORDS < words.len() {
+    if 1024 < words.len() {
         return Reading::Refused(Refusal::TooManyWords);
     }
     let count = argument_of(w);
@@ -225,7 +220,7 @@ pub fn is_wide(words: &[u32]) -> bool
     if words.len() == 0 {
         return false;
     }
-    kind_of(words[0]) == kinds::WIDE_SYSTEM
+    kind_of(words[0]) == 5
 }
 
 // The whole table, where a wide one is refused.

@@ -1,47 +1,35 @@
 // What a word says by itself: its kind, its argument, its parts and its term.
-ghost use Rattle.std.specs.Prelude.{◌≡◌, false, ◌-◌, eqb, get_or};
+ghost use Rattle.std.specs.Prelude.{◌≡◌, false, ◌-◌, get_or};
 ghost use Rattle.table.specs.Words.{kind, argument, names_of, first_kind, parts, mark, arity, limit, term_of, constant_of, operation_of};
 
-use crate::sizes::{ARGUMENTS, LITERALS, NARROW, WIDE};
-use crate::{Constant, Operation, Term, kinds};
+use crate::{Constant, Operation, Term};
 use permset::PermSet;
 
-// How many parts a term has: two bits for each kind, from kind 36 down to 16.
-//                     36 35 34 33 32 31 30 29 28 27 26 25 24 23 22 21 20 19 18 17 16
-const ARITIES: u64 = 0b00_10_10_01_01_10_11_10_00_10_10_11_10_10_10_01_00_00_00_00_00;
+const KIND: u32 = 16777216;
 
-// Which part has the term itself as its innermost binder: three bits for each kind from 23 down to 16, the lowest for the first part. A let (23) is
-// that of its second part, a function (21) of its first; no kind above has such a part.
-const BINDS: u64 = 0b010_000_001_000_000_000_000_000;
+// Two bits for each kind of a term: how many parts it has.
+const ARITIES: u64 = 711768056832;
+
+// Three bits for each kind: which part has the term itself as its innermost binder.
+const BINDS: u64 = 4227072;
 
 pub fn kind_of(w: u32) -> u32
     ensures { result ≡ kind w }
 {
-    w / ARGUMENTS
+    w / KIND
 }
 
 pub fn argument_of(w: u32) -> u32
     ensures { result ≡ argument w }
 {
-    w % ARGUMENTS
-}
-
-// Whether a word is the first one of a block.
-pub fn is_block(w: u32) -> bool
-    ensures { result ≡ eqb (kind w) 2 }
-{
-    kind_of(w) == kinds::HANDLER
+    w % KIND
 }
 
 // How many names a table may have, by its word 0.
 pub fn names_of(w: u32) -> u32
     ensures { result ≡ names_of w }
 {
-    if kind_of(w) == kinds::WIDE_SYSTEM {
-        WIDE
-    } else {
-        NARROW
-    }
+    if kind_of(w) == 5 { 64 } else { 32 }
 }
 
 // The same, of all words of a table.
@@ -49,7 +37,7 @@ pub fn names_in(words: &[u32]) -> u32
     ensures { result ≡ names_of (get_or words.now 0 0) }
 {
     if words.len() == 0 {
-        return NARROW;
+        return 32;
     }
     names_of(words[0])
 }
@@ -59,11 +47,7 @@ fn place_of(w: u32) -> usize
     ensures { result ≡ kind w - first_kind }
 {
     let kind = kind_of(w);
-    if kind < kinds::FIRST {
-        0
-    } else {
-        (kind - kinds::FIRST) as usize
-    }
+    if kind < 16 { 0 } else { (kind - 16) as usize }
 }
 
 // How many parts the term has.
@@ -71,7 +55,7 @@ pub fn arity_of(w: u32) -> usize
     ensures { result ≡ arity w }
 {
     let i = place_of(w);
-    if i < kinds::COUNT {
+    if i < 21 {
         (ARITIES >> (2 * i) as u32) as usize % 4
     } else {
         0
@@ -85,10 +69,10 @@ pub fn limit_of(w: u32) -> u32
     let i = place_of(w);
     match i {
         0 => 4,
-        1 => ARGUMENTS,
-        2 => LITERALS,
-        3 => ARGUMENTS,
-        4 => ARGUMENTS,
+        1 => KIND,
+        2 => 23,
+        3 => KIND,
+        4 => KIND,
         5 => 1,
         6 => 1,
         7 => 1,
@@ -103,8 +87,8 @@ pub fn limit_of(w: u32) -> u32
         16 => 1,
         17 => 1,
         18 => 1,
-        19 => ARGUMENTS,
-        20 => ARGUMENTS,
+        19 => KIND,
+        20 => KIND,
         _ => 0,
     }
 }
@@ -114,7 +98,7 @@ pub fn binds(w: u32, i: usize) -> usize
     ensures { result ≡ mark (get_or (parts w) i false) }
 {
     let k = place_of(w);
-    if k < kinds::COUNT {
+    if k < 21 {
         if i < 3 {
             (BINDS >> (k * 3 + i) as u32) as usize % 2
         } else {

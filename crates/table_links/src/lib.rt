@@ -1,12 +1,11 @@
 // What the layers above see of an accepted table: the item at a word, and the links, which `link` writes into a lent slice.
-ghost use Rattle.std.specs.Prelude.{◌≡◌, false, suc, ◌+◌, ◌<◌, ◌≤◌, length, get_or};
+ghost use Rattle.std.specs.Prelude.{◌≡◌, false, suc, ◌<◌, ◌≤◌, length, get_or};
 ghost use Rattle.table.specs.Words.{parts};
-ghost use Rattle.table.specs.Item.{set_of, handler_at, item_at, item_perms, item_guarded};
+ghost use Rattle.table.specs.Item.{set_of, handler_at, item_at};
 ghost use Rattle.table.specs.Links.{link_at, hops, ends, with_binder, with_home, outward, innermost, bind_parts, block_at, bind_word, binders, linked};
 
 use permset::PermSet;
-use table::sizes::MOST_WORDS;
-use table::{Handler, Item, Link, argument_of, arity_of, binds, kind_of, kinds, term_of};
+use table::{Handler, Item, Link, argument_of, arity_of, binds, kind_of, term_of};
 
 // The argument of the word at a place as a set, the empty one past the end.
 fn set_at(words: &[u32], p: usize) -> PermSet
@@ -41,10 +40,10 @@ pub fn item_at(words: &[u32], p: usize) -> Item
     }
     let w = words[p];
     let kind = kind_of(w);
-    if kind == kinds::HANDLER {
+    if kind == 2 {
         return Item::Block(handler_at(words, p));
     }
-    if kind < kinds::FIRST {
+    if kind < 16 {
         return Item::Gap;
     }
     Item::Term(term_of(w))
@@ -60,75 +59,6 @@ pub fn link_at(links: &[u32], p: usize) -> Link
         Link::unpack(0)
     }
 }
-
-// ---- what the layers above ask of a word
-
-// Whether there is a block at a place whose guard lets in who has rho.
-pub fn opens(words: &[u32], rho: PermSet, p: usize) -> bool
-    ensures { result ≡ item_guarded (item_at words.now p) rho.bits }
-{
-    match item_at(words, p) {
-        Item::Gap => false,
-        Item::Block(h) => {
-            let guard = h.guard;
-            guard.within(rho)
-        }
-        Item::Term(_) => false,
-    }
-}
-
-// The body of the block at a place.
-pub fn body_of(b: usize) -> usize
-    requires { b < 2048 }
-    ensures { result ≡ b + 3 }
-{
-    b + 3
-}
-
-// The block after the one at a place, or the end of the table.
-pub fn next_block(links: &[u32], b: usize) -> usize
-    requires { b < 2048 }
-    ensures { result ≡ (link_at links.now (b + 3)).end }
-{
-    link_at(links, body_of(b)).end
-}
-
-// Where the second part of the term at a place starts, if it has one.
-pub fn second_of(links: &[u32], p: usize) -> usize
-    requires { p < 2048 }
-    ensures { (result ≡ (link_at links.now (p + 1)).end) × (result < 2048) }
-{
-    link_at(links, p + 1).end
-}
-
-// Where its third part starts, if it has one.
-pub fn third_of(links: &[u32], p: usize) -> usize
-    requires { p < 2048 }
-    ensures { (result ≡ (link_at links.now (link_at links.now (p + 1)).end).end) × (result < 2048) }
-{
-    link_at(links, second_of(links, p)).end
-}
-
-// The innermost binder of the term at a place; of a variable the binder that it counts to.
-pub fn binder_of(links: &[u32], p: usize) -> usize
-    ensures { (result ≡ (link_at links.now p).binder) × (result < 2048) }
-{
-    link_at(links, p).binder
-}
-
-// The permissions of the block of a word.
-pub fn permissions_of(words: &[u32], links: &[u32], p: usize) -> PermSet
-    ensures { result.bits ≡ item_perms (item_at words.now (link_at links.now p).home) }
-{
-    let home = link_at(links, p).home;
-    match item_at(words, home) {
-        Item::Gap => PermSet { bits: 0 },
-        Item::Block(h) => h.perms,
-        Item::Term(_) => PermSet { bits: 0 },
-    }
-}
-
-// ---- the links of a table
 
 // The place after so many terms, from a place on.
 fn hop(links: &[u32], count: usize, p: usize) -> usize
@@ -234,12 +164,12 @@ fn bind_word(links: &mut [u32], w: u32, p: usize)
     ensures { links.new ≡ bind_word w p links.old }
 {
     let kind = kind_of(w);
-    if kind == kinds::HANDLER {
+    if kind == 2 {
         set_binder(links, p + 3, p);
         return;
     }
     let binder = link_at(links, p).binder;
-    if kind == kinds::VARIABLE {
+    if kind == 20 {
         let out = count_out(links, argument_of(w) as usize, binder);
         set_binder(links, p, out);
         return;
@@ -251,11 +181,7 @@ fn bind_word(links: &mut [u32], w: u32, p: usize)
 pub fn block_of(w: u32, p: usize, home: usize) -> usize
     ensures { result ≡ block_at w p home }
 {
-    if kind_of(w) == kinds::HANDLER {
-        p
-    } else {
-        home
-    }
+    if kind_of(w) == 2 { p } else { home }
 }
 
 // The binders and blocks of all words, from the first to the last.
@@ -282,7 +208,7 @@ pub fn link(words: &[u32], links: &mut [u32])
     if links.len() < words.len() {
         return;
     }
-    if MOST_WORDS < words.len() {
+    if 1024 < words.len() {
         return;
     }
     link_ends(words, links);

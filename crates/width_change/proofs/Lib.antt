@@ -1,3 +1,5 @@
+pub mod Origins
+pub mod Results
+pub mod Transferred
 pub mod Leaks
 pub mod Theorems
-pub mod Conversions

@@ -16,9 +16,9 @@ alone k n body = word_of k 1 ∷ word_of 2 n ∷ word_of 3 0 ∷ word_of 4 0 ∷
 unfoldable pub direct : List ℕ
 direct = alone 1 0 (word_of 36 2 ∷ [])
 
--- blocks of a name with distinct permission sets, so many
-unfoldable pub handlers : (name count : ℕ) → List ℕ
-handlers name n = elim n [ zero ↦ [] | suc (m → r) ↦ word_of 2 name ∷ word_of 3 m ∷ word_of 4 0 ∷ word_of 28 0 ∷ r ]
+-- blocks of name 0 with distinct permission sets, so many
+unfoldable pub handlers : ℕ → List ℕ
+handlers n = elim n [ zero ↦ [] | suc (m → r) ↦ word_of 2 0 ∷ word_of 3 m ∷ word_of 4 0 ∷ word_of 28 0 ∷ r ]
 
 -- up, with a word to spare and without room; and down again
 pub written-words : (
@@ -58,12 +58,8 @@ pub down : (
 unfolding direct convert_answer answer convertible narrowable fits_narrow names_fit wide_name read_as rekinded reading scan fault first_of tests has missing keep next under names_of limit limits_by_kind parts parts_by_kind
 down = refl
 
--- 33 handlers, also where their name is over 31; and 32
-pub many : (
-    convert_answer false (word_of 5 33 ∷ handlers 0 33) 0
-    ∷ convert_answer false (word_of 5 33 ∷ handlers 32 33) 0
-    ∷ convert_answer false (word_of 5 32 ∷ handlers 0 32) 129
-    ∷ [])
-    ≡ (refusal 55 0 ∷ refusal 55 0 ∷ written 129 ∷ [])
+-- 33 handlers, and 32
+pub many : (convert_answer false (word_of 5 33 ∷ handlers 33) 0 ∷ convert_answer false (word_of 5 32 ∷ handlers 32) 129 ∷ [])
+    ≡ (refusal 55 0 ∷ written 129 ∷ [])
 unfolding handlers convert_answer answer convertible narrowable fits_narrow names_fit wide_name read_as rekinded reading scan fault first_of tests has missing keep next under names_of limit limits_by_kind parts parts_by_kind
 many = refl

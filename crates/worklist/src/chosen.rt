@@ -23,10 +23,10 @@ pub fn choose_some(out: &mut [u32], k: usize, e: usize, p: usize) {
 }
 
 // A clause that reads the row r, unless r waits or has not grown yet: then it comes to all its readers at its turn.
-pub fn choose_unless(memory: &[u32], out: &mut [u32], r: usize, k: usize, p: usize, f: usize)
+pub fn choose_unless(h: &[u32], out: &mut [u32], r: usize, k: usize, p: usize, f: usize)
     requires { r < 65536 }
 {
-    if !waits(memory, r) {
+    if !waits(h, r) {
         choose(out, k, p, f);
     }
 }

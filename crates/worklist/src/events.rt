@@ -16,19 +16,12 @@ const STRINGS: u32 = 4294967040;
 // ---- live words
 
 // The word p, which is live: its value, and its parts.
-fn start(words: &[u32], links: &[u32], memory: &[u32], out: &mut [u32], p: usize)
+fn start(words: &[u32], links: &[u32], h: &[u32], out: &mut [u32], p: usize)
     requires { p < length words.now }
 {
     let kind = kind_within(words, p);
     match kind {
-        kinds::VARIABLE => choose_unless(
-            memory,
-            out,
-            2 * link(links, p).binder + 1,
-            kinds::VALUE,
-            p,
-            0,
-        ),
+        kinds::VARIABLE => choose_unless(h, out, 2 * link(links, p).binder + 1, kinds::VALUE, p, 0),
         kinds::CELL | kinds::SEND | kinds::EXERCISE => {
             choose_some(out, kinds::PARTS, kinds::OWN_END, p);
         }
@@ -51,16 +44,16 @@ fn after(words: &[u32], links: &[u32], p: usize) -> usize
 }
 
 // The word p, if it is live with the words before it: no branch of an if and no body of a while is. Answers the next word that may be.
-fn visit(words: &[u32], links: &[u32], memory: &[u32], out: &mut [u32], p: usize) -> usize
+fn visit(words: &[u32], links: &[u32], h: &[u32], out: &mut [u32], p: usize) -> usize
     requires { (p < length words.now) × (p < 2048) }
     ensures { p < result }
 {
-    let q = planned(memory, PARENT, p);
+    let q = planned(h, PARENT, p);
     let kind = kind_at(words, q);
     if (kind == kinds::IF || kind == kinds::WHILE) && p != q + 1 {
         return past(links, p);
     }
-    start(words, links, memory, out, p);
+    start(words, links, h, out, p);
     after(words, links, p)
 }
 
@@ -72,17 +65,17 @@ fn lower(a: usize, b: usize) -> usize
 }
 
 // The block or the term at q is live, and what is live with it.
-pub fn woke(words: &[u32], links: &[u32], memory: &[u32], out: &mut [u32], q: usize)
+pub fn woke(words: &[u32], links: &[u32], h: &[u32], out: &mut [u32], q: usize)
     requires { q < 2048 }
 {
     if words.len() <= q {
         return;
     }
     let e = lower(close(words, links, q), words.len());
-    start(words, links, memory, out, q);
+    start(words, links, h, out, q);
     let mut p = after(words, links, q);
     while p < e {
-        p = visit(words, links, memory, out, p);
+        p = visit(words, links, h, out, p);
     }
 }
 
@@ -92,7 +85,7 @@ pub fn woke(words: &[u32], links: &[u32], memory: &[u32], out: &mut [u32], q: us
 fn record_part(
     masks: &[u32],
     est: &[u32],
-    memory: &mut [u32],
+    h: &mut [u32],
     out: &mut [u32],
     l: Layout,
     kind: u32,
@@ -110,7 +103,7 @@ fn record_part(
         kinds::GET_TAKE
     };
     choose_some(out, kinds::RECORDS_FIRST, take, p);
-    meet_new(masks, est, memory, out, l, kind, d, p);
+    meet_new(masks, est, h, out, l, kind, d, p);
 }
 
 // Part i of p, a term that does not act on things, whose second part is at d.
@@ -145,12 +138,12 @@ fn plain_part(out: &mut [u32], kind: u32, d: usize, p: usize, i: usize)
 }
 
 // A part of the send at p, whose message is at d: what is sent goes to the one block of its names, or to all where they have more.
-fn send_part(memory: &[u32], out: &mut [u32], d: usize, p: usize)
+fn send_part(h: &[u32], out: &mut [u32], d: usize, p: usize)
     requires { (d < 2048) × (p < 1024) }
 {
-    let b = get(memory, RECEIVER + PER_WORD * p);
-    if b < MOST && !waits(memory, 2 * (p + 1)) {
-        choose_unless(memory, out, 2 * d, kinds::SEND_SEND, p, b);
+    let b = get(h, RECEIVER + PER_WORD * p);
+    if b < MOST && !waits(h, 2 * (p + 1)) {
+        choose_unless(h, out, 2 * d, kinds::SEND_SEND, p, b);
     }
 }
 
@@ -160,52 +153,52 @@ fn part_grew(
     links: &[u32],
     masks: &[u32],
     est: &[u32],
-    memory: &mut [u32],
+    h: &mut [u32],
     out: &mut [u32],
     l: Layout,
     i: usize,
 )
     requires { i < 1024 }
 {
-    let p = planned(memory, PARENT, i);
+    let p = planned(h, PARENT, i);
     let kind = kind_at(words, p);
     let first = i == p + 1;
     let d = link(links, p + 1).end;
     match kind {
-        kinds::FUNCTION => notify(words, memory, out, l.size, p),
+        kinds::FUNCTION => notify(words, h, out, l.size, p),
         kinds::APPLY => if first {
-            meet_new(masks, est, memory, out, l, kind, d, p);
+            meet_new(masks, est, h, out, l, kind, d, p);
         } else {
             choose(out, kinds::APPLY_HAND, p, 0);
         },
-        kinds::GET | kinds::SET => record_part(masks, est, memory, out, l, kind, d, p),
-        kinds::READ => meet_new(masks, est, memory, out, l, kind, d, p),
+        kinds::GET | kinds::SET => record_part(masks, est, h, out, l, kind, d, p),
+        kinds::READ => meet_new(masks, est, h, out, l, kind, d, p),
         kinds::ASSIGN => {
             choose(out, kinds::ASSIGN_RESULT, p, 0);
             if first {
-                meet_new(masks, est, memory, out, l, kind, d, p);
+                meet_new(masks, est, h, out, l, kind, d, p);
             } else {
                 choose(out, kinds::ASSIGN_HAND, p, 0);
             }
         }
         kinds::SEND => if first {
-            follow_names(words, links, est, memory, l, p);
-            send_part(memory, out, d, p);
+            follow_names(words, links, est, h, l, p);
+            send_part(h, out, d, p);
         } else {
-            send_part(memory, out, d, p);
+            send_part(h, out, d, p);
         },
         _ => plain_part(out, kind, d, p, i),
     }
 }
 
 // The uses of the binder i, from the last to the first.
-fn uses(memory: &[u32], out: &mut [u32], i: usize)
+fn uses(h: &[u32], out: &mut [u32], i: usize)
     requires { i < 1024 }
 {
-    let mut v = planned(memory, USE, i);
+    let mut v = planned(h, USE, i);
     while 0 < v {
         choose(out, kinds::VALUE, v, 0);
-        let before = planned(memory, USE, v);
+        let before = planned(h, USE, v);
         v = if before < v { before } else { 0 };
     }
 }
@@ -216,7 +209,7 @@ pub fn row_grew(
     links: &[u32],
     masks: &[u32],
     est: &[u32],
-    memory: &mut [u32],
+    h: &mut [u32],
     out: &mut [u32],
     l: Layout,
     r: usize,
@@ -225,34 +218,27 @@ pub fn row_grew(
 {
     let i = r / 2;
     if r % 2 == 0 {
-        part_grew(words, links, masks, est, memory, out, l, i);
+        part_grew(words, links, masks, est, h, out, l, i);
     } else if kind_at(words, i) < kinds::RECORD {
-        uses(memory, out, i);
+        uses(h, out, i);
     } else {
-        notify(words, memory, out, l.size, i);
+        notify(words, h, out, l.size, i);
     }
 }
 
 // ---- permissions
 
 // The permissions of the word i have grown.
-pub fn permissions_grew(
-    words: &[u32],
-    est: &[u32],
-    memory: &[u32],
-    out: &mut [u32],
-    l: Layout,
-    i: usize,
-)
+pub fn permissions_grew(words: &[u32], est: &[u32], h: &[u32], out: &mut [u32], l: Layout, i: usize)
     requires { i < 2048 }
 {
     if kind_at(words, i) == kinds::BLOCK {
-        tell(est, memory, out, l, kinds::SEND_SEND, i, i);
+        tell(est, h, out, l, kinds::SEND_SEND, i, i);
         return;
     }
-    let q = planned(memory, PARENT, i);
+    let q = planned(h, PARENT, i);
     if kind_at(words, q) == kinds::FUNCTION {
-        tell(est, memory, out, l, kinds::APPLY_LOWER, q, i);
+        tell(est, h, out, l, kinds::APPLY_LOWER, q, i);
     } else {
         choose(out, kinds::PARTS, q, 0);
     }

@@ -2,12 +2,11 @@
 ghost use Rattle.std.specs.Prelude.{◌≡◌, ◌+◌, ◌/◌, ◌<◌, ◌≤◌, length, get_or};
 
 use choices::word;
-use table::sizes::MOST_WORDS;
 
 // The most words of a table, and the most turns: two rows for each.
-pub const MOST: usize = MOST_WORDS;
+pub const MOST: usize = 1024;
 
-pub const TURNS: usize = 2 * MOST;
+pub const TURNS: usize = 2048;
 
 // The bits of a word; the words that a set of turns and a set of words of the table need; and how many summary words these have.
 pub const BITS: usize = 32;
@@ -57,31 +56,31 @@ pub fn at_followers(n: usize, f: usize) -> usize
 }
 
 // The word at a place as a number, 0 past the end.
-pub fn get(memory: &[u32], i: usize) -> usize
-    ensures { (result ≡ get_or memory.now i 0) × (result < 4294967296) }
+pub fn get(h: &[u32], i: usize) -> usize
+    ensures { (result ≡ get_or h.now i 0) × (result < 4294967296) }
 {
-    word(memory, i) as usize
+    word(h, i) as usize
 }
 
 // Writes a number; nothing past the end.
-pub fn put(memory: &mut [u32], i: usize, v: usize) {
-    if i < memory.len() {
-        memory[i] = (v % LIMIT) as u32;
+pub fn put(h: &mut [u32], i: usize, v: usize) {
+    if i < h.len() {
+        h[i] = (v % LIMIT) as u32;
     }
 }
 
 // Bit i of the words from a place on.
-pub fn set_bit(memory: &mut [u32], at: usize, i: usize)
-    requires { (i < 4294967296) × (at + i / 32 < length memory.old) }
+pub fn set_bit(h: &mut [u32], at: usize, i: usize)
+    requires { (i < 4294967296) × (at + i / 32 < length h.old) }
 {
     let k = at + i / BITS;
-    memory[k] = memory[k] | (1u32 << (i % BITS) as u32);
+    h[k] = h[k] | (1u32 << (i % BITS) as u32);
 }
 
-pub fn has_bit(memory: &[u32], at: usize, i: usize) -> bool
+pub fn has_bit(h: &[u32], at: usize, i: usize) -> bool
     requires { (at < 4294967296) × (i < 4294967296) }
 {
-    (word(memory, at + i / BITS) >> (i % BITS) as u32) % 2 == 1
+    (word(h, at + i / BITS) >> (i % BITS) as u32) % 2 == 1
 }
 
 // The lowest bit of a word, and the highest; 32 and 0 if there is none.
@@ -98,9 +97,9 @@ pub fn highest(w: u32) -> usize
 }
 
 // The word at PARENT or USE of p.
-pub fn planned(memory: &[u32], part: usize, p: usize) -> usize
+pub fn planned(h: &[u32], part: usize, p: usize) -> usize
     requires { (part < 2048) × (p < 2048) }
     ensures { result < 1024 }
 {
-    get(memory, part + PER_WORD * p) % MOST
+    get(h, part + PER_WORD * p) % MOST
 }

@@ -16,35 +16,35 @@ pub fn next(
     links: &[u32],
     masks: &[u32],
     est: &[u32],
-    memory: &mut [u32],
+    h: &mut [u32],
     out: &mut [u32],
     l: Layout,
     turn: usize,
 ) -> usize
     ensures turn { result ≤ 4096 }
-    ensures memory { Kept memory.old memory.new }
+    ensures memory { Kept h.old h.new }
     ensures choices { Kept out.old out.new }
 {
     let from = turn % TURNS;
     put(out, 0, 0);
-    if memory.len() < TURN {
+    if h.len() < TURN {
         return NOTHING;
     }
-    let q = take_low(memory, LIVE);
+    let q = take_low(h, LIVE);
     if q < MOST {
-        woke(words, links, memory, out, q);
+        woke(words, links, h, out, q);
         return from;
     }
-    let t = take_turn(memory, from);
+    let t = take_turn(h, from);
     if t < TURNS {
-        let r = get(memory, ROW + PER_ROW * t) % TURNS;
-        put(memory, TURN + PER_ROW * r, TURNS + t);
-        row_grew(words, links, masks, est, memory, out, l, r);
+        let r = get(h, ROW + PER_ROW * t) % TURNS;
+        put(h, TURN + PER_ROW * r, TURNS + t);
+        row_grew(words, links, masks, est, h, out, l, r);
         return t + 1;
     }
-    let p = take_high(memory, PERMISSIONS);
+    let p = take_high(h, PERMISSIONS);
     if p < MOST {
-        permissions_grew(words, est, memory, out, l, p);
+        permissions_grew(words, est, h, out, l, p);
         return from;
     }
     NOTHING

@@ -15,34 +15,34 @@ struct Place {
 }
 
 // The row r has the turn t. Answers the next turn.
-fn give(memory: &mut [u32], t: usize, r: usize) -> usize
+fn give(h: &mut [u32], t: usize, r: usize) -> usize
     requires { r < 2048 }
 {
     let turn = t % TURNS;
-    put(memory, TURN + PER_ROW * r, turn);
-    put(memory, ROW + PER_ROW * turn, r);
+    put(h, TURN + PER_ROW * r, turn);
+    put(h, ROW + PER_ROW * turn, r);
     turn + 1
 }
 
 // The same, for a row that has a turn of its own only if `due`.
-fn give_if(memory: &mut [u32], t: usize, r: usize, due: bool) -> usize
+fn give_if(h: &mut [u32], t: usize, r: usize, due: bool) -> usize
     requires { r < 2048 }
 {
-    if due { give(memory, t, r) } else { t }
+    if due { give(h, t, r) } else { t }
 }
 
 // The word q is done. A record or a cell holds what it makes, in B.
-fn leave(words: &[u32], memory: &mut [u32], t: usize, q: usize) -> usize
+fn leave(words: &[u32], h: &mut [u32], t: usize, q: usize) -> usize
     requires { (q < length words.now) × (length words.now ≤ 1024) }
 {
     let kind = kind_within(words, q);
     let held = kind == kinds::RECORD || kind == kinds::SET || kind == kinds::CELL;
-    let turn = give_if(memory, t, 2 * q + 1, held);
-    give(memory, turn, 2 * q)
+    let turn = give_if(h, t, 2 * q + 1, held);
+    give(h, turn, 2 * q)
 }
 
 // Leaves the words that are done before p.
-fn leave_all(words: &[u32], links: &[u32], memory: &mut [u32], place: Place, p: usize) -> Place
+fn leave_all(words: &[u32], links: &[u32], h: &mut [u32], place: Place, p: usize) -> Place
     requires { (place.word < length words.now) × (length words.now ≤ 1024) }
     ensures { result.word < length words.now }
 {
@@ -52,53 +52,53 @@ fn leave_all(words: &[u32], links: &[u32], memory: &mut [u32], place: Place, p: 
         if p < close(words, links, q) {
             return Place { turn, word: q };
         }
-        turn = leave(words, memory, turn, q);
-        let around = planned(memory, PARENT, q);
+        turn = leave(words, h, turn, q);
+        let around = planned(h, PARENT, q);
         q = if around < q { around } else { 0 };
     }
     Place { turn, word: 0 }
 }
 
 // A variable at p is the last use of its binder so far.
-fn add_use(words: &[u32], links: &[u32], memory: &mut [u32], p: usize)
+fn add_use(words: &[u32], links: &[u32], h: &mut [u32], p: usize)
     requires { (p < length words.now) × (length words.now ≤ 1024) }
 {
     if kind_within(words, p) == kinds::VARIABLE {
         let b = link(links, p).binder;
-        let before = planned(memory, USE, b);
-        put(memory, USE + PER_WORD * p, before);
-        put(memory, USE + PER_WORD * b, p);
+        let before = planned(h, USE, b);
+        put(h, USE + PER_WORD * p, before);
+        put(h, USE + PER_WORD * b, p);
     }
 }
 
 // The word p, a part of q. A let has its value before its second part; what a block or a function binds comes from outside, before its body.
-fn enter(words: &[u32], links: &[u32], memory: &mut [u32], t: usize, q: usize, p: usize) -> usize
+fn enter(words: &[u32], links: &[u32], h: &mut [u32], t: usize, q: usize, p: usize) -> usize
     requires { (q < length words.now) × (p < length words.now) × (length words.now ≤ 1024) }
 {
-    put(memory, PARENT + PER_WORD * p, q);
-    add_use(words, links, memory, p);
+    put(h, PARENT + PER_WORD * p, q);
+    add_use(words, links, h, p);
     let bound = kind_within(words, q) == kinds::LET && p != q + 1;
-    let turn = give_if(memory, t, 2 * q + 1, bound);
+    let turn = give_if(h, t, 2 * q + 1, bound);
     let kind = kind_within(words, p);
     let opened = kind == kinds::BLOCK || kind == kinds::FUNCTION;
-    give_if(memory, turn, 2 * p + 1, opened)
+    give_if(h, turn, 2 * p + 1, opened)
 }
 
-fn prepare_word(words: &[u32], links: &[u32], memory: &mut [u32], place: Place, p: usize) -> Place
+fn prepare_word(words: &[u32], links: &[u32], h: &mut [u32], place: Place, p: usize) -> Place
     requires { (place.word < length words.now) × (p < length words.now) × (length words.now ≤ 1024) }
     ensures { result.word < length words.now }
 {
     if kinds::has_rows(kind_within(words, p)) {
-        let at = leave_all(words, links, memory, place, p);
-        let turn = enter(words, links, memory, at.turn, at.word, p);
+        let at = leave_all(words, links, h, place, p);
+        let turn = enter(words, links, h, at.turn, at.word, p);
         return Place { turn, word: p };
     }
     place
 }
 
 // Fills a memory of zeros; nothing for more than MOST words.
-pub fn prepare(words: &[u32], links: &[u32], memory: &mut [u32])
-    ensures { Kept memory.old memory.new }
+pub fn prepare(words: &[u32], links: &[u32], h: &mut [u32])
+    ensures { Kept h.old h.new }
 {
     let n = words.len();
     if n == 0 || MOST < n {
@@ -107,8 +107,8 @@ pub fn prepare(words: &[u32], links: &[u32], memory: &mut [u32])
     let mut place = Place { turn: 0, word: 0 };
     let mut p = 1;
     while p < n {
-        place = prepare_word(words, links, memory, place, p);
+        place = prepare_word(words, links, h, place, p);
         p += 1;
     }
-    leave_all(words, links, memory, place, n);
+    leave_all(words, links, h, place, n);
 }

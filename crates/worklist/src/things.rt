@@ -6,26 +6,37 @@ use crate::kinds;
 use crate::memory::{BITS, MOST, PER_WORD, RECEIVER, TURNS, at_followers, has_bit, lowest, put};
 use crate::sets::{follow, next_follower};
 use crate::view::{flags, kind_at, past, row_at, width};
-use rows::elements::NAMES;
-use rows::layout::{FLAG, Layout};
+use rows::layout::Layout;
 use rows::row::next_common;
-use rows::sorts::{CELLS, FUNCTIONS, RECORDS};
 use table::argument_of;
 
+// The masks, by their numbers.
+const FUNCTIONS: usize = 0;
+
+const RECORDS: usize = 1;
+
+const CELLS: usize = 2;
+
+// The element of the first name.
+const NAMES: usize = 32;
+
+// Below the live flag stand the permissions.
+const LIVE_FLAG: u32 = 16777216;
+
 // The term p, of a kind, whose second part is at d, meets the thing f. What of it waits comes at its turn.
-fn meet(memory: &[u32], out: &mut [u32], kind: u32, d: usize, p: usize, f: usize)
+fn meet(h: &[u32], out: &mut [u32], kind: u32, d: usize, p: usize, f: usize)
     requires { (d < 2048) × (f < 4096) }
 {
     match kind {
         kinds::APPLY => {
             choose(out, kinds::APPLY_ENTER, p, f);
-            choose_unless(memory, out, 2 * d, kinds::APPLY_HAND, p, f);
-            choose_unless(memory, out, 2 * f + 2, kinds::APPLY_BACK, p, f);
+            choose_unless(h, out, 2 * d, kinds::APPLY_HAND, p, f);
+            choose_unless(h, out, 2 * f + 2, kinds::APPLY_BACK, p, f);
         }
-        kinds::GET => choose_unless(memory, out, 2 * f + 1, kinds::GET_TAKE, p, f),
-        kinds::SET => choose_unless(memory, out, 2 * f + 1, kinds::SET_TAKE, p, f),
-        kinds::READ => choose_unless(memory, out, 2 * f + 1, kinds::READ_TAKE, p, f),
-        _ => choose_unless(memory, out, 2 * d, kinds::ASSIGN_HAND, p, f),
+        kinds::GET => choose_unless(h, out, 2 * f + 1, kinds::GET_TAKE, p, f),
+        kinds::SET => choose_unless(h, out, 2 * f + 1, kinds::SET_TAKE, p, f),
+        kinds::READ => choose_unless(h, out, 2 * f + 1, kinds::READ_TAKE, p, f),
+        _ => choose_unless(h, out, 2 * d, kinds::ASSIGN_HAND, p, f),
     }
 }
 
@@ -41,17 +52,17 @@ fn mask_of(kind: u32) -> usize
 }
 
 // The same, if p did not follow f before; it does from then on.
-fn meet_once(memory: &mut [u32], out: &mut [u32], n: usize, kind: u32, d: usize, p: usize, f: usize)
+fn meet_once(h: &mut [u32], out: &mut [u32], n: usize, kind: u32, d: usize, p: usize, f: usize)
     requires { (d < 2048) × (f < 4096) }
 {
-    if follow(memory, n, f, p) {
-        meet(memory, out, kind, d, p, f);
+    if follow(h, n, f, p) {
+        meet(h, out, kind, d, p, f);
     }
 }
 
 // The things that are bits of one word, the first of them f, as far as they are new to p.
 fn meet_word(
-    memory: &mut [u32],
+    h: &mut [u32],
     out: &mut [u32],
     n: usize,
     kind: u32,
@@ -65,7 +76,7 @@ fn meet_word(
     let mut bits = members;
     while bits != 0 {
         let g = f + lowest(bits);
-        meet_once(memory, out, n, kind, d, p, g);
+        meet_once(h, out, n, kind, d, p, g);
         bits = bits & (bits - 1);
     }
 }
@@ -74,7 +85,7 @@ fn meet_word(
 pub fn meet_new(
     masks: &[u32],
     est: &[u32],
-    memory: &mut [u32],
+    h: &mut [u32],
     out: &mut [u32],
     l: Layout,
     kind: u32,
@@ -95,7 +106,7 @@ pub fn meet_new(
     let mut k = next_common(row, sort, first);
     while k < end {
         let bits = row[k] & sort[k];
-        meet_word(memory, out, l.size, kind, d, p, BITS * (k - first), bits);
+        meet_word(h, out, l.size, kind, d, p, BITS * (k - first), bits);
         k = next_common(row, sort, k + 1);
     }
 }
@@ -105,7 +116,7 @@ pub fn meet_new(
 fn follow_name(
     words: &[u32],
     est: &[u32],
-    memory: &mut [u32],
+    h: &mut [u32],
     n: usize,
     at: usize,
     p: usize,
@@ -118,19 +129,12 @@ fn follow_name(
     if !has_bit(est, at, NAMES + name) {
         return found;
     }
-    follow(memory, n, b, p);
+    follow(h, n, b, p);
     if found == MOST { b } else { 0 }
 }
 
 // The blocks of a name in C(p + 1) are followed by the send at p, and noted as its receivers.
-pub fn follow_names(
-    words: &[u32],
-    links: &[u32],
-    est: &[u32],
-    memory: &mut [u32],
-    l: Layout,
-    p: usize,
-)
+pub fn follow_names(words: &[u32], links: &[u32], est: &[u32], h: &mut [u32], l: Layout, p: usize)
     requires { p < 1024 }
 {
     let at = row_at(l, 2 * (p + 1));
@@ -138,10 +142,10 @@ pub fn follow_names(
     let mut found = MOST;
     let mut b = 1;
     while b < end {
-        found = follow_name(words, est, memory, l.size, at, p, b, found);
+        found = follow_name(words, est, h, l.size, at, p, b, found);
         b = past(links, b + 3);
     }
-    put(memory, RECEIVER + PER_WORD * p, found);
+    put(h, RECEIVER + PER_WORD * p, found);
 }
 
 // The word p, which acts on f, takes what f holds or gives.
@@ -156,12 +160,12 @@ fn take_from(words: &[u32], out: &mut [u32], p: usize, f: usize) {
 }
 
 // What f holds or gives has grown: those who act on it take it.
-pub fn notify(words: &[u32], memory: &[u32], out: &mut [u32], n: usize, f: usize) {
+pub fn notify(words: &[u32], h: &[u32], out: &mut [u32], n: usize, f: usize) {
     let base = at_followers(n, f);
-    let mut p = next_follower(memory, base, 0);
+    let mut p = next_follower(h, base, 0);
     while p < MOST {
         take_from(words, out, p, f);
-        p = next_follower(memory, base, p + 1);
+        p = next_follower(h, base, p + 1);
     }
 }
 
@@ -173,12 +177,12 @@ fn tell_one(est: &[u32], out: &mut [u32], l: Layout, k: usize, p: usize, f: usiz
 }
 
 // The followers of f that lack some of P(q) have clause k for f.
-pub fn tell(est: &[u32], memory: &[u32], out: &mut [u32], l: Layout, k: usize, f: usize, q: usize) {
+pub fn tell(est: &[u32], h: &[u32], out: &mut [u32], l: Layout, k: usize, f: usize, q: usize) {
     let base = at_followers(l.size, f);
-    let set = flags(est, l, q) % FLAG;
-    let mut p = next_follower(memory, base, 0);
+    let set = flags(est, l, q) % LIVE_FLAG;
+    let mut p = next_follower(h, base, 0);
     while p < MOST {
         tell_one(est, out, l, k, p, f, set);
-        p = next_follower(memory, base, p + 1);
+        p = next_follower(h, base, p + 1);
     }
 }

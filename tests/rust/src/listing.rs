@@ -136,3 +136,40 @@ pub fn read(text: &[u8], room: usize) -> Result<Vec<u32>, Refusal> {
     }
     Ok(words)
 }
+
+/// The sentence of a number, as docs/REFUSALS.md has it.
+pub fn meaning(number: u32) -> &'static str {
+    let row = format!("| {number} | ");
+    let line = include_str!("../../../docs/REFUSALS.md").lines().find(|line| line.starts_with(&row)).expect("a number of the page");
+    line[row.len()..].trim_end_matches('|').trim_end()
+}
+
+/// A line with its number, and with a line feed also where it has none; nothing where there is no such line.
+fn shown(label: &str, number: usize, text: &[u8]) -> Vec<u8> {
+    match text.split_inclusive(|&b| b == b'\n').nth(number.wrapping_sub(1)) {
+        Some(line) => [format!("{label} {number}: ").as_bytes(), line.strip_suffix(b"\n").unwrap_or(line), b"\n"].concat(),
+        None => vec![],
+    }
+}
+
+/// The text of the words of all lines, whatever their leading spaces.
+fn respaced(text: &[u8]) -> Option<Vec<u8>> {
+    let words = text.split_inclusive(|&b| b == b'\n').map(|line| word(&line[line.iter().take_while(|&&b| b == b' ').count()..]));
+    write(&words.collect::<Option<Vec<u32>>>()?, MOST_BYTES).ok()
+}
+
+/// What is wrong with a text, for a person: the refusal, the line as it stands, as it should stand where its leading spaces are wrong, and the sentence.
+pub fn check(text: &[u8]) -> Vec<u8> {
+    let refusal = match read(text, 1024) {
+        Ok(words) => return format!("accepted {}\n", words.len()).into_bytes(),
+        Err(refusal) => refusal,
+    };
+    let first = format!("refused {} at {}\n", refusal.number, refusal.place).into_bytes();
+    let last = format!("{}\n", meaning(refusal.number)).into_bytes();
+    let (line, right) = match refusal.number {
+        40 => (shown("line", refusal.place, text), respaced(text).map(|text| shown("right, line", refusal.place, &text))),
+        41 => (vec![], None),
+        _ => (shown("line", refusal.place + 1, text), None),
+    };
+    [first, line, right.unwrap_or_default(), last].concat()
+}

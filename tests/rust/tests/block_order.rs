@@ -131,29 +131,24 @@ fn same(analyser: Analyser, pair: &Pair, sets: (u32, u32), bytes: (usize, usize)
     answer
 }
 
-/// An accepted system with an order of its blocks, if it is another one.
-fn shuffled(random: &mut Random, words: &[u32]) -> Option<Pair> {
-    let mut order: Vec<usize> = (0..read(words).expect("an accepted table").blocks.len()).collect();
-    match random.below(4) {
-        // neighbours, all turned round, any
-        0 if order.len() > 1 => {
-            let k = random.below(order.len() - 1);
-            order.swap(k, k + 1);
-        }
-        1 => order.reverse(),
-        _ => (1..order.len()).for_each(|k| order.swap(k, random.below(k + 1))),
-    }
-    (0..order.len()).any(|k| order[k] != k).then(|| pair(words, &order))
-}
-
 /// A random accepted system of at least two blocks and at most this many words, with another order of its blocks.
 fn random_pair(random: &mut Random, names: u32, most: usize) -> Pair {
     loop {
         let words = 10 + random.below(most - 9);
         let words =
             if random.once_in(3) { exact_table(random, names, words) } else { sensible_table(random, names, words, names as usize / 2) };
-        if let Some(pair) = shuffled(random, &words) {
-            return pair;
+        let mut order: Vec<usize> = (0..read(&words).expect("an accepted table").blocks.len()).collect();
+        match random.below(4) {
+            // neighbours, all turned round, any
+            0 if order.len() > 1 => {
+                let k = random.below(order.len() - 1);
+                order.swap(k, k + 1);
+            }
+            1 => order.reverse(),
+            _ => (1..order.len()).for_each(|k| order.swap(k, random.below(k + 1))),
+        }
+        if (0..order.len()).any(|k| order[k] != k) {
+            return pair(&words, &order);
         }
     }
 }
@@ -395,60 +390,6 @@ mod proved {
             }
         }
         assert!(refused > rounds(120), "{refused}");
-    }
-
-    /// A system whose blocks send to each other at random, some of them live, in bodies of different lengths; in half of the rounds upwards alone.
-    fn talkers(random: &mut Random, upwards: bool) -> Vec<u32> {
-        use peer::terms::{block, constant, name, send, sequence, system};
-        let blocks = 2 + random.below(7);
-        let made: Vec<_> = (0..blocks).map(|s| {
-            let mut terms = vec![constant(1); 1 + random.below(3)];
-            for t in if upwards { s + 1 } else { 0 }..blocks {
-                if random.once_in(if s == t { 16 } else { blocks.min(4) }) {
-                    terms.push(send(0, name(t as u32), constant(1)));
-                }
-            }
-            block(s as u32, 1, u32::from(random.once_in(3)), sequence(&terms))
-        }).collect();
-        system(&made)
-    }
-
-    /// `wiphosega order`: an order in both or a loop in both, of as many positions. An order has the same blocks; a loop may be another one of the shortest.
-    #[test]
-    fn orders_of_reading() {
-        let mut random = Random(1104);
-        let mut counts = BTreeMap::from([("order", 0), ("loop", 0), ("self-sender", 0), ("other positions", 0), ("other loop", 0)]);
-        let mut count = |what: &'static str, yes: bool| *counts.get_mut(what).unwrap() += u64::from(yes);
-        for round in 0..rounds(400) {
-            let words = if round % 4 == 0 { sensible_table(&mut random, NARROW, 200, 8) } else { talkers(&mut random, round % 2 == 0) };
-            let (Some(pair), rho) = (shuffled(&mut random, &words), random.permissions(2)) else { continue };
-            let text = |words: &[u32]| {
-                let listing = write(words, 65_536).expect("a listing");
-                let text = printed("WIPHOSEGA_LISTINGS", &["order".to_string(), format!("{rho:x}")], &listing);
-                let mut parts = text.trim_end().split(' ');
-                let case = parts.next().unwrap().to_string();
-                (case, parts.map(|position| position.parse().expect("a position")).collect::<Vec<usize>>())
-            };
-            let ((case, own), (other_case, other)) = (text(&pair.words), text(&pair.other));
-            let about = format!("{:08x?} in the order {:?}, rho {rho:x}", pair.words, pair.order);
-            assert_eq!((&case, own.len()), (&other_case, other.len()), "{about}");
-            let mut blocks: Vec<usize> = other.iter().map(|&p| pair.order[p]).collect();
-            count("other positions", own != other);
-            let mut sorted = own.clone();
-            sorted.sort_unstable();
-            blocks.sort_unstable();
-            if case == "order" {
-                assert_eq!(sorted, blocks, "{about}");
-                count("order", own.len() > 2);
-            } else {
-                assert_eq!(case, "loop", "{about}");
-                count("loop", own.len() > 1);
-                count("self-sender", own.len() == 1);
-                count("other loop", sorted != blocks);
-            }
-        }
-        println!("{counts:?}");
-        assert!(counts.values().all(|&count| count > rounds(400) / 40), "{counts:?}");
     }
 
     /// The six orders of the twins as the program prints them. The order of reading goes with the blocks here: one may send to one other.

@@ -183,30 +183,3 @@ fn random_streams() {
     println!("{whole} whole streams, {broken} broken ones");
     assert!(whole > 20 && broken > 5);
 }
-
-/// Each line comes as soon as its system has: the next one is sent only when the line before it has been read, in pieces of a byte too.
-#[test]
-fn a_line_as_soon_as_its_system_has_come() {
-    let name = std::env::var("WIPHOSEGA_CLASS").expect("WIPHOSEGA_CLASS names the program");
-    let mut child = Command::new(name).stdin(Stdio::piped()).stdout(Stdio::piped()).spawn().expect("the program can be started");
-    let mut input = child.stdin.take().unwrap();
-    let output = std::io::BufReader::new(child.stdout.take().unwrap());
-    let (lines, read) = std::sync::mpsc::channel();
-    let reader = std::thread::spawn(move || std::io::BufRead::lines(output).for_each(|line| lines.send(line.expect("text")).expect("the test reads on")));
-    // a broken table, whose second word is none, stands between two right ones
-    let systems = [direct(), vec![0x0100_0001, 0, 0x0300_0003], wide_direct()];
-    let stream: Vec<u8> = systems.iter().flat_map(|words| record(0, words)).collect();
-    let expected = report(&stream);
-    let mut expected = expected.lines();
-    for words in &systems {
-        for byte in record(0, words) {
-            input.write_all(&[byte]).and_then(|()| input.flush()).expect("the program reads");
-        }
-        let line = read.recv_timeout(std::time::Duration::from_secs(20)).expect("a line for the system that has come");
-        assert_eq!(Some(line.as_str()), expected.next());
-    }
-    drop(input);
-    assert!(child.wait().expect("the program ends").success());
-    reader.join().unwrap();
-    assert!(read.try_iter().eq(expected.map(str::to_string)));
-}

@@ -40,7 +40,6 @@ fn around(random: &mut Random, words: &[u32], rho: u32) {
     let Ok(table) = read(words) else { return };
     let mut own = vec![0; Layout::of(&table).total()];
     solve(&table, rho, &mut own);
-    assert!(words_of(&run(&["estimate", &format!("{rho:x}")], &bytes_of(words))) == own, "{words:08x?}");
     if let Ok(listing) = write(words, MOST_BYTES) {
         assert!(words_of(&run(&["estimate", &format!("{rho:x}")], &listing)) == own, "{words:08x?}");
     }
@@ -91,9 +90,7 @@ fn other_inputs() {
     assert_eq!(printed(&bytes_of(&[1, 0x0500_0000, 0, 0, 0, 0, 0, 0, 0, 0, 0])), "obeys leak 000000\n");
     assert_eq!(printed(&bytes_of(&[1, 0x0500_0041])), "refused 3 at 0\n");
     assert_eq!(audited(&words, rho, &vec![0; total + 1]), "refused 52 at 0\n");
-    assert_eq!(audited(&words, rho, &vec![0; 73_728 - words.len()]), "refused 52 at 0\n");
-    assert_eq!(audited(&words, rho, &vec![0; 73_729 - words.len()]), "refused 31 at 0\n");
-    assert_eq!(audited(&words, rho, &vec![0; 80_000]), "refused 31 at 0\n");
-    assert_eq!(printed(&vec![0; 294_917]), "refused 31 at 0\n");
+    assert_eq!(audited(&words, rho, &vec![0; 80_000]), "refused 52 at 0\n");
+    assert_eq!(audited(&words, 1 << 24, &[]), "refused 20 at 0\n");
     assert_eq!(audited(&[0x0100_0000; 1025], 0, &[]), "refused 2 at 0\n");
 }

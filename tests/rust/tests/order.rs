@@ -195,4 +195,7 @@ fn samples_and_refusals() {
     assert_eq!(printed(&["order", "0"], relay), "order 0 1\n");
     assert_eq!(printed(&["order", "0"], b"system 1\n"), "refused 4 at 1\n");
     assert_eq!(printed(&["order", "0"], b"system x\n"), "refused 40 at 1\n");
+    assert_eq!(printed(&["order", "1000000"], relay), "refused 20 at 0\n");
+    assert_eq!(printed(&["order"], relay), printed(&[], b""));
+    assert_eq!(printed(&["order", "x"], relay), printed(&[], b""));
 }

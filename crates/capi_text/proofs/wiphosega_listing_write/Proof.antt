@@ -7,10 +7,9 @@ use Rattle.little_endian.specs.LittleEndian.{words_of}
 use Rattle.little_endian.proofs.First.{words_size, words-few}
 use Rattle.listing.specs.Listing.{Answered, left, listing}
 use Rattle.listing.specs.Answer.{answered}
-use Rattle.listing.proofs.Places.{write-small}
+use Rattle.listing.proofs.Places.{write-within}
 use Rattle.capi_text.specs.Interface.{answer_number}
-use Rattle.capi_text.proofs.Bytes.{refused-fits, write-odd, write-answer, write-left}
-use Rattle.capi_text.proofs.Macros.{write_read}
+use Rattle.capi_text.proofs.Bytes.{refused-within, write-odd, write-answer, write-left}
 use borrow.Author.Rules.{rules}
 use Rattle.capi_text.proofs.wiphosega_listing_write.Statement.{statement}
 use Rattle.capi_text.proofs.wiphosega_listing_write.Tie as tie
@@ -20,8 +19,7 @@ unfolding answer_number left
 returns c =
     let s = c.before.before.before in
     let e = write-odd s.args.system.now (length s.args.text.now) c.if1.true in
-    let n = sym (ap answer_number e) in
-    (n, (write_read s.args.system.now (length s.args.text.now) _ n, sym (ap (λ (a : Answered). left a (listing (words_of s.args.system.now)) s.args.text.now) e)))
+    (sym (ap answer_number e), sym (ap (λ (a : Answered). left a (listing (words_of s.args.system.now)) s.args.text.now) e))
 
 slice-aggregate-write : tie.Need-slice-aggregate-write
 slice-aggregate-write c =
@@ -37,7 +35,8 @@ refusal-answer-requires c κs =
     let vs = o.new.1.0 in
     let few = words-few 1025 system (replicate 1025 0) vs o.result refl o.ensures.0 o.ensures.1 in
     let size = words_size 1025 system (replicate 1025 0) vs o.result refl o.ensures.0 o.ensures.1 in
-    refused-fits _ _ _ (length (take o.result vs)) c.before.r.given.1 w.0 (omega arith) (write-small (take o.result vs) (length s.args.text.now))
+    let h = refused-within _ _ _ (length (take o.result vs)) c.before.r.given.1 w.0 (write-within (take o.result vs) (length s.args.text.now)) in
+    omega arith
 
 returns-2 : tie.Need-returns-2
 unfolding answered answer_number
@@ -48,7 +47,7 @@ returns-2 c =
     let w = c.before.before.before.before.before.write.ensures in
     let vs = o.new.1.0 in
     let a = sym (ap answered c.before.count.given.1) ∙ w.0 ∙ write-answer system (replicate 1025 0) vs o.result refl o.ensures.0 o.ensures.1 (length s.args.text.now) s.args.text.now c.before.before.before.before.before.before.before.before.before.before.before.if1.false in
-    (ap answer_number a, (write_read system (length s.args.text.now) _ (ap answer_number a), w.1 ∙ write-left system (replicate 1025 0) vs o.result refl o.ensures.0 o.ensures.1 (length s.args.text.now) s.args.text.now c.before.before.before.before.before.before.before.before.before.before.before.if1.false))
+    (ap answer_number a, w.1 ∙ write-left system (replicate 1025 0) vs o.result refl o.ensures.0 o.ensures.1 (length s.args.text.now) s.args.text.now c.before.before.before.before.before.before.before.before.before.before.before.if1.false)
 
 returns-3 : tie.Need-returns-3
 unfolding answered answer_number
@@ -59,8 +58,7 @@ returns-3 c =
     let w = c.before.before.before.before.before.before.write.ensures in
     let vs = o.new.1.0 in
     let a = sym (ap answered c.before.before.r.given.1) ∙ w.0 ∙ write-answer system (replicate 1025 0) vs o.result refl o.ensures.0 o.ensures.1 (length s.args.text.now) s.args.text.now c.before.before.before.before.before.before.before.before.before.before.before.before.if1.false in
-    let n = c.refusal-answer.ensures ∙ ap answer_number a in
-    (n, (write_read system (length s.args.text.now) _ n, w.1 ∙ write-left system (replicate 1025 0) vs o.result refl o.ensures.0 o.ensures.1 (length s.args.text.now) s.args.text.now c.before.before.before.before.before.before.before.before.before.before.before.before.if1.false))
+    (c.refusal-answer.ensures ∙ ap answer_number a, w.1 ∙ write-left system (replicate 1025 0) vs o.result refl o.ensures.0 o.ensures.1 (length s.args.text.now) s.args.text.now c.before.before.before.before.before.before.before.before.before.before.before.before.if1.false)
 
 pub wiphosega-listing-write-spec : {M : Type 1} → statement M
 wiphosega-listing-write-spec =

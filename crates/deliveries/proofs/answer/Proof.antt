@@ -8,7 +8,7 @@ returns : tie.Need-returns
 returns c =
     let a = c.before.before.before.before.before.before.before.before.before.before.args in
     answer-is a.words.now a.p a.home a.q _ _ _ _ _ _ _ _ c.before.before.before.before.before.before.before.before.handler-at.ensures c.before.before.before.before.before.before.before.handler-at2.ensures
-    c.before.before.before.before.before.word_at.ensures c.before.before.before.before.argument-of.ensures c.before.before.before.of.ensures c.before.before.word-at2.ensures c.before.name-for.ensures c.judge.ensures.0
+    c.before.before.before.before.before.word_at.ensures c.before.before.before.before.argument-of.ensures c.before.before.before.of.ensures c.before.before.word-at2.ensures c.before.name-for.ensures c.judge.ensures
 
 pub answer-spec : {M : Type 1} → statement M
 answer-spec =

@@ -9,10 +9,10 @@ use Rattle.deliveries.proofs.put_receivers.Statement.{statement}
 use Rattle.deliveries.proofs.put_receivers.Tie as tie
 
 abbrev invariant-loop : tie.invariant-loop
-invariant-loop words quiet live p home from out₀ at next₀ to₀ q₀ out next to q = Filled (receiver words quiet live p home from) words 385 out₀ at q to out next
+invariant-loop words p home from out₀ at next₀ to₀ q₀ out next to q = Filled (receiver words p home from) words 96 out₀ at q to out next
 
 abbrev decreases-loop : tie.decreases-loop
-decreases-loop words quiet live p home from out₀ at next₀ to₀ q₀ out next to q = length words - q
+decreases-loop words p home from out₀ at next₀ to₀ q₀ out next to q = length words - q
 
 loop-holds : tie.Need-loop-init invariant-loop decreases-loop
 loop-holds c = filled-start _ _ _ _

@@ -1,41 +1,31 @@
 -- `delivery::judge` meets its contract. Assumes nothing.
-use Prim.Native.Nat.{ℕ}
-use mathlib.Core.Path.{◌≡◌, sym, ap, subst, ◌∙◌}
+use mathlib.Core.Path.{sym, ap, ◌∙◌}
 use borrow.Author.Rules.{rules}
 use borrow.Author.Tests.{eq-eqb, ne_eqb, not-true, not-false}
-use Rattle.table.specs.declared.Handler.{Handler}
 use Rattle.delivery.specs.declared.Delivery.TheVariants as deliveries
-use Rattle.delivery.specs.declared.Delivery.{Delivery}
-use Rattle.delivery.specs.Delivery.{judged}
-use Rattle.delivery.specs.Cases.{Says}
-use Rattle.delivery.proofs.Cases.{judged-says}
 use Rattle.delivery.proofs.Laws.{other_name, receiver-lacks, sender-lacks, is-delivered}
 use Rattle.delivery.proofs.judge.Statement.{statement}
 use Rattle.delivery.proofs.judge.Tie as tie
 
--- the answer that the definition gives says what its case means
-told : (n r s : ℕ) (h : Handler) (d : Delivery) → d ≡ judged n r s h → (d ≡ judged n r s h) × Says n r s h d
-told n r s h d e = (e, subst (Says n r s h) (sym e) (judged-says n r s h))
-
 returns : tie.Need-returns
-returns c = let a = c.before.before.before.before.args in told _ _ _ _ _ (sym (other_name _ _ _ a.receiver (ne_eqb _ _ c.if1.true)))
+returns c = let a = c.before.before.before.before.args in sym (other_name _ _ _ a.receiver (ne_eqb _ _ c.if1.true))
 
 returns-2 : tie.Need-returns-2
 returns-2 c =
     let a = c.before.before.before.before.before.before.before.args in
-    told _ _ _ _ _ (ap deliveries.ReceiverLacks c.difference.ensures
-    ∙ sym (receiver-lacks a.name a.required.bits a.sender.bits a.receiver (eq-eqb _ _ c.before.before.before.if1.false) (sym c.before.before.within.ensures ∙ not-true _ c.before.if2.true)))
+    ap deliveries.ReceiverLacks c.difference.ensures
+    ∙ sym (receiver-lacks a.name a.required.bits a.sender.bits a.receiver (eq-eqb _ _ c.before.before.before.if1.false) (sym c.before.before.within.ensures ∙ not-true _ c.before.if2.true))
 
 returns-3 : tie.Need-returns-3
 returns-3 c =
     let a = c.before.before.before.before.before.before.before.before.before.args in
-    told _ _ _ _ _ (ap deliveries.SenderLacks c.difference2.ensures
-    ∙ sym (sender-lacks a.name a.required.bits a.sender.bits a.receiver (eq-eqb _ _ c.before.before.before.before.before.if1.false) (sym c.before.before.before.before.within.ensures ∙ not-false _ c.before.before.before.if2.false) (sym c.before.before.within2.ensures ∙ not-true _ c.before.if3.true)))
+    ap deliveries.SenderLacks c.difference2.ensures
+    ∙ sym (sender-lacks a.name a.required.bits a.sender.bits a.receiver (eq-eqb _ _ c.before.before.before.before.before.if1.false) (sym c.before.before.before.before.within.ensures ∙ not-false _ c.before.before.before.if2.false) (sym c.before.before.within2.ensures ∙ not-true _ c.before.if3.true))
 
 returns-4 : tie.Need-returns-4
 returns-4 c =
     let a = c.before.before.before.before.before.before.before.before.args in
-    told _ _ _ _ _ (sym (is-delivered a.name a.required.bits a.sender.bits a.receiver (eq-eqb _ _ c.before.before.before.before.if1.false) (sym c.before.before.before.within.ensures ∙ not-false _ c.before.before.if2.false) (sym c.before.within2.ensures ∙ not-false _ c.if3.false)))
+    sym (is-delivered a.name a.required.bits a.sender.bits a.receiver (eq-eqb _ _ c.before.before.before.before.if1.false) (sym c.before.before.before.within.ensures ∙ not-false _ c.before.before.if2.false) (sym c.before.within2.ensures ∙ not-false _ c.if3.false))
 
 pub judge-spec : {M : Type 1} → statement M
 judge-spec =

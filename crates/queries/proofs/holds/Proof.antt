@@ -1,7 +1,7 @@
 -- `queries::holds` meets its contract: an arm for each test. Assumes nothing.
 use mathlib.Core.Path.{ap}
 use Rattle.queries.specs.Passes.{passes, by_mask}
-use Rattle.rows.proofs.Numbered.{row-C}
+use Rattle.clauses.proofs.Sorts.{row-C}
 use Rattle.queries.proofs.Laws.{both_true, first-false}
 use borrow.Author.Rules.{rules}
 use Rattle.queries.proofs.holds.Statement.{statement}

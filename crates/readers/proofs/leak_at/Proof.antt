@@ -4,12 +4,10 @@ use mathlib.Core.Path.{sym, ap, ◌∙◌}
 use Prim.Native.Nat.{ℕ, ◌%◌, ◌<◌}
 use lib.ListN.{length, get_or}
 use borrow.Author.Tests.{not-true, not-false}
-use Rattle.permset.specs.declared.PermSet.{PermSet}
 use Rattle.table.specs.Code.{code}
 use Rattle.table.proofs.Limits.{size-le}
-use Rattle.calculus.proofs.Guards.{guarded-is}
-use Rattle.rows.proofs.Bounds.{size_small, row_small, words-bound, words_are, flags-base}
-use Rattle.readers.proofs.Found.{among-closed, among-open}
+use Rattle.calls.proofs.Bounds.{size_small, row_small, words-bound, words_are, flags-base}
+use Rattle.readers.proofs.Found.{among-closed, among-open, guarded-is}
 use native.Mathlib.Omega.{arith}
 use borrow.Author.Rules.{rules}
 use Rattle.readers.proofs.leak_at.Statement.{statement}
@@ -25,10 +23,9 @@ inside c =
 
 returns : tie.Need-returns
 returns c =
-    let a = c.before.before.before.before.before.before.args in
-    let h = c.before.before.before.before.before.before.requires in
-    ap (λ (s : PermSet). s.bits) c.empty.ensures
-    ∙ sym (among-closed (code a.words.now) a.rho.bits a.est.now a.b (sym (guarded-is a.words.now h.0.readable a.b a.rho.bits) ∙ sym c.before.before.opens.ensures ∙ not-true _ c.before.if1.true))
+    let a = c.before.before.before.before.before.args in
+    let h = c.before.before.before.before.before.requires in
+    sym (among-closed (code a.words.now) a.rho.bits a.est.now a.b (sym (guarded-is a.words.now h.0.readable a.b a.rho.bits h.1 h.2) ∙ sym c.before.entered.ensures ∙ not-true _ c.if1.true))
 
 flags-requires : tie.Need-flags-requires
 flags-requires c κs =
@@ -37,24 +34,23 @@ flags-requires c κs =
     let s = size_small a.words.now h.0.readable a.l h.0.laid in
     (s, row_small a.words.now h.0.readable a.l h.0.laid, omega (arith, h.1, size-le a.words.now h.0.readable))
 
-mul-of : tie.Need-overflow-mul-of
-mul-of c =
+mul-t10 : tie.Need-overflow-mul-t10
+mul-t10 c =
     let a = c.before.before.before.before.before.before.args in
     let h = c.before.before.before.before.before.before.requires in
     omega (arith, inside c, words-bound a.words.now h.0.readable, h.0.long)
 
-shared-slice-read-of : tie.Need-shared-slice-read-of
-shared-slice-read-of c = inside c.before
+shared-slice-read-t12 : tie.Need-shared-slice-read-t12
+shared-slice-read-t12 c = inside c.before
 
 returns-2 : tie.Need-returns-2
 returns-2 c =
-    let a = c.before.before.before.before.before.before.before.before.args in
-    let h = c.before.before.before.before.before.before.before.before.requires in
-    ap (λ (s : PermSet). s.bits) c.of.ensures
-    ∙ ap (λ (k : ℕ). get_or a.est.now k 0 % 16777216) (c.before.before.flags.ensures ∙ sym (flags-base (code a.words.now) a.l h.0.laid a.b))
-    ∙ sym (among-open (code a.words.now) a.rho.bits a.est.now a.b (sym (guarded-is a.words.now h.0.readable a.b a.rho.bits) ∙ sym c.before.before.before.before.opens.ensures ∙ not-false _ c.before.before.before.if1.false))
+    let a = c.before.before.before.before.before.before.before.args in
+    let h = c.before.before.before.before.before.before.before.requires in
+    ap (λ (k : ℕ). get_or a.est.now k 0 % 16777216) (c.before.flags.ensures ∙ sym (flags-base (code a.words.now) a.l h.0.laid a.b))
+    ∙ sym (among-open (code a.words.now) a.rho.bits a.est.now a.b (sym (guarded-is a.words.now h.0.readable a.b a.rho.bits h.1 h.2) ∙ sym c.before.before.before.entered.ensures ∙ not-false _ c.before.before.if1.false))
 
 pub leak-at-spec : {M : Type 1} → statement M
 leak-at-spec =
     tie.close (tie.spec
-    (λ opens-requires κs. search rules) (λ empty-requires κs. search rules) returns flags-requires mul-of shared-slice-read-of (λ of-requires κs. search rules) returns-2)
+    (λ entered-requires κs. search rules) returns flags-requires mul-t10 shared-slice-read-t12 returns-2)

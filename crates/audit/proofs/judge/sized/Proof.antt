@@ -2,7 +2,7 @@
 -- Assumes nothing.
 use mathlib.Core.Path.{sym, ◌∙◌}
 use Rattle.table.specs.Code.{code}
-use Rattle.rows.proofs.Bounds.{size_small, row_small, words_are}
+use Rattle.calls.proofs.Bounds.{size_small, row_small, words_are}
 use Rattle.audit.specs.Audited.{said}
 use Rattle.audit.proofs.Steps.{other_length, same_length}
 use borrow.Author.Rules.{rules}

@@ -1,6 +1,6 @@
 -- `audit::judge::with_masks` meets its contract. Four rows fit into 144 words. Assumes nothing.
 use native.Mathlib.Omega.{arith}
-use Rattle.rows.proofs.Bounds.{row-bound}
+use Rattle.calls.proofs.Bounds.{row-bound}
 use Rattle.solver.proofs.Zeros.{zeros-at}
 use Rattle.solver.proofs.Begun.{ready_of}
 use borrow.Author.Rules.{rules}

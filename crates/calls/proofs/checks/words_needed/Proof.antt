@@ -1,7 +1,7 @@
 -- `calls::checks::words_needed` meets its contract.
 -- Assumes nothing.
 use mathlib.Core.Path.{sym, ◌∙◌}
-use Rattle.rows.proofs.Bounds.{size_small, row_small, words_are}
+use Rattle.calls.proofs.Bounds.{size_small, row_small, words_are}
 use borrow.Author.Rules.{rules}
 use Rattle.calls.proofs.checks.words_needed.Statement.{statement}
 use Rattle.calls.proofs.checks.words_needed.Tie as tie

@@ -2,7 +2,6 @@
 use mathlib.Core.Path.{refl, sym, ap, ◌∙◌, subst}
 use native.Mathlib.Omega.{arith}
 use Rattle.capi.specs.Check.{check_number, ExactNumber}
-use Rattle.capi.proofs.Macros.{check-read}
 use Rattle.capi.proofs.Systems.{system-size}
 use Rattle.capi.proofs.Taken.{exact-number, refused-before, answered-after}
 use borrow.Author.Rules.{rules}
@@ -14,11 +13,8 @@ returns c =
     let a = c.before.before.before.before.args in
     let e = sym (refused-before a.system.now a.rho a.estimate.now c.before.system-fault.result c.before.system-fault.ensures c.if1.true) in (
       e,
-      (
-        check-read a.system.now a.rho a.estimate.now _ e,
-        subst (ExactNumber a.system.now a.rho a.estimate.now) (sym e)
-            (exact-number a.system.now a.rho a.estimate.now (λ k. omega (arith, c.before.before.shared-slice-known2.given k))),
-      ),
+      subst (ExactNumber a.system.now a.rho a.estimate.now) (sym e)
+          (exact-number a.system.now a.rho a.estimate.now (λ k. omega (arith, c.before.before.shared-slice-known2.given k))),
     )
 
 of-system-requires : tie.Need-of-system-requires
@@ -31,11 +27,8 @@ returns-2 c =
     let f = c.before.before.before.before.system-fault in
     let e = c.before.of-system.ensures ∙ ap check_number (answered-after a.system.now a.rho a.estimate.now f.result f.ensures c.before.before.before.if1.false) in (
       e,
-      (
-        check-read a.system.now a.rho a.estimate.now _ e,
-        subst (ExactNumber a.system.now a.rho a.estimate.now) (sym e)
-            (exact-number a.system.now a.rho a.estimate.now (λ k. omega (arith, c.before.before.before.before.before.shared-slice-known2.given k))),
-      ),
+      subst (ExactNumber a.system.now a.rho a.estimate.now) (sym e)
+          (exact-number a.system.now a.rho a.estimate.now (λ k. omega (arith, c.before.before.before.before.before.shared-slice-known2.given k))),
     )
 
 pub wiphosega-check-spec : {M : Type 1} → statement M

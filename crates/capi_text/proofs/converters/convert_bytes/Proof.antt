@@ -11,7 +11,6 @@ use Rattle.widths.specs.Answers.{converted_as}
 use Rattle.widths.proofs.Theorems.{converted-written, written-few}
 use Rattle.capi_text.specs.Interface.{answer_number}
 use Rattle.capi_text.proofs.Converted.{odd-bytes, whole_words_lem, room-done, room-not, converted-small}
-use Rattle.capi_text.proofs.Macros.{convert-read}
 use borrow.Author.Rules.{rules}
 use Rattle.capi_text.proofs.converters.convert_bytes.Statement.{statement}
 use Rattle.capi_text.proofs.converters.convert_bytes.Tie as tie
@@ -22,8 +21,7 @@ returns c =
     let s = c.before.before.before in
     let out = s.args.out.now in
     let e = odd-bytes s.args.wide s.args.system.now (length out) c.if1.true in
-    let n = sym (ap answer_number e) in
-    (n, (convert-read s.args.wide s.args.system.now (length out) _ n, sym (ap (λ (a : Answered). left a (bytes_of (converted s.args.wide (words_of s.args.system.now))) out) e)))
+    (sym (ap answer_number e), sym (ap (λ (a : Answered). left a (bytes_of (converted s.args.wide (words_of s.args.system.now))) out) e))
 
 put-words-requires : tie.Need-put-words-requires
 unfolding converted_as
@@ -52,10 +50,9 @@ returns-2 c =
     let e = sym j.ensures.0 ∙ ap converted_as c.before.before.before.before.before.before.count.given.1 in
     let p = c.before.before.put-words.ensures in
     let a = room-done s.args.wide ws (length out) _ e ∙ sym (whole_words_lem s.args.wide s.args.system.now (length out) c.before.before.before.before.before.before.before.before.before.before.before.if1.false) in
-    let w = ap (take c.before.before.before.before.before.before.count.given.0.0) j.ensures.1 ∙ converted-written s.args.wide ws (replicate 1024 0) _ e in
-    let n = p.answer ∙ ap answer_number a in (
-      n,
-      (convert-read s.args.wide s.args.system.now (length out) _ n, p.bytes ∙ ap₂ (λ (q : Answered) (l : List ℕ). left q (bytes_of l) out) a w),
+    let w = ap (take c.before.before.before.before.before.before.count.given.0.0) j.ensures.1 ∙ converted-written s.args.wide ws (replicate 1024 0) _ e in (
+      p.answer ∙ ap answer_number a,
+      p.bytes ∙ ap₂ (λ (q : Answered) (l : List ℕ). left q (bytes_of l) out) a w,
     )
 
 returns-3 : tie.Need-returns-3
@@ -67,8 +64,7 @@ returns-3 c =
     let j = c.before.before.before.before.before.convert-in in
     let e = sym j.ensures.0 ∙ ap converted_as c.before.before.f.given.1 in
     let a = room-not s.args.wide ws (length out) _ _ e ∙ sym (whole_words_lem s.args.wide s.args.system.now (length out) c.before.before.before.before.before.before.before.if1.false) in
-    let n = c.fault-answer.ensures ∙ ap answer_number a in
-    (n, (convert-read s.args.wide s.args.system.now (length out) _ n, ap (λ (q : Answered). left q (bytes_of (converted s.args.wide ws)) out) a))
+    (c.fault-answer.ensures ∙ ap answer_number a, ap (λ (q : Answered). left q (bytes_of (converted s.args.wide ws)) out) a)
 
 pub convert-bytes-spec : {M : Type 1} → statement M
 convert-bytes-spec =

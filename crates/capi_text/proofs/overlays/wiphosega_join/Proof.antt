@@ -11,7 +11,6 @@ use Rattle.overlay.proofs.Theorems.{joined-few, joined_words}
 use Rattle.overlay.specs.Answers.{joined_as}
 use Rattle.capi_text.specs.Interface.{answer_number}
 use Rattle.capi_text.proofs.TwoTables.{odd-small, join-odd, join-odd-number, join-even, join-done, join-not, join-refused-small}
-use Rattle.capi_text.proofs.Macros.{join-read}
 use borrow.Author.Rules.{rules}
 use Rattle.capi_text.proofs.overlays.wiphosega_join.Statement.{statement}
 use Rattle.capi_text.proofs.overlays.wiphosega_join.Tie as tie
@@ -27,10 +26,9 @@ unfolding left
 returns c =
     let s = c.before.before.before.before.before in
     let out = s.args.out.now in
-    let o = c.before.odd_number.ensures in
-    let n = join-odd-number s.args.base.now s.args.overlay.now _ o c.if1.true (length out) in (
-      n,
-      (join-read s.args.base.now s.args.overlay.now (length out) _ n, sym (ap (λ (a : Answered). left a (bytes_of (joined (words_of s.args.base.now) (words_of s.args.overlay.now))) out) (join-odd s.args.base.now s.args.overlay.now (λ z. c.if1.true (o ∙ z)) (length out)))),
+    let o = c.before.odd_number.ensures in (
+      join-odd-number s.args.base.now s.args.overlay.now _ o c.if1.true (length out),
+      sym (ap (λ (a : Answered). left a (bytes_of (joined (words_of s.args.base.now) (words_of s.args.overlay.now))) out) (join-odd s.args.base.now s.args.overlay.now (λ z. c.if1.true (o ∙ z)) (length out))),
     )
 
 put-words-requires : tie.Need-put-words-requires
@@ -60,10 +58,9 @@ returns-2 c =
     let e = sym j.ensures.0 ∙ ap joined_as c.before.before.before.before.before.before.count.given.1 in
     let p = c.before.before.put-words.ensures in
     let a = join-done (words_of s.args.base.now) (words_of s.args.overlay.now) (length out) _ e ∙ sym (join-even s.args.base.now s.args.overlay.now (sym c.before.before.before.before.before.before.before.before.before.before.before.before.odd_number.ensures ∙ c.before.before.before.before.before.before.before.before.before.before.before.if1.false) (length out)) in
-    let ws = joined_words (words_of s.args.base.now) (words_of s.args.overlay.now) (replicate 1024 0) _ e j.new.1.1.0 j.ensures.1 in
-    let n = p.answer ∙ ap answer_number a in (
-      n,
-      (join-read s.args.base.now s.args.overlay.now (length out) _ n, p.bytes ∙ ap₂ (λ (q : Answered) (l : List ℕ). left q (bytes_of l) out) a ws),
+    let ws = joined_words (words_of s.args.base.now) (words_of s.args.overlay.now) (replicate 1024 0) _ e j.new.1.1.0 j.ensures.1 in (
+      p.answer ∙ ap answer_number a,
+      p.bytes ∙ ap₂ (λ (q : Answered) (l : List ℕ). left q (bytes_of l) out) a ws,
     )
 
 returns-3 : tie.Need-returns-3
@@ -73,10 +70,9 @@ returns-3 c =
     let out = s.args.out.now in
     let j = c.before.before.before.before.before.join-in in
     let e = sym j.ensures.0 ∙ ap joined_as c.before.before.f.given.1 in
-    let a = join-not (words_of s.args.base.now) (words_of s.args.overlay.now) (length out) _ _ e ∙ sym (join-even s.args.base.now s.args.overlay.now (sym c.before.before.before.before.before.before.before.before.odd_number.ensures ∙ c.before.before.before.before.before.before.before.if1.false) (length out)) in
-    let n = c.fault-answer.ensures ∙ ap answer_number a in (
-      n,
-      (join-read s.args.base.now s.args.overlay.now (length out) _ n, ap (λ (q : Answered). left q (bytes_of (joined (words_of s.args.base.now) (words_of s.args.overlay.now))) out) a),
+    let a = join-not (words_of s.args.base.now) (words_of s.args.overlay.now) (length out) _ _ e ∙ sym (join-even s.args.base.now s.args.overlay.now (sym c.before.before.before.before.before.before.before.before.odd_number.ensures ∙ c.before.before.before.before.before.before.before.if1.false) (length out)) in (
+      c.fault-answer.ensures ∙ ap answer_number a,
+      ap (λ (q : Answered). left q (bytes_of (joined (words_of s.args.base.now) (words_of s.args.overlay.now))) out) a,
     )
 
 pub wiphosega-join-spec : {M : Type 1} → statement M

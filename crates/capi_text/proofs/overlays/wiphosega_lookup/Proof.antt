@@ -4,7 +4,6 @@ use native.Mathlib.Omega.{arith}
 use Rattle.overlay.specs.Answers.{found_as}
 use Rattle.capi_text.specs.Overlay.{place_number}
 use Rattle.capi_text.proofs.TwoTables.{Inside, place-small, odd-small, lookup-odd-number, lookup-even}
-use Rattle.capi_text.proofs.Macros.{lookup-read}
 use borrow.Author.Rules.{rules}
 use Rattle.capi_text.proofs.overlays.wiphosega_lookup.Statement.{statement}
 use Rattle.capi_text.proofs.overlays.wiphosega_lookup.Tie as tie
@@ -18,8 +17,7 @@ add-result c = let s = c.before.before.before.before in omega (arith, odd-small 
 returns : tie.Need-returns
 returns c =
     let s = c.before.before.before.before in
-    lookup-read s.args.base.now s.args.overlay.now s.args.name s.args.perms _
-    (lookup-odd-number s.args.base.now s.args.overlay.now _ c.before.odd_number.ensures c.if1.true s.args.name s.args.perms)
+    lookup-odd-number s.args.base.now s.args.overlay.now _ c.before.odd_number.ensures c.if1.true s.args.name s.args.perms
 
 part-answer-requires : tie.Need-part-answer-requires
 unfolding found_as
@@ -50,7 +48,7 @@ returns-2 c =
     let o = c.before.before.before.before.before.before.odd_number.ensures in
     let f = c.before.before.before.before.find-in.ensures in
     let e = ap place_number (sym (ap found_as c.before.before.start.given.1) ∙ f ∙ sym (lookup-even s.args.base.now s.args.overlay.now (sym o ∙ c.before.before.before.before.before.if1.false) s.args.name s.args.perms)) in
-    lookup-read s.args.base.now s.args.overlay.now s.args.name s.args.perms _ (c.part-answer.ensures ∙ e)
+    c.part-answer.ensures ∙ e
 
 returns-3 : tie.Need-returns-3
 unfolding place_number found_as
@@ -59,7 +57,7 @@ returns-3 c =
     let o = c.before.before.before.before.before.before.odd_number.ensures in
     let f = c.before.before.before.before.find-in.ensures in
     let e = ap place_number (sym (ap found_as c.before.before.start2.given.1) ∙ f ∙ sym (lookup-even s.args.base.now s.args.overlay.now (sym o ∙ c.before.before.before.before.before.if1.false) s.args.name s.args.perms)) in
-    lookup-read s.args.base.now s.args.overlay.now s.args.name s.args.perms _ (omega (arith, c.part-answer2.ensures, e))
+    omega (arith, c.part-answer2.ensures, e)
 
 returns-4 : tie.Need-returns-4
 unfolding place_number found_as
@@ -68,7 +66,7 @@ returns-4 c =
     let o = c.before.before.before.before.before.before.odd_number.ensures in
     let f = c.before.before.before.before.find-in.ensures in
     let e = ap place_number (sym (ap found_as c.before.before.f.given.1) ∙ f ∙ sym (lookup-even s.args.base.now s.args.overlay.now (sym o ∙ c.before.before.before.before.before.if1.false) s.args.name s.args.perms)) in
-    lookup-read s.args.base.now s.args.overlay.now s.args.name s.args.perms _ (c.fault-answer.ensures ∙ e)
+    c.fault-answer.ensures ∙ e
 
 pub wiphosega-lookup-spec : {M : Type 1} → statement M
 wiphosega-lookup-spec =

@@ -7,8 +7,8 @@ use Rattle.table.specs.Code.{code}
 use Rattle.table.proofs.Linked.{linked}
 use Rattle.calculus.specs.Constraint.{C}
 use Rattle.calculus.specs.Layout.{sets}
-use Rattle.rows.specs.Numbered.{sort_at}
-use Rattle.rows.proofs.Numbered.{row-C, row-B}
+use Rattle.clauses.specs.Asks.{sort_at}
+use Rattle.clauses.proofs.Sorts.{row-C, row-B}
 use Rattle.checker.specs.Sends.{to_block, to_sender}
 use Rattle.checker.proofs.Laws.{both, put_is, due}
 use Rattle.checker.proofs.Lowered.{lowered_none, lowered-then}

@@ -5,10 +5,9 @@ use Prim.Native.Nat.{◌-◌}
 use native.Mathlib.Omega.{arith}
 use lib.ListN.{length}
 use Rattle.table.specs.Code.{code}
-use Rattle.table.proofs.Limits.{size-le}
-use Rattle.table.proofs.BlockLoop.{named-there}
+use Rattle.table.proofs.BlockLoop.{named-there, body-inside}
 use Rattle.calculus.specs.Layout.{sets}
-use Rattle.rows.specs.Numbered.{sort_at}
+use Rattle.clauses.specs.Asks.{sort_at}
 use Rattle.checker.specs.Sends.{AskedFor}
 use Rattle.checker.proofs.Blocks.{Looked, looked-start, looked-next, looked-all}
 use Rattle.checker.proofs.Sent.{nothing-sent, something-sent}
@@ -30,12 +29,13 @@ to-blocks-spec =
     (λ c. looked-start _ c.before.before.before.before.before.before.before.requires.0.readable _)
     (λ c κs. let s = c.before.before.before.before.before.before.before.before.before in
     (s.requires.0, c.loop-test.true, named-there _ s.requires.0.readable _ c.before.loop.invariant.0 c.loop-test.true))
-    (λ c κs. let s = c.before.before.before.before.before.before.before.before.before.before in let q = s.requires.0.readable in let i = c.before.before.loop in let g = c.before.loop-test.true in
-    omega (arith, g, size-le _ q))
+    (λ c. let s = c.before.before.before.before.before.before.before.before.before.before in let q = s.requires.0.readable in let i = c.before.before.loop in let g = c.before.loop-test.true in
+    omega (arith, body-inside _ q i.b g (named-there _ q i.b i.invariant.0 g)))
+    (λ link-at-requires κs. search rules)
     (λ c. let s = c.before.before.before.before.before.before.before.before.before.before.before in let g = c.before.before.loop-test.true in
-    omega (arith, (looked-next _ s.requires.0.readable _ c.before.before.before.loop.invariant g s.requires.1 c.next-block.ensures c.before.to_block.ensures).1, g))
+    omega (arith, (looked-next _ s.requires.0.readable _ c.before.before.before.loop.invariant g s.requires.1 c.link_at.ensures c.before.to_block.ensures).1, g))
     (λ c. let s = c.before.before.before.before.before.before.before.before.before.before.before in
-    (looked-next _ s.requires.0.readable _ c.before.before.before.loop.invariant c.before.before.loop-test.true s.requires.1 c.next-block.ensures c.before.to_block.ensures).0)
+    (looked-next _ s.requires.0.readable _ c.before.before.before.loop.invariant c.before.before.loop-test.true s.requires.1 c.link_at.ensures c.before.to_block.ensures).0)
     (λ c. let s = c.before.before.before.before.before.before.before.before.before in let h = s.requires.0 in
     something-sent _ s.args.est.now _ _ _ (c.before.before.before.has_some.ensures _ (sort_at 3 _) h.laid h.well (h.masked.mask 3 (omega arith)))
     c.before.before.if1.false (looked-all _ h.readable _ c.before.loop.invariant c.loop-test.false)))

@@ -1,9 +1,9 @@
 -- `checker::terms::apply` meets its contract. Assumes nothing.
 use borrow.Author.Rules.{rules}
 use Rattle.calculus.specs.Rules.{flow, two_rule}
-use Rattle.rows.specs.Numbered.{thing_at}
+use Rattle.clauses.specs.Asks.{thing_at}
 use Rattle.checker.proofs.Laws.{both, parted}
-use Rattle.rows.proofs.Numbered.{row-C}
+use Rattle.clauses.proofs.Sorts.{row-C}
 use Rattle.checker.specs.Things.{asked}
 use Rattle.checker.proofs.terms.apply.Statement.{statement}
 use Rattle.checker.proofs.terms.apply.Tie as tie

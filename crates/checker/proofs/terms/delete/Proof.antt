@@ -2,8 +2,8 @@
 use borrow.Author.Rules.{rules}
 use Prim.Native.Nat.{◌+◌}
 use Rattle.calculus.specs.Rules.{flow, two_rule}
-use Rattle.rows.specs.Numbered.{sort_at}
-use Rattle.rows.proofs.Numbered.{row-C}
+use Rattle.clauses.specs.Asks.{sort_at}
+use Rattle.clauses.proofs.Sorts.{row-C}
 use Rattle.checker.proofs.Laws.{both, both-idle, parted, idle, due, on_value}
 use Rattle.checker.proofs.terms.delete.Statement.{statement}
 use Rattle.checker.proofs.terms.delete.Tie as tie

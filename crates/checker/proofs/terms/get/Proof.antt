@@ -2,8 +2,8 @@
 use borrow.Author.Rules.{rules}
 use native.Mathlib.Omega.{arith}
 use Rattle.calculus.specs.Rules.{flow, two_rule}
-use Rattle.rows.specs.Numbered.{sort_at, thing_at}
-use Rattle.rows.proofs.Numbered.{row-C}
+use Rattle.clauses.specs.Asks.{sort_at, thing_at}
+use Rattle.clauses.proofs.Sorts.{row-C}
 use Rattle.checker.specs.Things.{asked}
 use Rattle.checker.proofs.Laws.{both, both-idle, parted, put_is, idle, due, on_value}
 use Rattle.checker.proofs.Asking.{get-is}

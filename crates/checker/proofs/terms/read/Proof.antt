@@ -1,9 +1,9 @@
 -- `checker::terms::read` meets its contract. Assumes nothing.
 use borrow.Author.Rules.{rules}
 use Rattle.calculus.specs.Rules.{flow, one_rule}
-use Rattle.rows.specs.Numbered.{thing_at}
+use Rattle.clauses.specs.Asks.{thing_at}
 use Rattle.checker.proofs.Laws.{both}
-use Rattle.rows.proofs.Numbered.{row-C}
+use Rattle.clauses.proofs.Sorts.{row-C}
 use Rattle.checker.specs.Things.{asked}
 use Rattle.checker.proofs.terms.read.Statement.{statement}
 use Rattle.checker.proofs.terms.read.Tie as tie

@@ -5,7 +5,7 @@ use mathlib.Core.Bool.{not}
 use Prim.Native.Nat.{◌*◌}
 use native.Mathlib.Omega.{arith}
 use Rattle.rows.proofs.Laws.{same-part, length_part}
-use Rattle.rows.specs.Numbered.{sort_at}
+use Rattle.clauses.specs.Asks.{sort_at}
 use Rattle.queries.proofs.Laws.{row_in, mask-in}
 use Rattle.checker.proofs.Laws.{decided}
 use Rattle.checker.proofs.Rows.{passed-by-is}

@@ -2,7 +2,7 @@
 use borrow.Author.Rules.{rules}
 use native.Mathlib.Omega.{arith}
 use native.Mathlib.Numerals.{add-one}
-use Rattle.rows.proofs.Numbered.{row-B}
+use Rattle.clauses.proofs.Sorts.{row-B}
 use Rattle.checker.specs.Things.{asked}
 use Rattle.checker.proofs.Laws.{both, put_is}
 use Rattle.checker.proofs.Rows.{CC}

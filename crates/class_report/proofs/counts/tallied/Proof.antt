@@ -1,7 +1,5 @@
 -- `class_report::counts::tallied` meets its contract. Assumes nothing.
 use mathlib.Core.Path.{sym, ap, ◌∙◌}
-use Rattle.class_report.specs.declared.Outcome.{Outcome}
-use Rattle.class_report.specs.Report.{told_by}
 use Rattle.class_report.specs.Tally.{tallied}
 use Rattle.class_report.proofs.Counting.{tallied-leak, tallied-refused}
 use borrow.Author.Rules.{rules}
@@ -9,17 +7,14 @@ use Rattle.class_report.proofs.counts.tallied.Statement.{statement}
 use Rattle.class_report.proofs.counts.tallied.Tie as tie
 
 returns : tie.Need-returns
-unfolding told_by
 returns c =
     let t = c.before.before.before.before.before.before.args.tally in
-    tallied-leak t _ _ _ c.raised.ensures c.before.counted.ensures
-    ∙ sym (ap (λ (o : Outcome). tallied t (told_by o)) c.before.before.before.outcome.given.1)
+    tallied-leak t _ _ _ c.raised.ensures c.before.counted.ensures ∙ sym (ap (tallied t) c.before.before.before.outcome.given.1)
 
 returns-2 : tie.Need-returns-2
-unfolding told_by
 returns-2 c =
     let t = c.before.before.before.before.args.tally in
-    tallied-refused t _ _ _ c.raised2.ensures ∙ sym (ap (λ (o : Outcome). tallied t (told_by o)) c.before.enum_told.given.1)
+    tallied-refused t _ _ _ c.raised2.ensures ∙ sym (ap (tallied t) c.before.enum_told.given.1)
 
 pub tallied-spec : {M : Type 1} → statement M
 tallied-spec =

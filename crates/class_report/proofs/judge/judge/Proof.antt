@@ -6,7 +6,7 @@ use mathlib.Core.List.{List}
 use native.Mathlib.Omega.{arith}
 use lib.ListN.{replicate}
 use Rattle.little_endian.proofs.Laws.{words-read}
-use Rattle.class_report.specs.Report.{told_of, answer_on, outcome}
+use Rattle.class_report.specs.Report.{outcome_of, answer_on, outcome}
 use borrow.Author.Rules.{rules}
 use Rattle.class_report.proofs.judge.judge.Statement.{statement}
 use Rattle.class_report.proofs.judge.judge.Tie as tie
@@ -30,7 +30,7 @@ unfolding outcome
 returns c =
     let s = c.before.before.before.before.before.before in let w = c.before.before.before.words_of in
     c.judge-words.ensures
-    ∙ ap (λ (ws : List ℕ). told_of (answer_on ws s.args.rho))
+    ∙ ap (λ (ws : List ℕ). outcome_of (answer_on ws s.args.rho))
     (words-read s.args.bytes.now (replicate 256 0) w.new.1.0 w.result w.ensures.0 w.ensures.1 (omega (arith, s.requires)))
 
 pub judge-spec : {M : Type 1} → statement M

@@ -1,8 +1,5 @@
 -- `firing::sends::send` meets its contract: past the table there is no block. Assumes nothing.
-use mathlib.Core.Path.{sym, ap, ◌∙◌, subst}
-use mathlib.Core.Bool.{false≢true}
-use lib.Dec.{T, eqb→eq}
-use borrow.Author.Tests.{eq-eqb}
+use mathlib.Core.Path.{sym, ap, ◌∙◌}
 use native.Mathlib.Omega.{arith}
 use lib.ListN.{get_or-eq_default}
 use Rattle.table.specs.declared.Link.{Link}
@@ -22,10 +19,10 @@ send-spec =
     (λ c. let t = c.before.before.before.before in let u = t.before.before.before in let a = u.before.before.before.before.before.before.before.before.args in let d = t.send-all.ensures in
     record { words = d.words ∙ all_blocks (code a.words.now) a.e a.f a.est.now u.if1.true; count = d.count })
     (λ c. let s = c.before.before.before.before.before.before.before.before.before in let a = s.args in not-block _ s.requires.0.readable a.est.now a.e a.f c.before.if1.false (λ z. omega (arith, z, get_or-eq_default a.words.now 0 c.if2.true)))
-    (λ mul-is-block. search rules) (λ shared-slice-read-is-block. search rules) (λ is-block-requires κs. search rules)
+    (λ mul-kind-of. search rules) (λ shared-slice-read-kind-of. search rules) (λ kind-of-requires κs. search rules)
     (λ c κs. let t = c.before.before.before in let p = t.before.before.before.before in let s = p.before.before.before.before.before.before.before in
-    (record { links = _; ready = s.requires.0; sending = s.requires.2; sender = p.permissions-of.ensures; block = ap (λ (x : Link). x.home) p.before.link_at.ensures }, s.requires.1, eqb→eq _ 2 (subst T (sym (sym t.is_block.ensures ∙ c.before.before.if3.true)) tt)))
+    (record { links = _; ready = s.requires.0; sending = s.requires.2; sender = p.permissions-of.ensures; block = ap (λ (x : Link). x.home) p.before.link_at.ensures }, s.requires.1, sym t.kind-of.ensures ∙ c.before.before.if3.true))
     (λ same-length-3. search rules) (λ same-length-4. search rules)
     (λ c. let t = c.before.before.before.before in let u = t.before.before.before.before.before.before.before in let a = u.before.before.before.before.before.before.before.before.args in let d = t.send-to.ensures in
     record { words = d.words ∙ one_block (code a.words.now) a.e a.f a.est.now u.if1.false; count = d.count })
-    (λ c. let i = c.before.before.before.before in let s = i.before.before.before.before.before.before.before.before in let a = s.args in not-block _ s.requires.0.readable a.est.now a.e a.f i.if1.false (λ z. false≢true (sym c.if3.false ∙ c.before.is_block.ensures ∙ eq-eqb _ 2 z))))
+    (λ c. let i = c.before.before.before.before in let s = i.before.before.before.before.before.before.before.before in let a = s.args in not-block _ s.requires.0.readable a.est.now a.e a.f i.if1.false (λ z. c.if3.false (c.before.kind-of.ensures ∙ z))))

@@ -4,10 +4,10 @@ use mathlib.Core.Path.{◌≡◌, refl, sym, ap, ◌∙◌}
 use borrow.Author.Rules.{rules}
 use native.Mathlib.Omega.{arith}
 use lib.ListN.{length}
+use Rattle.table.specs.declared.Link.{Link}
 use Rattle.table.specs.Code.{code}
 use Rattle.table.proofs.Blocks.{Follows}
-use Rattle.table.proofs.Limits.{size-le}
-use Rattle.table.proofs.BlockLoop.{blocks_on, named-there, follows-first, next-is, follows_next, next-later}
+use Rattle.table.proofs.BlockLoop.{blocks_on, named-there, follows-first, body-inside, next-is, follows_next, next-later}
 use Rattle.calculus.specs.Constraint.{each}
 use Rattle.calculus.specs.Layout.{WellFormed}
 use Rattle.calculus.specs.Estimate.{fire, facts}
@@ -41,13 +41,13 @@ add-added c =
 loop-less : tie.Need-loop-smaller invariant-loop decreases-loop
 loop-less c =
     let u = c.before.before.before.before.before.before.before.before in let i = u.before.loop in let y = u.before.before.before.before.before.before.before.requires.0 in let r = y.readable in let g = u.loop-test.true in let t = named-there _ r i.b i.invariant.3 g in
-    omega (arith, c.next-block.ensures, next-is _ r i.b g t _ (record { slice = y.slice; room = y.room; made = y.from }), next-later _ r i.b g t, g)
+    omega (arith, ap (λ (k : Link). k.end) c.link_at.ensures, next-is _ r i.b g t _ (record { slice = y.slice; room = y.room; made = y.from }), next-later _ r i.b g t, g)
 
 loop-again : tie.Need-loop-preserved invariant-loop decreases-loop
 loop-again c =
     let v = c.before.before.before.before.before in let q = v.before.before.before in let u = v.send-to in let i = q.before.loop in let s = q.before.before.before.before.before.before.before in let y = s.requires.0 in let r = y.readable in let g = q.loop-test.true in
     let t = named-there _ r i.b i.invariant.3 g in
-    let n = c.next-block.ensures ∙ next-is _ r i.b g t _ (record { slice = y.slice; room = y.room; made = y.from }) in (
+    let n = ap (λ (k : Link). k.end) c.link_at.ensures ∙ next-is _ r i.b g t _ (record { slice = y.slice; room = y.room; made = y.from }) in (
       u.auto.1.0 ∙ i.invariant.0,
       u.auto.1.1.1.0 ∙ i.invariant.1,
       block-well s.requires.1 i.b (block-kind _ r i.b g t) i.invariant.2 u.ensures.words,
@@ -66,5 +66,5 @@ send-all-spec =
     tie.close (tie.spec invariant-loop decreases-loop
     (λ c. let s = c.before.before.before.before.before in let r = s.requires.0.readable in (refl, refl, s.requires.2, follows-first _ r, all_start _ r _ _, omega arith))
     send-to-requires add-added
-    (λ c κs. let t = c.before.before.before.before.before.before.before in let i = t.before.loop in let r = t.before.before.before.before.before.before.before.requires.0.readable in let g = t.loop-test.true in omega (arith, g, size-le _ r))
-    loop-less loop-again (λ c. c.before.loop.invariant.0) (λ c. c.before.loop.invariant.1) returns)
+    (λ c. let t = c.before.before.before.before.before.before.before in let i = t.before.loop in let r = t.before.before.before.before.before.before.before.requires.0.readable in let g = t.loop-test.true in omega (arith, body-inside _ r i.b g (named-there _ r i.b i.invariant.3 g)))
+    (λ c κs. search rules) loop-less loop-again (λ c. c.before.loop.invariant.0) (λ c. c.before.loop.invariant.1) returns)

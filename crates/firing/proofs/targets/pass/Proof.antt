@@ -3,7 +3,7 @@ use Prim.Native.Nat.{◌*◌}
 use native.Mathlib.Omega.{arith}
 use borrow.Author.Rules.{rules}
 use Rattle.rows.proofs.Laws.{length_part, same-part}
-use Rattle.rows.specs.Numbered.{sort_at}
+use Rattle.clauses.specs.Asks.{sort_at}
 use Rattle.queries.proofs.Laws.{row_in, mask-in}
 use Rattle.firing.proofs.Fires.{pass-fired}
 use Rattle.firing.proofs.targets.pass.Statement.{statement}

@@ -5,7 +5,7 @@ use native.Mathlib.Numerals.{add-one}
 use native.Mathlib.Omega.{arith}
 use Rattle.calculus.proofs.Folds.{fire-none}
 use Rattle.clauses.specs.Asks.{for_thing}
-use Rattle.rows.proofs.Numbered.{row-C, row-B}
+use Rattle.clauses.proofs.Sorts.{row-C, row-B}
 use Rattle.queries.proofs.Laws.{row_in}
 use Rattle.firing.specs.Placed.{entering}
 use Rattle.firing.proofs.Tags.{is-other}

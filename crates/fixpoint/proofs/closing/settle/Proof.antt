@@ -18,12 +18,12 @@ use Rattle.fixpoint.proofs.closing.settle.Statement.{statement}
 use Rattle.fixpoint.proofs.closing.settle.Tie as tie
 
 abbrev invariant-loop : tie.invariant-loop
-invariant-loop words links masks est₀ h₀ out₀ l rho budget added₀ est h out added =
+invariant-loop words links masks est₀ h₀ out₀ l rho room added₀ est h out added =
     (length est ≡ length est₀) × (length h ≡ length h₀) × (length out ≡ length out₀)
     × ((old : List ℕ) → Grown (code words) rho.bits old est₀ added₀ → Grown (code words) rho.bits old est added)
 
 abbrev decreases-loop : tie.decreases-loop
-decreases-loop words links masks est₀ h₀ out₀ l rho budget added₀ est h out added = 32 * length est - facts est
+decreases-loop words links masks est₀ h₀ out₀ l rho room added₀ est h out added = 32 * length est - facts est
 
 broken-requires : tie.Need-broken-requires invariant-loop decreases-loop
 broken-requires c κs = let i = c.before.before in let s = i.before.before.before.before.before.before.before.before.before.before.before.before.before.before.before.before.before in (s.requires.0, (i.loop.invariant.3 _ i.before.before.before.before.before.before.before.follow.ensures).sound.well s.requires.1)

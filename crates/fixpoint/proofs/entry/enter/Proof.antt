@@ -1,7 +1,5 @@
 -- `fixpoint::entry::enter` meets its contract. Assumes nothing.
-use mathlib.Core.Path.{◌∙◌}
 use native.Mathlib.Omega.{arith}
-use Rattle.calculus.proofs.Guards.{guarded-is}
 use Rattle.queries.proofs.Laws.{value_in}
 use Rattle.fixpoint.proofs.Grows.{few, not_entered, was-entered}
 use borrow.Author.Rules.{rules}
@@ -9,7 +7,7 @@ use Rattle.fixpoint.proofs.entry.enter.Statement.{statement}
 use Rattle.fixpoint.proofs.entry.enter.Tie as tie
 
 returns : tie.Need-returns
-returns c = let s = c.before.before.before.before.before in not_entered s.requires.0 s.args.rho.bits s.args.p s.requires.3 (c.before.opens.ensures ∙ guarded-is _ s.requires.0.readable _ _) c.if1.true
+returns c = let s = c.before.before.before.before.before in not_entered s.requires.0 s.args.rho.bits s.args.p s.requires.3 c.before.opens.ensures c.if1.true
 
 mark-requires : tie.Need-mark-requires
 mark-requires c κs =
@@ -24,7 +22,7 @@ returns-2 c =
     let w = f.before.before.before.before.before.before.before in
     let i = w.before.before.before in
     let s = i.before.before.before.before.before in
-    was-entered s.requires.0 s.args.rho.bits s.args.p s.requires.3 (i.before.opens.ensures ∙ guarded-is _ s.requires.0.readable _ _) i.if1.false s.requires.2 w.wake.ensures.0
+    was-entered s.requires.0 s.args.rho.bits s.args.p s.requires.3 i.before.opens.ensures i.if1.false s.requires.2 w.wake.ensures.0
     f.fill.ensures.0 c.before.before.mark.ensures
 
 pub enter_spec : {M : Type 1} → statement M

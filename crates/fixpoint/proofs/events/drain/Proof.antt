@@ -14,12 +14,12 @@ use Rattle.fixpoint.proofs.events.drain.Statement.{statement}
 use Rattle.fixpoint.proofs.events.drain.Tie as tie
 
 abbrev invariant-loop : tie.invariant-loop
-invariant-loop words links masks est₀ h₀ list l budget last added₀ i₀ est h added i =
+invariant-loop words links masks est₀ h₀ list l room last added₀ i₀ est h added i =
     (length est ≡ length est₀) × (length h ≡ length h₀)
     × ((ρ : ℕ) → Tried (code words) ρ (λ xs. (k : ℕ) → k < i → Spent words links l.size (get_or list (k + 1) 0) xs) est₀ est added)
 
 abbrev decreases-loop : tie.decreases-loop
-decreases-loop words links masks est₀ h₀ list l budget last added₀ i₀ est h added i = last - i
+decreases-loop words links masks est₀ h₀ list l room last added₀ i₀ est h added i = last - i
 
 step-requires : tie.Need-step-requires invariant-loop decreases-loop
 step-requires c κs = let i = c.before.before.before.before.before.before.before.before.before in let s = i.before.before.before.before.before.before.before.before in (s.requires.0, (i.loop.invariant.2 0).grown.sound.well s.requires.1, c.before.before.before.before.within.ensures.0)

@@ -14,12 +14,12 @@ use Rattle.fixpoint.proofs.events.events.Statement.{statement}
 use Rattle.fixpoint.proofs.events.events.Tie as tie
 
 abbrev invariant-loop : tie.invariant-loop
-invariant-loop words links masks est₀ h₀ out₀ l budget added₀ turn₀ left₀ est h out added turn left =
+invariant-loop words links masks est₀ h₀ out₀ l room added₀ turn₀ left₀ est h out added turn left =
     (length est ≡ length est₀) × (length h ≡ length h₀) × (length out ≡ length out₀) × ((ρ : ℕ) → Grown (code words) ρ est₀ est added)
     × (((left ≡ 16777216) × (turn ≡ 0) × (added ≡ 0) × (est ≡ est₀) × (out ≡ out₀)) ⊎ Exhausted words links l.size out₀ est₀ est added)
 
 abbrev decreases-loop : tie.decreases-loop
-decreases-loop words links masks est₀ h₀ out₀ l budget added₀ turn₀ left₀ est h out added turn left = left
+decreases-loop words links masks est₀ h₀ out₀ l room added₀ turn₀ left₀ est h out added turn left = left
 
 loop-holds : tie.Need-loop-init invariant-loop decreases-loop
 loop-holds c = (refl, refl, refl, (λ ρ. grown-none), inl (refl, refl, refl, refl, refl))

@@ -15,12 +15,12 @@ use Rattle.fixpoint.proofs.events.sweep.Statement.{statement}
 use Rattle.fixpoint.proofs.events.sweep.Tie as tie
 
 abbrev invariant-loop : tie.invariant-loop
-invariant-loop words links masks est₀ h₀ out₀ l rho budget last added₀ i₀ est h out added i =
+invariant-loop words links masks est₀ h₀ out₀ l rho room last added₀ i₀ est h out added i =
     (length est ≡ length est₀) × (length h ≡ length h₀) × (length out ≡ length out₀)
     × Tried (code words) rho.bits (λ xs. (j : ℕ) → j < i → Quiet words links rho.bits j xs) est₀ est added
 
 abbrev decreases-loop : tie.decreases-loop
-decreases-loop words links masks est₀ h₀ out₀ l rho budget last added₀ i₀ est h out added i = last - i
+decreases-loop words links masks est₀ h₀ out₀ l rho room last added₀ i₀ est h out added i = last - i
 
 mul-last : tie.Need-overflow-mul-last invariant-loop decreases-loop
 mul-last c = let s = c.before.before.before.before.before.before.before in omega (arith, (sized s.requires.0 s.requires.1).size)

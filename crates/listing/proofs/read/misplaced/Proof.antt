@@ -30,13 +30,13 @@ returns-2 : tie.Need-returns-2 invariant-loop decreases-loop
 returns-2 c =
     let l = c.before.before.before.before.before.before.loop in
     let a = c.before.before.before.before.before.before.before.before.before.args in
-    sym (l.invariant.1 ∙ placed-other a.depths.now a.spaces.now l.i (omega arith) (omega arith) (λ e. c.if2.true (e ∙ ap (λ (d : ℕ). 2 * d) (sym c.before.levels.ensures.0))))
+    sym (l.invariant.1 ∙ placed-other a.depths.now a.spaces.now l.i (omega arith) (omega arith) (λ e. c.if2.true (e ∙ ap (λ (d : ℕ). 2 * d) (sym c.before.wide.ensures.0))))
 
 loop-again : tie.Need-loop-preserved invariant-loop decreases-loop
 loop-again c =
     let l = c.before.before.before.before.before.before.loop in
     let a = c.before.before.before.before.before.before.before.before.before.args in
-    (omega arith, l.invariant.1 ∙ placed-more a.depths.now a.spaces.now l.i (omega arith) (omega arith) (c.if2.false ∙ ap (λ (d : ℕ). 2 * d) c.before.levels.ensures.0))
+    (omega arith, l.invariant.1 ∙ placed-more a.depths.now a.spaces.now l.i (omega arith) (omega arith) (c.if2.false ∙ ap (λ (d : ℕ). 2 * d) c.before.wide.ensures.0))
 
 returns-3 : tie.Need-returns-3 invariant-loop decreases-loop
 returns-3 c =
@@ -47,5 +47,5 @@ returns-3 c =
 pub misplaced-spec : {M : Type 1} → statement M
 misplaced-spec =
     tie.close (tie.spec invariant-loop decreases-loop loop-holds returns (λ mul-if2. search rules) (λ shared-slice-read-if2. search rules)
-    (λ shared-slice-read-levels. search rules) (λ levels-requires κs. search rules) (λ mul-if2-2. search rules) (λ add-result. search rules) returns-2
+    (λ shared-slice-read-wide. search rules) (λ wide-requires κs. search rules) (λ mul-if2-2. search rules) (λ add-result. search rules) returns-2
     (λ add-i. search rules) (λ loop-less. search rules) loop-again returns-3)

@@ -24,8 +24,8 @@ loop-holds c =
     let s = c.before.before.before in
     (search rules, narrow_size s.args.words.now s.requires.0.1, search rules, zero-add _ ∙ ap length (rest-start s.args.words.now s.requires.0.1))
 
-shared-slice-read-levels : tie.Need-shared-slice-read-levels invariant-loop decreases-loop
-shared-slice-read-levels c =
+shared-slice-read-wide : tie.Need-shared-slice-read-wide invariant-loop decreases-loop
+shared-slice-read-wide c =
     let s = c.before.before.before.before.before.before in
     omega (arith, depth-there s.args.words.now s.requires.0.1 s.args.depths.now s.requires.1)
 
@@ -38,7 +38,7 @@ loop-again : tie.Need-loop-preserved invariant-loop decreases-loop
 loop-again c =
     let s = c.before.before.before.before.before.before.before.before.before.before in
     let l = c.before.before.before.before.before.before.loop in
-    let w = c.before.before.before.levels.ensures in (
+    let w = c.before.before.before.wide.ensures in (
       omega arith,
       l.invariant.1,
       omega (arith, w.1, c.spell.ensures.1),
@@ -54,6 +54,6 @@ returns c =
 
 pub text-size-spec : {M : Type 1} → statement M
 text-size-spec =
-    tie.close (tie.spec invariant-loop decreases-loop loop-holds shared-slice-read-levels (λ levels-requires κs. search rules) (λ mul-n. search rules) (λ mul-spell. search rules)
+    tie.close (tie.spec invariant-loop decreases-loop loop-holds shared-slice-read-wide (λ wide-requires κs. search rules) (λ mul-n. search rules) (λ mul-spell. search rules)
     (λ shared-slice-read-spell. search rules) spell-requires (λ add-n. search rules) (λ add-n-2. search rules) (λ add-i. search rules)
     (λ loop-less. search rules) loop-again returns)

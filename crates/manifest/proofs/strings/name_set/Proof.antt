@@ -1,57 +1,127 @@
--- `manifest::strings::name_set` meets its contract. Assumes nothing.
-use Prim.Native.Nat.{ℕ, ◌+◌, ◌-◌, ◌*◌, ◌^◌, ◌≤◌, ◌<◌}
-use mathlib.Core.Path.{◌≡◌, refl, sym, ap, ◌∙◌}
-use mathlib.Core.Bool.{Bool, true}
-use mathlib.Core.List.{List}
-use native.Mathlib.Omega.{arith}
-use lib.ListN.{length, drop}
-use Rattle.names.specs.Table.{names}
-use Rattle.names.specs.Table.{named as Table·named}
-use Rattle.json.specs.Strings.{units}
-use Rattle.json.specs.Units.{matches}
-use Rattle.names.proofs.Members.{name-low}
-use Rattle.names.proofs.Words.{named_end, named-yes, named-no, ten-names, doubled}
+-- `manifest::strings::name_set` meets its contract: an arm for each name.
+-- Assumes nothing.
+use mathlib.Core.Path.{sym, ◌∙◌}
+use Rattle.manifest.proofs.Names.{named-yes, named-no, named_none}
 use borrow.Author.Rules.{rules}
 use Rattle.manifest.proofs.strings.name_set.Statement.{statement}
 use Rattle.manifest.proofs.strings.name_set.Tie as tie
 
--- a name is these units
-abbrev is : List ℕ → List ℕ → Bool
-is us n = matches true n us
-
-abbrev invariant-loop : tie.invariant-loop
-invariant-loop text at bit₀ i₀ bit i =
-    (i ≤ 10) × (bit ≡ 2 ^ i) × (Table·named (is (units (drop at text))) (drop i names) bit ≡ Table·named (is (units (drop at text))) names 1)
-
-abbrev decreases-loop : tie.decreases-loop
-decreases-loop text at bit₀ i₀ bit i = 10 - i
-
-loop-holds : tie.Need-loop-init invariant-loop decreases-loop
-loop-holds c = (omega arith, refl, refl)
-
-returns : tie.Need-returns invariant-loop decreases-loop
+returns : tie.Need-returns
 returns c =
-    let l = c.before.before.before.loop in let a = c.before.before.before.before.before.args in let w = units (drop a.at a.text.now) in
-    sym (sym l.invariant.2 ∙ named-yes (is w) names l.i l.bit (omega arith) (ap (is w) (sym (name-low l.i (omega arith))) ∙ sym c.before.is_name.ensures ∙ c.if1.true))
+    sym
+    (named-yes _ _ _ _ (sym c.before.spells.ensures ∙ c.if1.true))
 
-mul-bit : tie.Need-overflow-mul-bit invariant-loop decreases-loop
-mul-bit c =
-    let l = c.before.before.before.loop in let m = ten-names l.bit l.i l.invariant.1 (omega arith) in record { fits = omega arith }
-
-loop-again : tie.Need-loop-preserved invariant-loop decreases-loop
-loop-again c =
-    let l = c.before.before.before.loop in let a = c.before.before.before.before.before.args in let w = units (drop a.at a.text.now) in (
-      omega arith,
-      doubled l.bit l.i l.invariant.1,
-      sym (named-no (is w) names l.i l.bit (omega arith) (ap (is w) (sym (name-low l.i (omega arith))) ∙ sym c.before.is_name.ensures ∙ c.if1.false)) ∙ l.invariant.2,
-    )
-
-returns-2 : tie.Need-returns-2 invariant-loop decreases-loop
+returns-2 : tie.Need-returns-2
 returns-2 c =
-    let l = c.before.loop in let a = c.before.before.before.args in let w = units (drop a.at a.text.now) in
-    sym (sym l.invariant.2 ∙ named_end (is w) names l.i l.bit (omega arith))
+    sym
+    (named-no _ _ _ _ (sym c.before.before.before.before.spells.ensures ∙ c.before.before.before.if1.false)
+    ∙ named-yes _ _ _ _ (sym c.before.spells2.ensures ∙ c.if2.true))
+
+returns-3 : tie.Need-returns-3
+returns-3 c =
+    sym
+    (named-no _ _ _ _ (sym c.before.before.before.before.before.before.before.spells.ensures ∙ c.before.before.before.before.before.before.if1.false)
+    ∙ named-no _ _ _ _ (sym c.before.before.before.before.spells2.ensures ∙ c.before.before.before.if2.false)
+    ∙ named-yes _ _ _ _ (sym c.before.spells3.ensures ∙ c.if3.true))
+
+returns-4 : tie.Need-returns-4
+returns-4 c =
+    sym
+    (named-no _ _ _ _ (sym c.before.before.before.before.before.before.before.before.before.before.spells.ensures ∙ c.before.before.before.before.before.before.before.before.before.if1.false)
+    ∙ named-no _ _ _ _ (sym c.before.before.before.before.before.before.before.spells2.ensures ∙ c.before.before.before.before.before.before.if2.false)
+    ∙ named-no _ _ _ _ (sym c.before.before.before.before.spells3.ensures ∙ c.before.before.before.if3.false)
+    ∙ named-yes _ _ _ _ (sym c.before.spells4.ensures ∙ c.if4.true))
+
+returns-5 : tie.Need-returns-5
+returns-5 c =
+    sym
+    (named-no _ _ _ _ (sym c.before.before.before.before.before.before.before.before.before.before.before.before.before.spells.ensures ∙ c.before.before.before.before.before.before.before.before.before.before.before.before.if1.false)
+    ∙ named-no _ _ _ _ (sym c.before.before.before.before.before.before.before.before.before.before.spells2.ensures ∙ c.before.before.before.before.before.before.before.before.before.if2.false)
+    ∙ named-no _ _ _ _ (sym c.before.before.before.before.before.before.before.spells3.ensures ∙ c.before.before.before.before.before.before.if3.false)
+    ∙ named-no _ _ _ _ (sym c.before.before.before.before.spells4.ensures ∙ c.before.before.before.if4.false)
+    ∙ named-yes _ _ _ _ (sym c.before.spells5.ensures ∙ c.if5.true))
+
+returns-6 : tie.Need-returns-6
+returns-6 c =
+    sym
+    (named-no _ _ _ _ (sym c.before.before.before.before.before.before.before.before.before.before.before.before.before.before.before.before.spells.ensures ∙ c.before.before.before.before.before.before.before.before.before.before.before.before.before.before.before.if1.false)
+    ∙ named-no _ _ _ _ (sym c.before.before.before.before.before.before.before.before.before.before.before.before.before.spells2.ensures ∙ c.before.before.before.before.before.before.before.before.before.before.before.before.if2.false)
+    ∙ named-no _ _ _ _ (sym c.before.before.before.before.before.before.before.before.before.before.spells3.ensures ∙ c.before.before.before.before.before.before.before.before.before.if3.false)
+    ∙ named-no _ _ _ _ (sym c.before.before.before.before.before.before.before.spells4.ensures ∙ c.before.before.before.before.before.before.if4.false)
+    ∙ named-no _ _ _ _ (sym c.before.before.before.before.spells5.ensures ∙ c.before.before.before.if5.false)
+    ∙ named-yes _ _ _ _ (sym c.before.spells6.ensures ∙ c.if6.true))
+
+returns-7 : tie.Need-returns-7
+returns-7 c =
+    sym
+    (named-no _ _ _ _ (sym c.before.before.before.before.before.before.before.before.before.before.before.before.before.before.before.before.before.before.before.spells.ensures ∙ c.before.before.before.before.before.before.before.before.before.before.before.before.before.before.before.before.before.before.if1.false)
+    ∙ named-no _ _ _ _ (sym c.before.before.before.before.before.before.before.before.before.before.before.before.before.before.before.before.spells2.ensures ∙ c.before.before.before.before.before.before.before.before.before.before.before.before.before.before.before.if2.false)
+    ∙ named-no _ _ _ _ (sym c.before.before.before.before.before.before.before.before.before.before.before.before.before.spells3.ensures ∙ c.before.before.before.before.before.before.before.before.before.before.before.before.if3.false)
+    ∙ named-no _ _ _ _ (sym c.before.before.before.before.before.before.before.before.before.before.spells4.ensures ∙ c.before.before.before.before.before.before.before.before.before.if4.false)
+    ∙ named-no _ _ _ _ (sym c.before.before.before.before.before.before.before.spells5.ensures ∙ c.before.before.before.before.before.before.if5.false)
+    ∙ named-no _ _ _ _ (sym c.before.before.before.before.spells6.ensures ∙ c.before.before.before.if6.false)
+    ∙ named-yes _ _ _ _ (sym c.before.spells7.ensures ∙ c.if7.true))
+
+returns-8 : tie.Need-returns-8
+returns-8 c =
+    sym
+    (named-no _ _ _ _ (sym c.before.before.before.before.before.before.before.before.before.before.before.before.before.before.before.before.before.before.before.before.before.before.spells.ensures ∙ c.before.before.before.before.before.before.before.before.before.before.before.before.before.before.before.before.before.before.before.before.before.if1.false)
+    ∙ named-no _ _ _ _ (sym c.before.before.before.before.before.before.before.before.before.before.before.before.before.before.before.before.before.before.before.spells2.ensures ∙ c.before.before.before.before.before.before.before.before.before.before.before.before.before.before.before.before.before.before.if2.false)
+    ∙ named-no _ _ _ _ (sym c.before.before.before.before.before.before.before.before.before.before.before.before.before.before.before.before.spells3.ensures ∙ c.before.before.before.before.before.before.before.before.before.before.before.before.before.before.before.if3.false)
+    ∙ named-no _ _ _ _ (sym c.before.before.before.before.before.before.before.before.before.before.before.before.before.spells4.ensures ∙ c.before.before.before.before.before.before.before.before.before.before.before.before.if4.false)
+    ∙ named-no _ _ _ _ (sym c.before.before.before.before.before.before.before.before.before.before.spells5.ensures ∙ c.before.before.before.before.before.before.before.before.before.if5.false)
+    ∙ named-no _ _ _ _ (sym c.before.before.before.before.before.before.before.spells6.ensures ∙ c.before.before.before.before.before.before.if6.false)
+    ∙ named-no _ _ _ _ (sym c.before.before.before.before.spells7.ensures ∙ c.before.before.before.if7.false)
+    ∙ named-yes _ _ _ _ (sym c.before.spells8.ensures ∙ c.if8.true))
+
+returns-9 : tie.Need-returns-9
+returns-9 c =
+    sym
+    (named-no _ _ _ _ (sym c.before.before.before.before.before.before.before.before.before.before.before.before.before.before.before.before.before.before.before.before.before.before.before.before.before.spells.ensures ∙ c.before.before.before.before.before.before.before.before.before.before.before.before.before.before.before.before.before.before.before.before.before.before.before.before.if1.false)
+    ∙ named-no _ _ _ _ (sym c.before.before.before.before.before.before.before.before.before.before.before.before.before.before.before.before.before.before.before.before.before.before.spells2.ensures ∙ c.before.before.before.before.before.before.before.before.before.before.before.before.before.before.before.before.before.before.before.before.before.if2.false)
+    ∙ named-no _ _ _ _ (sym c.before.before.before.before.before.before.before.before.before.before.before.before.before.before.before.before.before.before.before.spells3.ensures ∙ c.before.before.before.before.before.before.before.before.before.before.before.before.before.before.before.before.before.before.if3.false)
+    ∙ named-no _ _ _ _ (sym c.before.before.before.before.before.before.before.before.before.before.before.before.before.before.before.before.spells4.ensures ∙ c.before.before.before.before.before.before.before.before.before.before.before.before.before.before.before.if4.false)
+    ∙ named-no _ _ _ _ (sym c.before.before.before.before.before.before.before.before.before.before.before.before.before.spells5.ensures ∙ c.before.before.before.before.before.before.before.before.before.before.before.before.if5.false)
+    ∙ named-no _ _ _ _ (sym c.before.before.before.before.before.before.before.before.before.before.spells6.ensures ∙ c.before.before.before.before.before.before.before.before.before.if6.false)
+    ∙ named-no _ _ _ _ (sym c.before.before.before.before.before.before.before.spells7.ensures ∙ c.before.before.before.before.before.before.if7.false)
+    ∙ named-no _ _ _ _ (sym c.before.before.before.before.spells8.ensures ∙ c.before.before.before.if8.false)
+    ∙ named-yes _ _ _ _ (sym c.before.spells9.ensures ∙ c.if9.true))
+
+returns-10 : tie.Need-returns-10
+returns-10 c =
+    sym
+    (named-no _ _ _ _ (sym c.before.before.before.before.before.before.before.before.before.before.before.before.before.before.before.before.before.before.before.before.before.before.before.before.before.before.before.before.spells.ensures ∙ c.before.before.before.before.before.before.before.before.before.before.before.before.before.before.before.before.before.before.before.before.before.before.before.before.before.before.before.if1.false)
+    ∙ named-no _ _ _ _ (sym c.before.before.before.before.before.before.before.before.before.before.before.before.before.before.before.before.before.before.before.before.before.before.before.before.before.spells2.ensures ∙ c.before.before.before.before.before.before.before.before.before.before.before.before.before.before.before.before.before.before.before.before.before.before.before.before.if2.false)
+    ∙ named-no _ _ _ _ (sym c.before.before.before.before.before.before.before.before.before.before.before.before.before.before.before.before.before.before.before.before.before.before.spells3.ensures ∙ c.before.before.before.before.before.before.before.before.before.before.before.before.before.before.before.before.before.before.before.before.before.if3.false)
+    ∙ named-no _ _ _ _ (sym c.before.before.before.before.before.before.before.before.before.before.before.before.before.before.before.before.before.before.before.spells4.ensures ∙ c.before.before.before.before.before.before.before.before.before.before.before.before.before.before.before.before.before.before.if4.false)
+    ∙ named-no _ _ _ _ (sym c.before.before.before.before.before.before.before.before.before.before.before.before.before.before.before.before.spells5.ensures ∙ c.before.before.before.before.before.before.before.before.before.before.before.before.before.before.before.if5.false)
+    ∙ named-no _ _ _ _ (sym c.before.before.before.before.before.before.before.before.before.before.before.before.before.spells6.ensures ∙ c.before.before.before.before.before.before.before.before.before.before.before.before.if6.false)
+    ∙ named-no _ _ _ _ (sym c.before.before.before.before.before.before.before.before.before.before.spells7.ensures ∙ c.before.before.before.before.before.before.before.before.before.if7.false)
+    ∙ named-no _ _ _ _ (sym c.before.before.before.before.before.before.before.spells8.ensures ∙ c.before.before.before.before.before.before.if8.false)
+    ∙ named-no _ _ _ _ (sym c.before.before.before.before.spells9.ensures ∙ c.before.before.before.if9.false)
+    ∙ named-yes _ _ _ _ (sym c.before.spells10.ensures ∙ c.if10.true))
+
+returns-11 : tie.Need-returns-11
+returns-11 c =
+    sym
+    (named-no _ _ _ _ (sym c.before.before.before.before.before.before.before.before.before.before.before.before.before.before.before.before.before.before.before.before.before.before.before.before.before.before.before.before.spells.ensures ∙ c.before.before.before.before.before.before.before.before.before.before.before.before.before.before.before.before.before.before.before.before.before.before.before.before.before.before.before.if1.false)
+    ∙ named-no _ _ _ _ (sym c.before.before.before.before.before.before.before.before.before.before.before.before.before.before.before.before.before.before.before.before.before.before.before.before.before.spells2.ensures ∙ c.before.before.before.before.before.before.before.before.before.before.before.before.before.before.before.before.before.before.before.before.before.before.before.before.if2.false)
+    ∙ named-no _ _ _ _ (sym c.before.before.before.before.before.before.before.before.before.before.before.before.before.before.before.before.before.before.before.before.before.before.spells3.ensures ∙ c.before.before.before.before.before.before.before.before.before.before.before.before.before.before.before.before.before.before.before.before.before.if3.false)
+    ∙ named-no _ _ _ _ (sym c.before.before.before.before.before.before.before.before.before.before.before.before.before.before.before.before.before.before.before.spells4.ensures ∙ c.before.before.before.before.before.before.before.before.before.before.before.before.before.before.before.before.before.before.if4.false)
+    ∙ named-no _ _ _ _ (sym c.before.before.before.before.before.before.before.before.before.before.before.before.before.before.before.before.spells5.ensures ∙ c.before.before.before.before.before.before.before.before.before.before.before.before.before.before.before.if5.false)
+    ∙ named-no _ _ _ _ (sym c.before.before.before.before.before.before.before.before.before.before.before.before.before.spells6.ensures ∙ c.before.before.before.before.before.before.before.before.before.before.before.before.if6.false)
+    ∙ named-no _ _ _ _ (sym c.before.before.before.before.before.before.before.before.before.before.spells7.ensures ∙ c.before.before.before.before.before.before.before.before.before.if7.false)
+    ∙ named-no _ _ _ _ (sym c.before.before.before.before.before.before.before.spells8.ensures ∙ c.before.before.before.before.before.before.if8.false)
+    ∙ named-no _ _ _ _ (sym c.before.before.before.before.spells9.ensures ∙ c.before.before.before.if9.false)
+    ∙ named-no _ _ _ _ (sym c.before.spells10.ensures ∙ c.if10.false)
+    ∙ named_none _ _)
 
 pub name-set-spec : {M : Type 1} → statement M
 name-set-spec =
-    tie.close (tie.spec invariant-loop decreases-loop loop-holds (λ is-name-requires κs. search rules) returns mul-bit (λ add-i. search rules) (λ loop-less. search rules)
-    loop-again returns-2)
+    tie.close (tie.spec (λ slice-aggregate-spells. search rules) (λ spells-requires κs. search rules) returns (λ slice-aggregate-spells-2. search rules)
+    (λ spells-requires-2 κs. search rules) returns-2 (λ slice-aggregate-spells-3. search rules) (λ spells-requires-3 κs. search rules) returns-3
+    (λ slice-aggregate-spells-4. search rules) (λ spells-requires-4 κs. search rules) returns-4 (λ slice-aggregate-spells-5. search rules)
+    (λ spells-requires-5 κs. search rules) returns-5 (λ slice-aggregate-spells-6. search rules) (λ spells-requires-6 κs. search rules) returns-6
+    (λ slice-aggregate-spells-7. search rules) (λ spells-requires-7 κs. search rules) returns-7 (λ slice-aggregate-spells-8. search rules)
+    (λ spells-requires-8 κs. search rules) returns-8 (λ slice-aggregate-spells-9. search rules) (λ spells-requires-9 κs. search rules) returns-9
+    (λ slice-aggregate-spells-10. search rules) (λ spells-requires-10 κs. search rules) returns-10 returns-11)

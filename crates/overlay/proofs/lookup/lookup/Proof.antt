@@ -1,15 +1,10 @@
 -- `overlay::lookup::lookup` meets its contract: the part that `find` names is the block.
 -- Assumes nothing.
-use Prim.Native.Nat.{ℕ}
 use mathlib.Core.Path.{◌≡◌, sym, ap, subst, ◌∙◌}
-use mathlib.Core.List.{List}
-use lib.Dec.{eqb}
-use lib.ListN.{length}
 use borrow.Author.Rules.{rules}
 use Rattle.overlay.specs.declared.Found.{Found}
-use Rattle.overlay.specs.Lookup.{place_of, is_refused, looked_up}
 use Rattle.overlay.specs.Answers.{found_as}
-use Rattle.overlay.proofs.Places.{Stands, place-stands, none-refused}
+use Rattle.overlay.proofs.Places.{Stands, place-stands}
 use Rattle.overlay.proofs.lookup.lookup.Statement.{statement}
 use Rattle.overlay.proofs.lookup.lookup.Tie as tie
 
@@ -53,22 +48,17 @@ part-result-end-2 : tie.Need-slice-bounds-result-end-2
 unfolding found_as
 part-result-end-2 c = let q = answered c.before.before.before _ c.before.start2.given.1 in search rules
 
--- of the words of the block, both clauses
-told : (base overlay : List ℕ) (n s : ℕ) (ws : List ℕ) → ws ≡ looked_up base overlay n s
-    → (ws ≡ looked_up base overlay n s) × (eqb (length ws) 0 ≡ is_refused (place_of base overlay n s))
-told base overlay n s ws e = (e, ap (λ (xs : List ℕ). eqb (length xs) 0) e ∙ none-refused base overlay n s)
-
 returns : tie.Need-returns
 unfolding found_as
-returns c = told _ _ _ _ _ (answered c.before.before.before.before _ c.before.before.start.given.1).2
+returns c = (answered c.before.before.before.before _ c.before.before.start.given.1).2
 
 returns-2 : tie.Need-returns-2
 unfolding found_as
-returns-2 c = told _ _ _ _ _ (answered c.before.before.before.before _ c.before.before.start2.given.1).2
+returns-2 c = (answered c.before.before.before.before _ c.before.before.start2.given.1).2
 
 returns-3 : tie.Need-returns-3
 unfolding found_as
-returns-3 c = told _ _ _ _ _ (sym (answered c.before.before.before _ c.before.enum_told.given.1))
+returns-3 c = sym (answered c.before.before.before _ c.before.enum_told.given.1)
 
 pub lookup-spec : {M : Type 1} → statement M
 lookup-spec =

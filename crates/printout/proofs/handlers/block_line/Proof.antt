@@ -2,7 +2,7 @@
 use mathlib.Core.Path.{sym, ◌∙◌}
 use native.Mathlib.Omega.{arith}
 use Rattle.table.specs.Code.{code}
-use Rattle.rows.proofs.Bounds.{size_small, row_small, flags-base}
+use Rattle.calls.proofs.Bounds.{size_small, row_small, flags-base}
 use Rattle.text.proofs.Writing.{reworded}
 use Rattle.printout.proofs.HandlerLaws.{line-is, small, est-short, word-inside, permissions-read, flag-read}
 use borrow.Author.Rules.{rules}

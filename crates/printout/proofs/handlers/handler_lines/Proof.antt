@@ -16,7 +16,7 @@ decreases-loop words rho est out start c₀ p₀ out' c p = length words - p
 loop-holds : tie.Need-loop-init invariant-loop decreases-loop
 loop-holds c =
     let s = c.before.before.before in
-    (listed_start s.args.words.now s.requires.0.readable s.args.rho s.args.est.now s.args.out.now s.args.start (omega (arith, s.requires.1)), omega arith)
+    (listed_start s.args.words.now s.requires.0.readable s.args.rho s.args.est.now s.args.out.now s.args.start s.requires.0.names (omega (arith, s.requires.1)), omega arith)
 
 handler-at-requires : tie.Need-handler-at-requires invariant-loop decreases-loop
 handler-at-requires c κs =

@@ -21,7 +21,7 @@ handler-lines-requires : tie.Need-handler-lines-requires
 handler-lines-requires c κs =
     let s = c.before.before.before.before.before.before in
     let n = c.before.before.words-needed.ensures in
-    (record { readable = s.requires.0.readable; long = length-take-le _ _ (omega (arith, n, s.requires.0.long)) ∙ n }, s.requires.1)
+    (record { readable = s.requires.0.readable; names = s.requires.0.names; long = length-take-le _ _ (omega (arith, n, s.requires.0.long)) ∙ n }, s.requires.1)
 
 returns : tie.Need-returns
 returns c =

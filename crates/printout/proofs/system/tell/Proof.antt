@@ -1,9 +1,7 @@
 -- `printout::system::tell` meets its contract. Assumes nothing.
-use mathlib.Core.Path.{sym, ap, ◌∙◌}
-use Rattle.calculus.specs.Answer.{refused}
-use Rattle.printout.specs.Program.{answer_text}
+use mathlib.Core.Path.{sym, ◌∙◌}
 use Rattle.text.proofs.Writing.{reworded}
-use Rattle.printout.proofs.Texts.{wide-text, if-wide, if-other}
+use Rattle.printout.proofs.Texts.{wide-text, if-wide}
 use borrow.Author.Rules.{rules}
 use Rattle.printout.proofs.system.tell.Statement.{statement}
 use Rattle.printout.proofs.system.tell.Tie as tie
@@ -19,19 +17,12 @@ returns c =
       works = if-wide ws s.args.work.now _ e;
     }
 
-returns-2 : tie.Need-returns-2
-returns-2 c =
-    let s = c.before.before.before.before.before.before.before.before.before.before.before.before.before.before.before.before in
-    let ws = s.args.words.now in
-    let e = sym c.before.before.before.before.before.before.before.before.before.before.before.is_IsWide.ensures ∙ c.before.before.before.before.before.before.before.before.before.before.if1.false in
-    let t = c.before.before.before.before.before.before.tell-either.ensures in
-    record {
-      wrote = reworded (ap (answer_text s.args.rho ws) (if-other ws (refused 1 0) _ e)) t.wrote;
-      estimates = t.estimates ∙ if-other ws s.args.est.now _ e;
-      works = t.works ∙ if-other ws s.args.work.now _ e;
-    }
+tell-narrow-requires : tie.Need-tell-narrow-requires
+tell-narrow-requires c κs =
+    let s = c.before.before.before.before.before.before.before.before.before in
+    (s.requires, sym c.before.before.before.before.is_IsWide.ensures ∙ c.before.before.before.if1.false)
 
 pub tell-spec : {M : Type 1} → statement M
 tell-spec =
     tie.close (tie.spec (λ is-wide-requires κs. search rules) (λ refusal-line-requires κs. search rules) (λ same_length. search rules) returns
-    (λ tell-either-requires κs. search rules) (λ same-length-2. search rules) (λ same-length-3. search rules) (λ same-length-4. search rules) returns-2)
+    tell-narrow-requires (λ same-length-2. search rules) (λ same-length-3. search rules) (λ same-length-4. search rules) (λ returns-2. search rules))

@@ -1,10 +1,10 @@
 -- `solver::analyse::analyse` meets its contract. Assumes nothing.
-use mathlib.Core.Path.{sym, ap, ap₂, ◌∙◌, subst}
+use mathlib.Core.Path.{sym, ap, ◌∙◌, subst}
 use lib.ListN.{length}
 use Rattle.calculus.specs.Answer.{standing_bound, judge}
 use Rattle.calls.specs.Calls.{CheckedAs}
 use Rattle.calls.proofs.Answers.{after-refused, after-solved}
-use Rattle.solver.specs.Analysis.{solved, said, outcome}
+use Rattle.solver.specs.Analysis.{solved, said, summary}
 use Rattle.solver.proofs.Sound.{sound}
 use borrow.Author.Rules.{rules}
 use Rattle.solver.proofs.analyse.analyse.Statement.{statement}
@@ -17,24 +17,24 @@ find-requires c κs =
     (subst (CheckedAs a.words.now a.rho standing_bound (length a.est.now) (length a.work.now)) c.before.before.enum_told.given.1 c.before.before.before.before.check.ensures).fit
 
 returns : tie.Need-returns
-unfolding said outcome
+unfolding said summary
 returns c =
     let s = c.before.before.before.before.before.before.before in
     let a = s.args in
     let e = subst (CheckedAs a.words.now a.rho standing_bound (length a.est.now) (length a.work.now)) c.before.f.given.1 c.before.before.before.check.ensures in
     let k = after-refused a.words.now a.rho standing_bound a.est.now a.work.now _ _ e in
-    let d = ap outcome (sym e) in
+    let d = ap summary (sym e) in
     (d, (k.0, (k.1, sound a.words.now a.rho a.est.now a.work.now _ _ d k.0)))
 
 returns-2 : tie.Need-returns-2
-unfolding said outcome judge
+unfolding said summary judge
 returns-2 c =
-    let t = c.before.before.before.before.before.before.before.before.before.before.before.before.before in
+    let t = c.before.before.before.before.before.before.before.before.before.before.before.before.before.before in
     let a = t.args in
-    let h = subst (CheckedAs a.words.now a.rho standing_bound (length a.est.now) (length a.work.now)) c.before.before.before.before.before.before.before.enum_told.given.1 c.before.before.before.before.before.before.before.before.before.check.ensures in
-    let s = c.before.before.before.before.find.ensures in
+    let h = subst (CheckedAs a.words.now a.rho standing_bound (length a.est.now) (length a.work.now)) c.before.before.before.before.before.before.before.before.enum_told.given.1 c.before.before.before.before.before.before.before.before.before.before.check.ensures in
+    let s = c.before.before.before.before.before.find.ensures in
     let k = after-solved a.words.now a.rho standing_bound a.est.now a.work.now _ h.judged in
-    let d = ap₂ solved s.leaks s.counted ∙ ap outcome (sym h.judged) in
+    let d = ap solved s.leaks ∙ ap summary (sym h.judged) in
     let u = s.estimates ∙ k.0 in
     (d, (u, (s.works ∙ k.1, sound a.words.now a.rho a.est.now a.work.now _ _ d u)))
 

@@ -1,6 +1,6 @@
 -- `solver::solve::fill` meets its contract. Four rows fit into 144 words. Assumes nothing.
 use Rattle.solver.proofs.Zeros.{zeros-at}
-use Rattle.rows.proofs.Bounds.{row-bound}
+use Rattle.calls.proofs.Bounds.{row-bound}
 use Rattle.solver.proofs.Begun.{ready_of}
 use native.Mathlib.Omega.{arith}
 use borrow.Author.Rules.{rules}

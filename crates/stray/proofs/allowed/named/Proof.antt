@@ -16,9 +16,9 @@ returns c = ap (λ (n : ℕ). not (eqb n 0)) c.word_Makes.ensures ∙ sym (ap (�
 
 returns-2 : tie.Need-returns-2
 unfolding word_named
-returns-2 c = c.is_block.ensures ∙ sym (ap (λ (s : Holding). word_named s c.before.before.before.args.w) c.before.enum-told2.given.1)
+returns-2 c = ap (λ (n : ℕ). eqb n 2) c.kind-of.ensures ∙ sym (ap (λ (s : Holding). word_named s c.before.before.before.args.w) c.before.enum-told2.given.1)
 
 pub named-spec : {M : Type 1} → statement M
 named-spec =
     tie.close (tie.spec
-    (λ enum_told. search rules) (λ word-makes-requires κs. search rules) (λ enum-told-2. search rules) (λ is-block-requires κs. search rules) returns returns-2)
+    (λ enum_told. search rules) (λ word-makes-requires κs. search rules) (λ enum-told-2. search rules) (λ kind-of-requires κs. search rules) returns returns-2)

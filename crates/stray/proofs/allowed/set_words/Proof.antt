@@ -11,7 +11,7 @@ use Rattle.calculus.specs.Elements.{plain, elements}
 use Rattle.calculus.proofs.Places.{fits-row}
 use Rattle.rows.specs.declared.layout.Layout.{Layout}
 use Rattle.rows.specs.Laid.{LaidOut}
-use Rattle.rows.proofs.Bounds.{row_small}
+use Rattle.calls.proofs.Bounds.{row_small}
 use Rattle.masks.specs.Masks.{mark_if}
 use Rattle.stray.specs.Allowed.{Allowed}
 use Rattle.stray.proofs.Named.{word-named, one_more}

@@ -1,6 +1,6 @@
 -- `stray::search::first_stray` meets its contract. A row fits into 36 words. Assumes nothing.
 use native.Mathlib.Omega.{arith}
-use Rattle.rows.proofs.Bounds.{row-bound}
+use Rattle.calls.proofs.Bounds.{row-bound}
 use Rattle.stray.proofs.Named.{zeros-at}
 use borrow.Author.Rules.{rules}
 use Rattle.stray.proofs.search.first_stray.Statement.{statement}

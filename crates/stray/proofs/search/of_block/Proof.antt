@@ -30,7 +30,7 @@ odd ws r n = ap (λ (b : Bool). b && is_block ((code ws).node (r / 2))) (sym (ne
 returns : tie.Need-returns
 returns c =
     let a = c.before.before.before.before.args in
-    c.is_block.ensures ∙ even a.words.now c.before.before.before.before.requires.0 a.r c.before.before.before.before.requires.1 c.before.before.if1.true
+    ap (λ (n : ℕ). eqb n 2) c.kind-of.ensures ∙ even a.words.now c.before.before.before.before.requires.0 a.r c.before.before.before.before.requires.1 c.before.before.if1.true
 
 returns-2 : tie.Need-returns-2
 returns-2 c =
@@ -38,4 +38,4 @@ returns-2 c =
 
 pub of-block-spec : {M : Type 1} → statement M
 of-block-spec =
-    tie.close (tie.spec (λ mul-is-block. search rules) (λ shared-slice-read-is-block. search rules) (λ is-block-requires κs. search rules) returns returns-2)
+    tie.close (tie.spec (λ mul-kind-of. search rules) (λ shared-slice-read-kind-of. search rules) (λ kind-of-requires κs. search rules) returns returns-2)

@@ -1,0 +1,16 @@
+-- `fingerprint::wrapping_mul` meets its contract. Assumes nothing.
+use Prim.Native.Nat.{ℕ, ◌+◌, ◌*◌, ◌^◌, ◌<◌}
+use mathlib.Core.Path.{subst⁻¹}
+use lib.Pow.{pow_pos, pow-add}
+use native.Mathlib.Nat.{mul-le-mul_left, mul-lt-mul_of_pos_right, le_of_lt, lt_of_le_of_lt}
+use borrow.Author.Rules.{rules}
+use Rattle.fingerprint.proofs.wrapping_mul.Goals as goal
+
+below : (k : ℕ) {a b : ℕ} → a < 2 ^ k → b < 2 ^ k → a * b < 2 ^ (k + k)
+below k {a} {b} ha hb =
+    subst⁻¹ (λ (n : ℕ). a * b < n) (pow-add 2 k k)
+    (lt_of_le_of_lt (mul-le-mul_left a (le_of_lt hb)) (mul-lt-mul_of_pos_right ha (pow_pos k)))
+
+-- NO GOAL NOW
+-- mul-result : tie.Need-overflow-mul-result
+-- mul-result c = record { fits = below 32 (search rules) (search rules) }

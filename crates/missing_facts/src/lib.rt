@@ -1,1 +1,0 @@
-// What an estimate lacks: definitions and laws. There is no code here.

@@ -1,4 +1,0 @@
-pub mod Digits
-pub mod Members
-pub mod Words
-pub mod Samples

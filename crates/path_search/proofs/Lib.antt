@@ -1,6 +1,0 @@
-pub mod Rounds
-pub mod Tracing
-pub mod Nearer
-pub mod Targets
-pub mod Receivers
-pub mod Written
