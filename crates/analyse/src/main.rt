@@ -1,4 +1,6 @@
 // Reads the opponent's permissions, a bound and a system from standard input, as little-endian words, and prints the verdict.
+#![tactic(auto)]
+
 use printout::program::print;
 
 fn answer(input: &[u8]) {

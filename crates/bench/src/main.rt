@@ -1,5 +1,7 @@
 // Solves the system on standard input, of up to 1,024 words, as often as the first argument says, under the ceiling on facts that is the second,
 // and prints its leak and facts.
+#![tactic(auto)]
+
 ghost use Rattle.std.specs.Prelude.{◌≤◌};
 
 use calls::Fault;

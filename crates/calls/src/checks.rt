@@ -10,7 +10,7 @@ use rows::layout::Layout;
 use table::Reading;
 
 // Nothing is wrong, or the first fault.
-#[derive(Drop)]
+#[derive(Clone, Copy)]
 pub enum Checked {
     Fine,
     Wrong(Fault),

@@ -1,4 +1,6 @@
 // The verdict for programs in C, over bytes.
+#![tactic(auto)]
+
 pub mod check;
 mod slices;
 

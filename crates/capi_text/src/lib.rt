@@ -1,4 +1,6 @@
 // Listings for programs in C, over bytes. Fingerprints, manifests, overlays and converters stand in files of their own.
+#![tactic(auto)]
+
 mod converters;
 mod fingerprints;
 mod manifests;

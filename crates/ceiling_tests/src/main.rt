@@ -1,5 +1,7 @@
 // Analyses document 01's sample `direct` under ceilings on facts, in slices of ones that are longer than it needs, and prints what each call answers and how
 // many words of the two slices are zero then.
+#![tactic(auto)]
+
 use calls::numbers::{fault_number, fault_place};
 use comparison::Findings;
 use libc::STDOUT_FILENO;

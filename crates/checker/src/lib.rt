@@ -1,4 +1,6 @@
 // Whether an estimate obeys the flow rules: a test for each kind of word, in the order of the clauses. Nothing is written.
+#![tactic(auto)]
+
 mod sends;
 mod terms;
 mod tests;

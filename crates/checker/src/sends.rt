@@ -23,7 +23,7 @@ use table_links::link_at;
 const MESSAGES: usize = 3;
 
 // The send at p, in the block at `home`, with its message at d: what it requires of a receiver, and the permissions of its block.
-#[derive(Drop)]
+#[derive(Clone, Copy)]
 pub struct Sending {
     pub p: usize,
     pub d: usize,

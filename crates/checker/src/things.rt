@@ -13,7 +13,7 @@ use queries::{is_live, next_thing};
 use rows::layout::Layout;
 
 // Apply; a thing's held set goes into a row; a row goes into it.
-#[derive(Drop)]
+#[derive(Clone, Copy)]
 pub enum Action {
     Call,
     Take,

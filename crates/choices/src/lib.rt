@@ -1,5 +1,7 @@
 // Choices of a schedule: clause k of the word p, for the target f of its effect or (0) for all of them, each packed into a word of a list whose first word
 // counts them. What a list says is never trusted, and past its end it reads 0.
+#![tactic(auto)]
+
 ghost use Rattle.std.specs.Prelude.{◌≡◌, ◌<◌, get_or};
 ghost use Rattle.choices.specs.Choices.{choice_of, clause_of, place_of, target_of};
 

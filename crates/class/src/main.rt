@@ -1,5 +1,7 @@
 // The report on a class: a stream of systems on standard input, a line for each and the totals on standard output. The stream is read in pieces,
 // into one buffer.
+#![tactic(auto)]
+
 ghost use Rattle.std.specs.Prelude.{◌≤◌, length};
 
 use class_report::steps::step;
@@ -8,7 +10,7 @@ use class_report::{Status, Tally, empty_tally};
 use libc::STDIN_FILENO;
 
 // The counts so far, which bytes of the buffer are not yet used, whether the stream has ended, and whether its report has.
-#[derive(Drop)]
+#[derive(Clone, Copy)]
 struct Window {
     tally: Tally,
     at: usize,

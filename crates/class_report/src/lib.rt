@@ -1,4 +1,6 @@
 // The report on a class: a stream of systems in, a line for each and the totals out.
+#![tactic(auto)]
+
 mod counts;
 mod judge;
 mod lines;
@@ -10,14 +12,14 @@ pub use crate::counts::empty_tally;
 use permset::PermSet;
 
 // What an analysis says of a system. `outcome_of` of specs/Report.antt gives each its number, place or leak.
-#[derive(Drop)]
+#[derive(Clone, Copy)]
 pub enum Outcome {
     Leak(PermSet),
     Refused(u32, usize),
 }
 
 // Why a stream is not whole. `number` of specs/Stream.antt gives each its number.
-#[derive(Drop)]
+#[derive(Clone, Copy)]
 pub enum Fault {
     TooMany,
     TooLong,
@@ -25,7 +27,7 @@ pub enum Fault {
 }
 
 // What stands at the front of a stream: no byte, a fault, or a whole system of so many words.
-#[derive(Drop)]
+#[derive(Clone, Copy)]
 pub enum Front {
     Nothing,
     Broken(Fault),
@@ -33,7 +35,7 @@ pub enum Front {
 }
 
 // How many systems were accepted and refused so far, and how many of the accepted leak each permission.
-#[derive(Drop)]
+#[derive(Clone, Copy)]
 pub struct Tally {
     pub accepted: u32,
     pub refused: u32,
@@ -41,7 +43,7 @@ pub struct Tally {
 }
 
 // What a piece of a stream calls for: more bytes, the totals, the line of a fault, or the line of a system of so many words.
-#[derive(Drop)]
+#[derive(Clone, Copy)]
 pub enum Task {
     More,
     Totals,
@@ -50,7 +52,7 @@ pub enum Task {
 }
 
 // What the caller does next: it comes again with more bytes, or behind those that were used, or not at all.
-#[derive(Drop)]
+#[derive(Clone, Copy)]
 pub enum Status {
     More,
     Line,
@@ -58,7 +60,7 @@ pub enum Status {
 }
 
 // What a step says: the counts after it, the bytes of the piece that were used, and those that were written.
-#[derive(Drop)]
+#[derive(Clone, Copy)]
 pub struct Step {
     pub status: Status,
     pub tally: Tally,

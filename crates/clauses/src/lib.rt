@@ -1,8 +1,10 @@
 // The flow rules as data: clause k of the word p says under which condition the rule of p asks something of an estimate, and what.
+#![tactic(auto)]
+
 pub mod make;
 
 // Under which condition: never, always, or by what C(a) and C(d) have.
-#[derive(Drop)]
+#[derive(Clone, Copy)]
 pub enum Test {
     Never,
     Free,
@@ -16,7 +18,7 @@ pub enum Test {
     TextSome,
 }
 
-#[derive(Drop)]
+#[derive(Clone, Copy)]
 pub struct Guard {
     pub test: Test,
     pub d: usize,
@@ -25,7 +27,7 @@ pub struct Guard {
 }
 
 // What has to be in an estimate. Rows go by their numbers: 2p is C(p) and 2p + 1 is B(p).
-#[derive(Drop)]
+#[derive(Clone, Copy)]
 pub enum What {
     // x is live.
     Live,
@@ -58,7 +60,7 @@ pub enum What {
     Send,
 }
 
-#[derive(Drop)]
+#[derive(Clone, Copy)]
 pub struct Effect {
     pub what: What,
     pub x: usize,
@@ -66,7 +68,7 @@ pub struct Effect {
     pub z: usize,
 }
 
-#[derive(Drop)]
+#[derive(Clone, Copy)]
 pub struct Clause {
     pub guard: Guard,
     pub effect: Effect,

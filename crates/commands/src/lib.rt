@@ -1,4 +1,6 @@
 // What the program prints: the text of each command, written into lent bytes from its arguments and its input.
+#![tactic(auto)]
+
 pub mod arguments;
 mod checking;
 mod converters;

@@ -17,7 +17,7 @@ use overlay::{Found, Joined};
 use report::refusal_line;
 
 // How many words each of two listings has, or the refusal.
-#[derive(Drop)]
+#[derive(Clone, Copy)]
 enum Pair {
     Words(usize, usize),
     Refused(u32, usize),

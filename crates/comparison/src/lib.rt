@@ -1,4 +1,6 @@
 // A leak compared with a bound: what a verdict is, and what it says of what was found.
+#![tactic(auto)]
+
 ghost use Rattle.std.specs.Prelude.{◌≡◌};
 ghost use Rattle.calculus.specs.Answer.{bound_used};
 ghost use Rattle.comparison.specs.Values.{answer_of, compare};
@@ -7,7 +9,7 @@ use calls::Fault;
 use permset::PermSet;
 
 // What was found of an accepted system: its leak, the bound that it is compared with, and the number of facts.
-#[derive(Drop)]
+#[derive(Clone, Copy)]
 pub struct Report {
     pub leak: PermSet,
     pub bound: PermSet,
@@ -16,7 +18,7 @@ pub struct Report {
 
 // The answer to a call: refused, the leak within the bound, or over it with the lowest permission outside. `answer_of` of
 // specs/Values.antt gives each its number, place and values.
-#[derive(Drop)]
+#[derive(Clone, Copy)]
 pub enum Verdict {
     Refused(Fault),
     Within(Report),
@@ -24,7 +26,7 @@ pub enum Verdict {
 }
 
 // What was found of an accepted system: its leak, and the number of facts.
-#[derive(Drop)]
+#[derive(Clone, Copy)]
 pub struct Findings {
     pub leak: PermSet,
     pub facts: usize,

@@ -1,4 +1,6 @@
 // For each send of a system and each block a line of text: whether the send is delivered, and if not, why.
+#![tactic(auto)]
+
 mod lines;
 
 ghost use Rattle.std.specs.Prelude.{◌≡◌, ◌+◌, ◌*◌, ◌≤◌, ◌<◌, ◌-◌, length, get_or};

@@ -1,4 +1,6 @@
 // Whether a send may start a handler, the message aside, and if not, why not.
+#![tactic(auto)]
+
 ghost use Rattle.std.specs.Prelude.{◌≡◌};
 ghost use Rattle.delivery.specs.Delivery.{judged};
 ghost use Rattle.delivery.specs.Delivery.{delivered as Delivered·so};
@@ -9,7 +11,7 @@ use table::Handler;
 // The receiver has another name; it lacks these permissions of the required set; the sender lacks these permissions of the receiver's
 // guard; or delivered. `judged` of specs/Delivery.antt says which case it is, with which
 // permissions, and `delivered` what each case means.
-#[derive(Drop)]
+#[derive(Clone, Copy)]
 pub enum Delivery {
     OtherName,
     ReceiverLacks(PermSet),

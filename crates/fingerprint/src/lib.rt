@@ -1,4 +1,6 @@
 // The fingerprint of a system: the published hash FNV-1a of 32 bits.
+#![tactic(auto)]
+
 ghost use Rattle.std.specs.Prelude.{◌≡◌, ◌*◌, ◌%◌, ◌^◌};
 ghost use Rattle.fingerprint.specs.Fnv.{fnv1a};
 ghost use Rattle.fingerprint.specs.Fnv.{step as Fnv-step};

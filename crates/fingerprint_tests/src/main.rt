@@ -1,4 +1,6 @@
 // Prints the fingerprints of texts whose values are published with the hash. The escapes of a text are written out on its line.
+#![tactic(auto)]
+
 use libc::STDOUT_FILENO;
 
 fn line(label: &[u8], text: &[u8]) {

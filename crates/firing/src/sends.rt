@@ -22,7 +22,7 @@ use table::kind_of;
 use table_links::link_at;
 
 // The block of a send: its permissions and its first word.
-#[derive(Drop)]
+#[derive(Clone, Copy)]
 pub struct Sender {
     pub perms: PermSet,
     pub home: usize,

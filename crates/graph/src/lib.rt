@@ -1,4 +1,6 @@
 // Orders and shortest loops of a relation between up to 64 positions: row t has bit s where s may send to t.
+#![tactic(auto)]
+
 mod loops;
 mod order;
 mod set;
@@ -6,7 +8,7 @@ mod set;
 ghost use Rattle.std.specs.Prelude.{◌≡◌, length};
 ghost use Rattle.graph.specs.Answer.{answer, written, starting_with, Means};
 
-#[derive(Drop)]
+#[derive(Clone, Copy)]
 pub enum Arrangement {
     // The slice has fewer entries than there are positions.
     Short,

@@ -1,4 +1,6 @@
 // Arranges some relations and prints each answer with the whole slice, in which 99 stands where nothing was written.
+#![tactic(auto)]
+
 ghost use Rattle.std.specs.Prelude.{◌≤◌};
 
 use graph::Arrangement;

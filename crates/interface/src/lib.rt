@@ -1,4 +1,6 @@
 // What the C interface makes of numbers: an answer as one number, and what is wrong with the bytes of a system before they are read.
+#![tactic(auto)]
+
 ghost use Rattle.std.specs.Prelude.{◌≡◌, ◌+◌, ◌*◌, ◌^◌, ◌<◌};
 ghost use Rattle.calls.specs.Faults.{fault_number, fault_place};
 ghost use Rattle.comparison.specs.Values.{answer_of};

@@ -1,4 +1,6 @@
 // What `leak RHO BOUND CEILING` prints of a listing, written into lent bytes.
+#![tactic(auto)]
+
 mod systems;
 
 ghost use Rattle.std.specs.Prelude.{◌≡◌, ◌≤◌, length};

@@ -1,4 +1,6 @@
 // What stands at each word of accepted tables, and the links that `link` writes.
+#![tactic(auto)]
+
 use table::Item;
 use table_links::{item_at, link_at};
 use test_tables::tables::{RELAY, blocks};

@@ -17,7 +17,7 @@ use crate::{Answer, Refusal};
 use table::{Reading, kind_of};
 
 // The number of the first line that spells no word; or how many lines were read, and the place after them.
-#[derive(Drop)]
+#[derive(Clone, Copy)]
 enum Decoded {
     Misspelled(usize),
     Lines(usize, usize),

@@ -1,4 +1,6 @@
 // Little-endian words of four bytes, from bytes and to bytes.
+#![tactic(auto)]
+
 ghost use Rattle.std.specs.Prelude.{◌≡◌, [], ◌∷◌, ◌++◌, ◌+◌, ◌*◌, ◌≤◌, min, length, take, drop};
 ghost use Rattle.little_endian.specs.LittleEndian.{number, low_bytes, words_of, bytes_of, whole_words};
 

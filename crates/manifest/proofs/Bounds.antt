@@ -10,9 +10,9 @@ use lib.Dec.{eqb}
 use borrow.Author.Rules.{zero≤}
 use Rattle.permset.specs.Sets.{union}
 use Rattle.permset.proofs.Laws.{union-lt}
-use Rattle.json.specs.Bytes.{head, tail, Rest, nothing, rest}
-use Rattle.json.specs.Strings.{units}
-use Rattle.json.specs.Units.{matches}
+use Rattle.json_text.specs.Bytes.{head, tail, Rest, nothing, rest}
+use Rattle.json_text.specs.Strings.{units}
+use Rattle.json_text.specs.Units.{matches}
 use Rattle.manifest.specs.Strings.{ascii, names, named, is_host, name_set, host_set, set_of}
 use Rattle.manifest.specs.Members.{members, repeated, find, Count, not_strings, strings}
 use Rattle.manifest.specs.Manifest.{Source, sources, total, goes_on, version, Outcome, refused, accepted, is_object, counts, judged_from, judged}

@@ -7,8 +7,8 @@ use mathlib.Core.List.{List, []}
 use lib.Dec.{eqb, leb}
 use lib.ListN.{length}
 use borrow.Author.Tests.{eq-eqb, ne_eqb}
-use Rattle.json.specs.Bytes.{head, tail, space}
-use Rattle.json.specs.Values.{value, first, starts_from, parts, is_text}
+use Rattle.json_text.specs.Bytes.{head, tail, space}
+use Rattle.json_text.specs.Values.{value, first, starts_from, parts, is_text}
 use Rattle.manifest.specs.Strings.{ascii}
 use Rattle.manifest.specs.Members.{deepest, members, repeated, find, Count, strings, listed}
 use Rattle.manifest.specs.Manifest.{sources, total, version, refused, is_object, counts, judged_from, judged}

@@ -7,10 +7,10 @@ use mathlib.Core.List.{List, [], ◌∷◌}
 use lib.Dec.{eqb}
 use lib.ListN.{drop}
 use Rattle.permset.specs.Sets.{union}
-use Rattle.json.specs.Bytes.{head, tail, nothing, rest}
-use Rattle.json.specs.Strings.{units}
-use Rattle.json.specs.Values.{value, first, starts_from, parts}
-use Rattle.json.proofs.Places.{tail-drop}
+use Rattle.json_text.specs.Bytes.{head, tail, nothing, rest}
+use Rattle.json_text.specs.Strings.{units}
+use Rattle.json_text.specs.Values.{value, first, starts_from, parts}
+use Rattle.json_text.proofs.Places.{tail-drop}
 use Rattle.manifest.specs.Strings.{set_of}
 use Rattle.manifest.specs.Members.{Count, not_strings, strings, counted, listed}
 

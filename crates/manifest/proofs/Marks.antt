@@ -9,8 +9,8 @@ use mathlib.Core.List.{List, [], ◌∷◌, ◌++◌}
 use lib.ListN.{length, get_or, set}
 use lib.Seq.{get_or-set_same, get_or-set_other}
 use borrow.Author.Tests.{eq-eqb, ne_eqb}
-use Rattle.json.specs.Units.{matches, spread}
-use Rattle.json.proofs.Compared.{matches-same}
+use Rattle.json_text.specs.Units.{matches, spread}
+use Rattle.json_text.proofs.Compared.{matches-same}
 use Rattle.manifest.specs.Members.{key_of, has, unless_zero}
 use Rattle.manifest.proofs.Tops.{has-none, has-yes, has_no}
 

@@ -4,7 +4,7 @@ use Prim.Native.Nat.{ℕ, ◌*◌, ◌^◌}
 use mathlib.Core.Path.{◌≡◌, refl, ap, ◌∙◌}
 use mathlib.Core.Bool.{Bool, true, false}
 use mathlib.Core.List.{List, [], ◌∷◌}
-use Rattle.json.specs.Units.{matches, contains}
+use Rattle.json_text.specs.Units.{matches, contains}
 use Rattle.manifest.specs.Strings.{ascii, names, named, is_host, name_set, host_set}
 
 module _ (n : List ℕ) (ns : List (List ℕ)) (bit : ℕ) (us : List ℕ) where

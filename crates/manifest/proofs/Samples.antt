@@ -4,11 +4,11 @@ use Prim.Native.Nat.{ℕ}
 use mathlib.Core.Path.{◌≡◌, refl}
 use mathlib.Core.List.{List, [], ◌∷◌, map}
 use Rattle.permset.specs.Sets.{union}
-use Rattle.json.specs.Bytes.{head, tail, then, after_by, starts_by, units_by, space}
-use Rattle.json.specs.Numbers.{digits, some_digits, minus, int, frac, sign, exp, number}
-use Rattle.json.specs.Strings.{hex_of, hexed, hex_unit, escape_of, escaped, continued, low, high, second, point_of, units_of, pointed, character}
-use Rattle.json.specs.Units.{matches, contains}
-use Rattle.json.specs.Values.{literal, start, closing, mark, name, separated, item, items, first, starts_from, parts, value, is_text}
+use Rattle.json_text.specs.Bytes.{head, tail, then, after_by, starts_by, units_by, space}
+use Rattle.json_text.specs.Numbers.{digits, some_digits, minus, int, frac, sign, exp, number}
+use Rattle.json_text.specs.Strings.{hex_of, hexed, hex_unit, escape_of, escaped, continued, low, high, second, point_of, units_of, pointed, character}
+use Rattle.json_text.specs.Units.{matches, contains}
+use Rattle.json_text.specs.Values.{literal, start, closing, mark, name, separated, item, items, first, starts_from, parts, value, is_text}
 use Rattle.manifest.specs.Strings.{ascii, named, is_host, name_set, host_set, set_of}
 use Rattle.manifest.specs.Members.{members, has, repeated, find, counted, listed}
 use Rattle.manifest.specs.Manifest.{sources, total, version, is_object, refused, accepted, judged_from, judged}

@@ -7,14 +7,14 @@ use mathlib.Core.Path.{◌≡◌, refl, ap, ◌∙◌}
 use mathlib.Core.Bool.{Bool, true, false, ◌||◌}
 use mathlib.Core.List.{List, [], ◌∷◌, ◌++◌}
 use lib.ListN.{length, take, drop}
-use Rattle.json.specs.declared.Ending.{Ending}
-use Rattle.json.specs.declared.Ending.TheVariants as ending
-use Rattle.json.specs.Bytes.{nothing, Step, fails, goes, ends, starts_by, starts}
-use Rattle.json.specs.Answers.{ended}
-use Rattle.json.specs.Units.{matches}
-use Rattle.json.specs.Values.{name, value, item, starts_from}
-use Rattle.json.proofs.Repetition.{Narrow}
-use Rattle.json.proofs.Shorter.{item-narrow, value_in}
+use Rattle.json_text.specs.declared.Ending.{Ending}
+use Rattle.json_text.specs.declared.Ending.TheVariants as ending
+use Rattle.json_text.specs.Bytes.{nothing, Step, fails, goes, ends, starts_by, starts}
+use Rattle.json_text.specs.Answers.{ended}
+use Rattle.json_text.specs.Units.{matches}
+use Rattle.json_text.specs.Values.{name, value, item, starts_from}
+use Rattle.json_text.proofs.Repetition.{Narrow}
+use Rattle.json_text.proofs.Shorter.{item-narrow, value_in}
 use Rattle.manifest.specs.Members.{key_of, has, repeated, find}
 
 pub narrow : (nest : ℕ) (k : Bool) → Narrow (item (value nest) k)

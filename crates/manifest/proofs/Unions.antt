@@ -8,9 +8,9 @@ use lib.Dec.{eqb}
 use borrow.Author.Tests.{eqb-true}
 use Rattle.permset.specs.Sets.{union}
 use Rattle.permset.proofs.Laws.{union-absorbs, empty-within}
-use Rattle.json.specs.Bytes.{head, tail, Rest, nothing, rest}
-use Rattle.json.specs.Strings.{units}
-use Rattle.json.specs.Values.{value, parts}
+use Rattle.json_text.specs.Bytes.{head, tail, Rest, nothing, rest}
+use Rattle.json_text.specs.Strings.{units}
+use Rattle.json_text.specs.Values.{value, parts}
 use Rattle.manifest.specs.Strings.{set_of}
 use Rattle.manifest.specs.Members.{find, Count, not_strings, strings, counted, listed}
 use Rattle.manifest.specs.Manifest.{Source, total}

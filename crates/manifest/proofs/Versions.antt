@@ -7,10 +7,10 @@ use mathlib.Core.Bool.{Bool, true, false, ◌||◌}
 use mathlib.Core.List.{List}
 use lib.Dec.{eqb}
 use borrow.Author.Tests.{le-leb, ne_eqb}
-use Rattle.json.specs.Bytes.{head, tail, nothing, rest}
-use Rattle.json.specs.Numbers.{is_digit, int, number}
-use Rattle.json.proofs.Numerals.{digits-yes, minus-no, int-more, frac-no, exp-no, number-whole}
-use Rattle.json.proofs.Places.{digits-end}
+use Rattle.json_text.specs.Bytes.{head, tail, nothing, rest}
+use Rattle.json_text.specs.Numbers.{is_digit, int, number}
+use Rattle.json_text.proofs.Numerals.{digits-yes, minus-no, int-more, frac-no, exp-no, number-whole}
+use Rattle.json_text.proofs.Places.{digits-end}
 use Rattle.manifest.specs.Manifest.{goes_on, version}
 
 none_of : (a b : Bool) → (a || b) ≡ false → (a ≡ false) × (b ≡ false)

@@ -1,8 +1,8 @@
 -- What a manifest says (document 02, wish 4): its version, its permission set, and how many strings of the lists read set nothing.
 use Rattle.std.specs.Prelude.{ℕ, zero, suc, Bool, true, false, ◌&&◌, ◌||◌, List, [], ◌∷◌, eqb, leb, length}
-use Rattle.json.specs.Bytes.{head, tail, space, Rest, nothing, rest}
-use Rattle.json.specs.Numbers.{is_digit}
-use Rattle.json.specs.Values.{is_text}
+use Rattle.json_text.specs.Bytes.{head, tail, space, Rest, nothing, rest}
+use Rattle.json_text.specs.Numbers.{is_digit}
+use Rattle.json_text.specs.Values.{is_text}
 use Rattle.manifest.specs.Strings.{ascii}
 use Rattle.manifest.specs.Members.{deepest, members, repeated, find, Count, not_strings, strings, listed}
 

@@ -2,10 +2,10 @@
 -- A member or a value is given by the bytes that start with it.
 use Rattle.std.specs.Prelude.{ℕ, ◌+◌, Bool, true, false, ◌||◌, List, [], ◌∷◌, ◌++◌, eqb}
 use Rattle.permset.specs.Sets.{union}
-use Rattle.json.specs.Bytes.{head, tail, space, Rest, nothing, rest, starts}
-use Rattle.json.specs.Strings.{units}
-use Rattle.json.specs.Units.{matches}
-use Rattle.json.specs.Values.{name, item, value, parts}
+use Rattle.json_text.specs.Bytes.{head, tail, space, Rest, nothing, rest, starts}
+use Rattle.json_text.specs.Strings.{units}
+use Rattle.json_text.specs.Units.{matches}
+use Rattle.json_text.specs.Values.{name, item, value, parts}
 use Rattle.manifest.specs.Strings.{set_of}
 
 -- how deep arrays and objects may nest, the top object being the first

@@ -3,7 +3,7 @@ use Rattle.std.specs.Prelude.{ℕ, ◌*◌, ◌^◌, Bool, true, false, ◌||◌
 use Prim.Native.Char.{code}
 use Prim.Native.String.{String, [] as ε, ◌∷◌ as ◌◂◌}
 use Rattle.permset.specs.Sets.{union}
-use Rattle.json.specs.Units.{matches, contains}
+use Rattle.json_text.specs.Units.{matches, contains}
 
 -- the units of a word of ASCII
 abbrev pub ascii : String → List ℕ

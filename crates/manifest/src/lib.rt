@@ -1,4 +1,6 @@
 // A browser extension's manifest, versions 2 and 3: its permission set.
+#![tactic(auto)]
+
 mod members;
 pub mod numbers;
 pub mod read;
@@ -7,7 +9,7 @@ mod strings;
 use permset::PermSet;
 
 // Why a manifest is refused: a case for each of numbers 43 to 46, in their order. `number` of specs/Answer.antt gives each its number.
-#[derive(Drop)]
+#[derive(Clone, Copy)]
 pub enum Refusal {
     NotObject,
     KeyRepeated,
@@ -16,7 +18,7 @@ pub enum Refusal {
 }
 
 // The version, the set, and how many strings of the lists read set nothing.
-#[derive(Drop)]
+#[derive(Clone, Copy)]
 pub enum Reading {
     Accepted(u32, PermSet, u32),
     Refused(Refusal),

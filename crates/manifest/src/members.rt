@@ -1,21 +1,21 @@
 // The top members of a manifest: repeated keys, the value of a key, and what a list of strings says.
 ghost use Rattle.std.specs.Prelude.{◌≡◌, true, false, [], ◌∷◌, ◌+◌, ◌≤◌, ◌<◌, ◌^◌, length, drop, take};
-ghost use Rattle.json.specs.Bytes.{tail};
-ghost use Rattle.json.specs.Strings.{units};
-ghost use Rattle.json.specs.Values.{value, starts_from};
-ghost use Rattle.json.specs.Answers.{ended};
+ghost use Rattle.json_text.specs.Bytes.{tail};
+ghost use Rattle.json_text.specs.Strings.{units};
+ghost use Rattle.json_text.specs.Values.{value, starts_from};
+ghost use Rattle.json_text.specs.Answers.{ended};
 ghost use Rattle.manifest.specs.Members.{members_from, elements_from, has, repeated, unless_zero, find, counted, listed};
 ghost use Rattle.manifest.specs.Answer.{count_of, others_of};
 
 use crate::strings::set_of;
-use json::bytes::byte;
-use json::units::{hash, same, spells};
-use json::values::{first, item, name};
-use json::{Ending, Item};
+use json_text::bytes::byte;
+use json_text::units::{hash, same, spells};
+use json_text::values::{first, item, name};
+use json_text::{Ending, Item};
 use permset::PermSet;
 
 // The set of some strings, and how many of them set nothing; or that not all are strings.
-#[derive(Drop)]
+#[derive(Clone, Copy)]
 pub enum Tally {
     NotStrings,
     Strings(PermSet, u32),

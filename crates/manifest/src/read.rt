@@ -1,16 +1,16 @@
 // The reading of a manifest: `read` answers its version, its set and how many strings set nothing, or the first refusal.
 ghost use Rattle.std.specs.Prelude.{◌≡◌, true, ◌≤◌, length};
-ghost use Rattle.json.specs.Values.{value, starts_from};
-ghost use Rattle.json.specs.Answers.{ended};
+ghost use Rattle.json_text.specs.Values.{value, starts_from};
+ghost use Rattle.json_text.specs.Answers.{ended};
 ghost use Rattle.manifest.specs.Members.{strings};
 ghost use Rattle.manifest.specs.Manifest.{sources, total, goes_on, version, judged_from, judged};
 ghost use Rattle.manifest.specs.Answer.{count_of, others_of, others_in, outcome};
 
 use crate::members::{Tally, behind, find, list, repeated};
 use crate::{Reading, Refusal};
-use json::Ending;
-use json::bytes::{byte, is_either, is_within, space};
-use json::values::{first, is_text};
+use json_text::Ending;
+use json_text::bytes::{byte, is_either, is_within, space};
+use json_text::values::{first, is_text};
 use permset::PermSet;
 
 // Whether a number goes on with this byte.

@@ -1,9 +1,9 @@
 // What a string of a list says: the set of a name or of a host pattern. A place is behind the first quotation mark.
 ghost use Rattle.std.specs.Prelude.{◌≡◌, drop};
-ghost use Rattle.json.specs.Strings.{units};
+ghost use Rattle.json_text.specs.Strings.{units};
 ghost use Rattle.manifest.specs.Strings.{names, named, is_host, name_set, host_set, set_of};
 
-use json::units::{contains, spells};
+use json_text::units::{contains, spells};
 use permset::PermSet;
 
 // The set of the name that stands at a place, and 0 where it is no permission's.

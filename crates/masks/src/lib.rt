@@ -1,4 +1,6 @@
 // Which elements are functions, records (or 7), cells, and which may be sent: four rows, one after the other.
+#![tactic(auto)]
+
 ghost use Rattle.std.specs.Prelude.{◌≡◌, ℕ, ◌+◌, ◌*◌, ◌<◌, ◌≤◌, length, get_or, drop, replicate};
 ghost use Rattle.table.specs.Scan.{accepted, reading};
 ghost use Rattle.table.specs.Code.{code};
@@ -13,7 +15,7 @@ use rows::row::set;
 use table::kind_of;
 
 // The sorts of elements, in the order of their masks.
-#[derive(Drop)]
+#[derive(Clone, Copy)]
 pub enum Sort {
     Function,
     Record,

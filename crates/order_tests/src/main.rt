@@ -1,5 +1,7 @@
 // Calls for an order of document 01's sample `relay`, in slices of ones and positions of nines, of several lengths and under several ceilings. It prints the
 // first and the last word that a call may change of the estimate and of the work slice, each with the word behind it, the positions, and the reply's line.
+#![tactic(auto)]
+
 mod rings;
 
 ghost use Rattle.std.specs.Prelude.{◌≤◌, length};

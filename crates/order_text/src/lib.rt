@@ -1,4 +1,6 @@
 // The line that says what a call for an order of reading replied.
+#![tactic(auto)]
+
 ghost use Rattle.std.specs.Prelude.{◌≡◌, ◌+◌, ◌*◌, ◌≤◌, ltb, length, take};
 ghost use Rattle.text.specs.Writing.{Wrote};
 ghost use Rattle.reading_order.specs.Reply.{reply_of};

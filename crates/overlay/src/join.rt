@@ -14,7 +14,7 @@ use table::argument_of;
 const NO_HANDLERS: u32 = 16777216;
 
 // How far the output is written, and how many blocks were put there.
-#[derive(Drop)]
+#[derive(Clone, Copy)]
 struct Put {
     end: usize,
     count: usize,

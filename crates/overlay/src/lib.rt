@@ -1,4 +1,6 @@
 // A table laid over another: the look-up of a block in the two, and the joined table.
+#![tactic(auto)]
+
 pub mod join;
 pub mod lookup;
 pub mod numbers;
@@ -13,7 +15,7 @@ use table::{Reading, Refusal};
 
 // Why a look-up or a join is refused: one of the tables, no block with the key, or a join that is too large for a table or for
 // the output. `fault_number` and `fault_place` of specs/Answers.antt give each its number and place.
-#[derive(Drop)]
+#[derive(Clone, Copy)]
 pub enum Fault {
     Base(Refusal),
     Overlay(Refusal),
@@ -24,7 +26,7 @@ pub enum Fault {
 }
 
 // Where a block is: in which table, from which word up to which. `found_as` of specs/Answers.antt says what each case means.
-#[derive(Drop)]
+#[derive(Clone, Copy)]
 pub enum Found {
     Base(usize, usize),
     Overlay(usize, usize),
@@ -32,14 +34,14 @@ pub enum Found {
 }
 
 // How many words a join wrote, or why it was refused. `joined_as` of specs/Answers.antt says what each case means.
-#[derive(Drop)]
+#[derive(Clone, Copy)]
 pub enum Joined {
     Words(usize),
     Refused(Fault),
 }
 
 // Whether both tables are accepted.
-#[derive(Drop)]
+#[derive(Clone, Copy)]
 enum Checked {
     Accepted,
     Refused(Fault),

@@ -9,7 +9,7 @@ ghost use Rattle.overlay.specs.Parts.{span_of};
 use table::{argument_of, arity_of};
 
 // From where up to where a block stands.
-#[derive(Drop)]
+#[derive(Clone, Copy)]
 pub enum Span {
     At(usize, usize),
     Nothing,

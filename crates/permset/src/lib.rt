@@ -1,8 +1,10 @@
 // A set of permissions as a value.
+#![tactic(auto)]
+
 ghost use Rattle.std.specs.Prelude.{◌≡◌, ◌^◌, eqb, ltb};
 ghost use Rattle.permset.specs.Sets.{width, member, union, difference, within, lowest};
 
-#[derive(Drop)]
+#[derive(Clone, Copy)]
 pub struct PermSet {
     pub bits: u32,
 }

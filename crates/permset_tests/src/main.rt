@@ -1,4 +1,6 @@
 // Runs the methods of PermSet at the edges of its width and prints what each answers.
+#![tactic(auto)]
+
 use libc::STDOUT_FILENO;
 use permset::PermSet;
 

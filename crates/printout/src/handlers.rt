@@ -17,7 +17,7 @@ use table::{Handler, Item};
 use table_links::item_at;
 
 // How far the lines are written: the place after them, and how many there are.
-#[derive(Drop)]
+#[derive(Clone, Copy)]
 pub struct Cursor {
     pub at: usize,
     pub position: usize,

@@ -1,4 +1,6 @@
 // What the program prints, as a definition with examples, and in code.
+#![tactic(auto)]
+
 mod handlers;
 pub mod limit;
 pub mod program;

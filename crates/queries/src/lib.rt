@@ -1,4 +1,6 @@
 // Tests on an estimate: what its rows have, whether the guard of a clause passes, and whether a send starts a block. Nothing is written.
+#![tactic(auto)]
+
 ghost use Rattle.std.specs.Prelude.{◌≡◌, ◌+◌, ◌*◌, ◌/◌, ◌%◌, ◌^◌, ◌<◌, ◌≤◌, length, get_or};
 ghost use Rattle.table.specs.Words.{argument};
 ghost use Rattle.table.specs.Code.{Code};

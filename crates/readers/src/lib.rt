@@ -1,4 +1,6 @@
 // The leak, read from an estimate.
+#![tactic(auto)]
+
 ghost use Rattle.std.specs.Prelude.{◌≡◌, [], ◌∷◌, ◌<◌, length};
 ghost use Rattle.table.specs.Item.{item_at};
 ghost use Rattle.table.specs.Scan.{name};

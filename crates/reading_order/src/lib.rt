@@ -1,4 +1,6 @@
 // An order of reading: a system's live blocks so that each follows all that may send to it, or else a loop of them.
+#![tactic(auto)]
+
 mod firsts;
 mod relation;
 
@@ -21,7 +23,7 @@ use solver::analyse::solve_in;
 
 // The answer to a call: refused, with too few positions, over the ceiling, or an order or else a loop of so many positions. `reply_of` of
 // specs/Reply.antt gives each its number and place.
-#[derive(Drop)]
+#[derive(Clone, Copy)]
 pub enum Ordering {
     Refused(Fault),
     Short,

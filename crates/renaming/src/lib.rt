@@ -1,1 +1,2 @@
 // Renamed words: definitions and laws. There is no code here.
+#![tactic(auto)]

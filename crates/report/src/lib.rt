@@ -1,4 +1,6 @@
 // The lines of the program, written as bytes into a lent slice from a place on. Each has at most 96 bytes.
+#![tactic(auto)]
+
 ghost use Rattle.std.specs.Prelude.{◌++◌, ◌+◌, ◌≤◌, length};
 ghost use Rattle.text.specs.Text.{bytes};
 ghost use Rattle.text.specs.Writing.{Wrote};

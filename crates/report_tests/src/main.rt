@@ -1,4 +1,6 @@
 // Runs the writers of lines on document 01's examples and on the widest numbers, and prints each line.
+#![tactic(auto)]
+
 fn show_refusal(number: u32, place: usize) {
     let mut line = [0u8; 96];
     let n = report::refusal_line(&mut line, 0, number, place);

@@ -1,4 +1,6 @@
 // What a word gives by itself, as bits of the first word of a row: constants, the signs of numbers, and the results of operations.
+#![tactic(auto)]
+
 ghost use Rattle.std.specs.Prelude.{◌≡◌, ◌∷◌, ◌+◌, ◌^◌, ◌<◌, ◌≤◌, length, get_or, take, drop};
 ghost use Rattle.permset.specs.Sets.{member};
 ghost use Rattle.calculus.specs.Elements.{constant_element, sign};

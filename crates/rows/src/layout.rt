@@ -6,7 +6,7 @@ ghost use Rattle.rows.specs.Laid.{LaidOut};
 use table::names_in;
 
 // The words of the table, the words of a row, and how many of those the plain elements fill.
-#[derive(Drop)]
+#[derive(Clone, Copy)]
 pub struct Layout {
     pub size: usize,
     pub row: usize,

@@ -1,4 +1,6 @@
 // Runs every sample of document 01 and prints the first line of its verdict, with bound 0.
+#![tactic(auto)]
+
 mod large;
 mod small;
 

@@ -1,4 +1,6 @@
 // For each block of a system a line of text: who may have sent to it, read from the words of an estimate.
+#![tactic(auto)]
+
 mod lines;
 
 ghost use Rattle.std.specs.Prelude.{◌≡◌, ◌+◌, ◌*◌, ◌≤◌, ◌<◌, length};

@@ -1,5 +1,7 @@
 // Standard input, read to its end, and what the programs write to standard output. A contract cannot say what is written: the texts are those of the
 // proved writers.
+#![tactic(auto)]
+
 ghost use Rattle.io.specs.Counts.{IsPrefixLen};
 
 use libc::{STDIN_FILENO, STDOUT_FILENO};

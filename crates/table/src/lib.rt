@@ -1,4 +1,6 @@
 // The reading of a system table: the terms and the refusals. What the layers above see of an accepted table is in table_links.
+#![tactic(auto)]
+
 pub mod numbers;
 mod packing;
 pub mod read;
@@ -7,7 +9,7 @@ mod words;
 pub use crate::words::{argument_of, arity_of, binds, kind_of, names_in, operation_of, term_of};
 use permset::PermSet;
 
-#[derive(Drop)]
+#[derive(Clone, Copy)]
 pub enum Constant {
     Undefined,
     Unit,
@@ -15,7 +17,7 @@ pub enum Constant {
     False,
 }
 
-#[derive(Drop)]
+#[derive(Clone, Copy)]
 pub enum Operation {
     Add,
     Less,
@@ -23,7 +25,7 @@ pub enum Operation {
 }
 
 // A term: a case for each of kinds 16 to 36, in their order. `word` of specs/Words.antt gives each its word.
-#[derive(Drop)]
+#[derive(Clone, Copy)]
 pub enum Term {
     Constant(Constant),
     Number(u32),
@@ -50,7 +52,7 @@ pub enum Term {
 
 // Why a table is refused, and at which word: a case for each of numbers 1 to 12, in their order. `number` and `place` of
 // specs/Answer.antt give each its number and place.
-#[derive(Drop)]
+#[derive(Clone, Copy)]
 pub enum Refusal {
     NotTable,
     TooManyWords,
@@ -66,14 +68,14 @@ pub enum Refusal {
     Trailing(usize),
 }
 
-#[derive(Drop)]
+#[derive(Clone, Copy)]
 pub enum Reading {
     Accepted,
     Refused(Refusal),
 }
 
 // A block's name, permissions and guard.
-#[derive(Drop)]
+#[derive(Clone, Copy)]
 pub struct Handler {
     pub name: u32,
     pub perms: PermSet,
@@ -81,7 +83,7 @@ pub struct Handler {
 }
 
 // What stands at a word of an accepted table: nothing of its own, the first word of a block, or a term.
-#[derive(Drop)]
+#[derive(Clone, Copy)]
 pub enum Item {
     Gap,
     Block(Handler),
@@ -89,7 +91,7 @@ pub enum Item {
 }
 
 // Of a term: the word after it, its innermost binder (of a variable: the binder that it counts to), and the first word of its block.
-#[derive(Drop)]
+#[derive(Clone, Copy)]
 pub struct Link {
     pub end: usize,
     pub binder: usize,

@@ -9,21 +9,21 @@ use crate::words::{argument_of, arity_of, binds, kind_of, limit_of, names_of};
 use crate::{Reading, Refusal};
 
 // Where reading goes on.
-#[derive(Drop)]
+#[derive(Clone, Copy)]
 enum Step {
     Next(usize),
     Refused(Refusal),
 }
 
 // Where reading goes on after a block, and the block's key.
-#[derive(Drop)]
+#[derive(Clone, Copy)]
 enum BlockStep {
     Next(usize, u32),
     Refused(Refusal),
 }
 
 // The argument of a block's word.
-#[derive(Drop)]
+#[derive(Clone, Copy)]
 enum Found {
     Argument(u32),
     Nothing,

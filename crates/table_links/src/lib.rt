@@ -1,4 +1,6 @@
 // What the layers above see of an accepted table: the item at a word, and the links, which `link` writes into a lent slice.
+#![tactic(auto)]
+
 ghost use Rattle.std.specs.Prelude.{◌≡◌, false, suc, ◌<◌, ◌≤◌, length, get_or};
 ghost use Rattle.table.specs.Words.{parts};
 ghost use Rattle.table.specs.Item.{set_of, handler_at, item_at};

@@ -1,4 +1,6 @@
 // Reads tables, accepted and refused ones, and prints one line for each.
+#![tactic(auto)]
+
 mod cases;
 mod keys;
 mod kinds;

@@ -1,4 +1,6 @@
 // What the programs that test the reading of tables share: tables, and printing.
+#![tactic(auto)]
+
 mod show;
 pub mod tables;
 

@@ -1,4 +1,6 @@
 // Text in a lent slice of bytes. A writer takes the place to write at and answers the place after its text.
+#![tactic(auto)]
+
 pub mod room;
 
 ghost use Rattle.std.specs.Prelude.{◌≡◌, ◌++◌, ◌+◌, ◌<◌, ◌≤◌, max, length};

@@ -11,7 +11,7 @@ use permset::PermSet;
 use solver::analyse::solve_in;
 
 // A verdict, or that the least estimate has more facts than the ceiling. `limited_answer` of specs/Limits.antt gives each its answer.
-#[derive(Drop)]
+#[derive(Clone, Copy)]
 pub enum Limited {
     Judged(Verdict),
     Exceeded(usize),

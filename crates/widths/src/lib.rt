@@ -1,4 +1,6 @@
 // Narrow tables made wide and wide tables made narrow.
+#![tactic(auto)]
+
 pub mod convert;
 mod fit;
 pub mod numbers;
@@ -7,7 +9,7 @@ use table::Refusal;
 
 // Why a converter refuses: the table, or a word 0 of the other kind; more handlers than a narrow table has, a name that it does not
 // have; or an output that is too short. `fault_number` and `fault_place` of specs/Answers.antt give each its number and place.
-#[derive(Drop)]
+#[derive(Clone, Copy)]
 pub enum Fault {
     Table(Refusal),
     TooManyHandlers,
@@ -16,14 +18,14 @@ pub enum Fault {
 }
 
 // How many words were written, or why the table was refused. `converted_as` of specs/Answers.antt says what each case means.
-#[derive(Drop)]
+#[derive(Clone, Copy)]
 pub enum Converted {
     Words(usize),
     Refused(Fault),
 }
 
 // Whether a table can be converted.
-#[derive(Drop)]
+#[derive(Clone, Copy)]
 enum Checked {
     Accepted,
     Refused(Fault),

@@ -2,7 +2,7 @@
 use commands::arguments::{Value, value_of};
 
 // The commands that stand in this program, and those of `commands`: with an input to read, or without.
-#[derive(Drop)]
+#[derive(Clone, Copy)]
 pub enum Command {
     Leak,
     Deliveries,

@@ -1,4 +1,6 @@
 // The program: its first argument is the command, standard input is the input.
+#![tactic(auto)]
+
 mod arguments;
 mod estimates;
 mod explain;

@@ -8,7 +8,7 @@ use listing::read::read;
 use listing::{Answer, Refusal};
 use streams::read_input;
 
-#[derive(Drop)]
+#[derive(Clone, Copy)]
 pub enum Request {
     Deliveries,
     // The opponent's set.

@@ -8,7 +8,7 @@ use crate::memory::{MOST, PARENT, PER_ROW, PER_WORD, ROW, TURN, TURNS, USE, plan
 use crate::view::{close, kind_within, link};
 
 // The next turn, and the innermost word that is not done, 0 if there is none.
-#[derive(Drop)]
+#[derive(Clone, Copy)]
 struct Place {
     turn: usize,
     word: usize,

@@ -2,7 +2,7 @@
 -- Assumes nothing.
 use mathlib.Core.Path.{sym}
 use native.Mathlib.Omega.{arith}
-use Rattle.json.proofs.Places.{tail-drop, tail-over}
+use Rattle.json_text.proofs.Places.{tail-drop, tail-over}
 use Rattle.manifest.proofs.members.behind.Statement.{statement}
 use Rattle.manifest.proofs.members.behind.Tie as tie
 

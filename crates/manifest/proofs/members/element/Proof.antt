@@ -6,8 +6,8 @@ use Prim.Native.Nat.{◌<◌}
 use native.Mathlib.Omega.{arith}
 use lib.ListN.{length, drop}
 use Rattle.permset.specs.declared.PermSet.{PermSet}
-use Rattle.json.proofs.Choice.{is, is-not}
-use Rattle.json.proofs.Places.{there}
+use Rattle.json_text.proofs.Choice.{is, is-not}
+use Rattle.json_text.proofs.Places.{there}
 use Rattle.manifest.specs.declared.members.Tally.{Tally}
 use Rattle.manifest.specs.Members.{strings, counted}
 use Rattle.manifest.specs.Answer.{count_of, others_of}

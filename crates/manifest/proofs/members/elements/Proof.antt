@@ -6,10 +6,10 @@ use mathlib.Core.List.{List}
 use Prim.Native.Nat.{ℕ, ◌+◌, ◌<◌, ◌≤◌}
 use native.Mathlib.Omega.{arith}
 use lib.ListN.{length, drop, length-drop}
-use Rattle.json.specs.Bytes.{starts}
-use Rattle.json.specs.Values.{value, item}
-use Rattle.json.specs.Answers.{stepped}
-use Rattle.json.proofs.Repetition.{starts-fails, starts-goes, starts-ends}
+use Rattle.json_text.specs.Bytes.{starts}
+use Rattle.json_text.specs.Values.{value, item}
+use Rattle.json_text.specs.Answers.{stepped}
+use Rattle.json_text.proofs.Repetition.{starts-fails, starts-goes, starts-ends}
 use Rattle.manifest.specs.Members.{counted}
 use Rattle.manifest.specs.Answer.{count_of, others_of}
 use Rattle.manifest.proofs.Lists.{counted-cons, counted_none}

@@ -5,12 +5,12 @@ use mathlib.Core.Bool.{true}
 use mathlib.Core.List.{List, []}
 use Prim.Native.Nat.{ℕ, ◌-◌}
 use lib.ListN.{length, drop}
-use Rattle.json.specs.Bytes.{starts}
-use Rattle.json.specs.Strings.{units}
-use Rattle.json.specs.Units.{matches}
-use Rattle.json.specs.Values.{value, item}
-use Rattle.json.specs.Answers.{stepped}
-use Rattle.json.proofs.Repetition.{starts-fails, starts-goes, starts-ends}
+use Rattle.json_text.specs.Bytes.{starts}
+use Rattle.json_text.specs.Strings.{units}
+use Rattle.json_text.specs.Units.{matches}
+use Rattle.json_text.specs.Values.{value, item}
+use Rattle.json_text.specs.Answers.{stepped}
+use Rattle.json_text.proofs.Repetition.{starts-fails, starts-goes, starts-ends}
 use Rattle.manifest.specs.Members.{find}
 use Rattle.manifest.proofs.Tops.{narrow, starts_none, starts-at, find_none, find-here, find-later}
 use borrow.Author.Rules.{rules}

@@ -6,12 +6,12 @@ use mathlib.Core.List.{List}
 use Prim.Native.Nat.{ℕ, ◌-◌}
 use native.Mathlib.Omega.{arith}
 use lib.ListN.{take, drop}
-use Rattle.json.specs.Bytes.{starts}
-use Rattle.json.specs.Strings.{units}
-use Rattle.json.specs.Units.{matches}
-use Rattle.json.specs.Values.{value, item}
-use Rattle.json.specs.Answers.{stepped}
-use Rattle.json.proofs.Repetition.{starts-fails, starts-goes, starts-ends}
+use Rattle.json_text.specs.Bytes.{starts}
+use Rattle.json_text.specs.Strings.{units}
+use Rattle.json_text.specs.Units.{matches}
+use Rattle.json_text.specs.Values.{value, item}
+use Rattle.json_text.specs.Answers.{stepped}
+use Rattle.json_text.proofs.Repetition.{starts-fails, starts-goes, starts-ends}
 use Rattle.manifest.specs.Members.{has}
 use Rattle.manifest.proofs.Tops.{narrow, has-none, has_here, has-later, has_last, take_none}
 use borrow.Author.Rules.{rules}

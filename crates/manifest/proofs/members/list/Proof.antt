@@ -6,11 +6,11 @@ use mathlib.Core.List.{List}
 use Prim.Native.Nat.{ℕ, ◌<◌}
 use native.Mathlib.Omega.{arith}
 use lib.ListN.{length}
-use Rattle.json.specs.declared.Ending.{Ending}
-use Rattle.json.specs.Values.{value, first, starts_from}
-use Rattle.json.specs.Answers.{ended}
-use Rattle.json.proofs.Choice.{is, is-not}
-use Rattle.json.proofs.Places.{there, tail-drop}
+use Rattle.json_text.specs.declared.Ending.{Ending}
+use Rattle.json_text.specs.Values.{value, first, starts_from}
+use Rattle.json_text.specs.Answers.{ended}
+use Rattle.json_text.proofs.Choice.{is, is-not}
+use Rattle.json_text.proofs.Places.{there, tail-drop}
 use Rattle.manifest.specs.Members.{counted, listed}
 use Rattle.manifest.specs.Answer.{count_of}
 use Rattle.manifest.proofs.Lists.{counted_none, list-missing, no-array, array}

@@ -7,12 +7,12 @@ use mathlib.Core.List.{List, []}
 use Prim.Native.Nat.{ℕ, ◌+◌, ◌-◌, ◌<◌, ◌≤◌}
 use native.Mathlib.Omega.{arith}
 use lib.ListN.{length, take, drop, set, length-drop, length-set}
-use Rattle.json.specs.Bytes.{starts}
-use Rattle.json.specs.Strings.{units}
-use Rattle.json.specs.Units.{spread}
-use Rattle.json.specs.Values.{value, item}
-use Rattle.json.specs.Answers.{stepped}
-use Rattle.json.proofs.Repetition.{starts-fails, starts-goes, starts-ends}
+use Rattle.json_text.specs.Bytes.{starts}
+use Rattle.json_text.specs.Strings.{units}
+use Rattle.json_text.specs.Units.{spread}
+use Rattle.json_text.specs.Values.{value, item}
+use Rattle.json_text.specs.Answers.{stepped}
+use Rattle.json_text.proofs.Repetition.{starts-fails, starts-goes, starts-ends}
 use Rattle.manifest.specs.Members.{has, repeated}
 use Rattle.manifest.proofs.Marks.{Marked, marked-none, made, free, marked_next}
 use Rattle.manifest.proofs.Tops.{narrow, split-next, repeated-end, repeated-here, repeated-later}

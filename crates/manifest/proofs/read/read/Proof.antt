@@ -6,10 +6,10 @@ use Prim.Native.Nat.{◌<◌}
 use native.Mathlib.Omega.{arith}
 use lib.ListN.{length}
 use borrow.Author.Tests.{le-leb, lt-leb, not-true, not-false}
-use Rattle.json.specs.Bytes.{head, tail}
-use Rattle.json.specs.Values.{value, first, starts_from}
-use Rattle.json.proofs.Choice.{is, is-not}
-use Rattle.json.proofs.Places.{there, tail-drop}
+use Rattle.json_text.specs.Bytes.{head, tail}
+use Rattle.json_text.specs.Values.{value, first, starts_from}
+use Rattle.json_text.proofs.Choice.{is, is-not}
+use Rattle.json_text.proofs.Places.{there, tail-drop}
 use Rattle.manifest.specs.Manifest.{judged_from}
 use Rattle.manifest.proofs.Judged.{judged-not, judged-object, too_long, no_text, no-object, an-object}
 use borrow.Author.Rules.{rules}

@@ -4,8 +4,8 @@ use mathlib.Core.Path.{sym, ap, ap₂, ◌∙◌}
 use mathlib.Core.Bool.{true, false}
 use native.Mathlib.Omega.{arith}
 use Rattle.permset.specs.declared.PermSet.{PermSet}
-use Rattle.json.specs.Values.{value, starts_from}
-use Rattle.json.specs.Answers.{ended}
+use Rattle.json_text.specs.Values.{value, starts_from}
+use Rattle.json_text.specs.Answers.{ended}
 use Rattle.manifest.specs.Members.{strings, listed}
 use Rattle.manifest.proofs.Judged.{total-two, total-three}
 use borrow.Author.Rules.{rules}

@@ -1,10 +1,10 @@
 -- `manifest::read::version` meets its contract.
 -- Assumes nothing.
 use mathlib.Core.Path.{sym, ap, ◌∙◌}
-use Rattle.json.specs.declared.Ending.{Ending}
-use Rattle.json.specs.Bytes.{head}
-use Rattle.json.specs.Answers.{ended}
-use Rattle.json.proofs.Choice.{is, is-not}
+use Rattle.json_text.specs.declared.Ending.{Ending}
+use Rattle.json_text.specs.Bytes.{head}
+use Rattle.json_text.specs.Answers.{ended}
+use Rattle.json_text.proofs.Choice.{is, is-not}
 use Rattle.manifest.specs.Manifest.{goes_on, version}
 use Rattle.manifest.proofs.Versions.{version-missing, version-long, version-two, version-three, version-other}
 use borrow.Author.Rules.{rules}

@@ -1,0 +1,14 @@
+-- `json_text::bytes::is_either` meets its contract.
+-- Assumes nothing.
+use borrow.Author.Tests.{eq-eqb, ne_eqb}
+use Rattle.json_text.proofs.bytes.is_either.Statement.{statement}
+use Rattle.json_text.proofs.bytes.is_either.Tie as tie
+
+returns : tie.Need-returns
+returns c = rw (eq-eqb _ _ c.if1.true)
+
+returns-2 : tie.Need-returns-2
+returns-2 c = rw (ne_eqb _ _ c.if1.false)
+
+pub is-either-spec : {M : Type 1} → statement M
+is-either-spec = tie.close (tie.spec returns returns-2)
