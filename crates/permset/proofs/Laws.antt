@@ -99,6 +99,7 @@ or_cases false b h = inr h
 
 or_left : (a b : Bool) → T a → T (a || b)
 or_left true b h = tt
+or_left false b h = elim h [ ]
 
 or_right : (a b : Bool) → T b → T (a || b)
 or_right true b h = tt
@@ -106,12 +107,15 @@ or_right false b h = h
 
 and_left : (a b : Bool) → T (a && b) → T a
 and_left true b h = tt
+and_left false b h = elim h [ ]
 
 and_right : (a b : Bool) → T (a && b) → T b
 and_right true b h = h
+and_right false b h = elim h [ ]
 
 and_both : (a b : Bool) → T a → T b → T (a && b)
 and_both true b h k = k
+and_both false b h k = elim h [ ]
 
 and-implied : (a b : Bool) → (T a → T b) → (a && b) ≡ a
 and-implied true true h = refl
@@ -120,6 +124,7 @@ and-implied false b h = refl
 
 not-out : (b : Bool) → T (not b) → T b → ⊥
 not-out false h k = k
+not-out true h k = elim h [ ]
 
 out-not : (b : Bool) → (T b → ⊥) → T (not b)
 out-not true h = h tt

@@ -11,6 +11,5 @@ below k {a} {b} ha hb =
     subst⁻¹ (λ (n : ℕ). a * b < n) (pow-add 2 k k)
     (lt_of_le_of_lt (mul-le-mul_left a (le_of_lt hb)) (mul-lt-mul_of_pos_right ha (pow_pos k)))
 
--- NO GOAL NOW
--- mul-result : tie.Need-overflow-mul-result
--- mul-result c = record { fits = below 32 (search rules) (search rules) }
+pub overflow_mul-result : goal.overflow_mul-result
+overflow_mul-result c = record { fits = below 32 (search rules) (search rules) }

@@ -1,0 +1,20 @@
+-- `little_endian::put` meets its contract. Assumes nothing.
+use native.Mathlib.Numerals.{add-one, add-two, add-three}
+use native.Mathlib.Omega.{arith}
+use lib.ListN.{length-set}
+use lib.Seq.{sets-eq}
+use borrow.Author.Rules.{rules}
+use Rattle.little_endian.specs.LittleEndian.{low_bytes}
+use Rattle.little_endian.proofs.put.Goals as goal
+
+pub bounds-bytes-at-2 : goal.bounds-bytes-at-2
+bounds-bytes-at-2 c = simp length-set (omega arith)
+
+pub bounds-bytes-at-3 : goal.bounds-bytes-at-3
+bounds-bytes-at-3 c = simp length-set (omega arith)
+
+pub bounds-bytes-at-4 : goal.bounds-bytes-at-4
+bounds-bytes-at-4 c = simp length-set (omega arith)
+
+pub returns : goal.returns
+returns c = rw (add-one, add-two, add-three) (sets-eq (low_bytes 4 c.args.w) c.args.bytes.now c.args.at (omega arith))

@@ -1,0 +1,13 @@
+-- `text::glyph` meets its contract. Assumes nothing.
+use borrow.Author.Rules.{rules}
+use borrow.Author.Tests.{lt-ltb, le-ltb}
+use Rattle.text.specs.Text.{glyph}
+use Rattle.text.proofs.glyph.Goals as goal
+
+pub returns-then-d-lt10 : goal.returns-then-d-lt10
+unfolding glyph
+returns-then-d-lt10 c = rw (lt-ltb _ _ c.if-d-lt10.true, glyph)
+
+pub returns-else-d-lt10 : goal.returns-else-d-lt10
+unfolding glyph
+returns-else-d-lt10 c = rw (le-ltb _ _ c.if-d-lt10.false, glyph)

@@ -1,0 +1,14 @@
+-- `text::set_field` meets its contract. Assumes nothing.
+use native.Mathlib.Omega.{arith}
+use borrow.Author.Rules.{rules}
+use Rattle.text.specs.Text.{set}
+use Rattle.text.proofs.Writing.{then}
+use Rattle.text.proofs.set_field.Goals as goal
+
+pub returns : goal.returns
+unfolding set
+returns c =
+    record {
+      wrote = then c.put-next.ensures c.numeral.ensures.wrote;
+      upper_bound = omega arith;
+    }
