@@ -8,7 +8,7 @@ use mathlib.Core.Bool.{Bool, true, false, ◌||◌}
 use mathlib.Core.List.{List, [], ◌∷◌}
 use lib.Dec.{eqb, ltb}
 use lib.ListN.{length}
-use borrow.Author.Rules.{zero≤}
+use Prim.Native.Nat.{zero-le}
 use Rattle.json_text.specs.Bytes.{head, tail, within, Rest, nothing, rest, then, Step, fails, goes, ends, after_by, after, is_space, space}
 use Rattle.json_text.specs.Numbers.{is_digit, digits, some_digits, minus, int, frac, sign, exp, number}
 use Rattle.json_text.specs.Strings.{Point, bad, point, hex_of, hexed, hex_unit, pointed, escape_of, escaped, continued, low, high, second, point_of, character, string}
@@ -35,19 +35,19 @@ pick P false x y p q = q
 
 tail-in : (bs : List ℕ) → length (tail bs) ≤ length bs
 unfolding tail
-tail-in [] = zero≤
+tail-in [] = zero-le
 tail-in (b ∷ bs) = omega arith
 
 space-in : (bs : List ℕ) → length (space bs) ≤ length bs
 unfolding space
-space-in [] = zero≤
+space-in [] = zero-le
 space-in (b ∷ bs) = pick (λ (cs : List ℕ). length cs ≤ suc (length bs)) (is_space b) (space bs) (b ∷ bs) (let h = space-in bs in omega arith) (le_refl _)
 
 -- ---- numbers
 
 digits_in : (bs : List ℕ) → length (digits bs) ≤ length bs
 unfolding digits
-digits_in [] = zero≤
+digits_in [] = zero-le
 digits_in (b ∷ bs) = pick (λ (cs : List ℕ). length cs ≤ suc (length bs)) (is_digit b) (digits bs) (b ∷ bs) (let h = digits_in bs in omega arith) (le_refl _)
 
 weaker : {m n : ℕ} (r : Rest) → m ≤ n → RestIn m r → RestIn n r

@@ -7,7 +7,7 @@ use mathlib.Core.Path.{◌≡◌, refl, sym, subst}
 use mathlib.Core.Bool.{Bool, true, false}
 use mathlib.Core.List.{List, [], ◌∷◌}
 use lib.Dec.{eqb}
-use borrow.Author.Rules.{zero≤}
+use Prim.Native.Nat.{zero-le}
 use Rattle.permset.specs.Sets.{union}
 use Rattle.permset.proofs.Laws.{union-lt}
 use Rattle.json_text.specs.Bytes.{head, tail, Rest, nothing, rest}
@@ -36,7 +36,7 @@ bit-top (n ∷ ns) bit = let h : 2 * bit ≤ top ns (2 * bit) = bit-top ns (2 * 
 
 named-top : (ns : List (List ℕ)) (bit : ℕ) (us : List ℕ) → named ns bit us ≤ top ns bit
 unfolding top named
-named-top [] bit us = zero≤
+named-top [] bit us = zero-le
 named-top (n ∷ ns) bit us =
     pick (λ (x : ℕ). x ≤ top ns (2 * bit)) (matches true n us) bit (named ns (2 * bit) us)
     (let h : 2 * bit ≤ top ns (2 * bit) = bit-top ns (2 * bit) in omega arith) (named-top ns (2 * bit) us)

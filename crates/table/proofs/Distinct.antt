@@ -28,6 +28,7 @@ key-injective n n' s s' h h' e = word_of-injective n n' s s' h h' e
 
 or_left : (a b : Bool) → T a → T (a || b)
 or_left true b h = tt
+or_left mathlib.Core.Bool.false b h = elim h [ ]
 
 has_first : (k : ℕ) (ks : List ℕ) → T (has (k ∷ ks) k)
 unfolding has

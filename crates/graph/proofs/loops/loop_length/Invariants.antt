@@ -1,0 +1,13 @@
+-- `graph::loops::loop_length` meets its contract. The loop's invariant: it is the shortest through the positions below t. Assumes nothing.
+use Prim.Native.Nat.{ℕ, ◌+◌, ◌-◌, ◌≤◌}
+use mathlib.Core.Path.{sym, subst}
+use native.Mathlib.Nat.{le_antisymm}
+use borrow.Author.Rules.{rules}
+use Rattle.graph.proofs.Fewest.{Best, best-start, best-next, best-end}
+use Rattle.graph.proofs.loops.loop_length.Given as goal
+
+abbrev pub invariant-loop-t : goal.invariant-loop-t
+invariant-loop-t l = (l.t ≤ l.n) × Best l.rows l.alive l.n l.t l.shortest
+
+abbrev pub decreases-loop-t : goal.decreases-loop-t
+decreases-loop-t l = l.n - l.t

@@ -1,0 +1,15 @@
+-- `graph::loops::reaching` meets its contract. The loop's invariant: the set is that of i messages. Assumes nothing.
+use Prim.Native.Nat.{ℕ, ◌-◌, ◌^◌, ◌≤◌, ◌<◌}
+use mathlib.Core.Path.{◌≡◌, sym, ap, ◌∙◌, subst}
+use native.Mathlib.Nat.{le_antisymm}
+use borrow.Author.Rules.{rules}
+use lib.ListN.{length}
+use Rattle.graph.specs.Search.{reaching}
+use Rattle.graph.proofs.Walks.{reaching-on, reaching-below}
+use Rattle.graph.proofs.loops.reaching.Given as goal
+
+abbrev pub invariant-loop-i : goal.invariant-loop-i
+invariant-loop-i l = (l.i ≤ l.m) × (l.set ≡ reaching l.rows l.alive l.t l.i)
+
+abbrev pub decreases-loop-i : goal.decreases-loop-i
+decreases-loop-i l = l.m - l.i

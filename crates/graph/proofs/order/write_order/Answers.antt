@@ -1,0 +1,64 @@
+use Prim.Native.Nat.{ℕ, ◌+◌, ◌-◌, ◌≤◌}
+use mathlib.Core.Path.{◌≡◌, ap, subst}
+use mathlib.Core.List.{List, []}
+use native.Mathlib.Nat.{zero-add}
+use native.Mathlib.Omega.{arith}
+use borrow.Author.Rules.{rules}
+use lib.ListN.{length}
+use Rattle.graph.specs.Search.{order_from}
+use Rattle.graph.specs.Answer.{starting_with}
+use Rattle.graph.proofs.Writing.{Partly, partly-start, partly-on, partly-end, order-on, order-stop, order-none, order-length}
+use Rattle.graph.proofs.order.write_order.Goals as goal
+
+-- where nothing is left to be written
+finished : (rows : List ℕ) (n alive : ℕ) (old now : List ℕ) (left count : ℕ) → order_from rows n (n - count) left ≡ [] → n ≤ length old
+    → Partly old (order_from rows n n alive) now count (order_from rows n (n - count) left)
+    → count + length (order_from rows n (n - count) left) ≡ length (order_from rows n n alive)
+    → (count ≡ length (order_from rows n n alive)) × (now ≡ starting_with (order_from rows n n alive) old)
+finished rows n alive old now left count e h w t = (
+  omega (arith, ap length e),
+  partly-end old (order_from rows n n alive) now count (order_from rows n (n - count) left) e
+      (let k = order-length rows n n alive in omega arith) w,
+)
+
+pub loop-count-init : goal.loop-count-init
+loop-count-init c =
+    let a = c.args in
+    let e : a.n - 0 ≡ a.n = omega arith in
+    (search rules, rw e (partly-start _ _), rw e (zero-add _))
+
+pub shape_of-positions-then-n-p : goal.shape_of-positions-then-n-p
+shape_of-positions-then-n-p c = c.loop-count.invariant.1.size
+
+pub returns-then-n-p : goal.returns-then-n-p
+returns-then-n-p c =
+    let l = c.loop-count in
+    let a = c.args in
+    let r = a.rows.now in
+    let e = order-stop r a.n (a.n - l.count) l.left (subst (λ (p : ℕ). a.n ≤ p) c.lowest_free-p.ensures c.if-n-p.true) in
+    finished r a.n a.alive a.positions.now l.positions l.left l.count e (search rules) l.invariant.1 l.invariant.2
+
+pub bounds-positions-count : goal.bounds-positions-count
+bounds-positions-count c = omega (arith, c.loop-count.invariant.1.size)
+
+pub loop-count-preserved : goal.loop-count-preserved
+loop-count-preserved c =
+    let l = c.loop-count in
+    let a = c.args in
+    let e =
+    order-on a.rows.now a.n l.count l.left c.lowest_free-p.result c.without-left.result (search rules)
+    c.lowest_free-p.ensures c.if-n-p.false c.without-left.ensures in (
+      search rules,
+      partly-on a.positions.now (order_from a.rows.now a.n a.n a.alive) l.positions l.count _ _ _ e l.invariant.1,
+      omega (arith, ap length e, l.invariant.2),
+    )
+
+pub shape_of-positions : goal.shape_of-positions
+shape_of-positions c = c.loop-count.invariant.1.size
+
+pub returns : goal.returns
+returns c =
+    let l = c.loop-count in
+    let a = c.args in
+    let e = order-none a.rows.now a.n l.count l.left c.loop-count-test.false in
+    finished a.rows.now a.n a.alive a.positions.now l.positions l.left l.count e (search rules) l.invariant.1 l.invariant.2

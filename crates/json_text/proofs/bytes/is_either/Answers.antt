@@ -1,0 +1,10 @@
+-- `json_text::bytes::is_either` meets its contract.
+-- Assumes nothing.
+use borrow.Author.Tests.{eq-eqb, ne_eqb}
+use Rattle.json_text.proofs.bytes.is_either.Goals as goal
+
+pub returns-then-b-x : goal.returns-then-b-x
+returns-then-b-x c = rw (eq-eqb _ _ c.if-b-x.true)
+
+pub returns : goal.returns
+returns c = rw (ne_eqb _ _ c.if-b-x.false)

@@ -1,0 +1,11 @@
+-- `json_text::bytes::is_space` meets its contract.
+-- Assumes nothing.
+use mathlib.Core.Path.{sym, ◌∙◌}
+use borrow.Author.Rules.{rules}
+use Rattle.json_text.proofs.bytes.is_space.Goals as goal
+
+pub returns-then-is_either : goal.returns-then-is_either
+returns-then-is_either c = rw (sym c.is_either.ensures ∙ c.if-is_either.true)
+
+pub returns : goal.returns
+returns c = rw (sym c.is_either.ensures ∙ c.if-is_either.false) c.is_either-2.ensures

@@ -1,0 +1,10 @@
+-- `json_text::bytes::is_within` meets its contract.
+-- Assumes nothing.
+use borrow.Author.Tests.{le-leb, lt-leb}
+use Rattle.json_text.proofs.bytes.is_within.Goals as goal
+
+pub returns-then-low-b : goal.returns-then-low-b
+returns-then-low-b c = rw (le-leb _ _ c.if-low-b.true)
+
+pub returns-else-low-b : goal.returns-else-low-b
+returns-else-low-b c = rw (lt-leb _ _ c.if-low-b.false)

@@ -1,0 +1,36 @@
+use mathlib.Core.Path.{◌≡◌, refl, sym, ap, ◌∙◌}
+use lib.ListN.{length, drop}
+use Rattle.json_text.specs.Strings.{character, string}
+use Rattle.json_text.specs.Answers.{read}
+use Rattle.json_text.proofs.Repetition.{after-fails, after-goes, after-ends}
+use Rattle.json_text.proofs.Shorter.{character-narrow}
+use borrow.Author.Rules.{rules}
+use Rattle.json_text.proofs.strings.string.Goals as goal
+
+pub loop-q-init : goal.loop-q-init
+loop-q-init c = refl
+
+pub character-requires : goal.character-requires
+character-requires c = tt
+
+pub returns-in-Fails : goal.returns-in-Fails
+returns-in-Fails c =
+    sym (c.loop-q.invariant ∙ after-fails character character-narrow (drop c.loop-q.p c.args.text.now) (sym c.character.ensures ∙ ap (read c.args.text.now) c.in-Fails.is))
+
+pub loop-q-smaller-in-One : goal.loop-q-smaller-in-One
+loop-q-smaller-in-One c = character-narrow (drop c.loop-q.p c.args.text.now) _ _ (sym c.character.ensures ∙ ap (read c.args.text.now) c.in-One.is)
+
+pub loop-q-preserved-in-One : goal.loop-q-preserved-in-One
+loop-q-preserved-in-One c =
+    c.loop-q.invariant ∙ after-goes character character-narrow (drop c.loop-q.p c.args.text.now) _ _ (sym c.character.ensures ∙ ap (read c.args.text.now) c.in-One.is)
+
+pub loop-q-smaller : goal.loop-q-smaller
+loop-q-smaller c = character-narrow (drop c.loop-q.p c.args.text.now) _ _ (sym c.character.ensures ∙ ap (read c.args.text.now) c.in-Two.is)
+
+pub loop-q-preserved : goal.loop-q-preserved
+loop-q-preserved c =
+    c.loop-q.invariant ∙ after-goes character character-narrow (drop c.loop-q.p c.args.text.now) _ _ (sym c.character.ensures ∙ ap (read c.args.text.now) c.in-Two.is)
+
+pub returns-in-Ends : goal.returns-in-Ends
+returns-in-Ends c =
+    sym (c.loop-q.invariant ∙ after-ends character character-narrow (drop c.loop-q.p c.args.text.now) _ (sym c.character.ensures ∙ ap (read c.args.text.now) c.in-Ends.is))

@@ -1,0 +1,16 @@
+-- `json_text::strings::string` meets its contract. The loop's invariant: where the string ends from here is where it ends from the start.
+-- Assumes nothing.
+use mathlib.Core.Path.{◌≡◌, refl, sym, ap, ◌∙◌}
+use lib.ListN.{length, drop}
+use Rattle.json_text.specs.Strings.{character, string}
+use Rattle.json_text.specs.Answers.{read}
+use Rattle.json_text.proofs.Repetition.{after-fails, after-goes, after-ends}
+use Rattle.json_text.proofs.Shorter.{character-narrow}
+use borrow.Author.Rules.{rules}
+use Rattle.json_text.proofs.strings.string.Given as goal
+
+abbrev pub invariant-loop-q : goal.invariant-loop-q
+invariant-loop-q l = string (drop l.at l.text) ≡ string (drop l.p l.text)
+
+abbrev pub decreases-loop-q : goal.decreases-loop-q
+decreases-loop-q l = length (drop l.p l.text)
