@@ -26,6 +26,10 @@ Follows ws p = (p ≡ length ws) ⊎ ((p < length ws) × (task_at ws p ≡ name)
 next-block : (ws : List ℕ) (p : ℕ) (keys : List ℕ) (ts : List Task) → At ws p keys ts → Names ts → Follows ws p
 next-block ws p keys [] a n = inl (at-end ws p keys a)
 next-block ws p keys (name ∷ ts) a n = let s = at-step ws p keys name ts a in inr (s.inside, s.task)
+next-block ws p keys (head _ ∷ ts) a n = elim n [ ]
+next-block ws p keys (perms _ ∷ ts) a n = elim n [ ]
+next-block ws p keys (guard ∷ ts) a n = elim n [ ]
+next-block ws p keys (term depth home scope ∷ ts) a n = elim n [ ]
 
 -- the words of the block at b: its name, its permission set, its guard and its body, behind which the next block starts or the table ends
 pub record Block (ws : List ℕ) (b : ℕ) : Type 0 where

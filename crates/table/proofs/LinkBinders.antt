@@ -45,6 +45,10 @@ module _ (ws : List ℕ) where
   pub laid-names : (l : List ℕ) (p : ℕ) (ts : List Task) → Names ts → Laid l p ts
   laid-names l p [] h = tt
   laid-names l p (name ∷ ts) h = tt
+  laid-names l p (head size ∷ ts) h = elim h [ ]
+  laid-names l p (perms _ ∷ ts) h = elim h [ ]
+  laid-names l p (guard ∷ ts) h = elim h [ ]
+  laid-names l p (term depth home scope ∷ ts) h = elim h [ ]
 
   -- ---- the parts of a term
 

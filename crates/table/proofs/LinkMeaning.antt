@@ -156,6 +156,10 @@ module _ (ws l : List ℕ) (p : ℕ) (done : (q : ℕ) → q < p → DoneTask ws
 homed-names : (b : ℕ) (ts : List Task) → Names ts → All (HomedTask b) ts
 homed-names b [] h = tt
 homed-names b (name ∷ ts) h = (tt, homed-names b ts h)
+homed-names b (head _ ∷ ts) h = elim h [ ]
+homed-names b (perms _ ∷ ts) h = elim h [ ]
+homed-names b (guard ∷ ts) h = elim h [ ]
+homed-names b (term depth home scope ∷ ts) h = elim h [ ]
 
 homed-parts : (p d h b : ℕ) (s : List ℕ) → h ≡ b → (bs : List Bool) → All (HomedTask b) (map (part_task p d h s) bs)
 homed-parts p d h b s k [] = tt

@@ -202,6 +202,10 @@ Layered (term d h s ∷ ts) = Layered ts
 pub names-layered : (ts : List Task) → Names ts → Layered ts
 names-layered [] h = tt
 names-layered (name ∷ ts) h = h
+names-layered (head size ∷ ts) h = elim h [ ]
+names-layered (perms _ ∷ ts) h = elim h [ ]
+names-layered (guard ∷ ts) h = elim h [ ]
+names-layered (term depth home scope ∷ ts) h = elim h [ ]
 
 pub names_more : (n : ℕ) (ts : List Task) → Names ts → Names (replicate n name ++ ts)
 names_more zero ts h = h

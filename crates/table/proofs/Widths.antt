@@ -77,12 +77,12 @@ headless-first p keys (term d k s ∷ ts) h = h
 first-kept : (p q at w : ℕ) (keys : List ℕ) (t : Task) (ts : List Task) → First p keys (t ∷ ts) → First q (keep keys w t) (next at w t ++ ts)
 unfolding next
 first-kept p q at w keys (head n) ts h =
-    headless-first q _ (replicate (argument w) name ++ ts) (headless-names (argument w) ts h.1)
+    headless-first q (keep keys w (head n)) (replicate (argument w) name ++ ts) (headless-names (argument w) ts h.1)
 first-kept p q at w keys name ts h = h
-first-kept p q at w keys (perms n) ts h = headless-first q _ ts h
-first-kept p q at w keys guard ts h = headless-first q _ ts h
+first-kept p q at w keys (perms n) ts h = headless-first q (keep keys w (perms n)) ts h
+first-kept p q at w keys guard ts h = headless-first q (keep keys w guard) ts h
 first-kept p q at w keys (term d k s) ts h =
-    headless-first q _ (next at w (term d k s) ++ ts) (headless-terms (next at w (term d k s)) ts (terms-next at w d k s) h)
+    headless-first q (keep keys w (term d k s)) (next at w (term d k s) ++ ts) (headless-terms (next at w (term d k s)) ts (terms-next at w d k s) h)
 
 module _ (ws : List ℕ) (e : narrow_reading ws ≡ accepted) where
   pub narrow-kind : kind (get_or ws 0 0) ≡ 5 → ⊥

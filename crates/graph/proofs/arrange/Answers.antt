@@ -8,7 +8,11 @@ use Rattle.graph.proofs.arrange.Goals as goal
 pub returns-then-positions-n : goal.returns-then-positions-n
 returns-then-positions-n c =
     let a = c.args in
-    short a.rows.now a.live c.places-n.result _ _ a.positions.now c.places-n.ensures refl refl c.if-positions-n.true
+    let all = short a.rows.now a.live c.places-n.result _ _ a.positions.now c.places-n.ensures refl refl c.if-positions-n.true in record {
+      value = all.0;
+      positions_after = all.1.0;
+      means = all.1.1;
+    }
 
 pub loop_length-m-requires : goal.loop_length-m-requires
 loop_length-m-requires c =
@@ -24,9 +28,13 @@ returns-then-n-m c =
     let p = c.places-n in
     let a = c.args in
     let w = c.write_order in
-    ordered a.rows.now a.live p.result c.below-alive.result c.loop_length-m.result a.positions.now p.ensures
+    let all = ordered a.rows.now a.live p.result c.below-alive.result c.loop_length-m.result a.positions.now p.ensures
     c.below-alive.ensures c.loop_length-m.ensures (search rules) c.if-positions-n.false w.result _
-    c.if-n-m.true w.ensures.value w.ensures.positions_after
+    c.if-n-m.true w.ensures.value w.ensures.positions_after in record {
+      value = all.0;
+      positions_after = all.1.0;
+      means = all.1.1;
+    }
 
 pub loop_start-t-requires : goal.loop_start-t-requires
 loop_start-t-requires c =
@@ -56,6 +64,10 @@ returns c =
     let p = c.places-n in
     let a = c.args in
     let s = c.loop_start-t in
-    looped a.rows.now a.live p.result c.below-alive.result c.loop_length-m.result a.positions.now p.ensures
+    let all = looped a.rows.now a.live p.result c.below-alive.result c.loop_length-m.result a.positions.now p.ensures
     c.below-alive.ensures c.loop_length-m.ensures (search rules) c.if-positions-n.false
-    c.if-n-m.false s.result _ s.ensures c.write_loop.ensures
+    c.if-n-m.false s.result _ s.ensures c.write_loop.ensures in record {
+      value = all.0;
+      positions_after = all.1.0;
+      means = all.1.1;
+    }

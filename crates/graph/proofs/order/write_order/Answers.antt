@@ -36,7 +36,10 @@ returns-then-n-p c =
     let a = c.args in
     let r = a.rows.now in
     let e = order-stop r a.n (a.n - l.count) l.left (subst (λ (p : ℕ). a.n ≤ p) c.lowest_free-p.ensures c.if-n-p.true) in
-    finished r a.n a.alive a.positions.now l.positions l.left l.count e (search rules) l.invariant.1 l.invariant.2
+    let all = finished r a.n a.alive a.positions.now l.positions l.left l.count e (search rules) l.invariant.1 l.invariant.2 in record {
+      value = all.0;
+      positions_after = all.1;
+    }
 
 pub bounds-positions-count : goal.bounds-positions-count
 bounds-positions-count c = omega (arith, c.loop-count.invariant.1.size)
@@ -61,4 +64,7 @@ returns c =
     let l = c.loop-count in
     let a = c.args in
     let e = order-none a.rows.now a.n l.count l.left c.loop-count-test.false in
-    finished a.rows.now a.n a.alive a.positions.now l.positions l.left l.count e (search rules) l.invariant.1 l.invariant.2
+    let all = finished a.rows.now a.n a.alive a.positions.now l.positions l.left l.count e (search rules) l.invariant.1 l.invariant.2 in record {
+      value = all.0;
+      positions_after = all.1;
+    }

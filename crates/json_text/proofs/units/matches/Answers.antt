@@ -1,3 +1,4 @@
+use mathlib.Core.Bool.{not}
 use mathlib.Core.Path.{◌≡◌, refl, sym, ap, ◌∙◌}
 use Prim.Native.Nat.{◌-◌}
 use native.Mathlib.Omega.{arith}
@@ -41,7 +42,7 @@ loop-i-preserved c =
 
 pub returns-then-not-whole : goal.returns-then-not-whole
 returns-then-not-whole c =
-    sym (c.loop-i.invariant ∙ not-whole _ _ _ (not-true _ c.if-not-whole.true) (drop_of_length-le c.args.word.now c.loop-i-test.false))
+    sym (c.loop-i.invariant ∙ not-whole _ _ _ (not-true _ (ap not c.if-not-whole.true)) (drop_of_length-le c.args.word.now c.loop-i-test.false))
 
 pub unit-requires-2 : goal.unit-requires-2
 unit-requires-2 c = tt
@@ -52,4 +53,4 @@ returns-in-End-unit c =
 
 pub returns-in-Unit-unit : goal.returns-in-Unit-unit
 returns-in-Unit-unit c =
-    sym (c.loop-i.invariant ∙ more-behind _ _ _ (not-false _ c.if-not-whole.false) (drop_of_length-le c.args.word.now c.loop-i-test.false) (c.unit-2.ensures ∙ ap (uncons c.args.text.now) c.in-Unit-unit.is))
+    sym (c.loop-i.invariant ∙ more-behind _ _ _ (not-false _ (ap not c.if-not-whole.false)) (drop_of_length-le c.args.word.now c.loop-i-test.false) (c.unit-2.ensures ∙ ap (uncons c.args.text.now) c.in-Unit-unit.is))

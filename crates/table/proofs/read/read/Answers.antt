@@ -59,16 +59,16 @@ returns-then-words-eq0 c = sym (no_words _ c.if-words-eq0.true)
 
 pub returns-then-not-starts_table : goal.returns-then-not-starts_table
 unfolding outcome number place
-returns-then-not-starts_table c = sym (no_table _ (omega arith) (told c.before ∙ not-true _ c.if-not-starts_table.true))
+returns-then-not-starts_table c = sym (no_table _ (omega arith) (told c.before ∙ not-true _ (ap not c.if-not-starts_table.true)))
 
 pub returns-then-words-gt1024 : goal.returns-then-words-gt1024
 unfolding outcome number place
-returns-then-words-gt1024 c = sym (too_long _ (omega arith) (told c.before.before ∙ not-false _ c.if-not-starts_table.false) (omega arith))
+returns-then-words-gt1024 c = sym (too_long _ (omega arith) (told c.before.before ∙ not-false _ (ap not c.if-not-starts_table.false)) (omega arith))
 
 pub returns-then-names-count : goal.returns-then-names-count
 unfolding outcome number place
 returns-then-names-count c =
-    sym (too_many _ (omega arith) (told c.before.before.before.before.before ∙ not-false _ c.if-not-starts_table.false)
+    sym (too_many _ (omega arith) (told c.before.before.before.before.before ∙ not-false _ (ap not c.if-not-starts_table.false))
     (omega arith) (omega (arith, c.names_of-names.ensures, c.argument_of-count.ensures, c.if-names-count.true)))
 
 pub blocks-requires : goal.blocks-requires
@@ -83,5 +83,5 @@ returns c =
     let a = c.argument_of-count.ensures in
     c.blocks-2.ensures
     ∙ ap₂ (λ (k m : ℕ). scan k (drop 1 ws) [] 1 (replicate m name)) n a
-    ∙ sym (the-blocks ws (omega arith) (told c.before.before.before.before.before.before ∙ not-false _ c.if-not-starts_table.false)
+    ∙ sym (the-blocks ws (omega arith) (told c.before.before.before.before.before.before ∙ not-false _ (ap not c.if-not-starts_table.false))
     (omega arith) (omega (arith, n, a, c.if-names-count.false)))

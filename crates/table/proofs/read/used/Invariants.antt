@@ -11,16 +11,6 @@ use lib.Seq.{drop-cons}
 use borrow.Author.Rules.{rules}
 use borrow.Author.Tests.{eq-eqb, ne_eqb}
 use Rattle.table.specs.Scan.{has}
-module _ (keys : List ℕ) (i key : ℕ) where
-  has_here : i < length keys → get_or keys i 0 ≡ key → has (drop i keys) key ≡ true
-  unfolding has
-  has_here h e = rw (drop-cons keys i 0, eq-eqb (get_or keys i 0) key e)
-  has-later : i < length keys → (get_or keys i 0 ≡ key → ⊥) → has (drop i keys) key ≡ has (drop (i + 1) keys) key
-  unfolding has
-  has-later h n = rw (add-one, drop-cons keys i 0, ne_eqb (get_or keys i 0) key n)
-  has-none : length keys ≤ i → has (drop i keys) key ≡ false
-  unfolding has
-  has-none h = rw (drop_of_length-le keys h)
 use Rattle.table.proofs.read.used.Given as goal
 
 abbrev pub invariant-loop-i : goal.invariant-loop-i
