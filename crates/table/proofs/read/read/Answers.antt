@@ -1,7 +1,7 @@
 -- `table::read::read` meets its contract: the tests of word 0 in their order, then the blocks.
 -- Assumes nothing.
 use mathlib.Core.Path.{◌≡◌, sym, ap, ap₂, ◌∙◌}
-use mathlib.Core.Bool.{true, false, not, ◌||◌}
+use mathlib.Core.Bool.{Bool, true, false, not, ◌||◌}
 use lib.Dec.{eqb}
 use mathlib.Core.List.{List, [], append-nil}
 use Prim.Native.Nat.{ℕ, ◌<◌, ◌≤◌}
@@ -49,9 +49,8 @@ module _ (ws : List ℕ) where
             ∙ ap (λ (ts : List Task). scan (names_at ws) (drop 1 ws) [] 1 ts) (append-nil (replicate (argument (get_or ws 0 0)) name))
 
 -- the test of the kind of word 0
-told : (c : tie.After-starts-table)
-    → (eqb (kind (get_or c.before.before.before.before.before.args.words.now 0 0)) 1 || eqb (kind (get_or c.before.before.before.before.before.args.words.now 0 0)) 5) ≡ c.starts-table.result
-told c = sym (c.starts-table.ensures ∙ ap (λ (k : ℕ). eqb k 1 || eqb k 5) c.before.kind-of.ensures)
+told : (w : ℕ) {k : ℕ} {r : Bool} → r ≡ (eqb k 1 || eqb k 5) → k ≡ kind w → (eqb (kind w) 1 || eqb (kind w) 5) ≡ r
+told w f e = sym (f ∙ ap (λ (k : ℕ). eqb k 1 || eqb k 5) e)
 
 pub returns-then-words-eq0 : goal.returns-then-words-eq0
 unfolding outcome number place
@@ -59,16 +58,16 @@ returns-then-words-eq0 c = sym (no_words _ c.if-words-eq0.true)
 
 pub returns-then-not-starts_table : goal.returns-then-not-starts_table
 unfolding outcome number place
-returns-then-not-starts_table c = sym (no_table _ (omega arith) (told c.before ∙ not-true _ (ap not c.if-not-starts_table.true)))
+returns-then-not-starts_table c = sym (no_table _ (omega arith) (told (get_or c.args.words.now 0 0) c.starts_table.ensures c.kind_of.ensures ∙ c.if-not-starts_table.true))
 
 pub returns-then-words-gt1024 : goal.returns-then-words-gt1024
 unfolding outcome number place
-returns-then-words-gt1024 c = sym (too_long _ (omega arith) (told c.before.before ∙ not-false _ (ap not c.if-not-starts_table.false)) (omega arith))
+returns-then-words-gt1024 c = sym (too_long _ (omega arith) (told (get_or c.args.words.now 0 0) c.starts_table.ensures c.kind_of.ensures ∙ c.if-not-starts_table.false) (omega arith))
 
 pub returns-then-names-count : goal.returns-then-names-count
 unfolding outcome number place
 returns-then-names-count c =
-    sym (too_many _ (omega arith) (told c.before.before.before.before.before ∙ not-false _ (ap not c.if-not-starts_table.false))
+    sym (too_many _ (omega arith) (told (get_or c.args.words.now 0 0) c.starts_table.ensures c.kind_of.ensures ∙ c.if-not-starts_table.false)
     (omega arith) (omega (arith, c.names_of-names.ensures, c.argument_of-count.ensures, c.if-names-count.true)))
 
 pub blocks-requires : goal.blocks-requires
@@ -83,5 +82,5 @@ returns c =
     let a = c.argument_of-count.ensures in
     c.blocks-2.ensures
     ∙ ap₂ (λ (k m : ℕ). scan k (drop 1 ws) [] 1 (replicate m name)) n a
-    ∙ sym (the-blocks ws (omega arith) (told c.before.before.before.before.before.before ∙ not-false _ (ap not c.if-not-starts_table.false))
+    ∙ sym (the-blocks ws (omega arith) (told (get_or c.args.words.now 0 0) c.starts_table.ensures c.kind_of.ensures ∙ c.if-not-starts_table.false)
     (omega arith) (omega (arith, n, a, c.if-names-count.false)))
