@@ -11,8 +11,7 @@ use borrow.Author.Rules.{rules}
 use borrow.Author.Tests.{le-leb, lt-leb}
 use Rattle.table.specs.Words.{size}
 use Rattle.table.specs.Links.{ends, binders, linked}
-use Rattle.table_links.proofs.link.Statement.{statement}
-use Rattle.table_links.proofs.link.Tie as tie
+use Rattle.table_links.proofs.link.Goals as goal
 
 module _ (ws l : List ℕ) where
   short : length l < length ws → l ≡ linked ws l
@@ -27,19 +26,16 @@ module _ (ws l : List ℕ) where
   unfolding linked
   both h k = rw (le-leb (length ws) (length l) h, le-leb (length ws) size k, linked)
 
-returns : tie.Need-returns
-returns c = short _ _ c.if1.true
+pub returns-then-links-words : goal.returns-then-links-words
+returns-then-links-words c = short _ _ c.if-links-words.true
 
-returns-2 : tie.Need-returns-2
-returns-2 c = long c.before.before.before.before.args.words.now _ c.if2.true
+pub returns-then-words-gt1024 : goal.returns-then-words-gt1024
+returns-then-words-gt1024 c = long c.args.words.now _ c.if-words-gt1024.true
 
-returns-3 : tie.Need-returns-3
-returns-3 c =
-    let ws = c.before.before.before.before.before.before.before.before.before.before.before.before.args.words.now in
-    let l = c.before.before.before.before.before.before.before.before.before.before.before.before.args.links.now in
-    c.before.before.link-binders.ensures
-    ∙ ap (λ (m : List ℕ). binders ws (length ws) 0 0 m) c.before.before.before.before.before.before.link-ends.ensures
+pub returns : goal.returns
+returns c =
+    let ws = c.args.words.now in
+    let l = c.args.links.now in
+    c.link_binders.ensures
+    ∙ ap (λ (m : List ℕ). binders ws (length ws) 0 0 m) c.link_ends.ensures
     ∙ both ws l (omega arith) (omega arith)
-
-pub link-spec : {M : Type 1} → statement M
-link-spec = tie.close (tie.spec returns returns-2 (λ link-ends-requires κs. search rules) (λ link-binders-requires κs. search rules) (λ same_length. search rules) returns-3)

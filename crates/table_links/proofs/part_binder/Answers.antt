@@ -8,8 +8,7 @@ use lib.ListN.{get_or}
 use borrow.Author.Rules.{rules}
 use Rattle.table.specs.Words.{parts, mark}
 use Rattle.table.specs.Links.{innermost}
-use Rattle.table_links.proofs.part_binder.Statement.{statement}
-use Rattle.table_links.proofs.part_binder.Tie as tie
+use Rattle.table_links.proofs.part_binder.Goals as goal
 
 marked : (b : Bool) (p q : ℕ) → mark b ≡ 1 → p ≡ innermost b p q
 marked true p q e = refl
@@ -19,12 +18,8 @@ unmarked : (b : Bool) (p q : ℕ) → (mark b ≡ 1 → ⊥) → q ≡ innermost
 unmarked true p q n = absurd (n refl)
 unmarked false p q n = refl
 
-returns : tie.Need-returns
-returns c = marked (get_or (parts _) _ false) _ _ (sym c.before.binds.ensures ∙ c.if1.true)
+pub returns-then-binds-eq1 : goal.returns-then-binds-eq1
+returns-then-binds-eq1 c = marked (get_or (parts _) _ false) _ _ (sym c.binds.ensures ∙ c.if-binds-eq1.true)
 
-returns-2 : tie.Need-returns-2
-returns-2 c = unmarked (get_or (parts _) _ false) _ _ (λ e. c.if1.false (c.before.binds.ensures ∙ e))
-
-pub part-binder-spec : {M : Type 1} → statement M
-part-binder-spec =
-    tie.close (tie.spec (λ binds-requires κs. search rules) returns returns-2)
+pub returns-else-binds-eq1 : goal.returns-else-binds-eq1
+returns-else-binds-eq1 c = unmarked (get_or (parts _) _ false) _ _ (λ e. c.if-binds-eq1.false (c.binds.ensures ∙ e))

@@ -7,8 +7,7 @@ use borrow.Author.Rules.{rules}
 use borrow.Author.Tests.{eq-eqb, ne_eqb}
 use Rattle.table.specs.Words.{kind}
 use Rattle.table.specs.Links.{block_at}
-use Rattle.table_links.proofs.block_of.Statement.{statement}
-use Rattle.table_links.proofs.block_of.Tie as tie
+use Rattle.table_links.proofs.block_of.Goals as goal
 
 new-block : (w p h : ℕ) → kind w ≡ 2 → p ≡ block_at w p h
 unfolding block_at
@@ -18,11 +17,8 @@ same_block : (w p h : ℕ) → (kind w ≡ 2 → ⊥) → h ≡ block_at w p h
 unfolding block_at
 same_block w p h n = rw (ne_eqb (kind w) 2 n, block_at)
 
-returns : tie.Need-returns
-returns c = new-block _ _ _ (omega arith)
+pub returns-then-kind_of-eq2 : goal.returns-then-kind_of-eq2
+returns-then-kind_of-eq2 c = new-block _ _ _ (omega arith)
 
-returns-2 : tie.Need-returns-2
-returns-2 c = same_block _ _ _ (λ e. omega arith)
-
-pub block-of-spec : {M : Type 1} → statement M
-block-of-spec = tie.close (tie.spec (λ kind-of-requires κs. search rules) returns returns-2)
+pub returns-else-kind_of-eq2 : goal.returns-else-kind_of-eq2
+returns-else-kind_of-eq2 c = same_block _ _ _ (λ e. omega arith)
