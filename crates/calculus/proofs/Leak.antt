@@ -64,6 +64,7 @@ module _ (c : Code) (ρ : ℕ) (ws : List ℕ) (w : WellFormed c ws) where
           → T (member (elim u [ true ↦ union (permissions_at c ρ ws q) (leak_among c ρ ws bs) | false ↦ leak_among c ρ ws bs ]) x)
       go true k = in-union-right (permissions_at c ρ ws q) (leak_among c ρ ws bs) x k
       go false k = k
+  among-has [] b x x5 g t = elim x5 [ ]
 
   -- the permission x of one of the blocks bs that the opponent may enter
   abbrev Among : List ℕ → ℕ → Type 0

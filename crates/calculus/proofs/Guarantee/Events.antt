@@ -118,6 +118,7 @@ module _ (c : Code) (linked : Linked c) (ρ : ℕ) (e : Sets) (est : Estimate c 
   listed : (rs : List ℕ) → GoodSets c ρ e rs → (r x : ℕ) → Memᴰ r rs → T (member r x) → leak_of c ρ e x
   listed (q ∷ rs) g r x (Memᴰ.head k) m = g.0 x (subst (λ (y : ℕ). T (member y x)) k m)
   listed (q ∷ rs) g r x (Memᴰ.tail k) m = listed rs g.1 r x k m
+  listed [] g r x x5 m = elim x5 [ ]
 
   pub exercised-good : (w : World) → GoodWorld c ρ e w → (r x : ℕ) → Memᴰ r (exercised w) → T (member r x) → leak_of c ρ e x
   unfolding exercised

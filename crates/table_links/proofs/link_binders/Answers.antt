@@ -19,11 +19,11 @@ loop-p-preserved c =
     let ws = c.args.words.now in
     let w = get_or ws l.p 0 in
     let h = block_at w l.p l.home in (
-      c.set_home.auto.0 ∙ c.bind_word.auto.0 ∙ l.invariant.0,
+      c.set_home.auto.links ∙ c.bind_word.auto.links ∙ l.invariant.0,
       search rules,
-      ap₂ (λ (b : ℕ) (m : List ℕ). binders ws (length ws - (l.p + 1)) (l.p + 1) b m) c.Block-of.ensures
+      ap₂ (λ (b : ℕ) (m : List ℕ). binders ws (length ws - (l.p + 1)) (l.p + 1) b m) c.block_of-home.ensures
           (c.set_home.ensures
-          ∙ ap₂ (λ (m : List ℕ) (b : ℕ). with_home m l.p b) c.bind_word.ensures c.Block-of.ensures)
+          ∙ ap₂ (λ (m : List ℕ) (b : ℕ). with_home m l.p b) c.bind_word.ensures c.block_of-home.ensures)
           ∙ sym (binders-more ws l.links (length ws - l.p) l.p l.home (length ws - (l.p + 1)) (search rules))
           ∙ l.invariant.2,
     )
