@@ -1,6 +1,6 @@
 -- What is left behind a production is no longer than what it started with, and shorter behind a step that goes on.
 -- Assumes nothing.
-use Prim.Native.Nat.{ℕ, zero, suc, ◌<◌, ◌≤◌}
+use Prim.Native.Nat.{ℕ, zero, zero-le, suc, ◌<◌, ◌≤◌}
 use native.Mathlib.Nat.{le_refl, le_trans}
 use native.Mathlib.Omega.{arith}
 use mathlib.Core.Path.{subst}
@@ -8,7 +8,6 @@ use mathlib.Core.Bool.{Bool, true, false, ◌||◌}
 use mathlib.Core.List.{List, [], ◌∷◌}
 use lib.Dec.{eqb, ltb}
 use lib.ListN.{length}
-use Prim.Native.Nat.{zero-le}
 use Rattle.json_text.specs.Bytes.{head, tail, within, Rest, nothing, rest, then, Step, fails, goes, ends, after_by, after, is_space, space}
 use Rattle.json_text.specs.Numbers.{is_digit, digits, some_digits, minus, int, frac, sign, exp, number}
 use Rattle.json_text.specs.Strings.{Point, bad, point, hex_of, hexed, hex_unit, pointed, escape_of, escaped, continued, low, high, second, point_of, character, string}

@@ -1,13 +1,12 @@
 -- An accepted manifest has a version below 4 and a set within the 24 permissions.
 -- Assumes nothing.
-use Prim.Native.Nat.{ℕ, zero, suc, ◌*◌, ◌^◌, ◌<◌, ◌≤◌}
+use Prim.Native.Nat.{ℕ, zero, zero-le, suc, ◌*◌, ◌^◌, ◌<◌, ◌≤◌}
 use native.Mathlib.Nat.{le_refl}
 use native.Mathlib.Omega.{arith}
 use mathlib.Core.Path.{◌≡◌, refl, sym, subst}
 use mathlib.Core.Bool.{Bool, true, false}
 use mathlib.Core.List.{List, [], ◌∷◌}
 use lib.Dec.{eqb}
-use Prim.Native.Nat.{zero-le}
 use Rattle.permset.specs.Sets.{union}
 use Rattle.permset.proofs.Laws.{union-lt}
 use Rattle.json_text.specs.Bytes.{head, tail, Rest, nothing, rest}

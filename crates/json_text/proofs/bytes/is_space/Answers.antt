@@ -1,7 +1,6 @@
 -- `json_text::bytes::is_space` meets its contract.
 -- Assumes nothing.
 use mathlib.Core.Path.{sym, ◌∙◌}
-use borrow.Author.Rules.{rules}
 use Rattle.json_text.proofs.bytes.is_space.Goals as goal
 
 pub returns-then-is_either : goal.returns-then-is_either

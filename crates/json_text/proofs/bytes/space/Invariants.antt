@@ -1,11 +1,9 @@
 -- `json_text::bytes::space` meets its contract. The loop's invariant: behind the white space from here is behind that from the start.
 -- Assumes nothing.
-use mathlib.Core.Path.{◌≡◌, refl, sym, ap, ◌∙◌}
-use Prim.Native.Nat.{◌-◌, ◌<◌}
-use native.Mathlib.Omega.{arith}
+use mathlib.Core.Path.{◌≡◌}
+use Prim.Native.Nat.{◌-◌}
 use lib.ListN.{length, drop}
-use Rattle.json_text.specs.Bytes.{is_space, space}
-use Rattle.json_text.proofs.Places.{there, tail-drop, space-small, space-more, space-end}
+use Rattle.json_text.specs.Bytes.{space}
 use Rattle.json_text.proofs.bytes.space.Given as goal
 
 abbrev pub invariant-loop-p : goal.invariant-loop-p

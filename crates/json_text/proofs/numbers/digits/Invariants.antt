@@ -1,11 +1,9 @@
 -- `json_text::numbers::digits` meets its contract. The loop's invariant: behind the digits from here is behind those from the start.
 -- Assumes nothing.
-use mathlib.Core.Path.{◌≡◌, refl, sym, ap, ◌∙◌}
-use Prim.Native.Nat.{◌-◌, ◌<◌}
-use native.Mathlib.Omega.{arith}
+use mathlib.Core.Path.{◌≡◌}
+use Prim.Native.Nat.{◌-◌}
 use lib.ListN.{length, drop}
-use Rattle.json_text.specs.Numbers.{is_digit, digits}
-use Rattle.json_text.proofs.Places.{there, tail-drop, digit-small, digits_more, digits-end}
+use Rattle.json_text.specs.Numbers.{digits}
 use Rattle.json_text.proofs.numbers.digits.Given as goal
 
 abbrev pub invariant-loop-p : goal.invariant-loop-p

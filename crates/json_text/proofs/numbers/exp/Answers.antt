@@ -9,7 +9,6 @@ use lib.ListN.{length}
 use Rattle.json_text.specs.Numbers.{some_digits, sign}
 use Rattle.json_text.proofs.Numerals.{exp-yes, exp-no}
 use Rattle.json_text.proofs.Places.{there, tail-drop, either-small}
-use borrow.Author.Rules.{rules}
 use Rattle.json_text.proofs.numbers.exp.Goals as goal
 
 pub overflow_add-at : goal.overflow_add-at

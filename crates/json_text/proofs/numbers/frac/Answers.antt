@@ -8,7 +8,6 @@ use Rattle.json_text.specs.Numbers.{some_digits}
 use Rattle.json_text.proofs.Choice.{is, is-not}
 use Rattle.json_text.proofs.Numerals.{frac-yes, frac-no}
 use Rattle.json_text.proofs.Places.{there, tail-drop}
-use borrow.Author.Rules.{rules}
 use Rattle.json_text.proofs.numbers.frac.Goals as goal
 
 pub overflow_add-at : goal.overflow_add-at

@@ -8,7 +8,6 @@ use Rattle.json_text.specs.Bytes.{rest}
 use Rattle.json_text.proofs.Choice.{is, is-not}
 use Rattle.json_text.proofs.Numerals.{int-zero, int-more}
 use Rattle.json_text.proofs.Places.{there, tail-drop}
-use borrow.Author.Rules.{rules}
 use Rattle.json_text.proofs.numbers.int.Goals as goal
 
 pub overflow_add-result : goal.overflow_add-result

@@ -7,7 +7,6 @@ use lib.ListN.{length}
 use Rattle.json_text.proofs.Choice.{is, is-not}
 use Rattle.json_text.proofs.Numerals.{minus-yes, minus-no}
 use Rattle.json_text.proofs.Places.{there, tail-drop}
-use borrow.Author.Rules.{rules}
 use Rattle.json_text.proofs.numbers.minus.Goals as goal
 
 pub overflow_add-result : goal.overflow_add-result

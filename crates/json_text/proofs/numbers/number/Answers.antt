@@ -1,10 +1,9 @@
 -- `json_text::numbers::number` meets its contract: a part behind another, as long as each is there.
 -- Assumes nothing.
 use mathlib.Core.Path.{sym, ap, ◌∙◌}
-use Rattle.json_text.specs.Numbers.{int, frac}
+use Rattle.json_text.specs.Numbers.{int}
 use Rattle.json_text.specs.Answers.{ended}
 use Rattle.json_text.proofs.Numerals.{number-none, number-half, number-whole}
-use borrow.Author.Rules.{rules}
 use Rattle.json_text.proofs.numbers.number.Goals as goal
 
 pub returns-in_default : goal.returns-in_default

@@ -8,7 +8,6 @@ use lib.Dec.{eqb}
 use lib.ListN.{length}
 use Rattle.json_text.proofs.Numerals.{sign-yes, sign-no}
 use Rattle.json_text.proofs.Places.{there, tail-drop, either-small}
-use borrow.Author.Rules.{rules}
 use Rattle.json_text.proofs.numbers.sign.Goals as goal
 
 pub overflow_add-result : goal.overflow_add-result

@@ -8,7 +8,6 @@ use Rattle.json_text.specs.Bytes.{rest}
 use Rattle.json_text.specs.Numbers.{is_digit, digits}
 use Rattle.json_text.proofs.Numerals.{digits-yes, digits-no}
 use Rattle.json_text.proofs.Places.{there, tail-drop, digit-small}
-use borrow.Author.Rules.{rules}
 use Rattle.json_text.proofs.numbers.some_digits.Goals as goal
 
 pub overflow_add-at : goal.overflow_add-at

@@ -12,7 +12,6 @@ use Rattle.json_text.specs.Strings.{escaped, pointed}
 use Rattle.json_text.proofs.Characters.{quote-ends, backslash, control, ascii, beyond}
 use Rattle.json_text.proofs.Choice.{is, is-not}
 use Rattle.json_text.proofs.Places.{there, tail-drop}
-use borrow.Author.Rules.{rules}
 use Rattle.json_text.proofs.strings.character.Goals as goal
 
 pub overflow_add-result : goal.overflow_add-result

@@ -7,7 +7,6 @@ use lib.ListN.{length}
 use Rattle.json_text.specs.Answers.{code_of}
 use Rattle.json_text.proofs.Characters.{continued-bad, continued-yes, continued-no}
 use Rattle.json_text.proofs.Places.{there, within-true}
-use borrow.Author.Rules.{rules}
 use Rattle.json_text.proofs.strings.continued.Goals as goal
 
 pub overflow_mul-result : goal.overflow_mul-result

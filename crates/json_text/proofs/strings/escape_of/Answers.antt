@@ -1,5 +1,6 @@
 -- `json_text::strings::escape_of` meets its contract: an arm for each escape.
 -- Assumes nothing.
+use native.Mathlib.Omega.{arith}
 use mathlib.Core.Path.{sym, ap}
 use Rattle.json_text.specs.Strings.{escape_of}
 use Rattle.json_text.proofs.Characters.{escape-none}
@@ -38,5 +39,4 @@ unfolding escape_of
 returns-in-116 c = sym (ap escape_of c.in-116.is)
 
 pub returns-in_default : goal.returns-in_default
-returns-in_default c =
-    sym (escape-none _ c.in_default.in_default-own.rest.0.0.0.0.0.0.0.1 c.in_default.in_default-own.rest.0.0.0.0.0.0.1 c.in_default.in_default-own.rest.0.0.0.0.0.1 c.in_default.in_default-own.rest.0.0.0.0.1 c.in_default.in_default-own.rest.0.0.0.1 c.in_default.in_default-own.rest.0.0.1 c.in_default.in_default-own.rest.0.1 c.in_default.in_default-own.rest.1)
+returns-in_default c = sym (escape-none _ (omega arith) (omega arith) (omega arith) (omega arith) (omega arith) (omega arith) (omega arith) (omega arith))

@@ -10,7 +10,6 @@ use Rattle.json_text.specs.Strings.{hex_unit, escape_of}
 use Rattle.json_text.proofs.Characters.{escape-small, escaped-hex, escaped-none, escaped-byte}
 use Rattle.json_text.proofs.Choice.{is, is-not}
 use Rattle.json_text.proofs.Places.{there, tail-drop}
-use borrow.Author.Rules.{rules}
 use Rattle.json_text.proofs.strings.escaped.Goals as goal
 
 pub overflow_add-at : goal.overflow_add-at

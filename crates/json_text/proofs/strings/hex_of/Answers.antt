@@ -4,7 +4,6 @@ use mathlib.Core.Path.{sym, ◌∙◌}
 use native.Mathlib.Omega.{arith}
 use Rattle.json_text.proofs.Characters.{hex-decimal, hex-upper, hex-lower, hex-none}
 use Rattle.json_text.proofs.Places.{within-true}
-use borrow.Author.Rules.{rules}
 use Rattle.json_text.proofs.strings.hex_of.Goals as goal
 
 pub overflow_sub-result : goal.overflow_sub-result

@@ -3,7 +3,6 @@
 use mathlib.Core.Path.{sym, ap, ◌∙◌}
 use Rattle.json_text.specs.Strings.{hexed, pointed}
 use Rattle.json_text.proofs.Characters.{hex-unit}
-use borrow.Author.Rules.{rules}
 use Rattle.json_text.proofs.strings.hex_unit.Goals as goal
 
 pub returns : goal.returns

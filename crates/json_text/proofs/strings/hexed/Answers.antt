@@ -8,7 +8,6 @@ use Rattle.json_text.specs.Strings.{hex_of}
 use Rattle.json_text.specs.Answers.{code_of}
 use Rattle.json_text.proofs.Characters.{hex-small, hexed-bad, hexed-yes, hexed-no}
 use Rattle.json_text.proofs.Places.{there}
-use borrow.Author.Rules.{rules}
 use Rattle.json_text.proofs.strings.hexed.Goals as goal
 
 pub overflow_mul-result : goal.overflow_mul-result

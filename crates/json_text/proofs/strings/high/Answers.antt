@@ -15,4 +15,4 @@ unfolding high
 returns-in-244 c = (sym (ap high c.in-244.is), omega arith)
 
 pub returns-in_default : goal.returns-in_default
-returns-in_default c = (sym (high-other c.args.a c.in_default.in_default-own.rest.0.1 c.in_default.in_default-own.rest.1), omega arith)
+returns-in_default c = (sym (high-other c.args.a (omega arith) (omega arith)), omega arith)

@@ -15,4 +15,4 @@ unfolding low
 returns-in-240 c = (sym (ap low c.in-240.is), omega arith)
 
 pub returns-in_default : goal.returns-in_default
-returns-in_default c = (sym (low-other c.args.a c.in_default.in_default-own.rest.0.1 c.in_default.in_default-own.rest.1), omega arith)
+returns-in_default c = (sym (low-other c.args.a (omega arith) (omega arith)), omega arith)

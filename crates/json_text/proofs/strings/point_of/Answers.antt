@@ -6,7 +6,6 @@ use Rattle.json_text.specs.Bytes.{within}
 use Rattle.json_text.specs.Strings.{continued}
 use Rattle.json_text.proofs.Characters.{point-two, point-three, point-four, point-none}
 use Rattle.json_text.proofs.Places.{within-true}
-use borrow.Author.Rules.{rules}
 use Rattle.json_text.proofs.strings.point_of.Goals as goal
 
 pub second-requires : goal.second-requires

@@ -6,7 +6,6 @@ use native.Mathlib.Omega.{arith}
 use lib.ListN.{length}
 use Rattle.json_text.proofs.Characters.{second-read}
 use Rattle.json_text.proofs.Places.{there}
-use borrow.Author.Rules.{rules}
 use Rattle.json_text.proofs.strings.second.Goals as goal
 
 pub overflow_add-at : goal.overflow_add-at

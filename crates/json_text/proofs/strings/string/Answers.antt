@@ -1,17 +1,13 @@
-use mathlib.Core.Path.{◌≡◌, refl, sym, ap, ◌∙◌}
-use lib.ListN.{length, drop}
-use Rattle.json_text.specs.Strings.{character, string}
+use mathlib.Core.Path.{refl, sym, ap, ◌∙◌}
+use lib.ListN.{drop}
+use Rattle.json_text.specs.Strings.{character}
 use Rattle.json_text.specs.Answers.{read}
 use Rattle.json_text.proofs.Repetition.{after-fails, after-goes, after-ends}
 use Rattle.json_text.proofs.Shorter.{character-narrow}
-use borrow.Author.Rules.{rules}
 use Rattle.json_text.proofs.strings.string.Goals as goal
 
 pub loop-q-init : goal.loop-q-init
 loop-q-init c = refl
-
-pub character-requires : goal.character-requires
-character-requires c = tt
 
 pub returns-in-Fails : goal.returns-in-Fails
 returns-in-Fails c =

@@ -1,12 +1,8 @@
 -- `json_text::strings::string` meets its contract. The loop's invariant: where the string ends from here is where it ends from the start.
 -- Assumes nothing.
-use mathlib.Core.Path.{◌≡◌, refl, sym, ap, ◌∙◌}
+use mathlib.Core.Path.{◌≡◌}
 use lib.ListN.{length, drop}
-use Rattle.json_text.specs.Strings.{character, string}
-use Rattle.json_text.specs.Answers.{read}
-use Rattle.json_text.proofs.Repetition.{after-fails, after-goes, after-ends}
-use Rattle.json_text.proofs.Shorter.{character-narrow}
-use borrow.Author.Rules.{rules}
+use Rattle.json_text.specs.Strings.{string}
 use Rattle.json_text.proofs.strings.string.Given as goal
 
 abbrev pub invariant-loop-q : goal.invariant-loop-q

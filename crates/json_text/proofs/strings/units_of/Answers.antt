@@ -1,7 +1,6 @@
 -- `json_text::strings::units_of` meets its contract.
 -- Assumes nothing.
 use Rattle.json_text.proofs.Characters.{pointed-bad, units-one, units-two}
-use borrow.Author.Rules.{rules}
 use Rattle.json_text.proofs.strings.units_of.Goals as goal
 
 pub returns-in-Bad : goal.returns-in-Bad

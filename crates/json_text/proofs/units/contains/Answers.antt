@@ -1,23 +1,14 @@
-use mathlib.Core.Path.{◌≡◌, refl, sym, ap, ◌∙◌}
-use lib.ListN.{length, drop}
-use Rattle.json_text.specs.Strings.{units}
-use Rattle.json_text.specs.Units.{contains, held, uncons}
+use mathlib.Core.Path.{refl, sym, ap, ◌∙◌}
+use Rattle.json_text.specs.Units.{uncons}
 use Rattle.json_text.proofs.Compared.{shorter, contains-here, contains-none, contains-later}
-use borrow.Author.Rules.{rules}
 use Rattle.json_text.proofs.units.contains.Goals as goal
 
 pub loop-at-init : goal.loop-at-init
 loop-at-init c = refl
 
-pub matches-requires : goal.matches-requires
-matches-requires c = tt
-
 pub returns-then-matches : goal.returns-then-matches
 returns-then-matches c =
     sym (c.loop-at.invariant ∙ contains-here _ _ (sym c.matches.ensures ∙ c.if-matches.true))
-
-pub unit-requires : goal.unit-requires
-unit-requires c = tt
 
 pub returns-in-End : goal.returns-in-End
 returns-in-End c =

@@ -1,11 +1,9 @@
 -- `json_text::units::contains` meets its contract. The loop's invariant: the word is among the units from here exactly if it is among those from the start.
 -- Assumes nothing.
-use mathlib.Core.Path.{◌≡◌, refl, sym, ap, ◌∙◌}
+use mathlib.Core.Path.{◌≡◌}
 use lib.ListN.{length, drop}
 use Rattle.json_text.specs.Strings.{units}
-use Rattle.json_text.specs.Units.{contains, held, uncons}
-use Rattle.json_text.proofs.Compared.{shorter, contains-here, contains-none, contains-later}
-use borrow.Author.Rules.{rules}
+use Rattle.json_text.specs.Units.{contains, held}
 use Rattle.json_text.proofs.units.contains.Given as goal
 
 abbrev pub invariant-loop-at : goal.invariant-loop-at

@@ -1,18 +1,11 @@
-use mathlib.Core.Path.{◌≡◌, refl, sym, ap, ◌∙◌}
-use Prim.Native.Nat.{◌<◌, ◌^◌}
+use mathlib.Core.Path.{refl, sym, ap, ◌∙◌}
 use native.Mathlib.Omega.{arith}
-use lib.ListN.{length, drop}
-use Rattle.json_text.specs.Strings.{units}
-use Rattle.json_text.specs.Units.{spread, held, uncons}
+use Rattle.json_text.specs.Units.{uncons}
 use Rattle.json_text.proofs.Compared.{shorter, spread_end, spread-next}
-use borrow.Author.Rules.{rules}
 use Rattle.json_text.proofs.units.hash.Goals as goal
 
 pub loop-u-init : goal.loop-u-init
 loop-u-init c = (refl, omega arith)
-
-pub unit-requires : goal.unit-requires
-unit-requires c = tt
 
 pub overflow_mul-n : goal.overflow_mul-n
 overflow_mul-n c = omega (arith, c.loop-u.invariant.1)

@@ -1,13 +1,10 @@
 -- `json_text::units::hash` meets its contract. The loop's invariant: the number so far, spread over what is left, is the number of the whole.
 -- Assumes nothing.
-use mathlib.Core.Path.{◌≡◌, refl, sym, ap, ◌∙◌}
+use mathlib.Core.Path.{◌≡◌}
 use Prim.Native.Nat.{◌<◌, ◌^◌}
-use native.Mathlib.Omega.{arith}
 use lib.ListN.{length, drop}
 use Rattle.json_text.specs.Strings.{units}
-use Rattle.json_text.specs.Units.{spread, held, uncons}
-use Rattle.json_text.proofs.Compared.{shorter, spread_end, spread-next}
-use borrow.Author.Rules.{rules}
+use Rattle.json_text.specs.Units.{spread, held}
 use Rattle.json_text.proofs.units.hash.Given as goal
 
 abbrev pub invariant-loop-u : goal.invariant-loop-u

@@ -1,20 +1,15 @@
 use mathlib.Core.Bool.{not}
-use mathlib.Core.Path.{◌≡◌, refl, sym, ap, ◌∙◌}
-use Prim.Native.Nat.{◌-◌}
+use mathlib.Core.Path.{refl, sym, ap, ◌∙◌}
 use native.Mathlib.Omega.{arith}
-use lib.ListN.{length, drop, drop_of_length-le}
+use lib.ListN.{drop_of_length-le}
 use borrow.Author.Tests.{not-true, not-false}
-use Rattle.json_text.specs.Units.{matches, held, uncons}
+use Rattle.json_text.specs.Units.{uncons}
 use Rattle.json_text.proofs.Places.{drop_at}
 use Rattle.json_text.proofs.Compared.{word_over, more-behind, not-whole, units-over, next-unit, other-unit}
-use borrow.Author.Rules.{rules}
 use Rattle.json_text.proofs.units.matches.Goals as goal
 
 pub loop-i-init : goal.loop-i-init
 loop-i-init c = refl
-
-pub unit-requires : goal.unit-requires
-unit-requires c = tt
 
 pub returns-in-End : goal.returns-in-End
 returns-in-End c =
@@ -24,7 +19,7 @@ pub bounds-word-i : goal.bounds-word-i
 bounds-word-i c = omega arith
 
 pub overflow_cast-word : goal.overflow_cast-word
-overflow_cast-word c = omega (arith, c.shared_slice_known-in-Unit-1.given c.loop-i.i)
+overflow_cast-word c = omega (arith, c.type_inv.word c.loop-i.i)
 
 pub returns-then-u-word : goal.returns-then-u-word
 returns-then-u-word c =
@@ -43,9 +38,6 @@ loop-i-preserved c =
 pub returns-then-not-whole : goal.returns-then-not-whole
 returns-then-not-whole c =
     sym (c.loop-i.invariant ∙ not-whole _ _ _ (not-true _ (ap not c.if-not-whole.true)) (drop_of_length-le c.args.word.now c.loop-i-test.false))
-
-pub unit-requires-2 : goal.unit-requires-2
-unit-requires-2 c = tt
 
 pub returns-in-End-unit : goal.returns-in-End-unit
 returns-in-End-unit c =

@@ -1,14 +1,9 @@
 -- `json_text::units::matches` meets its contract. The loop's invariant: what is left of the word, from here, answers for the whole word.
 -- Assumes nothing.
-use mathlib.Core.Path.{◌≡◌, refl, sym, ap, ◌∙◌}
+use mathlib.Core.Path.{◌≡◌}
 use Prim.Native.Nat.{◌-◌}
-use native.Mathlib.Omega.{arith}
-use lib.ListN.{length, drop, drop_of_length-le}
-use borrow.Author.Tests.{not-true, not-false}
-use Rattle.json_text.specs.Units.{matches, held, uncons}
-use Rattle.json_text.proofs.Places.{drop_at}
-use Rattle.json_text.proofs.Compared.{word_over, more-behind, not-whole, units-over, next-unit, other-unit}
-use borrow.Author.Rules.{rules}
+use lib.ListN.{length, drop}
+use Rattle.json_text.specs.Units.{matches, held}
 use Rattle.json_text.proofs.units.matches.Given as goal
 
 abbrev pub invariant-loop-i : goal.invariant-loop-i

@@ -1,20 +1,10 @@
-use mathlib.Core.Path.{◌≡◌, refl, sym, ap, ◌∙◌}
-use mathlib.Core.Bool.{true}
-use lib.ListN.{length, drop}
-use Rattle.json_text.specs.Strings.{units}
-use Rattle.json_text.specs.Units.{matches, held, uncons}
+use mathlib.Core.Path.{refl, sym, ap, ◌∙◌}
+use Rattle.json_text.specs.Units.{uncons}
 use Rattle.json_text.proofs.Compared.{shorter, word_over, more-behind, units-over, next-unit, other-unit}
-use borrow.Author.Rules.{rules}
 use Rattle.json_text.proofs.units.same.Goals as goal
 
 pub loop-u-init : goal.loop-u-init
 loop-u-init c = refl
-
-pub unit-requires : goal.unit-requires
-unit-requires c = tt
-
-pub unit-requires-in-Unit : goal.unit-requires-in-Unit
-unit-requires-in-Unit c = tt
 
 pub returns-in_default-unit : goal.returns-in_default-unit
 returns-in_default-unit c =
@@ -30,9 +20,6 @@ loop-u-smaller c = shorter (c.unit.ensures ∙ ap (uncons c.args.text.now) c.in-
 pub loop-u-preserved : goal.loop-u-preserved
 loop-u-preserved c =
     c.loop-u.invariant ∙ next-unit _ _ _ (c.unit.ensures ∙ ap (uncons c.args.text.now) c.in-Unit.is) (c.unit-in-Unit.ensures ∙ ap (uncons c.args.text.now) c.in-Unit-unit.is) c.if-v-u.false
-
-pub unit-requires-2 : goal.unit-requires-2
-unit-requires-2 c = tt
 
 pub returns-in-End : goal.returns-in-End
 returns-in-End c =

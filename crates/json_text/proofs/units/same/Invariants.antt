@@ -1,12 +1,10 @@
 -- `json_text::units::same` meets its contract. The loop's invariant: what is left of both answers for both.
 -- Assumes nothing.
-use mathlib.Core.Path.{◌≡◌, refl, sym, ap, ◌∙◌}
+use mathlib.Core.Path.{◌≡◌}
 use mathlib.Core.Bool.{true}
 use lib.ListN.{length, drop}
 use Rattle.json_text.specs.Strings.{units}
-use Rattle.json_text.specs.Units.{matches, held, uncons}
-use Rattle.json_text.proofs.Compared.{shorter, word_over, more-behind, units-over, next-unit, other-unit}
-use borrow.Author.Rules.{rules}
+use Rattle.json_text.specs.Units.{matches, held}
 use Rattle.json_text.proofs.units.same.Given as goal
 
 abbrev pub invariant-loop-u : goal.invariant-loop-u

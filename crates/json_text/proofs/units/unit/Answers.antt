@@ -8,7 +8,6 @@ use Rattle.json_text.specs.Answers.{read}
 use Rattle.json_text.specs.Units.{held}
 use Rattle.json_text.proofs.Repetition.{units-fails, units-goes, units-ends}
 use Rattle.json_text.proofs.Shorter.{character-narrow}
-use borrow.Author.Rules.{rules}
 use Rattle.json_text.proofs.units.unit.Goals as goal
 
 pub returns-then-is_held : goal.returns-then-is_held

@@ -4,7 +4,6 @@ use mathlib.Core.Path.{sym, ap, ◌∙◌}
 use Rattle.json_text.specs.Bytes.{head, rest}
 use Rattle.json_text.proofs.Choice.{is, is-not}
 use Rattle.json_text.proofs.Texts.{first-none, first_some}
-use borrow.Author.Rules.{rules}
 use Rattle.json_text.proofs.values.first.Goals as goal
 
 pub returns-then-byte-closing : goal.returns-then-byte-closing

@@ -4,7 +4,6 @@ use mathlib.Core.Path.{sym, ap, ◌∙◌}
 use Rattle.json_text.specs.Values.{value, over}
 use Rattle.json_text.specs.Answers.{ended}
 use Rattle.json_text.proofs.Texts.{text-none, text-ends, over-at}
-use borrow.Author.Rules.{rules}
 use Rattle.json_text.proofs.values.is_text.Goals as goal
 
 pub returns-in-Nowhere : goal.returns-in-Nowhere

@@ -1,8 +1,7 @@
-use mathlib.Core.Path.{◌≡◌, refl, sym, ◌∙◌}
-use Prim.Native.Nat.{◌-◌, ◌<◌}
+use mathlib.Core.Path.{refl, sym, ◌∙◌}
+use Prim.Native.Nat.{◌<◌}
 use native.Mathlib.Omega.{arith}
-use lib.ListN.{length, drop}
-use Rattle.json_text.specs.Values.{literal}
+use lib.ListN.{length}
 use Rattle.json_text.proofs.Places.{there}
 use Rattle.json_text.proofs.Texts.{literal-over, literal-goes, literal-stops}
 use Rattle.json_text.proofs.values.literal.Goals as goal
@@ -10,14 +9,11 @@ use Rattle.json_text.proofs.values.literal.Goals as goal
 pub loop-i-init : goal.loop-i-init
 loop-i-init c = refl
 
-pub byte-requires : goal.byte-requires
-byte-requires c = tt
-
 pub bounds-word-i : goal.bounds-word-i
 bounds-word-i c = omega arith
 
 pub overflow_cast-word : goal.overflow_cast-word
-overflow_cast-word c = omega (arith, c.shared_slice_known-in-loop-i-1.given c.loop-i.i)
+overflow_cast-word c = omega (arith, c.type_inv.word c.loop-i.i)
 
 pub returns-then-byte-word : goal.returns-then-byte-word
 returns-then-byte-word c =
@@ -25,7 +21,7 @@ returns-then-byte-word c =
 
 pub overflow_add-p : goal.overflow_add-p
 overflow_add-p c =
-    let h : c.loop-i.p < length c.args.text.now = there c.args.text.now c.loop-i.p c.byte.ensures (omega (arith, c.shared_slice_known-in-loop-i-1.given c.loop-i.i)) in omega arith
+    let h : c.loop-i.p < length c.args.text.now = there c.args.text.now c.loop-i.p c.byte.ensures (omega (arith, c.type_inv.word c.loop-i.i)) in omega arith
 
 pub overflow_add-i : goal.overflow_add-i
 overflow_add-i c = omega arith

@@ -1,12 +1,9 @@
 -- `json_text::values::literal` meets its contract. The loop's invariant: what is left of the word, from here, is what the word is from the start.
 -- Assumes nothing.
-use mathlib.Core.Path.{◌≡◌, refl, sym, ◌∙◌}
-use Prim.Native.Nat.{◌-◌, ◌<◌}
-use native.Mathlib.Omega.{arith}
+use mathlib.Core.Path.{◌≡◌}
+use Prim.Native.Nat.{◌-◌}
 use lib.ListN.{length, drop}
 use Rattle.json_text.specs.Values.{literal}
-use Rattle.json_text.proofs.Places.{there}
-use Rattle.json_text.proofs.Texts.{literal-over, literal-goes, literal-stops}
 use Rattle.json_text.proofs.values.literal.Given as goal
 
 abbrev pub invariant-loop-i : goal.invariant-loop-i

@@ -8,7 +8,6 @@ use Rattle.json_text.specs.Bytes.{rest, space}
 use Rattle.json_text.proofs.Choice.{is, is-not}
 use Rattle.json_text.proofs.Places.{there, tail-drop}
 use Rattle.json_text.proofs.Texts.{mark-yes, mark-no}
-use borrow.Author.Rules.{rules}
 use Rattle.json_text.proofs.values.mark.Goals as goal
 
 pub overflow_add-at : goal.overflow_add-at

@@ -5,7 +5,6 @@ use mathlib.Core.Path.{sym, ap, ◌∙◌}
 use Prim.Native.Nat.{◌<◌}
 use native.Mathlib.Omega.{arith}
 use lib.ListN.{length}
-use Rattle.json_text.specs.Bytes.{space}
 use Rattle.json_text.specs.Values.{mark}
 use Rattle.json_text.proofs.Choice.{is, is-not}
 use Rattle.json_text.proofs.Places.{there, tail-drop}
@@ -13,7 +12,6 @@ use borrow.Author.Tests.{not-true, not-false}
 use Rattle.json_text.specs.Strings.{string}
 use Rattle.json_text.specs.Answers.{ended}
 use Rattle.json_text.proofs.Texts.{name-element, name-none, name-half, name-whole}
-use borrow.Author.Rules.{rules}
 use Rattle.json_text.proofs.values.name.Goals as goal
 
 pub returns-then-not-keyed : goal.returns-then-not-keyed

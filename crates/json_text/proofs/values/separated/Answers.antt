@@ -6,11 +6,9 @@ use Prim.Native.Nat.{◌<◌}
 use native.Mathlib.Omega.{arith}
 use lib.ListN.{length}
 use Rattle.json_text.specs.Bytes.{goes, ends, space}
-use Rattle.json_text.specs.Values.{closing}
 use Rattle.json_text.proofs.Choice.{is, is-not}
 use Rattle.json_text.proofs.Places.{there, tail-drop}
 use Rattle.json_text.proofs.Texts.{separated-comma, separated-close, separated-none}
-use borrow.Author.Rules.{rules}
 use Rattle.json_text.proofs.values.separated.Goals as goal
 
 pub overflow_add-at : goal.overflow_add-at

@@ -11,7 +11,6 @@ use Rattle.json_text.proofs.Places.{there, tail-drop}
 use mathlib.Core.Bool.{true, false}
 use Rattle.json_text.specs.Strings.{string}
 use Rattle.json_text.proofs.Texts.{start-false, start-null, start-true, start-object, start-array, start-string, start-number}
-use borrow.Author.Rules.{rules}
 use Rattle.json_text.proofs.values.start.Goals as goal
 
 pub overflow_add-at : goal.overflow_add-at
