@@ -13,8 +13,7 @@ use Rattle.calculus.specs.Layout.{row_words}
 use Rattle.rows.specs.declared.layout.Layout.{Layout}
 use Rattle.rows.specs.Laid.{LaidOut}
 use borrow.Author.Rules.{rules}
-use Rattle.rows.proofs.layout.Layout.of.Statement.{statement}
-use Rattle.rows.proofs.layout.Layout.of.Tie as tie
+use Rattle.rows.proofs.layout.Layout.of.Goals as goal
 
 whole_words_lem : (w n : ℕ) → n ≡ names_of w → 32 + names_of w ≡ 32 * (1 + n / 32)
 whole_words_lem w n e = ⊎_elim (λ h. omega arith) (λ h. omega arith) (either-width w)
@@ -26,8 +25,5 @@ laid ws l n e s d r =
     let h = whole_words_lem (get_or ws 0 0) n e in
     record { size = omega arith; row = omega arith; lead = omega arith }
 
-returns : tie.Need-returns
-returns c = laid c.before.before.args.words.now _ _ c.names_in.ensures refl refl refl
-
-pub of_spec : {M : Type 1} → statement M
-of_spec = tie.close (tie.spec (λ names-in-requires κs. search rules) (λ add-lead. search rules) (λ cast-lead. search rules) (λ mul-t7. search rules) (λ add-t8. search rules) (λ add-t9. search rules) returns)
+pub returns : goal.returns
+returns c = laid c.args.words.now _ _ c.names_in.ensures refl refl refl

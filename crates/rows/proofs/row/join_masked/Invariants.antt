@@ -1,0 +1,22 @@
+-- `rows::row::join_masked` meets its contract. The invariant of both loops: the words before `i` are or-ed in, and so many facts were added. Assumes nothing.
+use mathlib.Core.Path.{sym}
+use Prim.Native.Nat.{◌-◌, ◌*◌}
+use native.Mathlib.Omega.{arith}
+use lib.ListN.{take, drop}
+use borrow.Author.Rules.{rules}
+use Rattle.calculus.specs.Layout.{masked}
+use Rattle.calculus.proofs.Facts.{pour-nil}
+use Rattle.rows.proofs.Joined.{masked_row, Running, stands, one_more, four-more, all-joined}
+use Rattle.rows.proofs.row.join_masked.Given as goal
+
+abbrev pub invariant-loop-i : goal.invariant-loop-i
+invariant-loop-i l = Running l.row l.b (λ ws. masked l.mask (take l.row (drop (l.a * l.row) ws))) l.initial.est l.initial.added l.initial.i l.est l.added l.i
+
+abbrev pub decreases-loop-i : goal.decreases-loop-i
+decreases-loop-i l = l.row - l.i
+
+abbrev pub invariant-loop-i-2 : goal.invariant-loop-i-2
+invariant-loop-i-2 l = Running l.row l.b (λ ws. masked l.mask (take l.row (drop (l.a * l.row) ws))) l.initial.est l.initial.added l.initial.i l.est l.added l.i
+
+abbrev pub decreases-loop-i-2 : goal.decreases-loop-i-2
+decreases-loop-i-2 l = l.row - l.i
