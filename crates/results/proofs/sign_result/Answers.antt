@@ -10,8 +10,7 @@ use Rattle.table.proofs.Constants.{at}
 use Rattle.calculus.proofs.SignResults.{sum_masks, less_masks}
 use Rattle.results.specs.Signs.{sign_table}
 use borrow.Author.Rules.{rules}
-use Rattle.results.proofs.sign_result.Statement.{statement}
-use Rattle.results.proofs.sign_result.Tie as tie
+use Rattle.results.proofs.sign_result.Goals as goal
 
 -- the bit of a sign, as the code shifts it
 abbrev sign_bit : ℕ → ℕ
@@ -61,36 +60,31 @@ module _ (x y : ℕ) where
     opposite : (x ≡ 1 → ⊥) → (y ≡ 1 → ⊥) → 112 ≡ formula true x y
     opposite m k = rw (ne_eqb x y n, ne_eqb x 1 m, ne_eqb y 1 k, formula)
 
-returns : tie.Need-returns
-returns c = stays _ _ c.if2.true ∙ entry _ true _ c.before.before.requires c.before.if1.true
+pub returns-then-x-y : goal.returns-then-x-y
+returns-then-x-y c = stays _ _ c.if-x-y.true ∙ entry _ true _ c.requires c.if-sum.true
 
-returns-2 : tie.Need-returns-2
-returns-2 c =
-    first-zero _ _ c.before.if2.false c.if3.true ∙ entry _ true _ c.before.before.before.requires c.before.before.if1.true
+pub returns-then-x-eq1 : goal.returns-then-x-eq1
+returns-then-x-eq1 c =
+    first-zero _ _ c.if-x-y.false c.if-x-eq1.true ∙ entry _ true _ c.requires c.if-sum.true
 
-returns-3 : tie.Need-returns-3
-returns-3 c =
-    second-zero _ _ c.before.before.if2.false c.before.if3.false c.if4.true
-    ∙ entry _ true _ c.before.before.before.before.requires c.before.before.before.if1.true
+pub returns-then-y-eq1 : goal.returns-then-y-eq1
+returns-then-y-eq1 c =
+    second-zero _ _ c.if-x-y.false c.if-x-eq1.false c.if-y-eq1.true
+    ∙ entry _ true _ c.requires c.if-sum.true
 
-returns-4 : tie.Need-returns-4
-returns-4 c =
-    opposite _ _ c.before.before.if2.false c.before.if3.false c.if4.false
-    ∙ entry _ true _ c.before.before.before.before.requires c.before.before.before.if1.true
+pub returns-else-y-eq1 : goal.returns-else-y-eq1
+returns-else-y-eq1 c =
+    opposite _ _ c.if-x-y.false c.if-x-eq1.false c.if-y-eq1.false
+    ∙ entry _ true _ c.requires c.if-sum.true
 
-returns-5 : tie.Need-returns-5
-returns-5 c = zeros _ _ c.before.if5.true c.if6.true ∙ entry _ false _ c.before.before.before.requires c.before.before.if1.false
+pub returns-then-x-eq1-2 : goal.returns-then-x-eq1-2
+returns-then-x-eq1-2 c = zeros _ _ c.if-x-y-2.true c.if-x-eq1-2.true ∙ entry _ false _ c.requires c.if-sum.false
 
-returns-6 : tie.Need-returns-6
-returns-6 c = alike _ _ c.before.if5.true c.if6.false ∙ entry _ false _ c.before.before.before.requires c.before.before.if1.false
+pub returns-else-x-eq1-2 : goal.returns-else-x-eq1-2
+returns-else-x-eq1-2 c = alike _ _ c.if-x-y-2.true c.if-x-eq1-2.false ∙ entry _ false _ c.requires c.if-sum.false
 
-returns-7 : tie.Need-returns-7
-returns-7 c = ordered _ _ c.before.if5.false c.if7.true ∙ entry _ false _ c.before.before.before.requires c.before.before.if1.false
+pub returns-then-x-y-3 : goal.returns-then-x-y-3
+returns-then-x-y-3 c = ordered _ _ c.if-x-y-2.false c.if-x-y-3.true ∙ entry _ false _ c.requires c.if-sum.false
 
-returns-8 : tie.Need-returns-8
-returns-8 c = turned _ _ c.before.if5.false c.if7.false ∙ entry _ false _ c.before.before.before.requires c.before.before.if1.false
-
-pub sign-result-spec : {M : Type 1} → statement M
-sign-result-spec =
-    tie.close (tie.spec (λ cast-result. search rules) (λ shl-result. search rules) returns (λ cast-result-2. search rules) (λ shl-result-2. search rules)
-    returns-2 (λ cast-result-3. search rules) (λ shl-result-3. search rules) returns-3 returns-4 returns-5 returns-6 returns-7 returns-8)
+pub returns-else-x-y-3 : goal.returns-else-x-y-3
+returns-else-x-y-3 c = turned _ _ c.if-x-y-2.false c.if-x-y-3.false ∙ entry _ false _ c.requires c.if-sum.false

@@ -1,5 +1,6 @@
 -- `results::differ` meets its contract: its tests are those of the definition, in the same order.
 -- Assumes nothing.
+use mathlib.Core.Bool.{not}
 use mathlib.Core.Path.{◌≡◌, refl, sym, ap, ◌∙◌}
 use mathlib.Core.Bool.{Bool, true, false}
 use mathlib.Core.List.{List, [], ◌∷◌}
@@ -16,8 +17,7 @@ use Rattle.calculus.proofs.Masks.{nonzero}
 use Rattle.rows.proofs.Laws.{facts-most}
 use Rattle.results.proofs.Sides.{nonzero-first, nonzero-rest, same_not, same_rest, facts-first}
 use borrow.Author.Rules.{rules}
-use Rattle.results.proofs.differ.Statement.{statement}
-use Rattle.results.proofs.differ.Tie as tie
+use Rattle.results.proofs.differ.Goals as goal
 
 masked-none : (xs : List ℕ) → nonzero (masked xs []) ≡ false
 unfolding masked nonzero
@@ -55,28 +55,22 @@ module _ (x y : ℕ) (a d : List ℕ) where
     several f s n m l =
         ap (λ (k : ℕ). ltb 1 k) (ap (λ (k : ℕ). ones x + k) m ∙ sym (facts-first x a l)) ∙ neither (same_rest x a y d f ∙ s)
 
-returns : tie.Need-returns
-returns c = many _ _ _ _ c.if1.true
+pub returns-then-x-y-ne0 : goal.returns-then-x-y-ne0
+returns-then-x-y-ne0 c = many _ _ _ _ c.if-x-y-ne0.true
 
-returns-2 : tie.Need-returns-2
-returns-2 c = first _ _ _ _ c.before.if1.false c.if2.true
+pub returns-then-x-y : goal.returns-then-x-y
+returns-then-x-y c = first _ _ _ _ c.if-x-y-ne0.false c.if-x-y.true
 
-returns-3 : tie.Need-returns-3
-returns-3 c =
-    second _ _ _ _ c.before.before.before.if1.false c.before.before.if2.false (sym c.before.alike.ensures ∙ not-true _ c.if3.true)
+pub returns-then-not-alike : goal.returns-then-not-alike
+returns-then-not-alike c =
+    second _ _ _ _ c.if-x-y-ne0.false c.if-x-y.false (sym c.alike.ensures ∙ not-true _ (ap not c.if-not-alike.true))
 
-add-result : tie.Need-overflow-add-result
-add-result c =
-    let s = c.before.before.before.before.before.before.before in
-    omega (arith, ones-le 32 _ s.ranges.x.fits, c.count.ensures, facts-most s.args.a.now, s.requires.1)
+pub overflow_add-result : goal.overflow_add-result
+overflow_add-result c =
+    omega (arith, ones-le 32 _ c.ranges.x.fits, c.count.ensures, facts-most c.args.a.now, c.requires.1)
 
-returns-4 : tie.Need-returns-4
-returns-4 c =
-    several _ _ _ _ c.before.before.before.before.if1.false c.before.before.before.if2.false
-    (sym c.before.before.alike.ensures ∙ not-false _ c.before.if3.false) _ c.count.ensures
-    c.before.before.before.before.before.before.before.ranges.x.fits
-
-pub differ-spec : {M : Type 1} → statement M
-differ-spec =
-    tie.close (tie.spec
-    returns returns-2 (λ alike-requires κs. search rules) returns-3 (λ count-requires κs. search rules) add-result returns-4)
+pub returns : goal.returns
+returns c =
+    several _ _ _ _ c.if-x-y-ne0.false c.if-x-y.false
+    (sym c.alike.ensures ∙ not-false _ (ap not c.if-not-alike.false)) _ c.count.ensures
+    c.ranges.x.fits

@@ -4,8 +4,7 @@ use mathlib.Core.Path.{◌≡◌}
 use Prim.Native.Nat.{ℕ, ◌^◌, ◌≤◌, ◌<◌}
 use borrow.Author.Tests.{eq-eqb, ne_eqb, lt-ltb, le-ltb}
 use Rattle.calculus.specs.Elements.{sign}
-use Rattle.results.proofs.sign_bit.Statement.{statement}
-use Rattle.results.proofs.sign_bit.Tie as tie
+use Rattle.results.proofs.sign_bit.Goals as goal
 
 module _ (n : ℕ) where
   nought-bit : n ≡ 0 → 32 ≡ 2 ^ sign n
@@ -21,14 +20,11 @@ module _ (n : ℕ) where
     unfolding sign
     negative-bit h = rw (ne_eqb n 0 z, le-ltb n 8388608 h, sign)
 
-returns : tie.Need-returns
-returns c = nought-bit _ c.if1.true
+pub returns-then-n-eq0 : goal.returns-then-n-eq0
+returns-then-n-eq0 c = nought-bit _ c.if-n-eq0.true
 
-returns-2 : tie.Need-returns-2
-returns-2 c = positive-bit _ c.before.if1.false c.if2.true
+pub returns-then-n-lt8388608 : goal.returns-then-n-lt8388608
+returns-then-n-lt8388608 c = positive-bit _ c.if-n-eq0.false c.if-n-lt8388608.true
 
-returns-3 : tie.Need-returns-3
-returns-3 c = negative-bit _ c.before.if1.false c.if2.false
-
-pub sign-bit-spec : {M : Type 1} → statement M
-sign-bit-spec = tie.close (tie.spec returns returns-2 returns-3)
+pub returns-else-n-lt8388608 : goal.returns-else-n-lt8388608
+returns-else-n-lt8388608 c = negative-bit _ c.if-n-eq0.false c.if-n-lt8388608.false

@@ -11,8 +11,7 @@ use Rattle.calculus.proofs.Masks.{nonzero}
 use Rattle.rows.proofs.Laws.{meets-nonzero}
 use Rattle.results.proofs.Sides.{nonzero-first, nonzero-rest}
 use borrow.Author.Rules.{rules}
-use Rattle.results.proofs.same_bits.Statement.{statement}
-use Rattle.results.proofs.same_bits.Tie as tie
+use Rattle.results.proofs.same_bits.Goals as goal
 
 module _ (xs ys : List ℕ) where
   yes-bits : nonzero (masked xs ys) ≡ true → 4 ≡ same_mask xs ys
@@ -32,16 +31,13 @@ module _ (x y : ℕ) (a d : List ℕ) where
   unfolding masked
   rest e = nonzero-rest (bit_and x y) (masked a d) e
 
-returns : tie.Need-returns
-returns c = first _ _ _ _ c.if1.true
+pub returns-then-x-y-ne0 : goal.returns-then-x-y-ne0
+returns-then-x-y-ne0 c = first _ _ _ _ c.if-x-y-ne0.true
 
-returns-2 : tie.Need-returns-2
-returns-2 c =
-    yes-bits _ _ (rest _ _ _ _ c.before.before.if1.false ∙ sym (c.before.any.ensures ∙ meets-nonzero _ _) ∙ c.if2.true)
+pub returns-then-any : goal.returns-then-any
+returns-then-any c =
+    yes-bits _ _ (rest _ _ _ _ c.if-x-y-ne0.false ∙ sym (c.any.ensures ∙ meets-nonzero _ _) ∙ c.if-any.true)
 
-returns-3 : tie.Need-returns-3
-returns-3 c =
-    no_bits _ _ (rest _ _ _ _ c.before.before.if1.false ∙ sym (c.before.any.ensures ∙ meets-nonzero _ _) ∙ c.if2.false)
-
-pub same-bits-spec : {M : Type 1} → statement M
-same-bits-spec = tie.close (tie.spec returns (λ any-requires κs. search rules) returns-2 returns-3)
+pub returns-else-any : goal.returns-else-any
+returns-else-any c =
+    no_bits _ _ (rest _ _ _ _ c.if-x-y-ne0.false ∙ sym (c.any.ensures ∙ meets-nonzero _ _) ∙ c.if-any.false)

@@ -5,14 +5,10 @@ use Prim.Native.Nat.{ℕ, ◌*◌, ◌^◌, ◌<◌}
 use native.Mathlib.Nat.{mod-eq_of_lt, one-mul}
 use lib.Pow.{pow-lt}
 use borrow.Author.Rules.{rules}
-use Rattle.results.proofs.digit.Statement.{statement}
-use Rattle.results.proofs.digit.Tie as tie
+use Rattle.results.proofs.digit.Goals as goal
 
 small : (i : ℕ) → i < 32 → 1 * 2 ^ i < 2 ^ 32
 small i h = rw one-mul (pow-lt h)
 
-returns : tie.Need-returns
+pub returns : goal.returns
 returns c = mod-eq_of_lt (small _ c.requires) ∙ one-mul _
-
-pub digit-spec : {M : Type 1} → statement M
-digit-spec = tie.close (tie.spec (λ shl-result. search rules) returns)
