@@ -7,25 +7,21 @@ use lib.Dec.{eqb, ltb}
 use borrow.Author.Tests.{lt-ltb, le-ltb, eq-eqb, ne_eqb}
 use Rattle.table.specs.Scan.{first_of}
 use Rattle.interface.specs.Numbers.{system_tests}
-use Rattle.interface.proofs.system_fault.Statement.{statement}
-use Rattle.interface.proofs.system_fault.Tie as tie
+use Rattle.interface.proofs.system_fault.Goals as goal
 
 by_tests : {long whole : Bool} (size : ℕ) → ltb 1024 size ≡ long → eqb (size % 4) 0 ≡ whole
     → first_of ((long, 31) ∷ (not whole, 30) ∷ []) ≡ first_of (system_tests size)
 unfolding system_tests
 by_tests size p q = sym (λ i. first_of ((p i, 31) ∷ (not (q i), 30) ∷ []))
 
-returns : tie.Need-returns
+pub returns-then-size-gt1024 : goal.returns-then-size-gt1024
 unfolding first_of
-returns c = by_tests _ (lt-ltb _ _ c.if1.true) refl
+returns-then-size-gt1024 c = by_tests _ (lt-ltb _ _ c.if-size-gt1024.true) refl
 
-returns-2 : tie.Need-returns-2
+pub returns-then-size-eq0 : goal.returns-then-size-eq0
 unfolding first_of
-returns-2 c = by_tests _ (le-ltb _ _ c.before.if1.false) (eq-eqb _ _ c.if2.true)
+returns-then-size-eq0 c = by_tests _ (le-ltb _ _ c.if-size-gt1024.false) (eq-eqb _ _ c.if-size-eq0.true)
 
-returns-3 : tie.Need-returns-3
+pub returns-else-size-eq0 : goal.returns-else-size-eq0
 unfolding first_of
-returns-3 c = by_tests _ (le-ltb _ _ c.before.if1.false) (ne_eqb _ _ c.if2.false)
-
-pub system-fault-spec : {M : Type 1} → statement M
-system-fault-spec = tie.close (tie.spec returns returns-2 returns-3)
+returns-else-size-eq0 c = by_tests _ (le-ltb _ _ c.if-size-gt1024.false) (ne_eqb _ _ c.if-size-eq0.false)
