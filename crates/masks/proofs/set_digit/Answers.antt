@@ -8,17 +8,11 @@ use lib.ListN.{get_or, set}
 use Rattle.calculus.specs.Layout.{mark}
 use Rattle.calculus.proofs.Facts.{pour-one}
 use borrow.Author.Rules.{rules}
-use Rattle.masks.proofs.set_digit.Statement.{statement}
-use Rattle.masks.proofs.set_digit.Tie as tie
+use Rattle.masks.proofs.set_digit.Goals as goal
 
 one_word : (ws : List ℕ) (n x : ℕ) → x ≡ 2 ^ (n % 32) → set ws (n / 32) (bit_or (get_or ws (n / 32) 0) x) ≡ mark ws n
 unfolding mark
 one_word ws n x e = ap (λ (y : ℕ). set ws (n / 32) (bit_or (get_or ws (n / 32) 0) y)) e ∙ sym (pour-one ws (n / 32) (2 ^ (n % 32)))
 
-returns : tie.Need-returns
+pub returns : goal.returns
 returns c = one_word _ _ _ c.digit.ensures
-
-pub set-digit-spec : {M : Type 1} → statement M
-set-digit-spec =
-    tie.close (tie.spec (λ mul-masks. search rules) (λ slice-read-masks. search rules) (λ cast-digit. search rules) (λ digit-requires κs. search rules)
-    (λ mul-masks-2. search rules) (λ slice-write-masks. search rules) (λ same_length. search rules) returns)

@@ -11,8 +11,7 @@ use Rattle.table.proofs.Constants.{at}
 use Rattle.masks.specs.Masks.{makes_by_kind, word_makes}
 use Rattle.masks.proofs.Sorts.{other_word}
 use borrow.Author.Rules.{rules}
-use Rattle.masks.proofs.word_makes.Statement.{statement}
-use Rattle.masks.proofs.word_makes.Tie as tie
+use Rattle.masks.proofs.word_makes.Goals as goal
 
 -- the code's number holds what each kind makes, two bits for each
 makes_right : ℕ → ℕ → Bool
@@ -28,16 +27,11 @@ entry w k e h =
     eqb→eq _ (get_or makes_by_kind (k - first_kind) 2) (at makes_right (replicate 21 0) tt (k - first_kind) h)
     ∙ ap (λ (i : ℕ). get_or makes_by_kind (i - first_kind) 2) e
 
-returns : tie.Need-returns
-returns c = sym (other_word c.before.before.args.w (omega (arith, c.before.kind-of.ensures, c.if1.true)))
+pub returns-then-kind-lt16 : goal.returns-then-kind-lt16
+returns-then-kind-lt16 c = sym (other_word c.args.w (omega (arith, c.kind_of-kind.ensures, c.if-kind-lt16.true)))
 
-returns-2 : tie.Need-returns-2
-returns-2 c = past c.before.before.before.args.w (omega (arith, c.before.before.kind-of.ensures, c.if2.true))
+pub returns-then-kind-gt36 : goal.returns-then-kind-gt36
+returns-then-kind-gt36 c = past c.args.w (omega (arith, c.kind_of-kind.ensures, c.if-kind-gt36.true))
 
-returns-3 : tie.Need-returns-3
-returns-3 c = entry c.before.before.before.args.w c.before.before.kind-of.result c.before.before.kind-of.ensures (omega (arith, c.if2.false))
-
-pub word-makes-spec : {M : Type 1} → statement M
-word-makes-spec =
-    tie.close (tie.spec (λ kind-of-requires κs. search rules) returns returns-2 (λ mul-result. search rules) (λ cast-result. search rules)
-    (λ shr-result. search rules) (λ cast-result-2. search rules) returns-3)
+pub returns : goal.returns
+returns c = entry c.args.w c.kind_of-kind.result c.kind_of-kind.ensures (omega (arith, c.if-kind-gt36.false))

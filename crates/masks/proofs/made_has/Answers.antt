@@ -9,8 +9,7 @@ use mathlib.Core.Bool.{not}
 use lib.Dec.{eqb}
 use borrow.Author.Tests.{eq-eqb, ne_eqb}
 use borrow.Author.Rules.{rules}
-use Rattle.masks.proofs.made_has.Statement.{statement}
-use Rattle.masks.proofs.made_has.Tie as tie
+use Rattle.masks.proofs.made_has.Goals as goal
 
 arm : (m : ℕ) (s t : Sort) → s ≡ t → sort_has t m ≡ sort_has s m
 arm m s t e = ap (λ (x : Sort). sort_has x m) (sym e)
@@ -23,25 +22,20 @@ message-function : (m : ℕ) → m ≡ 1 → not (eqb m 1) ≡ sort_has sorts.Me
 unfolding sort_has
 message-function m e = rw (eq-eqb m 1 e)
 
-returns : tie.Need-returns
+pub returns-in-Function : goal.returns-in-Function
 unfolding sort_has
-returns c = arm _ _ sorts.Function c.enum_told.given.1
+returns-in-Function c = arm _ _ sorts.Function c.in-Function.is
 
-returns-2 : tie.Need-returns-2
+pub returns-in-Record : goal.returns-in-Record
 unfolding sort_has
-returns-2 c = arm _ _ sorts.Record c.enum-told2.given.1
+returns-in-Record c = arm _ _ sorts.Record c.in-Record.is
 
-returns-3 : tie.Need-returns-3
+pub returns-in-Cell : goal.returns-in-Cell
 unfolding sort_has
-returns-3 c = arm _ _ sorts.Cell c.enum-told3.given.1
+returns-in-Cell c = arm _ _ sorts.Cell c.in-Cell.is
 
-returns-4 : tie.Need-returns-4
-returns-4 c = message-other _ c.if1.true ∙ arm _ _ sorts.Message c.before.enum-told4.given.1
+pub returns-then-m-ne1 : goal.returns-then-m-ne1
+returns-then-m-ne1 c = message-other _ c.if-m-ne1.true ∙ arm _ _ sorts.Message c.in-Message.is
 
-returns-5 : tie.Need-returns-5
-returns-5 c = message-function _ c.if1.false ∙ arm _ _ sorts.Message c.before.enum-told4.given.1
-
-pub made-has-spec : {M : Type 1} → statement M
-made-has-spec =
-    tie.close (tie.spec (λ enum_told. search rules) (λ enum-told-2. search rules) (λ enum-told-3. search rules) (λ enum-told-4. search rules) returns returns-2
-    returns-3 returns-4 returns-5)
+pub returns-else-m-ne1 : goal.returns-else-m-ne1
+returns-else-m-ne1 c = message-function _ c.if-m-ne1.false ∙ arm _ _ sorts.Message c.in-Message.is
