@@ -5,6 +5,7 @@ pub mod Seek
 pub mod Places
 pub mod Given
 pub mod Appended
+pub mod Going
 pub mod Joins
 pub mod Picks
 pub mod Theorems

@@ -1,5 +1,5 @@
 -- The reading of two tables, by what the reading of each answers.
-use mathlib.Core.Path.{◌≡◌, refl, sym, ◌∙◌}
+use mathlib.Core.Path.{◌≡◌, refl, sym, ap, ◌∙◌}
 use mathlib.Core.List.{List}
 use Prim.Native.Nat.{ℕ, ◌+◌, ◌≤◌}
 use native.Mathlib.Omega.{arith}
@@ -8,7 +8,10 @@ use Rattle.table.specs.Answer.{number}
 use Rattle.table.specs.declared.Refusal.{Refusal}
 use Rattle.table.specs.declared.Refusal.TheVariants as refusals
 use Rattle.table.proofs.Stack.{refused-not-accepted}
+use Rattle.overlay.specs.declared.Checked.{Checked}
+use Rattle.overlay.specs.declared.Checked.TheVariants as checks
 use Rattle.overlay.specs.Lookup.{tables_read}
+use Rattle.overlay.specs.Answers.{checked_as}
 
 module _ (base overlay : List ℕ) where
   pub base-refused : (n p : ℕ) → narrow_reading base ≡ refused n p → tables_read base overlay ≡ refused n p
@@ -32,6 +35,11 @@ module _ (base overlay : List ℕ) where
       go accepted accepted p q = (p, q)
       go accepted (refused n k) p q = absurd (refused-not-accepted (sym (overlay-refused p n k q) ∙ e))
       go (refused n k) o p q = absurd (refused-not-accepted (sym (base-refused n k p) ∙ e))
+
+  -- where `check` answers so
+  pub checked-accepted : {r : Checked} → checked_as r ≡ tables_read base overlay → r ≡ checks.Accepted → tables_read base overlay ≡ accepted
+  unfolding checked_as
+  checked-accepted e h = sym e ∙ ap checked_as h
 
 -- a table has the numbers up to 12
 pub number_small : (r : Refusal) → number r ≤ 12

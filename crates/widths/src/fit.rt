@@ -24,6 +24,7 @@ pub fn read_as(words: &[u32], kind: u32) -> Checked
 }
 
 // Whether a word has a name that no narrow table has.
+#[tactic(auto, unfolding(crate::specs::Converters::wide_name))]
 fn wide_name(w: u32) -> bool
     ensures { result ≡ wide_name w }
 {
