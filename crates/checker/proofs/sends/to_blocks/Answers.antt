@@ -1,0 +1,42 @@
+use mathlib.Core.Bool.{not}
+use mathlib.Core.Path.{ap}
+use borrow.Author.Rules.{rules}
+use Prim.Native.Nat.{◌-◌}
+use native.Mathlib.Omega.{arith}
+use lib.ListN.{length}
+use Rattle.table.specs.Code.{code}
+use Rattle.table.proofs.BlockLoop.{named-there, body-inside}
+use Rattle.calculus.specs.Layout.{sets}
+use Rattle.clauses.specs.Asks.{sort_at}
+use Rattle.checker.specs.Sends.{AskedFor}
+use Rattle.checker.proofs.Blocks.{Looked, looked-start, looked-next, looked-all}
+use Rattle.checker.proofs.Sent.{nothing-sent, something-sent}
+use Rattle.checker.proofs.sends.to_blocks.Goals as goal
+
+pub returns-then-not-has_some : goal.returns-then-not-has_some
+unfolding sort_at
+returns-then-not-has_some c = let h = c.requires.0 in nothing-sent _ c.args.est.now _ _ _ (c.has_some.ensures _ (sort_at 3 _) h.laid h.well (h.masked.mask 3 (omega arith))) (ap not c.if-not-has_some.true)
+
+pub loop-b-init : goal.loop-b-init
+unfolding sort_at
+loop-b-init c = looked-start _ c.requires.0.readable _
+
+pub to_block-lowest-requires : goal.to_block-lowest-requires
+unfolding sort_at
+to_block-lowest-requires c = (c.requires.0, c.loop-b-test.true, named-there _ c.requires.0.readable _ c.loop-b.invariant.0 c.loop-b-test.true)
+
+pub overflow_add-b : goal.overflow_add-b
+unfolding sort_at
+overflow_add-b c = let q = c.requires.0.readable in let i = c.loop-b in let g = c.loop-b-test.true in omega (arith, body-inside _ q i.b g (named-there _ q i.b i.invariant.0 g))
+
+pub loop-b-smaller : goal.loop-b-smaller
+unfolding sort_at
+loop-b-smaller c = let g = c.loop-b-test.true in omega (arith, (looked-next _ c.requires.0.readable _ c.loop-b.invariant g c.requires.1 c.link_at-b.ensures c.to_block-lowest.ensures).1, g)
+
+pub loop-b-preserved : goal.loop-b-preserved
+unfolding sort_at
+loop-b-preserved c = (looked-next _ c.requires.0.readable _ c.loop-b.invariant c.loop-b-test.true c.requires.1 c.link_at-b.ensures c.to_block-lowest.ensures).0
+
+pub returns : goal.returns
+unfolding sort_at
+returns c = let h = c.requires.0 in something-sent _ c.args.est.now _ _ _ (c.has_some.ensures _ (sort_at 3 _) h.laid h.well (h.masked.mask 3 (omega arith))) (ap not c.if-not-has_some.false) (looked-all _ h.readable _ c.loop-b.invariant c.loop-b-test.false)

@@ -1,0 +1,20 @@
+-- `checker::sends::to_blocks` meets its contract. The loop's invariant: b is the next block or the end, and what the blocks from b on ask is
+-- still to be looked at. Assumes nothing.
+use borrow.Author.Rules.{rules}
+use Prim.Native.Nat.{◌-◌}
+use native.Mathlib.Omega.{arith}
+use lib.ListN.{length}
+use Rattle.table.specs.Code.{code}
+use Rattle.table.proofs.BlockLoop.{named-there, body-inside}
+use Rattle.calculus.specs.Layout.{sets}
+use Rattle.clauses.specs.Asks.{sort_at}
+use Rattle.checker.specs.Sends.{AskedFor}
+use Rattle.checker.proofs.Blocks.{Looked, looked-start, looked-next, looked-all}
+use Rattle.checker.proofs.Sent.{nothing-sent, something-sent}
+use Rattle.checker.proofs.sends.to_blocks.Given as goal
+
+abbrev pub invariant-loop-b : goal.invariant-loop-b
+invariant-loop-b l = Looked l.words (AskedFor (code l.words) (sets (code l.words) l.est) l.s.p l.s.d l.s.required.bits) l.below l.b l.lowest
+
+abbrev pub decreases-loop-b : goal.decreases-loop-b
+decreases-loop-b l = length l.words - l.b

@@ -1,0 +1,12 @@
+-- `checker::terms::apply` meets its contract. Assumes nothing.
+use borrow.Author.Rules.{rules}
+use Rattle.calculus.specs.Rules.{flow, two_rule}
+use Rattle.clauses.specs.Asks.{thing_at}
+use Rattle.checker.proofs.Laws.{both, parted}
+use Rattle.clauses.proofs.Sorts.{row-C}
+use Rattle.checker.specs.Things.{asked}
+use Rattle.checker.proofs.terms.apply.Goals as goal
+
+pub returns : goal.returns
+unfolding flow two_rule thing_at asked
+returns c = λ k j o w n. parted (both (c.parts.ensures k o w) (rw (row-C c.args.d) at (c.things.ensures k j o w n)))

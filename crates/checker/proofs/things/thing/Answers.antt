@@ -1,0 +1,37 @@
+-- `checker::things::thing` meets its contract: an arm for each action. Assumes nothing.
+use borrow.Author.Rules.{rules}
+use native.Mathlib.Omega.{arith}
+use native.Mathlib.Numerals.{add-one}
+use Rattle.clauses.proofs.Sorts.{row-B}
+use Rattle.checker.specs.Things.{asked}
+use Rattle.checker.proofs.Laws.{both, put_is}
+use Rattle.checker.proofs.Rows.{CC}
+use Rattle.checker.proofs.things.thing.Goals as goal
+
+pub overflow_add-f : goal.overflow_add-f
+unfolding asked
+overflow_add-f c = omega (arith, c.requires.4 c.in-Call.is)
+
+pub is_live-requires : goal.is_live-requires
+unfolding asked
+is_live-requires c = (c.requires.0, c.requires.4 c.in-Call.is)
+
+pub passed-requires-in-Call : goal.passed-requires-in-Call
+unfolding asked
+passed-requires-in-Call c = (c.requires.0, omega (arith, c.requires.4 c.in-Call.is), omega (arith, c.requires.1))
+
+pub lifted-requires : goal.lifted-requires
+unfolding asked
+lifted-requires c = (c.requires.0, c.requires.4 c.in-Call.is, c.requires.1)
+
+pub returns-in-Call : goal.returns-in-Call
+unfolding asked
+returns-in-Call c = λ k o w. let f = c.args.f in rw (c.in-Call.is, ← add-one f) (both (put_is (c.is_live.ensures k o)) (both (rw (row-B f) at (c.passed.ensures k o w)) (both (CC (c.passed-in-Call.ensures k o w)) (c.lifted.ensures k o w))))
+
+pub returns-in-Take : goal.returns-in-Take
+unfolding asked
+returns-in-Take c = λ k o w. rw c.in-Take.is (rw (row-B c.args.f) at (c.passed-in-Take.ensures k o w))
+
+pub returns-in-Hand : goal.returns-in-Hand
+unfolding asked
+returns-in-Hand c = λ k o w. rw c.in-Hand.is (rw (row-B c.args.f) at (c.passed-in-Hand.ensures k o w))

@@ -1,0 +1,14 @@
+-- `checker::things::things` meets its contract. The loop's invariant: what is asked for each thing passed holds, and f is the next one or none.
+-- Assumes nothing.
+use Prim.Native.Nat.{◌-◌}
+use native.Mathlib.Omega.{arith}
+use borrow.Author.Rules.{rules}
+use Rattle.checker.specs.Things.{asked}
+use Rattle.checker.proofs.Found.{Looked, suits, may-search, body-in, looked-start, looked-more, all-passed, one-fails}
+use Rattle.checker.proofs.things.things.Given as goal
+
+abbrev pub invariant-loop-f : goal.invariant-loop-f
+invariant-loop-f l = Looked l.l l.est l.masks l.p l.m (asked l.action l.p l.y) l.f
+
+abbrev pub decreases-loop-f : goal.decreases-loop-f
+decreases-loop-f l = l.size - l.f
