@@ -1,0 +1,28 @@
+-- `firing::sends::send_all` meets its contract. Assumes nothing.
+use Prim.Native.Nat.{◌+◌, ◌-◌}
+use mathlib.Core.Path.{◌≡◌, refl, sym, ap, ◌∙◌}
+use borrow.Author.Rules.{rules}
+use native.Mathlib.Omega.{arith}
+use lib.ListN.{length}
+use Rattle.table.specs.declared.Link.{Link}
+use Rattle.table.specs.Code.{code}
+use Rattle.table.proofs.Blocks.{Follows}
+use Rattle.table.proofs.BlockLoop.{blocks_on, named-there, follows-first, body-inside, next-is, follows_next, next-later}
+use Rattle.calculus.specs.Constraint.{each}
+use Rattle.calculus.specs.Layout.{WellFormed}
+use Rattle.calculus.specs.Estimate.{fire, facts}
+use Rattle.calculus.proofs.BlockRules.{all_start, all-step, all_end}
+use Rattle.rows.proofs.Laws.{facts-most}
+use Rattle.clauses.specs.Asks.{at_block}
+use Rattle.queries.proofs.Given.{sized}
+use Rattle.firing.proofs.Deliver.{block-kind, block-well}
+use Rattle.firing.proofs.sends.send_all.Given as goal
+
+abbrev pub invariant-loop-b : goal.invariant-loop-b
+invariant-loop-b l =
+    (length l.est ≡ length l.initial.est) × (length l.h ≡ length l.initial.h) × WellFormed (code l.words) l.est × Follows l.words l.b
+    × (fire (code l.words) (each (blocks_on l.words l.b) (at_block (code l.words) l.e.x l.e.y l.e.z)) l.est ≡ fire (code l.words) (each (code l.words).blocks (at_block (code l.words) l.e.x l.e.y l.e.z)) l.initial.est)
+    × (facts l.est ≡ facts l.initial.est + l.added)
+
+abbrev pub decreases-loop-b : goal.decreases-loop-b
+decreases-loop-b l = length l.words - l.b

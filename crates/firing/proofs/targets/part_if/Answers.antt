@@ -1,0 +1,10 @@
+-- `firing::targets::part_if` meets its contract. Assumes nothing.
+use Rattle.firing.proofs.Fires.{a-part, no_part}
+use borrow.Author.Rules.{rules}
+use Rattle.firing.proofs.targets.part_if.Goals as goal
+
+pub returns-then-q-eq0 : goal.returns-then-q-eq0
+returns-then-q-eq0 c = no_part c.args.q c.if-q-eq0.true
+
+pub returns : goal.returns
+returns c = a-part c.args.q c.if-q-eq0.false c.part.ensures
