@@ -10,9 +10,9 @@ use lib.ListN.{length, get_or, drop, length-drop}
 use lib.Seq.{drop-cons}
 use Rattle.table.specs.declared.Link.{Link}
 use Rattle.table.specs.Words.{parts, arity}
-use Rattle.table.specs.Scan.{Task, head, name, perms, guard, term, accepted, under, next, reading}
+use Rattle.table.specs.Scan.{Task, head, name, perms, guard, term, accepted, under, reading}
 use Rattle.table.specs.Code.{part, end_of, task_at}
-use Rattle.table.specs.Links.{link_at, innermost, with_binder, bind_parts, ends}
+use Rattle.table.specs.Links.{link_at, innermost, with_binder, bind_parts}
 use Rattle.table.proofs.Stack.{Names}
 use Rattle.table.proofs.Parts.{part_task, part-suc, part-inside, end_after}
 use Rattle.table.proofs.LinkReads.{link-other, binder-other, binder-same, length-binder}

@@ -6,9 +6,7 @@ use Prim.Native.Nat.{ℕ, zero, suc, ◌+◌, ◌-◌, ◌^◌, ◌≤◌, ◌<�
 use native.Mathlib.Nat.{le_of_suc-le-suc, not-suc-le-zero, add-zero}
 use native.Mathlib.Omega.{arith}
 use lib.ListN.{length, get_or}
-use Rattle.table.specs.declared.Constant.{Constant}
 use Rattle.table.specs.declared.Constant.TheVariants as constants
-use Rattle.table.specs.declared.Operation.{Operation}
 use Rattle.table.specs.declared.Operation.TheVariants as operations
 use Rattle.table.specs.declared.Term.{Term}
 use Rattle.table.specs.declared.Term.TheVariants as terms

@@ -17,7 +17,7 @@ use Rattle.calculus.specs.Elements as E
 use Rattle.calculus.specs.Elements.{constant_element}
 use Rattle.calculus.specs.Values.{Atom, constant, number, text, named, known, datum, data_fields, plain, plain_fields}
 use Rattle.calculus.specs.Values.{Value, atom, function, fields, cell, Environment, closed, bound, Fields, empty, field}
-use Rattle.calculus.specs.Values.{undefined, look, get_field, delete_field}
+use Rattle.calculus.specs.Values.{look, get_field, delete_field}
 use Rattle.calculus.proofs.Digits.{T_and, T-fst, T-snd}
 use Rattle.calculus.proofs.Guarantee.Relation.{Sub, sign_of, string_element, text_element, element, In, Bound, FieldsIn, Found, Cells}
 

@@ -1,12 +1,9 @@
-use Prim.Native.Nat.{◌-◌, ◌≤◌}
 use mathlib.Core.Path.{sym}
 use native.Mathlib.Omega.{arith}
-use borrow.Author.Rules.{rules}
 use Rattle.table.specs.Code.{code}
 use Rattle.table.proofs.Linked.{linked}
 use Rattle.calculus.specs.Layout.{sets}
-use Rattle.checker.specs.Lowered.{Lowered}
-use Rattle.checker.proofs.Asked.{AskedBelow, asked-next, lowest-broken}
+use Rattle.checker.proofs.Asked.{asked-next, lowest-broken}
 use Rattle.checker.proofs.Lowered.{lowered_none}
 use Rattle.checker.proofs.broken.Goals as goal
 

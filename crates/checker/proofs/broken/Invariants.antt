@@ -1,14 +1,9 @@
 -- `checker::broken` meets its contract. The loop's invariant: what the words passed ask has been looked at. Assumes nothing.
 use Prim.Native.Nat.{◌-◌, ◌≤◌}
-use mathlib.Core.Path.{sym}
-use native.Mathlib.Omega.{arith}
-use borrow.Author.Rules.{rules}
 use Rattle.table.specs.Code.{code}
-use Rattle.table.proofs.Linked.{linked}
 use Rattle.calculus.specs.Layout.{sets}
 use Rattle.checker.specs.Lowered.{Lowered}
-use Rattle.checker.proofs.Asked.{AskedBelow, asked-next, lowest-broken}
-use Rattle.checker.proofs.Lowered.{lowered_none}
+use Rattle.checker.proofs.Asked.{AskedBelow}
 use Rattle.checker.proofs.broken.Given as goal
 
 abbrev pub invariant-loop-p : goal.invariant-loop-p

@@ -1,7 +1,6 @@
 -- `checker::entry` meets its contract. Assumes nothing.
 use mathlib.Core.Bool.{not}
 use mathlib.Core.Path.{ap}
-use borrow.Author.Rules.{rules}
 use Rattle.calculus.specs.Rules.{entry}
 use Rattle.clauses.proofs.Sorts.{row-B}
 use Rattle.checker.proofs.Laws.{both, put_is, idle, due, on-only}

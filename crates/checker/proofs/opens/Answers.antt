@@ -1,5 +1,4 @@
 -- `checker::opens` meets its contract. Assumes nothing.
-use borrow.Author.Rules.{rules}
 use mathlib.Core.Path.{refl, sym, ◌∙◌}
 use native.Mathlib.Omega.{arith}
 use Rattle.checker.proofs.Guards.{at-word, body-in, guard-is, shut}

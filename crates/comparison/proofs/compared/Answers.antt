@@ -2,7 +2,6 @@
 use Prim.Native.Nat.{ℕ}
 use mathlib.Core.Path.{sym, ap, ◌∙◌}
 use mathlib.Core.Bool.{true}
-use borrow.Author.Rules.{rules}
 use Rattle.permset.specs.declared.PermSet.{PermSet}
 use Rattle.permset.specs.Sets.{lowest}
 use Rattle.calculus.specs.Answer.{verdict}

@@ -1,7 +1,6 @@
 -- `delivery::judge` meets its contract. Assumes nothing.
 use mathlib.Core.Bool.{not}
 use mathlib.Core.Path.{sym, ap, ◌∙◌}
-use borrow.Author.Rules.{rules}
 use borrow.Author.Tests.{eq-eqb, ne_eqb, not-true, not-false}
 use Rattle.delivery.specs.declared.Delivery.TheVariants as deliveries
 use Rattle.delivery.proofs.Laws.{other_name, receiver-lacks, sender-lacks, is-delivered}

@@ -1,11 +1,11 @@
-use Prim.Native.Nat.{ℕ, ◌+◌, ◌-◌, ◌≤◌, ◌<◌}
+use Prim.Native.Nat.{ℕ, ◌+◌, ◌≤◌, ◌<◌}
 use mathlib.Core.Path.{◌≡◌, refl, sym, ap, ◌∙◌}
 use mathlib.Core.List.{List}
 use native.Mathlib.Numerals.{add-one}
 use lib.ListN.{length, get_or, drop, drop_of_length-le}
 use lib.Seq.{drop-cons}
 use borrow.Author.Rules.{rules}
-use Rattle.fingerprint.specs.Fnv.{basis, step, hash_from, fnv1a}
+use Rattle.fingerprint.specs.Fnv.{step, hash_from, fnv1a}
 use Rattle.fingerprint.proofs.fingerprint.Goals as goal
 
 -- one byte more, and none left

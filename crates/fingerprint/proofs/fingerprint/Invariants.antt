@@ -1,12 +1,8 @@
 -- `fingerprint::fingerprint` meets its contract. The loop's invariant: the bytes that are left give the same end from the present hash on. Assumes nothing.
-use Prim.Native.Nat.{ℕ, ◌+◌, ◌-◌, ◌≤◌, ◌<◌}
-use mathlib.Core.Path.{◌≡◌, refl, sym, ap, ◌∙◌}
-use mathlib.Core.List.{List}
-use native.Mathlib.Numerals.{add-one}
-use lib.ListN.{length, get_or, drop, drop_of_length-le}
-use lib.Seq.{drop-cons}
-use borrow.Author.Rules.{rules}
-use Rattle.fingerprint.specs.Fnv.{basis, step, hash_from, fnv1a}
+use Prim.Native.Nat.{◌-◌, ◌≤◌}
+use mathlib.Core.Path.{◌≡◌}
+use lib.ListN.{length, drop}
+use Rattle.fingerprint.specs.Fnv.{basis, hash_from}
 use Rattle.fingerprint.proofs.fingerprint.Given as goal
 
 abbrev pub invariant-loop-i : goal.invariant-loop-i

@@ -6,7 +6,6 @@ use Rattle.comparison.specs.declared.Verdict.{Verdict}
 use Rattle.comparison.specs.Values.{answer_of}
 use Rattle.interface.specs.Numbers.{answer_number}
 use Rattle.interface.specs.Places.{PlaceFits}
-use borrow.Author.Rules.{rules}
 use Rattle.interface.proofs.answer_number.Goals as goal
 
 abbrev number : Verdict → ℕ

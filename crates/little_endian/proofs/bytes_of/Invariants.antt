@@ -1,12 +1,9 @@
 -- `little_endian::bytes_of` meets its contract. The loop's invariant: the first i words are written. Assumes nothing.
-use Prim.Native.Nat.{ℕ, ◌+◌, ◌-◌, ◌*◌, ◌≤◌}
-use mathlib.Core.Path.{◌≡◌, refl, ap, ◌∙◌}
-use mathlib.Core.List.{List, ◌++◌}
-use native.Mathlib.Omega.{arith}
-use lib.ListN.{length, get_or, take, drop}
-use borrow.Author.Rules.{rules}
-use Rattle.little_endian.specs.LittleEndian.{low_bytes, bytes_of}
-use Rattle.little_endian.proofs.Laws.{bytes-more}
+use Prim.Native.Nat.{◌-◌, ◌*◌, ◌≤◌}
+use mathlib.Core.Path.{◌≡◌}
+use mathlib.Core.List.{◌++◌}
+use lib.ListN.{length, take, drop}
+use Rattle.little_endian.specs.LittleEndian.{bytes_of}
 use Rattle.little_endian.proofs.bytes_of.Given as goal
 
 abbrev pub invariant-loop-i : goal.invariant-loop-i

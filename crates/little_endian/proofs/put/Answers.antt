@@ -3,7 +3,6 @@ use native.Mathlib.Numerals.{add-one, add-two, add-three}
 use native.Mathlib.Omega.{arith}
 use lib.ListN.{length-set}
 use lib.Seq.{sets-eq}
-use borrow.Author.Rules.{rules}
 use Rattle.little_endian.specs.LittleEndian.{low_bytes}
 use Rattle.little_endian.proofs.put.Goals as goal
 

@@ -1,14 +1,10 @@
 -- `masks::fill_made` meets its contract. The loop's invariant: what the words passed make is set, and nothing behind the four rows.
 -- Assumes nothing.
-use mathlib.Core.Path.{◌≡◌, refl, sym, ap, ◌∙◌, subst}
-use Prim.Native.Nat.{ℕ, ◌+◌, ◌-◌, ◌*◌, ◌≤◌, ◌<◌}
-use native.Mathlib.Nat.{add-zero}
-use native.Mathlib.Omega.{arith}
+use mathlib.Core.Path.{◌≡◌}
+use Prim.Native.Nat.{◌+◌, ◌-◌, ◌*◌, ◌≤◌}
 use lib.ListN.{length, drop}
 use Rattle.table.specs.Code.{code}
 use Rattle.masks.specs.Masks.{Filled}
-use Rattle.masks.proofs.FourMasks.{word-rest, one_more}
-use borrow.Author.Rules.{rules}
 use Rattle.masks.proofs.fill_made.Given as goal
 
 abbrev pub invariant-loop-p : goal.invariant-loop-p

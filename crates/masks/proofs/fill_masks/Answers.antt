@@ -7,7 +7,6 @@ use lib.ListN.{drop}
 use Rattle.table.specs.Code.{code}
 use Rattle.masks.specs.Masks.{Filled}
 use Rattle.masks.proofs.FourMasks.{lead-some, lead-fits, plain-rest, plain-filled, filled_in}
-use borrow.Author.Rules.{rules}
 use Rattle.masks.proofs.fill_masks.Goals as goal
 
 pub fill_plain-requires : goal.fill_plain-requires

@@ -6,7 +6,6 @@ use Prim.Native.Nat.{ℕ, ◌+◌, ◌*◌}
 use lib.ListN.{replicate}
 use Rattle.calculus.specs.Layout.{mark, pour}
 use Rattle.masks.specs.Masks.{plain_masks}
-use borrow.Author.Rules.{rules}
 use Rattle.masks.proofs.fill_plain.Goals as goal
 
 in-turn : (row lead : ℕ) (ws one two : List ℕ) → one ≡ mark ws (32 * row + 7) → two ≡ pour one (3 * row) (replicate lead 4294967295)

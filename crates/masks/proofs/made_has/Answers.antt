@@ -8,7 +8,6 @@ use mathlib.Core.Path.{◌≡◌, sym, ap, ◌∙◌}
 use mathlib.Core.Bool.{not}
 use lib.Dec.{eqb}
 use borrow.Author.Tests.{eq-eqb, ne_eqb}
-use borrow.Author.Rules.{rules}
 use Rattle.masks.proofs.made_has.Goals as goal
 
 arm : (m : ℕ) (s t : Sort) → s ≡ t → sort_has t m ≡ sort_has s m

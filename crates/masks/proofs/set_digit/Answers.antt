@@ -7,7 +7,6 @@ use lib.Bits.{bit_or}
 use lib.ListN.{get_or, set}
 use Rattle.calculus.specs.Layout.{mark}
 use Rattle.calculus.proofs.Facts.{pour-one}
-use borrow.Author.Rules.{rules}
 use Rattle.masks.proofs.set_digit.Goals as goal
 
 one_word : (ws : List ℕ) (n x : ℕ) → x ≡ 2 ^ (n % 32) → set ws (n / 32) (bit_or (get_or ws (n / 32) 0) x) ≡ mark ws n

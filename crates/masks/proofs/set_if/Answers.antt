@@ -5,7 +5,6 @@ use mathlib.Core.Bool.{Bool, true, false}
 use mathlib.Core.List.{List}
 use Prim.Native.Nat.{ℕ}
 use Rattle.masks.specs.Masks.{mark_if}
-use borrow.Author.Rules.{rules}
 use Rattle.masks.proofs.set_if.Goals as goal
 
 arm : (ws : List ℕ) (n : ℕ) (b t : Bool) → b ≡ t → mark_if t ws n ≡ mark_if b ws n

@@ -3,7 +3,6 @@
 use mathlib.Core.Path.{ap, ◌∙◌}
 use mathlib.Core.Bool.{Bool}
 use Rattle.masks.specs.Masks.{mark_if}
-use borrow.Author.Rules.{rules}
 use Rattle.masks.proofs.set_sort.Goals as goal
 
 pub returns : goal.returns

@@ -5,7 +5,6 @@ use mathlib.Core.List.{List}
 use Prim.Native.Nat.{ℕ, ◌+◌, ◌*◌}
 use Rattle.masks.specs.declared.Sort.TheVariants as sorts
 use Rattle.masks.specs.Masks.{sort_has, mark_if, mark_word}
-use borrow.Author.Rules.{rules}
 use Rattle.masks.proofs.set_word.Goals as goal
 
 in-turn : (row v m : ℕ) (ws one two three four : List ℕ) → one ≡ mark_if (sort_has sorts.Function m) ws v

@@ -1,6 +1,6 @@
 use mathlib.Core.Path.{◌≡◌, sym, ap, ◌∙◌}
 use mathlib.Core.List.{List, [], ◌∷◌}
-use Prim.Native.Nat.{ℕ, ◌+◌, ◌-◌, ◌≤◌}
+use Prim.Native.Nat.{ℕ, ◌+◌}
 use native.Mathlib.Numerals.{add-one}
 use native.Mathlib.Omega.{arith}
 use lib.ListN.{length, replicate}
@@ -8,7 +8,6 @@ use Rattle.calculus.specs.Layout.{pour}
 use Rattle.calculus.proofs.Facts.{pour-nil}
 use Rattle.calculus.proofs.Slices.{length-pour}
 use Rattle.rows.proofs.Full.{full, pour-more}
-use borrow.Author.Rules.{rules}
 use Rattle.masks.proofs.set_words.Goals as goal
 
 kept : (old new : List ℕ) (at k : ℕ) → new ≡ pour old at (replicate k full) → length new ≡ length old

@@ -10,7 +10,6 @@ use Rattle.table.specs.Words.{kind, first_kind}
 use Rattle.table.proofs.Constants.{at}
 use Rattle.masks.specs.Masks.{makes_by_kind, word_makes}
 use Rattle.masks.proofs.Sorts.{other_word}
-use borrow.Author.Rules.{rules}
 use Rattle.masks.proofs.word_makes.Goals as goal
 
 -- the code's number holds what each kind makes, two bits for each

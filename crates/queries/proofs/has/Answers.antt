@@ -2,7 +2,6 @@
 use Rattle.permset.specs.Sets.{member}
 use native.Mathlib.Omega.{arith}
 use Rattle.queries.proofs.Laws.{row_in, has-is}
-use borrow.Author.Rules.{rules}
 use Rattle.queries.proofs.has.Goals as goal
 
 pub overflow_mul-at : goal.overflow_mul-at

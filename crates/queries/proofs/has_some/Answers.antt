@@ -5,7 +5,6 @@ use native.Mathlib.Nat.{add-sub_cancel_left}
 use native.Mathlib.Omega.{arith}
 use lib.ListN.{length}
 use Rattle.queries.proofs.Laws.{row_in, mask-in, some_is}
-use borrow.Author.Rules.{rules}
 use Rattle.queries.proofs.has_some.Goals as goal
 
 pub overflow_mul-at : goal.overflow_mul-at

@@ -1,6 +1,5 @@
 -- `queries::has_thing` meets its contract. Assumes nothing.
 use Rattle.permset.specs.Sets.{member}
-use borrow.Author.Rules.{rules}
 use Rattle.queries.proofs.has_thing.Goals as goal
 
 pub returns : goal.returns

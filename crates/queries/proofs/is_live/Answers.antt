@@ -1,7 +1,6 @@
 -- `queries::is_live` meets its contract. Assumes nothing.
 use Rattle.permset.specs.Sets.{member}
 use Rattle.queries.proofs.Laws.{live-is}
-use borrow.Author.Rules.{rules}
 use Rattle.queries.proofs.is_live.Goals as goal
 
 pub returns : goal.returns

@@ -1,8 +1,7 @@
 -- `queries::later_thing` meets its contract: the lowest digit of the next word in common. Assumes nothing.
-use Prim.Native.Nat.{◌*◌, ◌≤◌}
+use Prim.Native.Nat.{◌*◌}
 use native.Mathlib.Omega.{arith}
-use lib.Count.{count_trailing_zeros, trailing_le}
-use borrow.Author.Rules.{rules}
+use lib.Count.{trailing_le}
 use Rattle.permset.specs.Sets.{lowest}
 use Rattle.queries.specs.Things.{common}
 use Rattle.queries.proofs.Nexts.{later-found, later-none}

@@ -2,7 +2,6 @@
 use mathlib.Core.Path.{sym}
 use native.Mathlib.Omega.{arith}
 use lib.Count.{trailing_le}
-use borrow.Author.Rules.{rules}
 use Rattle.permset.specs.Sets.{lowest}
 use Rattle.queries.proofs.Nexts.{next-found}
 use Rattle.queries.proofs.next_thing.Goals as goal

@@ -1,6 +1,4 @@
 -- `queries::starts` meets its contract. Assumes nothing.
-use borrow.Author.Rules.{rules}
-use borrow.Author.Tests.{not-true, not-false}
 use Rattle.queries.proofs.Laws.{both_true, first-false}
 use Rattle.queries.proofs.starts.Goals as goal
 

@@ -3,7 +3,6 @@
 use mathlib.Core.Path.{◌∙◌}
 use Rattle.readers.specs.Reading.{item_guarded}
 use Rattle.readers.proofs.Found.{guarded-of}
-use borrow.Author.Rules.{rules}
 use Rattle.readers.proofs.entered.Goals as goal
 
 pub returns-in-Gap : goal.returns-in-Gap

@@ -1,17 +1,15 @@
 use Rattle.table.proofs.Limits.{size-le}
 use mathlib.Core.Path.{◌≡◌, sym, ap, ◌∙◌, subst}
-use Prim.Native.Nat.{ℕ, ◌+◌, ◌-◌, ◌<◌}
+use Prim.Native.Nat.{ℕ, ◌+◌, ◌<◌}
 use native.Mathlib.Omega.{arith}
 use lib.Bits.{bit_or}
 use lib.ListN.{length}
-use borrow.Author.Rules.{rules}
 use Rattle.table.specs.declared.Link.{Link}
 use Rattle.table.specs.Code.{code, end_of}
 use Rattle.table.proofs.Blocks.{Follows}
-use Rattle.calculus.specs.Estimate.{leak_among, leak}
+use Rattle.calculus.specs.Estimate.{leak_among}
 use Rattle.table.proofs.BlockLoop.{blocks_on, named-there, follows-first, next-is, follows_next, next-later}
 use Rattle.readers.proofs.Found.{leak-start, leak-step, leak-end}
-use borrow.Author.Rules.{rules}
 use Rattle.readers.proofs.leak.Goals as goal
 
 pub loop-b-init : goal.loop-b-init

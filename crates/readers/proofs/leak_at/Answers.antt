@@ -3,13 +3,11 @@
 use mathlib.Core.Path.{sym, ap, ◌∙◌}
 use Prim.Native.Nat.{ℕ, ◌%◌, ◌<◌}
 use lib.ListN.{length, get_or}
-use borrow.Author.Tests.{not-true, not-false}
 use Rattle.table.specs.Code.{code}
 use Rattle.table.proofs.Limits.{size-le}
 use Rattle.calls.proofs.Bounds.{size_small, row_small, words-bound, words_are, flags-base}
 use Rattle.readers.proofs.Found.{among-closed, among-open, guarded-is}
 use native.Mathlib.Omega.{arith}
-use borrow.Author.Rules.{rules}
 use Rattle.readers.proofs.leak_at.Goals as goal
 
 pub returns-then-not-entered : goal.returns-then-not-entered

@@ -1,7 +1,6 @@
 -- `report::handler_line` meets its contract. Assumes nothing.
 use mathlib.Core.Path.{◌∙◌}
 use native.Mathlib.Omega.{arith}
-use borrow.Author.Rules.{rules}
 use Rattle.report.specs.Lines.{handler_line}
 use Rattle.text.proofs.Writing.{then, wrote-length}
 use Rattle.report.proofs.handler_line.Goals as goal

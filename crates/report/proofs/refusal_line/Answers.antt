@@ -1,6 +1,5 @@
 -- `report::refusal_line` meets its contract. Assumes nothing.
 use native.Mathlib.Omega.{arith}
-use borrow.Author.Rules.{rules}
 use Rattle.report.specs.Lines.{refusal_line}
 use Rattle.text.proofs.Writing.{then}
 use Rattle.report.proofs.refusal_line.Goals as goal

@@ -1,6 +1,5 @@
 -- `report::verdict_line` meets its contract. Assumes nothing.
 use native.Mathlib.Omega.{arith}
-use borrow.Author.Rules.{rules}
 use Rattle.report.specs.Lines.{verdict_line}
 use Rattle.text.proofs.Writing.{then}
 use Rattle.report.proofs.verdict_line.Goals as goal

@@ -1,9 +1,5 @@
-use mathlib.Core.Path.{◌≡◌, refl, sym, ◌∙◌}
-use Prim.Native.Nat.{◌-◌}
+use mathlib.Core.Path.{refl, sym, ◌∙◌}
 use native.Mathlib.Omega.{arith}
-use lib.ListN.{length, drop}
-use borrow.Author.Rules.{rules}
-use Rattle.calculus.specs.Estimate.{same}
 use Rattle.results.proofs.Sides.{same_here, same-later, same-done}
 use Rattle.results.proofs.alike.Goals as goal
 

@@ -1,12 +1,9 @@
 -- `results::alike` meets its contract. The loop's invariant: the words are the same exactly if they are so from `i` on.
 -- Assumes nothing.
-use mathlib.Core.Path.{◌≡◌, refl, sym, ◌∙◌}
+use mathlib.Core.Path.{◌≡◌}
 use Prim.Native.Nat.{◌-◌}
-use native.Mathlib.Omega.{arith}
 use lib.ListN.{length, drop}
-use borrow.Author.Rules.{rules}
 use Rattle.calculus.specs.Estimate.{same}
-use Rattle.results.proofs.Sides.{same_here, same-later, same-done}
 use Rattle.results.proofs.alike.Given as goal
 
 abbrev pub invariant-loop-i : goal.invariant-loop-i

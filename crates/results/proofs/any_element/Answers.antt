@@ -2,7 +2,6 @@
 -- Assumes nothing.
 use mathlib.Core.Path.{sym, ◌∙◌}
 use Rattle.results.proofs.Sides.{nonzero-first, nonzero-rest}
-use borrow.Author.Rules.{rules}
 use Rattle.results.proofs.any_element.Goals as goal
 
 pub returns-then-x-ne0 : goal.returns-then-x-ne0

@@ -10,7 +10,6 @@ use borrow.Author.Tests.{not-true, not-false}
 use lib.Bits.{bit_or}
 use Rattle.calculus.proofs.EqualResults.{same_mask, apart_mask, equal_mask}
 use Rattle.calculus.proofs.Masks.{nonzero}
-use borrow.Author.Rules.{rules}
 use Rattle.results.proofs.compare.Goals as goal
 
 module _ (xs ys : List ℕ) where

@@ -6,7 +6,6 @@ use Rattle.table.specs.declared.Constant.{Constant}
 use Rattle.table.specs.declared.Constant.TheVariants as constants
 use Rattle.table.specs.Words.{constant_number}
 use Rattle.calculus.specs.Elements.{constant_element}
-use borrow.Author.Rules.{rules}
 use Rattle.results.proofs.constant_bit.Goals as goal
 
 arm : (k v : Constant) → k ≡ v → 2 ^ constant_element v ≡ 2 ^ constant_element k

@@ -1,10 +1,9 @@
 use mathlib.Core.Path.{◌≡◌}
 use mathlib.Core.List.{List}
-use Prim.Native.Nat.{ℕ, ◌+◌, ◌-◌, ◌<◌, ◌^◌}
+use Prim.Native.Nat.{ℕ, ◌+◌, ◌<◌, ◌^◌}
 use native.Mathlib.Omega.{arith}
 use lib.Count.{ones}
 use lib.ListN.{length, drop, get_or}
-use borrow.Author.Rules.{rules}
 use Rattle.calculus.specs.Estimate.{facts}
 use Rattle.rows.proofs.Laws.{facts-most}
 use Rattle.results.proofs.Sides.{facts-later, facts-done}
@@ -18,7 +17,7 @@ pub loop-i-init : goal.loop-i-init
 loop-i-init c = omega arith
 
 pub overflow_add-n : goal.overflow_add-n
-overflow_add-n c = 
+overflow_add-n c =
     let k = counted c.args.words.now c.loop-i.n c.loop-i.i c.loop-i.invariant (omega arith) (c.type_inv.words c.loop-i.i).fits in
     omega (arith, k, facts-most c.args.words.now)
 

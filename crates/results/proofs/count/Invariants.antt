@@ -2,13 +2,8 @@
 -- Assumes nothing.
 use mathlib.Core.Path.{◌≡◌}
 use Prim.Native.Nat.{◌+◌, ◌-◌}
-use native.Mathlib.Omega.{arith}
-use lib.Count.{ones}
-use lib.ListN.{length, drop, get_or}
-use borrow.Author.Rules.{rules}
+use lib.ListN.{length, drop}
 use Rattle.calculus.specs.Estimate.{facts}
-use Rattle.rows.proofs.Laws.{facts-most}
-use Rattle.results.proofs.Sides.{facts-later, facts-done}
 use Rattle.results.proofs.count.Given as goal
 
 abbrev pub invariant-loop-i : goal.invariant-loop-i

@@ -16,7 +16,6 @@ use Rattle.calculus.proofs.EqualResults.{apart}
 use Rattle.calculus.proofs.Masks.{nonzero}
 use Rattle.rows.proofs.Laws.{facts-most}
 use Rattle.results.proofs.Sides.{nonzero-first, nonzero-rest, same_not, same_rest, facts-first}
-use borrow.Author.Rules.{rules}
 use Rattle.results.proofs.differ.Goals as goal
 
 masked-none : (xs : List ℕ) → nonzero (masked xs []) ≡ false

@@ -5,7 +5,6 @@ use mathlib.Core.Bool.{true, false}
 use mathlib.Core.List.{List}
 use Prim.Native.Nat.{ℕ}
 use Rattle.calculus.proofs.EqualResults.{apart, apart_mask}
-use borrow.Author.Rules.{rules}
 use Rattle.results.proofs.differ_bits.Goals as goal
 
 module _ (xs ys : List ℕ) where

@@ -4,7 +4,6 @@ use mathlib.Core.Path.{◌∙◌}
 use Prim.Native.Nat.{ℕ, ◌*◌, ◌^◌, ◌<◌}
 use native.Mathlib.Nat.{mod-eq_of_lt, one-mul}
 use lib.Pow.{pow-lt}
-use borrow.Author.Rules.{rules}
 use Rattle.results.proofs.digit.Goals as goal
 
 small : (i : ℕ) → i < 32 → 1 * 2 ^ i < 2 ^ 32

@@ -8,7 +8,6 @@ use Rattle.table.specs.declared.Operation.TheVariants as operations
 use Rattle.calculus.proofs.EqualResults.{comparables}
 use Rattle.calculus.proofs.OperationResults.{operation_mask}
 use Rattle.results.specs.Signs.{sign_table}
-use borrow.Author.Rules.{rules}
 use Rattle.results.proofs.operate.Goals as goal
 
 module _ (xs ys : List ℕ) where

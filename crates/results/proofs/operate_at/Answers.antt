@@ -5,7 +5,6 @@ use mathlib.Core.List.{List}
 use Prim.Native.Nat.{ℕ}
 use Rattle.calculus.proofs.OperationResults.{operation_mask}
 use Rattle.results.proofs.Sides.{side_cut}
-use borrow.Author.Rules.{rules}
 use Rattle.results.proofs.operate_at.Goals as goal
 
 pub returns : goal.returns

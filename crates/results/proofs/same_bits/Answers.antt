@@ -10,7 +10,6 @@ use Rattle.calculus.proofs.EqualResults.{same_mask}
 use Rattle.calculus.proofs.Masks.{nonzero}
 use Rattle.rows.proofs.Laws.{meets-nonzero}
 use Rattle.results.proofs.Sides.{nonzero-first, nonzero-rest}
-use borrow.Author.Rules.{rules}
 use Rattle.results.proofs.same_bits.Goals as goal
 
 module _ (xs ys : List ℕ) where

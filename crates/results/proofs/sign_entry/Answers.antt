@@ -10,7 +10,6 @@ use borrow.Author.Tests.{not-true, not-false}
 use lib.ListN.{get_or}
 use Rattle.permset.specs.Sets.{member}
 use Rattle.calculus.proofs.SignResults.{sign_entry}
-use borrow.Author.Rules.{rules}
 use Rattle.results.proofs.sign_entry.Goals as goal
 
 module _ (t : List ℕ) (a d k : ℕ) where

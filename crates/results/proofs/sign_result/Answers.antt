@@ -9,7 +9,6 @@ use borrow.Author.Tests.{eq-eqb, ne_eqb, lt-ltb, le-ltb}
 use Rattle.table.proofs.Constants.{at}
 use Rattle.calculus.proofs.SignResults.{sum_masks, less_masks}
 use Rattle.results.specs.Signs.{sign_table}
-use borrow.Author.Rules.{rules}
 use Rattle.results.proofs.sign_result.Goals as goal
 
 -- the bit of a sign, as the code shifts it

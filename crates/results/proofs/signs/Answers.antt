@@ -1,11 +1,10 @@
 use mathlib.Core.Path.{◌≡◌, refl, ap, ap₂, ◌∙◌}
 use mathlib.Core.List.{List}
-use Prim.Native.Nat.{ℕ, ◌+◌, ◌-◌, ◌≤◌}
+use Prim.Native.Nat.{ℕ, ◌+◌}
 use native.Mathlib.Numerals.{add-one}
 use native.Mathlib.Omega.{arith}
 use lib.Bits.{bit_or}
 use Rattle.calculus.proofs.SignResults.{sign_entry, signs_below}
-use Rattle.results.specs.Signs.{sign_table}
 use borrow.Author.Rules.{rules}
 use Rattle.results.proofs.signs.Goals as goal
 

@@ -1,14 +1,9 @@
 -- `results::signs` meets its contract. The loop's invariant: the or over the entries passed.
 -- Assumes nothing.
-use mathlib.Core.Path.{◌≡◌, refl, ap, ap₂, ◌∙◌}
-use mathlib.Core.List.{List}
-use Prim.Native.Nat.{ℕ, ◌+◌, ◌-◌, ◌≤◌}
-use native.Mathlib.Numerals.{add-one}
-use native.Mathlib.Omega.{arith}
-use lib.Bits.{bit_or}
-use Rattle.calculus.proofs.SignResults.{sign_entry, signs_below}
+use mathlib.Core.Path.{◌≡◌}
+use Prim.Native.Nat.{◌-◌, ◌≤◌}
+use Rattle.calculus.proofs.SignResults.{signs_below}
 use Rattle.results.specs.Signs.{sign_table}
-use borrow.Author.Rules.{rules}
 use Rattle.results.proofs.signs.Given as goal
 
 abbrev pub invariant-loop-i : goal.invariant-loop-i

@@ -1,15 +1,10 @@
 -- `table_links::bind_parts` meets its contract. The loop's invariant: the parts that are left, bound from here, give all of them.
 -- Assumes nothing.
-use mathlib.Core.Path.{◌≡◌, refl, sym, ap, ap₂, subst, ◌∙◌}
-use mathlib.Core.List.{List}
-use Prim.Native.Nat.{ℕ, suc, ◌+◌, ◌-◌, ◌<◌, ◌≤◌}
-use native.Mathlib.Numerals.{add-one}
+use mathlib.Core.Path.{◌≡◌}
+use Prim.Native.Nat.{suc, ◌-◌}
 use lib.ListN.{length, drop}
-use borrow.Author.Rules.{rules}
-use Rattle.table.specs.declared.Link.{Link}
-use Rattle.table.specs.Words.{parts, arity}
-use Rattle.table.specs.Links.{with_binder, bind_parts}
-use Rattle.table_links.proofs.Passes.{length-with_binder, parts_more, parts-done}
+use Rattle.table.specs.Words.{parts}
+use Rattle.table.specs.Links.{bind_parts}
 use Rattle.table_links.proofs.bind_parts.Given as goal
 
 abbrev pub invariant-loop-i : goal.invariant-loop-i

@@ -1,11 +1,7 @@
 -- `table_links::count_out` meets its contract. The loop's invariant: the steps that are left lead to where all of them lead.
 -- Assumes nothing.
-use mathlib.Core.Path.{◌≡◌, refl, sym, ap, ◌∙◌}
-use Prim.Native.Nat.{ℕ, ◌-◌}
-use Rattle.table.specs.declared.Link.{Link}
-use borrow.Author.Rules.{rules}
+use mathlib.Core.Path.{◌≡◌}
 use Rattle.table.specs.Links.{iterate, link_at}
-use Rattle.table_links.proofs.Iterate.{iterate-more, iterate-done}
 use Rattle.table_links.proofs.count_out.Given as goal
 
 abbrev pub invariant-loop-left : goal.invariant-loop-left

@@ -1,5 +1,4 @@
 use Rattle.table.specs.Item.{handler_at}
-use borrow.Author.Rules.{rules}
 use Rattle.table_links.proofs.handler_at.Goals as goal
 
 pub returns : goal.returns

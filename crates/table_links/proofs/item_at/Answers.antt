@@ -2,7 +2,6 @@
 -- Assumes nothing.
 use mathlib.Core.Path.{sym, ap, ◌∙◌}
 use native.Mathlib.Omega.{arith}
-use borrow.Author.Rules.{rules}
 use Rattle.table.specs.declared.Item.TheVariants as items
 use Rattle.table.proofs.Items.{item-block, item-gap, item-term, item-past}
 use Rattle.table_links.proofs.item_at.Goals as goal

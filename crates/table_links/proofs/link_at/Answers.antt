@@ -1,7 +1,6 @@
 use mathlib.Core.Path.{ap, sym, ◌∙◌}
 use lib.ListN.{get_or-eq_default}
 use Rattle.table.specs.Links.{unpack, link_at}
-use borrow.Author.Rules.{rules}
 use Rattle.table_links.proofs.link_at.Goals as goal
 
 pub returns-then-p-links : goal.returns-then-p-links

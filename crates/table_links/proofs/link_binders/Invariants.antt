@@ -1,13 +1,9 @@
 -- `table_links::link_binders` meets its contract. The loop's invariant: the words that are left, bound from here, give all of them.
 -- Assumes nothing.
-use mathlib.Core.Path.{◌≡◌, refl, sym, ap, ap₂, ◌∙◌}
-use mathlib.Core.List.{List}
-use Prim.Native.Nat.{ℕ, ◌+◌, ◌-◌, ◌≤◌}
-use native.Mathlib.Nat.{sub-zero}
-use lib.ListN.{length, get_or}
-use borrow.Author.Rules.{rules}
-use Rattle.table.specs.Links.{with_home, block_at, binders}
-use Rattle.table_links.proofs.Passes.{binders-more, binders-done}
+use mathlib.Core.Path.{◌≡◌}
+use Prim.Native.Nat.{◌-◌, ◌≤◌}
+use lib.ListN.{length}
+use Rattle.table.specs.Links.{binders}
 use Rattle.table_links.proofs.link_binders.Given as goal
 
 abbrev pub invariant-loop-p : goal.invariant-loop-p

@@ -1,6 +1,6 @@
-use mathlib.Core.Path.{◌≡◌, refl, sym, ap, ◌∙◌}
-use Prim.Native.Nat.{ℕ, ◌-◌, ◌≤◌}
-use lib.ListN.{length, set, length-set}
+use mathlib.Core.Path.{refl, sym, ap, ◌∙◌}
+use Prim.Native.Nat.{ℕ, ◌-◌}
+use lib.ListN.{set, length-set}
 use borrow.Author.Rules.{rules}
 use Rattle.table.specs.Links.{pack, hops, ends}
 use Rattle.table_links.proofs.Passes.{ends_more, ends-done}

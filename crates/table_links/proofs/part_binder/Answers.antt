@@ -5,7 +5,6 @@ use mathlib.Core.Bool.{Bool, true, false}
 use Prim.Native.Nat.{ℕ}
 use native.Mathlib.Omega.{arith}
 use lib.ListN.{get_or}
-use borrow.Author.Rules.{rules}
 use Rattle.table.specs.Words.{parts, mark}
 use Rattle.table.specs.Links.{innermost}
 use Rattle.table_links.proofs.part_binder.Goals as goal

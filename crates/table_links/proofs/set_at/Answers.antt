@@ -2,7 +2,6 @@ use mathlib.Core.Path.{ap, sym}
 use Prim.Native.Nat.{ℕ}
 use lib.ListN.{get_or-eq_default}
 use Rattle.table.specs.Item.{set_of}
-use borrow.Author.Rules.{rules}
 use Rattle.table_links.proofs.set_at.Goals as goal
 
 pub returns-then-p-words : goal.returns-then-p-words

@@ -4,7 +4,6 @@ use mathlib.Core.Path.{sym, ap, ◌∙◌}
 use Prim.Native.Nat.{ℕ}
 use lib.ListN.{set}
 use lib.Seq.{set_out}
-use borrow.Author.Rules.{rules}
 use Rattle.table.specs.declared.Link.{Link}
 use Rattle.table.specs.Links.{pack, with_binder}
 use Rattle.table_links.proofs.set_binder.Goals as goal

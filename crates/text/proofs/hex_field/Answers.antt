@@ -1,6 +1,5 @@
 -- `text::hex_field` meets its contract. Assumes nothing.
 use native.Mathlib.Omega.{arith}
-use borrow.Author.Rules.{rules}
 use Rattle.text.specs.Text.{hex_word}
 use Rattle.text.proofs.Writing.{then}
 use Rattle.text.proofs.hex_field.Goals as goal

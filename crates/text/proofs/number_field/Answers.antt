@@ -1,6 +1,5 @@
 -- `text::number_field` meets its contract. Assumes nothing.
 use native.Mathlib.Omega.{arith}
-use borrow.Author.Rules.{rules}
 use Rattle.text.specs.Text.{decimal}
 use Rattle.text.proofs.Writing.{then}
 use Rattle.text.proofs.number_field.Goals as goal

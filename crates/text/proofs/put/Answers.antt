@@ -1,12 +1,11 @@
-use Prim.Native.Nat.{◌+◌, ◌-◌, ◌≤◌}
-use mathlib.Core.Path.{◌≡◌, refl}
+use Prim.Native.Nat.{◌+◌}
+use mathlib.Core.Path.{refl}
 use native.Mathlib.Numerals.{add-one}
 use native.Mathlib.Nat.{add_assoc, add-zero}
 use native.Mathlib.Omega.{arith}
-use lib.ListN.{length, get_or, take}
+use lib.ListN.{get_or}
 use lib.Seq.{take-suc, take_all}
 use borrow.Author.Rules.{rules}
-use Rattle.text.specs.Writing.{Wrote}
 use Rattle.text.proofs.Writing.{wrote_nothing, wrote-byte, then}
 use Rattle.text.proofs.put.Goals as goal
 

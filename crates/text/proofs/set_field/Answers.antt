@@ -1,6 +1,5 @@
 -- `text::set_field` meets its contract. Assumes nothing.
 use native.Mathlib.Omega.{arith}
-use borrow.Author.Rules.{rules}
 use Rattle.text.specs.Text.{set}
 use Rattle.text.proofs.Writing.{then}
 use Rattle.text.proofs.set_field.Goals as goal

@@ -4,7 +4,6 @@ use mathlib.Core.Path.{sym, ap, ◌∙◌}
 use Rattle.table.specs.Answer.{outcome}
 use Rattle.calls.specs.Faults.{fault_number, fault_place}
 use Rattle.calls.proofs.Answers.{answer-table}
-use borrow.Author.Rules.{rules}
 use Rattle.calls.proofs.checks.check.Goals as goal
 
 pub check_call-requires : goal.check_call-requires

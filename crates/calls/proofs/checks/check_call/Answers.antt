@@ -1,15 +1,9 @@
 -- `calls::checks::check_call` meets its contract: each test in turn.
 -- Assumes nothing.
-use Prim.Native.Nat.{◌≤◌}
-use Rattle.table.specs.Code.{code}
-use Rattle.calculus.specs.Layout.{estimate_words}
-use mathlib.Core.Path.{◌≡◌, sym, ◌∙◌}
-use mathlib.Core.Bool.{false}
+use mathlib.Core.Path.{sym, ◌∙◌}
 use Rattle.calls.specs.Faults.{fault_number, fault_place}
-use Rattle.calls.specs.Calls.{stray_bound}
 use Rattle.calls.proofs.Answers.{rho-wrong, bound-wrong, estimate-short, work-short, call_fits}
 use native.Mathlib.Omega.{arith}
-use borrow.Author.Rules.{rules}
 use Rattle.calls.proofs.checks.check_call.Goals as goal
 
 pub returns-then-rho-ge16777216 : goal.returns-then-rho-ge16777216

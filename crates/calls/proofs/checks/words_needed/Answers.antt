@@ -2,7 +2,6 @@
 -- Assumes nothing.
 use mathlib.Core.Path.{sym, ◌∙◌}
 use Rattle.calls.proofs.Bounds.{size_small, row_small, words_are}
-use borrow.Author.Rules.{rules}
 use Rattle.calls.proofs.checks.words_needed.Goals as goal
 
 pub words-requires : goal.words-requires

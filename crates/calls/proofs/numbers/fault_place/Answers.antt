@@ -1,7 +1,6 @@
 -- `calls::numbers::fault_place` meets its contract: a case for each fault. Assumes nothing.
 use mathlib.Core.Path.{sym, ap, ◌∙◌}
 use Rattle.calls.specs.Faults.{fault_place}
-use borrow.Author.Rules.{rules}
 use Rattle.calls.proofs.numbers.fault_place.Goals as goal
 
 pub returns-in-Table : goal.returns-in-Table

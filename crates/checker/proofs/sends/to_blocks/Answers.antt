@@ -1,15 +1,9 @@
 use mathlib.Core.Bool.{not}
 use mathlib.Core.Path.{ap}
-use borrow.Author.Rules.{rules}
-use Prim.Native.Nat.{◌-◌}
 use native.Mathlib.Omega.{arith}
-use lib.ListN.{length}
-use Rattle.table.specs.Code.{code}
 use Rattle.table.proofs.BlockLoop.{named-there, body-inside}
-use Rattle.calculus.specs.Layout.{sets}
 use Rattle.clauses.specs.Asks.{sort_at}
-use Rattle.checker.specs.Sends.{AskedFor}
-use Rattle.checker.proofs.Blocks.{Looked, looked-start, looked-next, looked-all}
+use Rattle.checker.proofs.Blocks.{looked-start, looked-next, looked-all}
 use Rattle.checker.proofs.Sent.{nothing-sent, something-sent}
 use Rattle.checker.proofs.sends.to_blocks.Goals as goal
 

@@ -1,16 +1,11 @@
 -- `checker::sends::to_blocks` meets its contract. The loop's invariant: b is the next block or the end, and what the blocks from b on ask is
 -- still to be looked at. Assumes nothing.
-use borrow.Author.Rules.{rules}
 use Prim.Native.Nat.{◌-◌}
-use native.Mathlib.Omega.{arith}
 use lib.ListN.{length}
 use Rattle.table.specs.Code.{code}
-use Rattle.table.proofs.BlockLoop.{named-there, body-inside}
 use Rattle.calculus.specs.Layout.{sets}
-use Rattle.clauses.specs.Asks.{sort_at}
 use Rattle.checker.specs.Sends.{AskedFor}
-use Rattle.checker.proofs.Blocks.{Looked, looked-start, looked-next, looked-all}
-use Rattle.checker.proofs.Sent.{nothing-sent, something-sent}
+use Rattle.checker.proofs.Blocks.{Looked}
 use Rattle.checker.proofs.sends.to_blocks.Given as goal
 
 abbrev pub invariant-loop-b : goal.invariant-loop-b

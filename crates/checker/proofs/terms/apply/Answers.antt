@@ -1,5 +1,4 @@
 -- `checker::terms::apply` meets its contract. Assumes nothing.
-use borrow.Author.Rules.{rules}
 use Rattle.calculus.specs.Rules.{flow, two_rule}
 use Rattle.clauses.specs.Asks.{thing_at}
 use Rattle.checker.proofs.Laws.{both, parted}

@@ -1,5 +1,4 @@
 -- `checker::terms::assign` meets its contract. Assumes nothing.
-use borrow.Author.Rules.{rules}
 use native.Mathlib.Omega.{arith}
 use Rattle.calculus.specs.Rules.{flow, two_rule}
 use Rattle.clauses.specs.Asks.{sort_at, thing_at}

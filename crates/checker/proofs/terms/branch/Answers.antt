@@ -1,5 +1,4 @@
 -- `checker::terms::branch` meets its contract. Assumes nothing.
-use borrow.Author.Rules.{rules}
 use Rattle.calculus.specs.Rules.{flow}
 use Rattle.checker.proofs.Laws.{both}
 use Rattle.checker.proofs.Rows.{CC}

@@ -1,5 +1,4 @@
 -- `checker::terms::cell` meets its contract. Assumes nothing.
-use borrow.Author.Rules.{rules}
 use Rattle.calculus.specs.Rules.{flow, one_rule}
 use Rattle.checker.proofs.Laws.{both}
 use Rattle.checker.proofs.Rows.{CB}

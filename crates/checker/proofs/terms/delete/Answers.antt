@@ -1,7 +1,6 @@
 -- `checker::terms::delete` meets its contract. Assumes nothing.
 use mathlib.Core.Bool.{not}
 use mathlib.Core.Path.{ap}
-use borrow.Author.Rules.{rules}
 use Prim.Native.Nat.{◌+◌}
 use Rattle.calculus.specs.Rules.{flow, two_rule}
 use Rattle.clauses.specs.Asks.{sort_at}

@@ -1,6 +1,5 @@
 -- `checker::terms::exercise` meets its contract. Assumes nothing.
 use mathlib.Core.Bool.{not}
-use borrow.Author.Rules.{rules}
 use mathlib.Core.Path.{refl, ap, ◌∙◌}
 use Rattle.permset.specs.Sets.{within}
 use Rattle.calculus.specs.Rules.{leaf_rule}

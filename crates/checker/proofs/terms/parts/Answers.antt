@@ -1,5 +1,4 @@
 -- `checker::terms::parts` meets its contract. Assumes nothing.
-use borrow.Author.Rules.{rules}
 use Rattle.checker.proofs.Laws.{both}
 use Rattle.checker.proofs.terms.parts.Goals as goal
 

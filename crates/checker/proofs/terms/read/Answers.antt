@@ -1,5 +1,4 @@
 -- `checker::terms::read` meets its contract. Assumes nothing.
-use borrow.Author.Rules.{rules}
 use Rattle.calculus.specs.Rules.{flow, one_rule}
 use Rattle.clauses.specs.Asks.{thing_at}
 use Rattle.checker.proofs.Laws.{both}

@@ -1,5 +1,4 @@
 -- `checker::terms::repeat` meets its contract. Assumes nothing.
-use borrow.Author.Rules.{rules}
 use Rattle.calculus.specs.Rules.{flow}
 use Rattle.checker.proofs.Laws.{both, put_is, under-or, on-given}
 use Rattle.checker.proofs.terms.repeat.Goals as goal

@@ -1,5 +1,4 @@
 -- `checker::terms::sequence` meets its contract. Assumes nothing.
-use borrow.Author.Rules.{rules}
 use Rattle.calculus.specs.Rules.{flow, two_rule}
 use Rattle.checker.proofs.Laws.{both, parted}
 use Rattle.checker.proofs.Rows.{CC}

@@ -1,7 +1,6 @@
 -- `checker::terms::set` meets its contract. Assumes nothing.
 use mathlib.Core.Bool.{not}
 use mathlib.Core.Path.{ap}
-use borrow.Author.Rules.{rules}
 use native.Mathlib.Omega.{arith}
 use Rattle.calculus.specs.Rules.{flow}
 use Rattle.clauses.specs.Asks.{sort_at, thing_at}

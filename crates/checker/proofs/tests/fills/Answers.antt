@@ -1,5 +1,4 @@
 -- `checker::tests::fills` meets its contract. Assumes nothing.
-use borrow.Author.Rules.{rules}
 use Rattle.checker.proofs.Laws.{under-or, on-given}
 use Rattle.checker.proofs.tests.fills.Goals as goal
 

@@ -1,8 +1,5 @@
-use Prim.Native.Nat.{ℕ, ◌+◌, ◌-◌, ◌≤◌, ◌<◌}
-use mathlib.Core.Path.{◌≡◌}
 use native.Mathlib.Omega.{arith}
 use borrow.Author.Count.{below_more}
-use lib.ListN.{get_or}
 use Rattle.queries.proofs.Laws.{row_in}
 use Rattle.checker.proofs.Rows.{full_is, gap_is}
 use borrow.Author.Rules.{rules}

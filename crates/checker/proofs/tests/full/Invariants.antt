@@ -1,12 +1,7 @@
 -- `checker::tests::full` meets its contract. The loop's invariant: the words passed are full. Assumes nothing.
 use Prim.Native.Nat.{ℕ, ◌+◌, ◌-◌, ◌≤◌, ◌<◌}
 use mathlib.Core.Path.{◌≡◌}
-use native.Mathlib.Omega.{arith}
-use borrow.Author.Count.{below_more}
 use lib.ListN.{get_or}
-use Rattle.queries.proofs.Laws.{row_in}
-use Rattle.checker.proofs.Rows.{full_is, gap_is}
-use borrow.Author.Rules.{rules}
 use Rattle.checker.proofs.tests.full.Given as goal
 
 abbrev pub invariant-loop-k : goal.invariant-loop-k

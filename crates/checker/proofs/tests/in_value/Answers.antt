@@ -1,5 +1,4 @@
 -- `checker::tests::in_value` meets its contract. Assumes nothing.
-use borrow.Author.Rules.{rules}
 use mathlib.Core.Path.{◌∙◌}
 use Rattle.queries.proofs.Laws.{C-sets}
 use Rattle.checker.proofs.tests.in_value.Goals as goal

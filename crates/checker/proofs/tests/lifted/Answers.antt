@@ -1,5 +1,4 @@
 -- `checker::tests::lifted` meets its contract. Assumes nothing.
-use borrow.Author.Rules.{rules}
 use Rattle.checker.proofs.Laws.{decided}
 use Rattle.checker.proofs.Rows.{lifted-is}
 use mathlib.Core.Path.{refl, ◌∙◌}

@@ -1,5 +1,4 @@
 -- `checker::tests::part` meets its contract. Assumes nothing.
-use borrow.Author.Rules.{rules}
 use Rattle.checker.proofs.Laws.{both, put_is}
 use Rattle.checker.proofs.tests.part.Goals as goal
 

@@ -1,5 +1,4 @@
 -- `checker::tests::wakes` meets its contract. Assumes nothing.
-use borrow.Author.Rules.{rules}
 use Rattle.checker.proofs.Laws.{put_is, under-or, on-given}
 use Rattle.checker.proofs.tests.wakes.Goals as goal
 

@@ -1,5 +1,4 @@
 -- `checker::things::thing` meets its contract: an arm for each action. Assumes nothing.
-use borrow.Author.Rules.{rules}
 use native.Mathlib.Omega.{arith}
 use native.Mathlib.Numerals.{add-one}
 use Rattle.clauses.proofs.Sorts.{row-B}

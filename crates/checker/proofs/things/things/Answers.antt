@@ -1,10 +1,7 @@
 use mathlib.Core.Bool.{not}
 use mathlib.Core.Path.{ap}
-use Prim.Native.Nat.{◌-◌}
 use native.Mathlib.Omega.{arith}
-use borrow.Author.Rules.{rules}
-use Rattle.checker.specs.Things.{asked}
-use Rattle.checker.proofs.Found.{Looked, suits, may-search, body-in, looked-start, looked-more, all-passed, one-fails}
+use Rattle.checker.proofs.Found.{suits, may-search, body-in, looked-start, looked-more, all-passed, one-fails}
 use Rattle.checker.proofs.things.things.Goals as goal
 
 pub next_thing-f-requires : goal.next_thing-f-requires

@@ -1,10 +1,8 @@
 -- `checker::things::things` meets its contract. The loop's invariant: what is asked for each thing passed holds, and f is the next one or none.
 -- Assumes nothing.
 use Prim.Native.Nat.{◌-◌}
-use native.Mathlib.Omega.{arith}
-use borrow.Author.Rules.{rules}
 use Rattle.checker.specs.Things.{asked}
-use Rattle.checker.proofs.Found.{Looked, suits, may-search, body-in, looked-start, looked-more, all-passed, one-fails}
+use Rattle.checker.proofs.Found.{Looked}
 use Rattle.checker.proofs.things.things.Given as goal
 
 abbrev pub invariant-loop-f : goal.invariant-loop-f

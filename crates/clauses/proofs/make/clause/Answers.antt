@@ -1,5 +1,4 @@
 -- `clauses::make::clause` meets its contract: an arm for each kind, which is the clauses of that kind. Assumes nothing.
-use borrow.Author.Rules.{rules}
 use Rattle.table.specs.Words.{terms_by_kind}
 use Rattle.clauses.specs.Clauses.{of_item, of_term}
 use Rattle.clauses.proofs.ByKind.{by_kind, kinded, beyond}

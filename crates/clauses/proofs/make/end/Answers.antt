@@ -1,7 +1,6 @@
 -- `clauses::make::end` meets its contract: a field of a link is small. Assumes nothing.
 use mathlib.Core.Path.{refl}
 use native.Mathlib.Omega.{arith}
-use borrow.Author.Rules.{rules}
 use Rattle.table.specs.Links.{link_at, unpack}
 use Rattle.clauses.proofs.make.end.Goals as goal
 

@@ -1,5 +1,4 @@
 -- `clauses::make::exercise` meets its contract: its test is that of the definition. Assumes nothing.
-use borrow.Author.Rules.{rules}
 use Rattle.clauses.specs.Clauses.{of_exercise}
 use Rattle.clauses.proofs.make.exercise.Goals as goal
 

@@ -1,5 +1,4 @@
 -- `clauses::make::next_end` meets its contract. Assumes nothing.
-use borrow.Author.Rules.{rules}
 use Rattle.clauses.proofs.make.next_end.Goals as goal
 
 pub returns : goal.returns

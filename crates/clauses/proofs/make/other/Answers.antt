@@ -1,5 +1,4 @@
 -- `clauses::make::other` meets its contract: its test is that of the definition. Assumes nothing.
-use borrow.Author.Rules.{rules}
 use borrow.Author.Tests.{lt-ltb, le-ltb}
 use Rattle.clauses.specs.Clauses.{of_other}
 use Rattle.clauses.proofs.make.other.Goals as goal

@@ -1,5 +1,4 @@
 -- `clauses::make::permissions_of` meets its contract: only a block has permissions. Assumes nothing.
-use borrow.Author.Rules.{rules}
 use Rattle.table.specs.Item.{item_perms}
 use Rattle.clauses.proofs.make.permissions_of.Goals as goal
 

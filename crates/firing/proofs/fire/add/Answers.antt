@@ -1,6 +1,5 @@
 -- `firing::fire::add` meets its contract: an arm for each effect. Assumes nothing.
 use native.Mathlib.Omega.{arith}
-use borrow.Author.Rules.{rules}
 use Rattle.table.specs.Code.{code}
 use Rattle.calculus.specs.Rules.{two_rule}
 use Rattle.clauses.specs.Asks.{effect}

@@ -5,7 +5,6 @@ use native.Mathlib.Omega.{arith}
 use Rattle.table.specs.Code.{code}
 use Rattle.queries.proofs.Given.{sized}
 use Rattle.firing.proofs.Effects.{clause-fired}
-use borrow.Author.Rules.{rules}
 use Rattle.firing.proofs.fire.fire.Goals as goal
 
 pub holds-requires : goal.holds-requires

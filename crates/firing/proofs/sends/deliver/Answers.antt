@@ -4,7 +4,6 @@ use Rattle.queries.proofs.Laws.{value_in}
 use Rattle.rows.proofs.Laws.{facts-most}
 use Rattle.firing.proofs.Fires.{and_then}
 use Rattle.firing.proofs.Deliver.{live-well}
-use borrow.Author.Rules.{rules}
 use Rattle.firing.proofs.sends.deliver.Goals as goal
 
 pub overflow_add-delivered : goal.overflow_add-delivered

@@ -6,7 +6,6 @@ use Rattle.table.specs.declared.Link.{Link}
 use Rattle.table.specs.Code.{code}
 use Rattle.firing.proofs.Effects.{all_blocks, one_block}
 use Rattle.firing.proofs.Deliver.{not-block}
-use borrow.Author.Rules.{rules}
 use Rattle.firing.proofs.sends.send.Goals as goal
 
 pub send_all-requires : goal.send_all-requires

@@ -1,18 +1,9 @@
-use Prim.Native.Nat.{◌+◌, ◌-◌}
-use mathlib.Core.Path.{◌≡◌, refl, sym, ap, ◌∙◌}
-use borrow.Author.Rules.{rules}
+use mathlib.Core.Path.{refl, sym, ap, ◌∙◌}
 use native.Mathlib.Omega.{arith}
-use lib.ListN.{length}
 use Rattle.table.specs.declared.Link.{Link}
-use Rattle.table.specs.Code.{code}
-use Rattle.table.proofs.Blocks.{Follows}
-use Rattle.table.proofs.BlockLoop.{blocks_on, named-there, follows-first, body-inside, next-is, follows_next, next-later}
-use Rattle.calculus.specs.Constraint.{each}
-use Rattle.calculus.specs.Layout.{WellFormed}
-use Rattle.calculus.specs.Estimate.{fire, facts}
+use Rattle.table.proofs.BlockLoop.{named-there, follows-first, body-inside, next-is, follows_next, next-later}
 use Rattle.calculus.proofs.BlockRules.{all_start, all-step, all_end}
 use Rattle.rows.proofs.Laws.{facts-most}
-use Rattle.clauses.specs.Asks.{at_block}
 use Rattle.queries.proofs.Given.{sized}
 use Rattle.firing.proofs.Deliver.{block-kind, block-well}
 use Rattle.firing.proofs.sends.send_all.Goals as goal

@@ -1,21 +1,14 @@
 -- `firing::sends::send_all` meets its contract. Assumes nothing.
 use Prim.Native.Nat.{◌+◌, ◌-◌}
-use mathlib.Core.Path.{◌≡◌, refl, sym, ap, ◌∙◌}
-use borrow.Author.Rules.{rules}
-use native.Mathlib.Omega.{arith}
+use mathlib.Core.Path.{◌≡◌}
 use lib.ListN.{length}
-use Rattle.table.specs.declared.Link.{Link}
 use Rattle.table.specs.Code.{code}
 use Rattle.table.proofs.Blocks.{Follows}
-use Rattle.table.proofs.BlockLoop.{blocks_on, named-there, follows-first, body-inside, next-is, follows_next, next-later}
+use Rattle.table.proofs.BlockLoop.{blocks_on}
 use Rattle.calculus.specs.Constraint.{each}
 use Rattle.calculus.specs.Layout.{WellFormed}
 use Rattle.calculus.specs.Estimate.{fire, facts}
-use Rattle.calculus.proofs.BlockRules.{all_start, all-step, all_end}
-use Rattle.rows.proofs.Laws.{facts-most}
 use Rattle.clauses.specs.Asks.{at_block}
-use Rattle.queries.proofs.Given.{sized}
-use Rattle.firing.proofs.Deliver.{block-kind, block-well}
 use Rattle.firing.proofs.sends.send_all.Given as goal
 
 abbrev pub invariant-loop-b : goal.invariant-loop-b

@@ -1,11 +1,9 @@
 -- `firing::sends::send_to` meets its contract. Assumes nothing.
 use mathlib.Core.Path.{sym, ◌∙◌}
 use native.Mathlib.Omega.{arith}
-use borrow.Author.Tests.{not-true, not-false}
 use Rattle.table.specs.Code.{code}
 use Rattle.queries.proofs.Given.{sized}
 use Rattle.firing.proofs.Deliver.{home-inside, block_inside, name-small, block-started, block-absent}
-use borrow.Author.Rules.{rules}
 use Rattle.firing.proofs.sends.send_to.Goals as goal
 
 pub overflow_cast-required : goal.overflow_cast-required

@@ -1,14 +1,12 @@
 -- `firing::step::step` meets its contract: the clause is fired where its word is live. Assumes nothing.
 use mathlib.Core.Path.{refl, sym, ◌∙◌}
 use native.Mathlib.Omega.{arith}
-use borrow.Author.Tests.{not-true, not-false}
 use Rattle.table.specs.Code.{code}
 use Rattle.table.proofs.Blocks.{head-word}
 use Rattle.calculus.specs.Constraint.{L}
 use Rattle.calculus.proofs.Folds.{fire-given, fire-given-not}
 use Rattle.queries.proofs.Given.{sized, size_is}
 use Rattle.firing.proofs.Suited.{plain-small, clause-is, clause-suits}
-use borrow.Author.Rules.{rules}
 use Rattle.firing.proofs.step.step.Goals as goal
 
 pub is_live-requires : goal.is_live-requires

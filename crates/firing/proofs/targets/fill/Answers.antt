@@ -1,10 +1,7 @@
-use Prim.Native.Nat.{◌-◌, ◌*◌, ◌≤◌}
 use borrow.Author.Rules.{rules}
 use mathlib.Core.Path.{◌≡◌, refl, ◌∙◌}
 use native.Mathlib.Omega.{arith}
-use lib.ListN.{length, replicate}
-use Rattle.rows.specs.Rows.{Poured}
-use Rattle.rows.proofs.Full.{full, none_yet, one_more}
+use Rattle.rows.proofs.Full.{none_yet, one_more}
 use Rattle.rows.proofs.Laws.{facts-most}
 use Rattle.queries.proofs.Laws.{row_in}
 use Rattle.firing.proofs.Fires.{fill-fired}

@@ -1,14 +1,9 @@
 -- `firing::targets::fill` meets its contract. Assumes nothing.
 use Prim.Native.Nat.{◌-◌, ◌*◌, ◌≤◌}
-use borrow.Author.Rules.{rules}
-use mathlib.Core.Path.{◌≡◌, refl, ◌∙◌}
-use native.Mathlib.Omega.{arith}
+use mathlib.Core.Path.{◌≡◌}
 use lib.ListN.{length, replicate}
 use Rattle.rows.specs.Rows.{Poured}
-use Rattle.rows.proofs.Full.{full, none_yet, one_more}
-use Rattle.rows.proofs.Laws.{facts-most}
-use Rattle.queries.proofs.Laws.{row_in}
-use Rattle.firing.proofs.Fires.{fill-fired}
+use Rattle.rows.proofs.Full.{full}
 use Rattle.firing.proofs.targets.fill.Given as goal
 
 abbrev pub invariant-loop-k : goal.invariant-loop-k

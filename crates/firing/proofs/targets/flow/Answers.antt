@@ -1,5 +1,4 @@
 -- `firing::targets::flow` meets its contract: the row is or-ed in. Assumes nothing.
-use borrow.Author.Rules.{rules}
 use Rattle.firing.proofs.Fires.{sub-fired}
 use Rattle.firing.proofs.targets.flow.Goals as goal
 

@@ -3,7 +3,6 @@ use Prim.Native.Nat.{◌+◌, ◌-◌}
 use mathlib.Core.Path.{sym}
 use native.Mathlib.Omega.{arith}
 use Rattle.rows.proofs.Laws.{put-back-whole}
-use borrow.Author.Rules.{rules}
 use Rattle.firing.proofs.targets.gain.Goals as goal
 
 pub returns : goal.returns

@@ -1,6 +1,5 @@
 -- `firing::targets::lift` meets its contract. Assumes nothing.
 use Rattle.firing.proofs.Fires.{lift-fired}
-use borrow.Author.Rules.{rules}
 use Rattle.firing.proofs.targets.lift.Goals as goal
 
 pub returns : goal.returns

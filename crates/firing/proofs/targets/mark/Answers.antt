@@ -3,7 +3,6 @@ use Prim.Native.Nat.{◌+◌, ◌-◌, ◌*◌}
 use native.Mathlib.Omega.{arith}
 use Rattle.rows.proofs.Laws.{put_back}
 use Rattle.firing.proofs.Fires.{put-fired}
-use borrow.Author.Rules.{rules}
 use Rattle.firing.proofs.targets.mark.Goals as goal
 
 pub returns : goal.returns

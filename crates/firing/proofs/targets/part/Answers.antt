@@ -1,7 +1,6 @@
 -- `firing::targets::part` meets its contract. Assumes nothing.
 use native.Mathlib.Omega.{arith}
 use Rattle.firing.proofs.Fires.{and_in, sum_fits}
-use borrow.Author.Rules.{rules}
 use Rattle.firing.proofs.targets.part.Goals as goal
 
 pub overflow_add-result : goal.overflow_add-result

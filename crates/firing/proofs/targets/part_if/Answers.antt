@@ -1,6 +1,5 @@
 -- `firing::targets::part_if` meets its contract. Assumes nothing.
 use Rattle.firing.proofs.Fires.{a-part, no_part}
-use borrow.Author.Rules.{rules}
 use Rattle.firing.proofs.targets.part_if.Goals as goal
 
 pub returns-then-q-eq0 : goal.returns-then-q-eq0

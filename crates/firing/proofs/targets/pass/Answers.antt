@@ -1,7 +1,6 @@
 -- `firing::targets::pass` meets its contract: what the row has of the mask is or-ed in. Assumes nothing.
 use Prim.Native.Nat.{◌*◌}
 use native.Mathlib.Omega.{arith}
-use borrow.Author.Rules.{rules}
 use Rattle.rows.proofs.Laws.{length_part, same-part}
 use Rattle.clauses.specs.Asks.{sort_at}
 use Rattle.queries.proofs.Laws.{row_in, mask-in}

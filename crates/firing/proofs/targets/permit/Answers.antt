@@ -1,6 +1,5 @@
 -- `firing::targets::permit` meets its contract. Assumes nothing.
 use Rattle.firing.proofs.Fires.{permit-fired}
-use borrow.Author.Rules.{rules}
 use Rattle.firing.proofs.targets.permit.Goals as goal
 
 pub returns : goal.returns

@@ -2,7 +2,6 @@
 use Prim.Native.Nat.{◌+◌, ◌-◌, ◌*◌}
 use native.Mathlib.Omega.{arith}
 use Rattle.rows.proofs.Laws.{put_back}
-use borrow.Author.Rules.{rules}
 use Rattle.firing.proofs.targets.put_bits.Goals as goal
 
 pub returns : goal.returns

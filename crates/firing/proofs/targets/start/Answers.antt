@@ -4,7 +4,6 @@ use mathlib.Core.Path.{sym}
 use native.Mathlib.Omega.{arith}
 use Rattle.rows.proofs.Laws.{put-back-whole}
 use Rattle.firing.proofs.Fires.{live-fired}
-use borrow.Author.Rules.{rules}
 use Rattle.firing.proofs.targets.start.Goals as goal
 
 pub returns : goal.returns

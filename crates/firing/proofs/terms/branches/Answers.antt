@@ -2,7 +2,6 @@
 use native.Mathlib.Omega.{arith}
 use Rattle.rows.proofs.Laws.{facts-most}
 use Rattle.firing.proofs.Fires.{and_in}
-use borrow.Author.Rules.{rules}
 use Rattle.firing.proofs.terms.branches.Goals as goal
 
 pub overflow_add-result : goal.overflow_add-result

@@ -3,7 +3,6 @@ use Prim.Native.Nat.{◌+◌}
 use native.Mathlib.Omega.{arith}
 use Rattle.queries.proofs.Laws.{value_in, some_words}
 use Rattle.firing.proofs.Fires.{operated}
-use borrow.Author.Rules.{rules}
 use Rattle.firing.proofs.terms.operate_at.Goals as goal
 
 pub overflow_mul-a-2 : goal.overflow_mul-a-2

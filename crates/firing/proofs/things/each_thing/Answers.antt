@@ -1,13 +1,7 @@
-use Prim.Native.Nat.{◌+◌, ◌-◌, ◌*◌, ◌<◌}
-use mathlib.Core.Path.{◌≡◌, refl, sym, ◌∙◌}
-use mathlib.Core.Bool.{true}
+use mathlib.Core.Path.{refl, sym, ◌∙◌}
 use native.Mathlib.Omega.{arith}
-use lib.ListN.{length}
-use Rattle.calculus.specs.Estimate.{facts}
 use Rattle.rows.proofs.Laws.{facts-most}
-use Rattle.queries.specs.Things.{both}
-use Rattle.firing.proofs.EachThing.{Left, sized-again, searched, placed, made-start, made-step, made-end}
-use borrow.Author.Rules.{rules}
+use Rattle.firing.proofs.EachThing.{sized-again, searched, placed, made-start, made-step, made-end}
 use Rattle.firing.proofs.things.each_thing.Goals as goal
 
 pub next_thing-f-requires : goal.next_thing-f-requires

@@ -1,14 +1,11 @@
 -- `firing::things::each_thing` meets its contract. Assumes nothing.
 use Prim.Native.Nat.{◌+◌, ◌-◌, ◌*◌, ◌<◌}
-use mathlib.Core.Path.{◌≡◌, refl, sym, ◌∙◌}
+use mathlib.Core.Path.{◌≡◌}
 use mathlib.Core.Bool.{true}
-use native.Mathlib.Omega.{arith}
 use lib.ListN.{length}
 use Rattle.calculus.specs.Estimate.{facts}
-use Rattle.rows.proofs.Laws.{facts-most}
 use Rattle.queries.specs.Things.{both}
-use Rattle.firing.proofs.EachThing.{Left, sized-again, searched, placed, made-start, made-step, made-end}
-use borrow.Author.Rules.{rules}
+use Rattle.firing.proofs.EachThing.{Left}
 use Rattle.firing.proofs.things.each_thing.Given as goal
 
 abbrev pub invariant-loop-f : goal.invariant-loop-f

@@ -4,7 +4,6 @@ use mathlib.Core.Bool.{true, false}
 use native.Mathlib.Omega.{arith}
 use Rattle.firing.proofs.EachThing.{searched, placed, thing-fired, past-table}
 use Rattle.firing.proofs.Effects.{all-things, one-thing}
-use borrow.Author.Rules.{rules}
 use Rattle.firing.proofs.things.fire_things.Goals as goal
 
 pub returns-then-f-eq0 : goal.returns-then-f-eq0

@@ -10,7 +10,6 @@ use Rattle.clauses.proofs.Sorts.{row-C, row-B}
 use Rattle.queries.proofs.Laws.{row_in}
 use Rattle.firing.specs.Placed.{entering}
 use Rattle.firing.proofs.Tags.{is-other}
-use borrow.Author.Rules.{rules}
 use Rattle.firing.proofs.things.for_thing.Goals as goal
 
 pub wake-requires : goal.wake-requires

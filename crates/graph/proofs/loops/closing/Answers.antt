@@ -7,7 +7,7 @@ use borrow.Author.Rules.{rules}
 use lib.Bits.{bit_and}
 use lib.ListN.{length}
 use Rattle.permset.specs.Sets.{member}
-use Rattle.graph.specs.Search.{lowest_from, senders, reaching, closes}
+use Rattle.graph.specs.Search.{senders, reaching, closes}
 use Rattle.graph.proofs.Lowest.{scan-here, scan-on, scan-end}
 use Rattle.graph.proofs.Walks.{reaching-at, reaching-below}
 use Rattle.graph.proofs.loops.closing.Goals as goal

@@ -1,17 +1,8 @@
 -- `graph::loops::closing` meets its contract. The loop's invariant: the set is that of m - 1 messages, and the numbers from m on give the same.
 -- Assumes nothing.
-use Prim.Native.Nat.{ℕ, ◌-◌, ◌^◌, ◌≤◌, ◌<◌}
-use mathlib.Core.Path.{◌≡◌, refl, sym, ap, ◌∙◌, subst}
-use mathlib.Core.Bool.{Bool}
-use mathlib.Core.List.{List}
-use native.Mathlib.Omega.{arith}
-use borrow.Author.Rules.{rules}
-use lib.Bits.{bit_and}
-use lib.ListN.{length}
-use Rattle.permset.specs.Sets.{member}
-use Rattle.graph.specs.Search.{lowest_from, senders, reaching, closes}
-use Rattle.graph.proofs.Lowest.{scan-here, scan-on, scan-end}
-use Rattle.graph.proofs.Walks.{reaching-at, reaching-below}
+use Prim.Native.Nat.{◌-◌, ◌≤◌}
+use mathlib.Core.Path.{◌≡◌}
+use Rattle.graph.specs.Search.{lowest_from, reaching, closes}
 use Rattle.graph.proofs.loops.closing.Given as goal
 
 abbrev pub invariant-loop-m : goal.invariant-loop-m

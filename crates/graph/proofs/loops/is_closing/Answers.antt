@@ -1,7 +1,6 @@
 -- `graph::loops::is_closing` meets its contract. Assumes nothing.
 use Prim.Native.Nat.{ℕ}
 use mathlib.Core.Path.{ap, ◌∙◌}
-use borrow.Author.Rules.{rules}
 use Rattle.permset.specs.Sets.{member}
 use Rattle.graph.specs.Search.{closes}
 use Rattle.graph.proofs.loops.is_closing.Goals as goal

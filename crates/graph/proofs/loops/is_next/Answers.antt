@@ -1,6 +1,5 @@
 -- `graph::loops::is_next` meets its contract. Assumes nothing.
 use mathlib.Core.Path.{◌∙◌}
-use borrow.Author.Rules.{rules}
 use lib.ListN.{get_or}
 use Rattle.permset.specs.Sets.{member}
 use Rattle.graph.specs.Search.{is_next}

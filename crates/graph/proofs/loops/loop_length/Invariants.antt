@@ -1,9 +1,6 @@
 -- `graph::loops::loop_length` meets its contract. The loop's invariant: it is the shortest through the positions below t. Assumes nothing.
-use Prim.Native.Nat.{ℕ, ◌+◌, ◌-◌, ◌≤◌}
-use mathlib.Core.Path.{sym, subst}
-use native.Mathlib.Nat.{le_antisymm}
-use borrow.Author.Rules.{rules}
-use Rattle.graph.proofs.Fewest.{Best, best-start, best-next, best-end}
+use Prim.Native.Nat.{◌-◌, ◌≤◌}
+use Rattle.graph.proofs.Fewest.{Best}
 use Rattle.graph.proofs.loops.loop_length.Given as goal
 
 abbrev pub invariant-loop-t : goal.invariant-loop-t

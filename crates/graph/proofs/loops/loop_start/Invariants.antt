@@ -1,10 +1,7 @@
 -- `graph::loops::loop_start` meets its contract. The loop's invariant: the positions from t on give the same. Assumes nothing.
 use Prim.Native.Nat.{◌-◌, ◌≤◌}
-use mathlib.Core.Path.{◌≡◌, sym, ◌∙◌}
-use native.Mathlib.Nat.{le_antisymm}
-use borrow.Author.Rules.{rules}
-use Rattle.graph.specs.Search.{lowest_from, closes, loop_start}
-use Rattle.graph.proofs.Lowest.{scan-start, scan-here, scan-on, scan-end}
+use mathlib.Core.Path.{◌≡◌}
+use Rattle.graph.specs.Search.{lowest_from, closes}
 use Rattle.graph.proofs.loops.loop_start.Given as goal
 
 abbrev pub invariant-loop-t : goal.invariant-loop-t

@@ -1,8 +1,7 @@
-use Prim.Native.Nat.{◌-◌, ◌≤◌}
-use mathlib.Core.Path.{◌≡◌, sym, ◌∙◌}
+use mathlib.Core.Path.{sym, ◌∙◌}
 use native.Mathlib.Nat.{le_antisymm}
 use borrow.Author.Rules.{rules}
-use Rattle.graph.specs.Search.{lowest_from, is_next, lowest_next}
+use Rattle.graph.specs.Search.{is_next, lowest_next}
 use Rattle.graph.proofs.Lowest.{scan-start, scan-here, scan-on, scan-end}
 use Rattle.graph.proofs.loops.lowest_next.Goals as goal
 

@@ -1,10 +1,7 @@
 -- `graph::loops::lowest_next` meets its contract. The loop's invariant: the positions from z on give the same. Assumes nothing.
 use Prim.Native.Nat.{◌-◌, ◌≤◌}
-use mathlib.Core.Path.{◌≡◌, sym, ◌∙◌}
-use native.Mathlib.Nat.{le_antisymm}
-use borrow.Author.Rules.{rules}
-use Rattle.graph.specs.Search.{lowest_from, is_next, lowest_next}
-use Rattle.graph.proofs.Lowest.{scan-start, scan-here, scan-on, scan-end}
+use mathlib.Core.Path.{◌≡◌}
+use Rattle.graph.specs.Search.{lowest_from, is_next}
 use Rattle.graph.proofs.loops.lowest_next.Given as goal
 
 abbrev pub invariant-loop-z : goal.invariant-loop-z

@@ -1,11 +1,7 @@
 -- `graph::loops::reaching` meets its contract. The loop's invariant: the set is that of i messages. Assumes nothing.
-use Prim.Native.Nat.{ℕ, ◌-◌, ◌^◌, ◌≤◌, ◌<◌}
-use mathlib.Core.Path.{◌≡◌, sym, ap, ◌∙◌, subst}
-use native.Mathlib.Nat.{le_antisymm}
-use borrow.Author.Rules.{rules}
-use lib.ListN.{length}
+use Prim.Native.Nat.{◌-◌, ◌≤◌}
+use mathlib.Core.Path.{◌≡◌}
 use Rattle.graph.specs.Search.{reaching}
-use Rattle.graph.proofs.Walks.{reaching-on, reaching-below}
 use Rattle.graph.proofs.loops.reaching.Given as goal
 
 abbrev pub invariant-loop-i : goal.invariant-loop-i

@@ -1,11 +1,11 @@
-use Prim.Native.Nat.{ℕ, ◌+◌, ◌-◌, ◌≤◌}
+use Prim.Native.Nat.{ℕ, ◌+◌, ◌-◌}
 use mathlib.Core.Path.{◌≡◌, ap, ◌∙◌}
 use native.Mathlib.Omega.{arith}
 use borrow.Author.Rules.{rules}
 use Rattle.graph.specs.Search.{reaching, is_next, lowest_next, follow}
 use Rattle.graph.proofs.Lowest.{lowest-most}
 use Rattle.graph.proofs.Walks.{follow-length}
-use Rattle.graph.proofs.Writing.{Partly, partly-start, partly-on, partly-end, follow-on, follow-none}
+use Rattle.graph.proofs.Writing.{partly-start, partly-on, partly-end, follow-on, follow-none}
 use Rattle.graph.proofs.loops.write_loop.Goals as goal
 
 pub loop-i-init : goal.loop-i-init

@@ -1,5 +1,4 @@
 -- `graph::order::is_free` meets its contract. Assumes nothing.
-use borrow.Author.Rules.{rules}
 use Rattle.permset.specs.Sets.{member}
 use Rattle.graph.specs.Search.{is_free}
 use Rattle.graph.proofs.Digits.{both-tests, first-test}

@@ -1,10 +1,7 @@
 -- `graph::order::lowest_free` meets its contract. The loop's invariant: the positions from p on give the same. Assumes nothing.
 use Prim.Native.Nat.{◌-◌, ◌≤◌}
-use mathlib.Core.Path.{◌≡◌, sym, ◌∙◌}
-use native.Mathlib.Nat.{le_antisymm}
-use borrow.Author.Rules.{rules}
-use Rattle.graph.specs.Search.{lowest_from, is_free, lowest_free}
-use Rattle.graph.proofs.Lowest.{scan-start, scan-here, scan-on, scan-end}
+use mathlib.Core.Path.{◌≡◌}
+use Rattle.graph.specs.Search.{lowest_from, is_free}
 use Rattle.graph.proofs.order.lowest_free.Given as goal
 
 abbrev pub invariant-loop-p : goal.invariant-loop-p

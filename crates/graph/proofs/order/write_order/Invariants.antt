@@ -1,15 +1,10 @@
 -- `graph::order::write_order` meets its contract. The loop's invariant: the order of those that are left, put behind what is written, gives the
 -- whole. Assumes nothing.
-use Prim.Native.Nat.{ℕ, ◌+◌, ◌-◌, ◌≤◌}
-use mathlib.Core.Path.{◌≡◌, ap, subst}
-use mathlib.Core.List.{List, []}
-use native.Mathlib.Nat.{zero-add}
-use native.Mathlib.Omega.{arith}
-use borrow.Author.Rules.{rules}
+use Prim.Native.Nat.{◌+◌, ◌-◌, ◌≤◌}
+use mathlib.Core.Path.{◌≡◌}
 use lib.ListN.{length}
 use Rattle.graph.specs.Search.{order_from}
-use Rattle.graph.specs.Answer.{starting_with}
-use Rattle.graph.proofs.Writing.{Partly, partly-start, partly-on, partly-end, order-on, order-stop, order-none, order-length}
+use Rattle.graph.proofs.Writing.{Partly}
 use Rattle.graph.proofs.order.write_order.Given as goal
 
 abbrev pub invariant-loop-count : goal.invariant-loop-count

@@ -1,7 +1,6 @@
 -- `graph::set::only` meets its contract. Assumes nothing.
 use Prim.Native.Nat.{ℕ}
 use mathlib.Core.Path.{ap}
-use borrow.Author.Rules.{rules}
 use lib.Bits.{bit_and}
 use Rattle.graph.proofs.set.only.Goals as goal
 

@@ -1,7 +1,6 @@
 -- `graph::set::without` meets its contract. Assumes nothing.
 use Prim.Native.Nat.{ℕ}
 use mathlib.Core.Path.{ap}
-use borrow.Author.Rules.{rules}
 use lib.Bits.{and_le_l}
 use Rattle.permset.specs.Sets.{difference}
 use Rattle.graph.proofs.set.without.Goals as goal

@@ -1,5 +1,4 @@
 -- `rows::row::any` meets its contract. Assumes nothing.
-use borrow.Author.Rules.{rules}
 use Rattle.rows.proofs.Laws.{next-meets}
 use Rattle.rows.proofs.row.any.Goals as goal
 

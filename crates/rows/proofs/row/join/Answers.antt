@@ -1,10 +1,7 @@
 use mathlib.Core.Path.{sym}
-use Prim.Native.Nat.{◌-◌, ◌*◌}
 use native.Mathlib.Omega.{arith}
-use lib.ListN.{take, drop}
-use borrow.Author.Rules.{rules}
 use Rattle.calculus.proofs.Facts.{pour-nil}
-use Rattle.rows.proofs.Joined.{whole_row, Running, stands, one_more, four-more, all-joined}
+use Rattle.rows.proofs.Joined.{whole_row, stands, one_more, four-more, all-joined}
 use Rattle.rows.proofs.row.join.Goals as goal
 
 pub loop-i-init : goal.loop-i-init

@@ -1,11 +1,7 @@
 -- `rows::row::join` meets its contract. The invariant of both loops: the words before `i` are or-ed in, and so many facts were added. Assumes nothing.
-use mathlib.Core.Path.{sym}
 use Prim.Native.Nat.{◌-◌, ◌*◌}
-use native.Mathlib.Omega.{arith}
 use lib.ListN.{take, drop}
-use borrow.Author.Rules.{rules}
-use Rattle.calculus.proofs.Facts.{pour-nil}
-use Rattle.rows.proofs.Joined.{whole_row, Running, stands, one_more, four-more, all-joined}
+use Rattle.rows.proofs.Joined.{Running}
 use Rattle.rows.proofs.row.join.Given as goal
 
 abbrev pub invariant-loop-i : goal.invariant-loop-i

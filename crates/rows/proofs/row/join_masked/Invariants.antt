@@ -1,12 +1,8 @@
 -- `rows::row::join_masked` meets its contract. The invariant of both loops: the words before `i` are or-ed in, and so many facts were added. Assumes nothing.
-use mathlib.Core.Path.{sym}
 use Prim.Native.Nat.{◌-◌, ◌*◌}
-use native.Mathlib.Omega.{arith}
 use lib.ListN.{take, drop}
-use borrow.Author.Rules.{rules}
 use Rattle.calculus.specs.Layout.{masked}
-use Rattle.calculus.proofs.Facts.{pour-nil}
-use Rattle.rows.proofs.Joined.{masked_row, Running, stands, one_more, four-more, all-joined}
+use Rattle.rows.proofs.Joined.{Running}
 use Rattle.rows.proofs.row.join_masked.Given as goal
 
 abbrev pub invariant-loop-i : goal.invariant-loop-i

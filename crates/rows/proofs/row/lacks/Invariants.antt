@@ -1,15 +1,11 @@
 -- `rows::row::lacks` meets its contract. The loop's invariant: something is missing so far, or it is from `i` on.
 -- Assumes nothing.
-use mathlib.Core.Path.{◌≡◌, refl, sym, ap₂, ◌∙◌}
+use mathlib.Core.Path.{◌≡◌}
 use mathlib.Core.Bool.{not, ◌||◌}
-use Prim.Native.Nat.{ℕ, ◌+◌, ◌-◌, ◌≤◌}
-use native.Mathlib.Omega.{arith}
-use lib.Bits.{bit_and, bit_or, bit_xor}
+use Prim.Native.Nat.{◌-◌, ◌≤◌}
 use lib.Dec.{eqb}
 use lib.ListN.{take, drop}
-use borrow.Author.Rules.{rules}
 use Rattle.rows.specs.Rows.{lacking}
-use Rattle.rows.proofs.Laws.{length-row, get_or-row, missing_at, missing-done}
 use Rattle.rows.proofs.row.lacks.Given as goal
 
 abbrev pub invariant-loop-i : goal.invariant-loop-i

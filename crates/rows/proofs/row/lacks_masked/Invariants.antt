@@ -1,17 +1,12 @@
 -- `rows::row::lacks_masked` meets its contract. The loop's invariant: something is missing so far, or it is from `i` on.
 -- Assumes nothing.
-use mathlib.Core.Path.{◌≡◌, refl, sym, ap, ap₂, ◌∙◌}
+use mathlib.Core.Path.{◌≡◌}
 use mathlib.Core.Bool.{not, ◌||◌}
-use Prim.Native.Nat.{ℕ, ◌+◌, ◌-◌, ◌≤◌}
-use native.Mathlib.Omega.{arith}
-use lib.Bits.{bit_and, bit_or, bit_xor}
+use Prim.Native.Nat.{◌-◌, ◌≤◌}
 use lib.Dec.{eqb}
-use lib.ListN.{get_or, take, drop}
-use borrow.Author.Rules.{rules}
+use lib.ListN.{take, drop}
 use Rattle.calculus.specs.Layout.{masked}
-use Rattle.calculus.proofs.Masks.{get_or-masked}
 use Rattle.rows.specs.Rows.{lacking}
-use Rattle.rows.proofs.Laws.{length-row, get_or-row, length-masked-row, missing_at, missing-done}
 use Rattle.rows.proofs.row.lacks_masked.Given as goal
 
 abbrev pub invariant-loop-i : goal.invariant-loop-i

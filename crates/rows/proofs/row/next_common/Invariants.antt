@@ -1,11 +1,8 @@
 -- `rows::row::next_common` meets its contract. The loop's invariant: the words passed have nothing in common. Assumes nothing.
 use mathlib.Core.Path.{◌≡◌}
 use Prim.Native.Nat.{ℕ, ◌-◌, ◌≤◌, ◌<◌, max}
-use native.Mathlib.Omega.{arith}
 use lib.Bits.{bit_and}
 use lib.ListN.{length, get_or}
-use borrow.Author.Count.{below_more}
-use borrow.Author.Rules.{rules}
 use Rattle.rows.proofs.row.next_common.Given as goal
 
 abbrev pub invariant-loop-i : goal.invariant-loop-i

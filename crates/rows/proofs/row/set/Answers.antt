@@ -4,7 +4,6 @@ use native.Mathlib.Omega.{arith}
 use lib.Bits.{or_lt, xor_lt}
 use lib.Count.{ones-le}
 use lib.ListN.{get_or}
-use borrow.Author.Rules.{rules}
 use Rattle.rows.proofs.Laws.{nothing-new, different-bits}
 use Rattle.rows.proofs.row.set.Goals as goal
 

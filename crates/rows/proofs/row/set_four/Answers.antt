@@ -1,8 +1,6 @@
 -- `rows::row::set_four` meets its contract: where the four words gain nothing they stay, else each gains its bits. Assumes nothing.
 use native.Mathlib.Omega.{arith}
-use lib.ListN.{length-set}
-use borrow.Author.Rules.{rules}
-use Rattle.rows.proofs.Joined.{none-added, Few, four-few, four-added}
+use Rattle.rows.proofs.Joined.{none-added, four-few, four-added}
 use Rattle.rows.proofs.row.set_four.Goals as goal
 
 pub returns-then-e-f-eq0 : goal.returns-then-e-f-eq0

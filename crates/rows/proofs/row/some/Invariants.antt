@@ -1,13 +1,10 @@
 -- `rows::row::some` meets its contract. The loop's invariant: some word is not 0 so far, or from `i` on. Assumes nothing.
-use mathlib.Core.Path.{◌≡◌, refl, sym, ◌∙◌}
+use mathlib.Core.Path.{◌≡◌}
 use mathlib.Core.Bool.{not, ◌||◌}
 use Prim.Native.Nat.{◌-◌, ◌≤◌}
-use native.Mathlib.Omega.{arith}
 use lib.Dec.{eqb}
 use lib.ListN.{length, drop}
-use borrow.Author.Rules.{rules}
 use Rattle.calculus.specs.ResultWords.{nonzero}
-use Rattle.rows.proofs.Laws.{some_at, some-done}
 use Rattle.rows.proofs.row.some.Given as goal
 
 abbrev pub invariant-loop-i : goal.invariant-loop-i

@@ -4,7 +4,6 @@ use native.Mathlib.Omega.{arith}
 use Rattle.table.specs.Code.{code}
 use Rattle.calculus.proofs.Places.{fits-row}
 use Rattle.stray.proofs.Named.{plain-allowed}
-use borrow.Author.Rules.{rules}
 use Rattle.stray.proofs.allowed.allow.Goals as goal
 
 pub set_plain-requires : goal.set_plain-requires

@@ -6,7 +6,6 @@ use Prim.Native.Nat.{ℕ}
 use lib.Dec.{eqb}
 use Rattle.stray.specs.declared.Holding.{Holding}
 use Rattle.stray.specs.Allowed.{word_named}
-use borrow.Author.Rules.{rules}
 use Rattle.stray.proofs.allowed.named.Goals as goal
 
 pub returns-in-Things : goal.returns-in-Things

@@ -1,12 +1,11 @@
 use mathlib.Core.Path.{◌≡◌, refl, ap, ◌∙◌, subst}
 use mathlib.Core.List.{List}
-use Prim.Native.Nat.{ℕ, ◌+◌, ◌-◌, ◌≤◌, ◌<◌}
+use Prim.Native.Nat.{ℕ, ◌+◌, ◌<◌}
 use native.Mathlib.Decide.{ℕ_discrete}
 use native.Mathlib.Omega.{arith}
 use lib.ListN.{length, get_or, set, length-set}
 use lib.Seq.{get_or-set_same, get_or-set_other}
 use Rattle.stray.specs.Allowed.{Leading}
-use borrow.Author.Rules.{rules}
 use Rattle.stray.proofs.allowed.set_plain.Goals as goal
 
 one_more : (ws : List ℕ) (k : ℕ) → k < length ws → Leading k ws → Leading (k + 1) (set ws k 4294967295)

@@ -1,14 +1,9 @@
 -- `stray::allowed::set_plain` meets its contract. The loop's invariant: the words before `k` are full, and the others zero.
 -- Assumes nothing.
-use mathlib.Core.Path.{◌≡◌, refl, ap, ◌∙◌, subst}
-use mathlib.Core.List.{List}
-use Prim.Native.Nat.{ℕ, ◌+◌, ◌-◌, ◌≤◌, ◌<◌}
-use native.Mathlib.Decide.{ℕ_discrete}
-use native.Mathlib.Omega.{arith}
-use lib.ListN.{length, get_or, set, length-set}
-use lib.Seq.{get_or-set_same, get_or-set_other}
+use mathlib.Core.Path.{◌≡◌}
+use Prim.Native.Nat.{◌-◌, ◌≤◌}
+use lib.ListN.{length}
 use Rattle.stray.specs.Allowed.{Leading}
-use borrow.Author.Rules.{rules}
 use Rattle.stray.proofs.allowed.set_plain.Given as goal
 
 abbrev pub invariant-loop-k : goal.invariant-loop-k

@@ -1,6 +1,6 @@
 use mathlib.Core.Path.{◌≡◌, refl, sym, ap, ◌∙◌, subst}
 use mathlib.Core.List.{List}
-use Prim.Native.Nat.{ℕ, ◌+◌, ◌-◌, ◌*◌, ◌≤◌, ◌<◌}
+use Prim.Native.Nat.{ℕ, ◌+◌, ◌*◌, ◌≤◌, ◌<◌}
 use native.Mathlib.Omega.{arith}
 use lib.ListN.{length}
 use Rattle.table.specs.Code.{code}
@@ -13,7 +13,6 @@ use Rattle.calls.proofs.Bounds.{row_small}
 use Rattle.masks.specs.Masks.{mark_if}
 use Rattle.stray.specs.Allowed.{Allowed}
 use Rattle.stray.proofs.Named.{word-named, one_more}
-use borrow.Author.Rules.{rules}
 use Rattle.stray.proofs.allowed.set_words.Goals as goal
 
 -- the element of a word stands in the row

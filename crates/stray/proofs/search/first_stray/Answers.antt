@@ -2,7 +2,6 @@
 use native.Mathlib.Omega.{arith}
 use Rattle.calls.proofs.Bounds.{row-bound}
 use Rattle.stray.proofs.Named.{zeros-at}
-use borrow.Author.Rules.{rules}
 use Rattle.stray.proofs.search.first_stray.Goals as goal
 
 pub allow-requires : goal.allow-requires

@@ -1,13 +1,11 @@
 use mathlib.Core.Path.{◌≡◌, ap, ◌∙◌}
 use mathlib.Core.Bool.{Bool, true}
-use Prim.Native.Nat.{ℕ, ◌+◌, ◌-◌, ◌≤◌, ◌<◌}
+use Prim.Native.Nat.{ℕ, ◌+◌, ◌≤◌, ◌<◌}
 use native.Mathlib.Decide.{ℕ_discrete}
 use native.Mathlib.Omega.{arith}
-use lib.ListN.{length}
 use Rattle.table.specs.Code.{code}
 use Rattle.stray.specs.Allowed.{clean}
 use Rattle.stray.proofs.Sliced.{most-words, most-rows, words_long, flags-pass, flags-fail}
-use borrow.Author.Rules.{rules}
 use Rattle.stray.proofs.search.in_flags.Goals as goal
 
 next : (q : ℕ → Bool) (a k : ℕ) → ((i : ℕ) → a ≤ i → i < k → q i ≡ true) → q k ≡ true → (i : ℕ) → a ≤ i → i < k + 1 → q i ≡ true

@@ -1,15 +1,11 @@
 -- `stray::search::in_flags` meets its contract. The loop's invariant: the words passed have no stray digit.
 -- Assumes nothing.
-use mathlib.Core.Path.{◌≡◌, ap, ◌∙◌}
-use mathlib.Core.Bool.{Bool, true}
-use Prim.Native.Nat.{ℕ, ◌+◌, ◌-◌, ◌≤◌, ◌<◌}
-use native.Mathlib.Decide.{ℕ_discrete}
-use native.Mathlib.Omega.{arith}
+use mathlib.Core.Path.{◌≡◌}
+use mathlib.Core.Bool.{true}
+use Prim.Native.Nat.{ℕ, ◌-◌, ◌≤◌, ◌<◌}
 use lib.ListN.{length}
 use Rattle.table.specs.Code.{code}
 use Rattle.stray.specs.Allowed.{clean}
-use Rattle.stray.proofs.Sliced.{most-words, most-rows, words_long, flags-pass, flags-fail}
-use borrow.Author.Rules.{rules}
 use Rattle.stray.proofs.search.in_flags.Given as goal
 
 abbrev pub invariant-loop-k : goal.invariant-loop-k

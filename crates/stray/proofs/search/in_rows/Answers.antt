@@ -1,6 +1,5 @@
 use mathlib.Core.Path.{◌≡◌, ap, ◌∙◌, subst}
-use mathlib.Core.Bool.{true}
-use Prim.Native.Nat.{ℕ, ◌-◌, ◌*◌, ◌≤◌, ◌<◌}
+use Prim.Native.Nat.{ℕ, ◌*◌}
 use native.Mathlib.Omega.{arith}
 use Rattle.table.specs.Code.{code}
 use Rattle.rows.proofs.Sizes.{rows_fit}
@@ -8,7 +7,6 @@ use Rattle.stray.specs.First.{First}
 use Rattle.stray.specs.Allowed.{clean}
 use Rattle.stray.proofs.Firsts.{first-after, first-longer, pass-more, all_pass}
 use Rattle.stray.proofs.Sliced.{most-words, most-rows, row_in}
-use borrow.Author.Rules.{rules}
 use Rattle.stray.proofs.search.in_rows.Goals as goal
 
 pub loop-r-init : goal.loop-r-init

@@ -1,16 +1,10 @@
 -- `stray::search::in_rows` meets its contract. The loop's invariant: the rows passed have no stray digit.
 -- Assumes nothing.
-use mathlib.Core.Path.{◌≡◌, ap, ◌∙◌, subst}
+use mathlib.Core.Path.{◌≡◌}
 use mathlib.Core.Bool.{true}
 use Prim.Native.Nat.{ℕ, ◌-◌, ◌*◌, ◌≤◌, ◌<◌}
-use native.Mathlib.Omega.{arith}
 use Rattle.table.specs.Code.{code}
-use Rattle.rows.proofs.Sizes.{rows_fit}
-use Rattle.stray.specs.First.{First}
 use Rattle.stray.specs.Allowed.{clean}
-use Rattle.stray.proofs.Firsts.{first-after, first-longer, pass-more, all_pass}
-use Rattle.stray.proofs.Sliced.{most-words, most-rows, row_in}
-use borrow.Author.Rules.{rules}
 use Rattle.stray.proofs.search.in_rows.Given as goal
 
 abbrev pub invariant-loop-r : goal.invariant-loop-r

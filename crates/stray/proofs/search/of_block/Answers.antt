@@ -14,7 +14,6 @@ use Rattle.table.specs.Code.{code}
 use Rattle.calculus.specs.Rules.{is_block}
 use Rattle.stray.specs.Stray.{of_block}
 use Rattle.stray.proofs.Named.{kind-block}
-use borrow.Author.Rules.{rules}
 use Rattle.stray.proofs.search.of_block.Goals as goal
 
 even : (ws : List ℕ) → reading ws ≡ accepted → (r : ℕ) → r < 2 * length ws → r % 2 ≡ 0 → eqb (kind (get_or ws (r / 2) 0)) 2 ≡ of_block (code ws) r

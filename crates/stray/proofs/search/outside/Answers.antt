@@ -9,7 +9,6 @@ use lib.Bits.{bit_and}
 use lib.ListN.{get_or}
 use Rattle.permset.specs.Sets.{within}
 use Rattle.stray.specs.Allowed.{inside}
-use borrow.Author.Rules.{rules}
 use Rattle.stray.proofs.search.outside.Goals as goal
 
 module _ (est row : List ℕ) (at i : ℕ) where

@@ -4,7 +4,6 @@ use native.Mathlib.Omega.{arith}
 use Rattle.table.specs.Code.{code}
 use Rattle.stray.proofs.Firsts.{first-after, first-longer, first-none, first-is}
 use Rattle.stray.proofs.Sliced.{most-words, most-rows, words_long}
-use borrow.Author.Rules.{rules}
 use Rattle.stray.proofs.search.search.Goals as goal
 
 pub flags-requires : goal.flags-requires

@@ -1,6 +1,5 @@
 use mathlib.Core.Path.{refl}
 use Rattle.table.specs.Links.{pack}
-use borrow.Author.Rules.{rules}
 use Rattle.table.proofs.Link.pack.Goals as goal
 
 pub returns : goal.returns

@@ -1,7 +1,6 @@
 -- `table::numbers::refusal_number` meets its contract: a case for each refusal. Assumes nothing.
 use mathlib.Core.Path.{sym, ap}
 use Rattle.table.specs.Answer.{number}
-use borrow.Author.Rules.{rules}
 use Rattle.table.proofs.numbers.refusal_number.Goals as goal
 
 pub returns-in-NotTable : goal.returns-in-NotTable

@@ -1,7 +1,6 @@
 -- `table::numbers::refusal_place` meets its contract: a case for each refusal. Assumes nothing.
 use mathlib.Core.Path.{sym, ap}
 use Rattle.table.specs.Answer.{place}
-use borrow.Author.Rules.{rules}
 use Rattle.table.proofs.numbers.refusal_place.Goals as goal
 
 pub returns-in-NotTable : goal.returns-in-NotTable

@@ -3,8 +3,8 @@
 -- Assumes nothing.
 use mathlib.Core.Path.{◌≡◌, sym, ap, subst, ◌∙◌}
 use mathlib.Core.Bool.{Bool, false}
-use mathlib.Core.List.{List, [], ◌∷◌, ◌++◌}
-use Prim.Native.Nat.{ℕ, ◌+◌, ◌-◌, ◌<◌, ◌≤◌}
+use mathlib.Core.List.{List, [], ◌++◌}
+use Prim.Native.Nat.{ℕ, ◌+◌, ◌<◌, ◌≤◌}
 use native.Mathlib.Omega.{arith}
 use lib.ListN.{length, get_or, drop, replicate, length-replicate}
 use borrow.Author.Rules.{rules}
@@ -13,11 +13,11 @@ use Rattle.table.specs.declared.read.Step.{Step}
 use Rattle.table.specs.declared.Reading.{Reading}
 use Rattle.table.specs.declared.Reading.TheVariants.{Accepted}
 use Rattle.table.specs.Words.{parts, mark}
-use Rattle.table.specs.Scan.{Task, term as term_task, scan, fault, missing}
+use Rattle.table.specs.Scan.{term as term_task, fault, missing}
 use Rattle.table.specs.Answer.{number, place, outcome}
 use Rattle.table.specs.Rest.{after_step, judged}
 use Rattle.table.proofs.read.Steps.{judged-zero, none_left, stops, shallow}
-use Rattle.table.proofs.read.Parts.{part_tasks, Left, mark-small, left-none, left-part, left-all}
+use Rattle.table.proofs.read.Parts.{part_tasks, mark-small, left-none, left-part, left-all}
 use Rattle.table.proofs.read.+term.Goals as goal
 
 -- the term's word may stand
@@ -90,9 +90,9 @@ loop-i-preserved t c =
     let l = c.loop-i in (
       search rules,
       λ keys h s ts e.
-      left-part _ a.words.now a.at a.depth a.binders _ l.next l.i l.invariant.1 (subst (λ (m : ℕ). l.i < m) c.arity_of-count.ensures c.loop-i-test.true)
-      c.binds.result c.binds.ensures (after_step c.term.result a.names a.words.now) c.term.ensures keys h s ts e
-      ∙ ap (λ (x : Step). after_step x a.names a.words.now keys (part_tasks a.at a.depth h s (drop (l.i + 1) (parts (get_or a.words.now a.at 0))) ++ ts)) c.in-Next.is,
+          left-part _ a.words.now a.at a.depth a.binders _ l.next l.i l.invariant.1 (subst (λ (m : ℕ). l.i < m) c.arity_of-count.ensures c.loop-i-test.true)
+          c.binds.result c.binds.ensures (after_step c.term.result a.names a.words.now) c.term.ensures keys h s ts e
+          ∙ ap (λ (x : Step). after_step x a.names a.words.now keys (part_tasks a.at a.depth h s (drop (l.i + 1) (parts (get_or a.words.now a.at 0))) ++ ts)) c.in-Next.is,
     )
 
 pub returns : goal.returns

@@ -7,7 +7,6 @@ use Prim.Native.Nat.{ℕ, ◌+◌, ◌<◌}
 use native.Mathlib.Nat.{add_assoc}
 use native.Mathlib.Omega.{arith}
 use lib.ListN.{get_or, drop}
-use borrow.Author.Rules.{rules}
 use Rattle.table.specs.declared.read.Found.TheVariants as found
 use Rattle.table.specs.declared.read.Step.{Step}
 use Rattle.table.specs.Words.{argument}

@@ -1,18 +1,10 @@
 -- `table::read::blocks` meets its contract. The loop's invariant: what is left, with the keys so far, gives the outcome of the whole.
 -- Assumes nothing.
-use mathlib.Core.Path.{◌≡◌, refl, sym, ap, ◌∙◌}
-use mathlib.Core.List.{List, [], ◌∷◌}
-use Prim.Native.Nat.{ℕ, zero, suc, ◌-◌, ◌<◌, ◌≤◌}
-use native.Mathlib.Nat.{le_refl, not-suc-le-zero}
-use native.Mathlib.Numerals.{sub-one}
-use lib.Arith.{le-zero}
-use lib.ListN.{length, drop, set, replicate, length-set, drop_of_length-le}
-use lib.Seq.{drop-cons, get_or-set_same, drop-set-lt}
-use borrow.Author.Rules.{rules}
-use Rattle.table.specs.declared.read.BlockStep.{BlockStep}
-use Rattle.table.specs.Scan.{Task, accepted, refused, name, scan}
-use Rattle.table.specs.Answer.{number, place, outcome}
-use Rattle.table.specs.Rest.{after_block}
+use mathlib.Core.Path.{◌≡◌}
+use mathlib.Core.List.{[]}
+use Prim.Native.Nat.{◌≤◌}
+use lib.ListN.{length, drop, replicate}
+use Rattle.table.specs.Scan.{name, scan}
 use Rattle.table.proofs.read.blocks.Given as goal
 
 abbrev pub invariant-loop-left : goal.invariant-loop-left

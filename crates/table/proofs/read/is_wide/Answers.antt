@@ -8,7 +8,6 @@ use native.Mathlib.Omega.{arith}
 use lib.Dec.{eqb}
 use lib.ListN.{length, get_or, get_or-eq_default}
 use Rattle.table.specs.Words.{kind}
-use borrow.Author.Rules.{rules}
 use Rattle.table.proofs.read.is_wide.Goals as goal
 
 none : (ws : List ℕ) → length ws ≡ 0 → false ≡ eqb (kind (get_or ws 0 0)) 5

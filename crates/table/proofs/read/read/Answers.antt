@@ -7,8 +7,7 @@ use mathlib.Core.List.{List, [], append-nil}
 use Prim.Native.Nat.{ℕ, ◌<◌, ◌≤◌}
 use native.Mathlib.Omega.{arith}
 use lib.ListN.{length, get_or, drop, replicate}
-use borrow.Author.Rules.{rules}
-use borrow.Author.Tests.{lt-ltb, le-ltb, not-true, not-false}
+use borrow.Author.Tests.{lt-ltb, le-ltb}
 use Rattle.table.specs.Words.{kind, argument, size}
 use Rattle.table.specs.Scan.{Task, head, name, refused, tests, fault, missing, keep, next, scan, names_at, reading}
 use Rattle.table.specs.Answer.{number, place, outcome}

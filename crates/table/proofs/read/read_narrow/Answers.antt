@@ -3,7 +3,6 @@
 use mathlib.Core.Path.{sym, ◌∙◌}
 use Rattle.table.specs.Answer.{number, place, outcome}
 use Rattle.table.proofs.Widths.{narrow-read, wide-refused}
-use borrow.Author.Rules.{rules}
 use Rattle.table.proofs.read.read_narrow.Goals as goal
 
 pub returns-then-is_wide : goal.returns-then-is_wide

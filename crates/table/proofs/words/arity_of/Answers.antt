@@ -3,7 +3,6 @@
 use mathlib.Core.Path.{sym, ap, ◌∙◌}
 use Prim.Native.Nat.{ℕ}
 use lib.ListN.{length}
-use borrow.Author.Rules.{rules}
 use Rattle.table.specs.Words.{parts, arity}
 use Rattle.table.proofs.ByKind.{parts_at, parts-past, arity-packed}
 use Rattle.table.proofs.words.arity_of.Goals as goal

@@ -7,7 +7,6 @@ use Prim.Native.Nat.{ℕ, ◌≤◌}
 use native.Mathlib.Nat.{le_trans}
 use native.Mathlib.Omega.{arith}
 use lib.ListN.{length, get_or}
-use borrow.Author.Rules.{rules}
 use Prim.Native.Nat.{zero-le}
 use Rattle.table.specs.Words.{parts, mark}
 use Rattle.table.proofs.ByKind.{parts_at, mark-packed, mark-past, small_at, parts-past}

@@ -3,7 +3,6 @@
 use mathlib.Core.Path.{◌≡◌, sym, ap, ◌∙◌}
 use Prim.Native.Nat.{ℕ, ◌-◌}
 use lib.ListN.{get_or, get_or-eq_default}
-use borrow.Author.Rules.{rules}
 use Rattle.table.specs.Words.{kind, first_kind, limits_by_kind, limit}
 use Rattle.table.proofs.Outside.{outside}
 use Rattle.table.proofs.words.limit_of.Goals as goal

@@ -6,7 +6,6 @@ use Prim.Native.Nat.{ℕ}
 use native.Mathlib.Omega.{arith}
 use lib.ListN.{length, get_or, get_or-eq_default}
 use Rattle.table.specs.Words.{names_of}
-use borrow.Author.Rules.{rules}
 use Rattle.table.proofs.words.names_in.Goals as goal
 
 none : (ws : List ℕ) → length ws ≡ 0 → 32 ≡ names_of (get_or ws 0 0)

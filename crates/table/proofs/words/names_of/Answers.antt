@@ -1,7 +1,6 @@
 -- `table::words::names_of` meets its contract.
 -- Assumes nothing.
 use mathlib.Core.Path.{sym, ◌∙◌}
-use borrow.Author.Rules.{rules}
 use borrow.Author.Tests.{eq-eqb, ne_eqb}
 use Rattle.table.specs.Words.{names_of}
 use Rattle.table.proofs.words.names_of.Goals as goal

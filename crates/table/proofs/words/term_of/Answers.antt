@@ -3,7 +3,6 @@
 use mathlib.Core.Path.{◌≡◌, refl, sym, ap, ap₂, ◌∙◌}
 use Prim.Native.Nat.{ℕ, ◌-◌}
 use lib.ListN.{get_or, get_or-eq_default}
-use borrow.Author.Rules.{rules}
 use Rattle.table.specs.declared.Term.{Term}
 use Rattle.table.specs.declared.Term.TheVariants as terms
 use Rattle.table.specs.Words.{kind, argument, first_kind, terms_by_kind, term_of}

@@ -1,7 +1,6 @@
 -- `text::room::put_room` meets its contract. Assumes nothing.
 use mathlib.Core.Path.{refl}
 use native.Mathlib.Omega.{arith}
-use borrow.Author.Rules.{rules}
 use Rattle.text.proofs.room.put_room.Goals as goal
 
 pub returns-else-at-s : goal.returns-else-at-s

@@ -1,5 +1,4 @@
 -- `worklist::chosen::choose_some` meets its contract. The measure is how many clauses are left. Assumes nothing.
-use borrow.Author.Rules.{rules}
 use Prim.Native.Nat.{◌-◌}
 use lib.ListN.{length}
 use mathlib.Core.Path.{◌≡◌}

@@ -1,5 +1,4 @@
 -- `worklist::events::uses` meets its contract. The measure is the use itself: the one before it is lower. Assumes nothing.
-use borrow.Author.Rules.{rules}
 use Prim.Native.Nat.{◌<◌}
 use lib.ListN.{length}
 use mathlib.Core.Path.{◌≡◌}

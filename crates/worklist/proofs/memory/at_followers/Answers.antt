@@ -1,5 +1,4 @@
 -- `worklist::memory::at_followers` meets its contract. Assumes nothing.
-use borrow.Author.Rules.{rules}
 use native.Mathlib.Omega.{arith}
 use Rattle.worklist.proofs.Bounds.{matrix}
 use Rattle.worklist.proofs.memory.at_followers.Goals as goal

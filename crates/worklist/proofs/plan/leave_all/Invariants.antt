@@ -1,5 +1,4 @@
 -- `worklist::plan::leave_all` meets its contract. The measure is the word itself: the one around it is lower. Assumes nothing.
-use borrow.Author.Rules.{rules}
 use Prim.Native.Nat.{◌<◌}
 use lib.ListN.{length}
 use mathlib.Core.Path.{◌≡◌}

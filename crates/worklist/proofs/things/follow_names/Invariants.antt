@@ -1,5 +1,4 @@
 -- `worklist::things::follow_names` meets its contract. The measure is what is left of the table. Assumes nothing.
-use borrow.Author.Rules.{rules}
 use Prim.Native.Nat.{◌-◌}
 use lib.ListN.{length}
 use mathlib.Core.Path.{◌≡◌}

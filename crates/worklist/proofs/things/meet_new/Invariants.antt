@@ -1,5 +1,4 @@
 -- `worklist::things::meet_new` meets its contract. The measure is how many words of the row are left. Assumes nothing.
-use borrow.Author.Rules.{rules}
 use Prim.Native.Nat.{◌-◌, ◌≤◌}
 use lib.ListN.{length}
 use mathlib.Core.Path.{◌≡◌}

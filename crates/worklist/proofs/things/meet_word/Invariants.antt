@@ -1,10 +1,6 @@
 -- `worklist::things::meet_word` meets its contract. The measure is the bits left, as a number. Assumes nothing.
-use Prim.Native.Nat.{◌-◌}
-use borrow.Author.Rules.{rules}
-use lib.Bits.{and_le_r}
 use lib.ListN.{length}
 use mathlib.Core.Path.{◌≡◌}
-use native.Mathlib.Omega.{arith}
 use Rattle.worklist.proofs.things.meet_word.Given as goal
 
 abbrev pub invariant-loop-bits : goal.invariant-loop-bits

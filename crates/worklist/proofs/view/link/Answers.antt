@@ -1,5 +1,4 @@
 -- `worklist::view::link` meets its contract: the fields of a link are small. Assumes nothing.
-use borrow.Author.Rules.{rules}
 use Rattle.worklist.proofs.Bounds.{small}
 use Rattle.worklist.proofs.view.link.Goals as goal
 

@@ -1,5 +1,4 @@
 -- `worklist::view::row_at` meets its contract. Assumes nothing.
-use borrow.Author.Rules.{rules}
 use native.Mathlib.Omega.{arith}
 use Rattle.worklist.proofs.Bounds.{rows}
 use Rattle.worklist.proofs.view.row_at.Goals as goal

@@ -1,7 +1,6 @@
 -- `rows::layout::Layout::flags` meets its contract: the product is small.
 -- Assumes nothing.
 use native.Mathlib.Omega.{arith}
-use borrow.Author.Rules.{rules}
 use Rattle.rows.proofs.Sizes.{rows_fit}
 use Rattle.rows.proofs.layout.Layout.flags.Goals as goal
 

@@ -12,7 +12,6 @@ use Rattle.table.proofs.Widths.{either-width}
 use Rattle.calculus.specs.Layout.{row_words}
 use Rattle.rows.specs.declared.layout.Layout.{Layout}
 use Rattle.rows.specs.Laid.{LaidOut}
-use borrow.Author.Rules.{rules}
 use Rattle.rows.proofs.layout.Layout.of.Goals as goal
 
 whole_words_lem : (w n : ℕ) → n ≡ names_of w → 32 + names_of w ≡ 32 * (1 + n / 32)

@@ -1,7 +1,6 @@
 -- `rows::layout::Layout::words` meets its contract: the product is small.
 -- Assumes nothing.
 use native.Mathlib.Omega.{arith}
-use borrow.Author.Rules.{rules}
 use Rattle.rows.proofs.Sizes.{rows_fit}
 use Rattle.rows.proofs.layout.Layout.words.Goals as goal
 
