@@ -6,7 +6,6 @@ use native.Mathlib.Omega.{arith}
 use borrow.Author.Tests.{lt-ltb, le-ltb}
 use lib.ListN.{length, take, drop, length-append, length-drop, drop_of_length-le}
 use lib.Seq.{take_all, take_at, drop_at, drop-drop}
-use Rattle.text.specs.Text.{bytes}
 use Rattle.text.specs.Writing.{Wrote}
 use Rattle.little_endian.specs.LittleEndian.{bytes_of, whole_words}
 use Rattle.little_endian.proofs.Laws.{length-bytes_of, bytes_of-append}

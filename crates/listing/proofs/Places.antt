@@ -3,7 +3,7 @@ use Prim.Native.Nat.{ℕ, zero, suc, ◌+◌, ◌*◌, ◌<◌, ◌≤◌}
 use mathlib.Core.Path.{◌≡◌, refl, sym, ap, ◌∙◌}
 use mathlib.Core.Bool.{Bool, true, false}
 use mathlib.Core.List.{List, [], ◌∷◌}
-use native.Mathlib.Decide.{dec_lt}
+use native.Mathlib.Decide.{dec_lt, ℕ_discrete}
 use native.Mathlib.Omega.{arith}
 use lib.Dec.{eqb, ltb}
 use lib.ListN.{length, get_or, take, drop, length-map}
@@ -13,7 +13,6 @@ use Rattle.table.specs.Scan.{Outcome, accepted, refused, first_of, narrow_readin
 use Rattle.table.specs.Words.{kind}
 use Rattle.table.proofs.Refusals.{narrow-bounded, bounded-number, bounded-place}
 use Rattle.listing.proofs.Depths.{narrow_size}
-use native.Mathlib.Decide.{ℕ_discrete}
 use Rattle.listing.specs.Spelling.{feed}
 use Rattle.listing.specs.Listing.{Answered, done, refusal, left, most, tested, depths, listing, written, onto, cut, indent, word_in, words_of, indents, misspelled, misplaced, placed, tabled, spelt, read_as}
 use Rattle.listing.proofs.Answers.{write-refused, long-one, long-other}

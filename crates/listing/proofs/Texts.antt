@@ -20,7 +20,7 @@ use Rattle.table.proofs.TermWords.{argument-lt}
 use Rattle.table.proofs.Constants.{at}
 use Rattle.text.specs.Text.{decimal, set}
 use Rattle.listing.specs.Keywords.{Style, omitted, hex, whole, signed, Entry, unused, entries, entry_of, used}
-use Rattle.listing.specs.Spelling.{space, feed, signed_decimal, spelled_argument, line_of, spelled, same, line_word}
+use Rattle.listing.specs.Spelling.{space, feed, signed_decimal, spelled_argument, line_of, spelled, line_word}
 use Rattle.listing.specs.Listing.{indented, lines, onto, cut, indent, word_in, words_of, indents, misspelled, misplaced}
 use Rattle.listing.proofs.Styles.{signed_low, signed_high}
 use Rattle.listing.proofs.Undone.{High, decimal-high, set-high, Kept, Known, kind-some, word-undone}

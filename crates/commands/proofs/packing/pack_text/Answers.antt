@@ -1,0 +1,36 @@
+-- `commands::packing::pack_text` meets its contract. Assumes nothing.
+use mathlib.Core.Path.{sym, ap, ap₂, ◌∙◌}
+use native.Mathlib.Omega.{arith}
+use lib.ListN.{replicate}
+use lib.Seq.{length-take-le}
+use Rattle.listing.specs.Answer.{answered}
+use Rattle.listing.proofs.Places.{read-few}
+use Rattle.report.specs.Lines.{refusal_line}
+use Rattle.text.proofs.Writing.{reworded}
+use Rattle.commands.proofs.Packed.{pack-done, pack-refused}
+use Rattle.commands.proofs.packing.pack_text.Goals as goal
+
+pub slice_bounds-words-end : goal.slice_bounds-words-end
+unfolding answered
+slice_bounds-words-end c =
+    let r = c.read in
+    omega (arith, read-few c.args.input.now _ (sym r.ensures.answer ∙ ap answered c.in-Done.is), r.auto.out)
+
+pub slice_bounds-put_system-end : goal.slice_bounds-put_system-end
+unfolding answered
+slice_bounds-put_system-end c =
+    let r = c.read in
+    sym (length-take-le _ _ (omega (arith, read-few c.args.input.now _ (sym r.ensures.answer ∙ ap answered c.in-Done.is), r.auto.out)))
+
+pub returns-in-Done : goal.returns-in-Done
+unfolding answered
+returns-in-Done c =
+    let r = c.read in
+    reworded (pack-done c.args.rho c.args.input.now r.new.out (replicate 1024 0) _ (sym r.ensures.answer ∙ ap answered c.in-Done.is) r.ensures.words) c.put_system.ensures
+
+pub returns-in-Refused : goal.returns-in-Refused
+unfolding answered
+returns-in-Refused c =
+    let r = c.read in
+    let e = sym r.ensures.answer ∙ ap answered c.in-Refused.is in
+    reworded (ap₂ refusal_line c.refusal_number.ensures c.refusal_place.ensures ∙ pack-refused c.args.rho c.args.input.now _ _ e) c.refusal_line.ensures.wrote

@@ -1,0 +1,38 @@
+-- `deliveries::write_accepted` meets its contract. Assumes nothing.
+use mathlib.Core.Path.{ap, ◌∙◌}
+use native.Mathlib.Omega.{arith}
+use lib.ListN.{length}
+use Rattle.table.proofs.Limits.{size-le}
+use Rattle.listing.specs.Answer.{answered, number, place}
+use Rattle.table.specs.Scan.{reading}
+use Rattle.deliveries.specs.Text.{text, written}
+use Rattle.text.proofs.Adding.{nothing-before}
+use Rattle.deliveries.proofs.Answers.{room-lacking, room-there}
+use Rattle.deliveries.proofs.write_accepted.Goals as goal
+
+pub put_words-n-requires : goal.put_words-n-requires
+put_words-n-requires c = size-le c.args.words.now c.requires
+
+pub returns-then-out-n : goal.returns-then-out-n
+unfolding answered number place written
+returns-then-out-n c =
+    let a = c.args in let f = c.put_words-n.ensures in
+    let z = nothing-before c.put_words-n.new.out a.out.now f.same in
+    let w = room-lacking (reading a.words.now) (text a.words.now) a.out.now c.requires _ f.ends (omega (arith, c.if-out-n.true, ap length z)) in
+    record {
+      answer = w.0;
+      text = z ∙ w.1;
+    }
+
+pub put_words-requires : goal.put_words-requires
+put_words-requires c = size-le c.args.words.now c.requires
+
+pub returns : goal.returns
+unfolding answered written
+returns c =
+    let a = c.args in let f = c.put_words-n.ensures in
+    let z = nothing-before c.put_words-n.new.out a.out.now f.same in
+    let all = room-there (reading a.words.now) (text a.words.now) a.out.now c.requires _ f.ends (omega (arith, c.if-out-n.false, ap length z)) _ _ _ z c.put_words.ensures in record {
+      answer = all.0;
+      text = all.1;
+    }

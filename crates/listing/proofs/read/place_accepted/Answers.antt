@@ -1,0 +1,53 @@
+-- `listing::read::place_accepted` meets its contract. Assumes nothing.
+use Prim.Native.Nat.{ℕ}
+use mathlib.Core.Path.{refl, sym, ap, ◌∙◌}
+use mathlib.Core.List.{List}
+use native.Mathlib.Omega.{arith}
+use lib.Seq.{length-take-le}
+use Rattle.listing.proofs.Depths.{narrow_size}
+use Rattle.listing.specs.Listing.{misplaced, left}
+use Rattle.listing.specs.Answer.{number, place, answered}
+use Rattle.listing.proofs.Answers.{place-line, place_short, place-done}
+use Rattle.listing.proofs.read.place_accepted.Goals as goal
+
+pub find_depths-requires : goal.find_depths-requires
+find_depths-requires c =
+    (c.requires, narrow_size c.args.words.now c.requires)
+
+pub slice_bounds-depths-end : goal.slice_bounds-depths-end
+slice_bounds-depths-end c =
+    omega (arith, narrow_size c.args.words.now c.requires, c.find_depths.auto.depths)
+
+pub slice_bounds-misplaced-end : goal.slice_bounds-misplaced-end
+slice_bounds-misplaced-end c =
+    sym (length-take-le _ _ (omega (arith, narrow_size c.args.words.now c.requires, c.find_depths.auto.depths)))
+
+pub returns-then-line-ne0 : goal.returns-then-line-ne0
+unfolding answered left number place
+returns-then-line-ne0 c =
+    let m = c.misplaced-line in
+    let d = ap (λ (ds : List ℕ). misplaced 1 ds c.args.spaces.now) c.find_depths.ensures in
+    record {
+      result_value = sym (place-line c.args.words.now c.args.spaces.now _ c.requires m.result (sym d ∙ sym m.ensures) c.if-line-ne0.true);
+      out_after = refl;
+    }
+
+pub returns-then-out-n : goal.returns-then-out-n
+unfolding answered left number place
+returns-then-out-n c =
+    let m = c.misplaced-line in
+    let d = ap (λ (ds : List ℕ). misplaced 1 ds c.args.spaces.now) c.find_depths.ensures in
+    record {
+      result_value = sym (place_short c.args.words.now c.args.spaces.now _ c.requires (omega (arith, d, m.ensures)) (omega arith));
+      out_after = refl;
+    }
+
+pub returns : goal.returns
+unfolding answered left
+returns c =
+    let m = c.misplaced-line in
+    let d = ap (λ (ds : List ℕ). misplaced 1 ds c.args.spaces.now) c.find_depths.ensures in
+    record {
+      result_value = sym (place-done c.args.words.now c.args.spaces.now _ c.requires (omega (arith, d, m.ensures)) (omega arith));
+      out_after = c.put_words.ensures;
+    }

@@ -1,0 +1,16 @@
+-- `listing::spell::style_at` meets its contract. Assumes nothing.
+use Prim.Native.Nat.{ℕ, ◌+◌, ◌*◌}
+use mathlib.Core.Path.{ap, ◌∙◌}
+use native.Mathlib.Omega.{arith}
+use mathlib.Core.List.{List}
+use lib.ListN.{length, get_or}
+use Rattle.listing.proofs.Letters.{letters-length, style-at}
+use Rattle.listing.proofs.spell.style_at.Goals as goal
+
+pub bounds-letters-k : goal.bounds-letters-k
+bounds-letters-k c =
+    omega (arith, ap length c.requires.0 ∙ letters-length)
+
+pub returns : goal.returns
+returns c =
+    ap (λ (l : List ℕ). get_or l (16 * c.args.k + 1) 0) c.requires.0 ∙ style-at c.args.k c.requires.1
