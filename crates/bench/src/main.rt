@@ -7,10 +7,12 @@ ghost use Rattle.std.specs.Prelude.{◌≤◌};
 use calls::Fault;
 use calls::numbers::{fault_number, fault_place};
 use comparison::Findings;
-use libc::{STDIN_FILENO, STDOUT_FILENO};
 use little_endian::words_of;
 use solver::Bounded;
 use solver::analyse::analyse_within;
+use std::env::{Env, FillError};
+use std::io;
+use std::io::Write;
 
 // More than any estimate has.
 const NO_CEILING: usize = 1000000000;
@@ -43,38 +45,37 @@ fn number(digits: &[u8]) -> usize {
     n
 }
 
-// The argument at a place, or another number where it is absent or too long.
-fn argument(at: usize, otherwise: usize) -> usize {
-    if os::arg_count() <= at {
-        return otherwise;
-    }
+// The argument at a place, or another number where it is absent or has 16 bytes; one that is longer counts as 0.
+fn argument(rt: &impl Env, at: usize, otherwise: usize) -> usize {
     let mut digits = [0u8; 16];
-    let n = os::arg(at, &mut digits);
-    if n < 16 {
-        number(&digits[..n])
-    } else {
-        otherwise
+    match rt.arg(at, &mut digits) {
+        Ok(n) => {
+            if n < 16 {
+                number(&digits[..n])
+            } else {
+                otherwise
+            }
+        }
+        Err(FillError::NotPresent) => otherwise,
+        Err(FillError::TooLong) => 0,
     }
 }
 
-fn refusal(f: Fault) {
-    streams::refusal(fault_number(f), fault_place(f));
+fn refusal(out: &mut impl Write, f: Fault) -> io::Result<()> {
+    streams::refusal(out, fault_number(f), fault_place(f))
 }
 
-fn findings(s: Findings) {
-    let leak = s.leak;
-    streams::text(b"leak ");
-    io::print_hex(STDOUT_FILENO, leak.bits as u64, 6);
-    streams::text(b" facts ");
-    io::print_decimal(STDOUT_FILENO, s.facts as u64);
-    streams::text(b"\n");
+fn findings(out: &mut impl Write, s: Findings) -> io::Result<()> {
+    let leak = s.leak.bits;
+    let facts = s.facts;
+    write!(out, "leak {leak:06x} facts {facts}\n")
 }
 
-fn answer(a: Bounded) {
+fn answer(out: &mut impl Write, a: Bounded) -> io::Result<()> {
     match a {
-        Bounded::Refused(f) => refusal(f),
-        Bounded::Over(n) => streams::refusal(23, n),
-        Bounded::Solved(s) => findings(s),
+        Bounded::Refused(f) => refusal(out, f),
+        Bounded::Over(n) => streams::refusal(out, 23, n),
+        Bounded::Solved(s) => findings(out, s),
     }
 }
 
@@ -96,38 +97,46 @@ fn solve(
     a
 }
 
-fn run(words: &[u32], rho: u32, est: &mut [u32], work: &mut [u32]) {
-    let times = argument(1, 1);
+fn run(
+    rt: &impl Env,
+    out: &mut impl Write,
+    words: &[u32],
+    rho: u32,
+    est: &mut [u32],
+    work: &mut [u32],
+) -> io::Result<()> {
+    let times = argument(rt, 1, 1);
     let more = if times == 0 { 0 } else { times - 1 };
-    answer(solve(words, rho, argument(2, NO_CEILING), est, work, more));
+    let ceiling = argument(rt, 2, NO_CEILING);
+    answer(out, solve(words, rho, ceiling, est, work, more))
 }
 
-fn with_slices(words: &[u32], rho: u32) {
+fn with_slices(rt: &impl Env, out: &mut impl Write, words: &[u32], rho: u32) -> io::Result<()> {
     let mut est = [0u32; 72704];
     let mut work = [0u32; 4096];
-    run(words, rho, &mut est, &mut work);
+    run(rt, out, words, rho, &mut est, &mut work)
 }
 
 // The words are ρ, a bound, which is not looked at, and the system.
-fn bench_words(words: &[u32]) {
+fn bench_words(rt: &impl Env, out: &mut impl Write, words: &[u32]) -> io::Result<()> {
     if 2 <= words.len() {
-        with_slices(&words[2..], words[0]);
+        return with_slices(rt, out, &words[2..], words[0]);
     }
+    Ok(())
 }
 
-fn bench(input: &[u8]) {
+fn bench(rt: &impl Env, out: &mut impl Write, input: &[u8]) -> io::Result<()> {
     let fault = feeder_fault(input.len());
     if fault != 0 {
-        streams::refusal(fault, 0);
-        return;
+        return streams::refusal(out, fault, 0);
     }
     let mut words = [0u32; 1026];
     let n = words_of(input, &mut words);
-    bench_words(&words[..n]);
+    bench_words(rt, out, &words[..n])
 }
 
-fn main() {
+fn main(rt: HostRuntime) -> io::Result<()> {
     let mut input = [0u8; 4105];
-    let n = io::read_full(STDIN_FILENO, &mut input);
-    bench(&input[..n]);
+    let n = streams::read_full(&mut rt.stdin(), &mut input)?;
+    bench(&rt, &mut rt.stdout(), &input[..n])
 }

@@ -4,31 +4,32 @@
 
 use calls::numbers::{fault_number, fault_place};
 use comparison::Findings;
-use libc::STDOUT_FILENO;
 use solver::Bounded;
 use solver::analyse::analyse_within;
+use std::io;
+use std::io::Write;
 
-fn number(label: &[u8], n: usize) {
-    streams::text(label);
-    io::print_decimal(STDOUT_FILENO, n as u64);
+fn number(out: &mut impl Write, label: &[u8], n: usize) -> io::Result<()> {
+    streams::text(out, label)?;
+    write!(out, "{n}")
 }
 
-fn refused(n: u32, place: usize) {
-    number(b" refused ", n as usize);
-    number(b" at ", place);
+fn refused(out: &mut impl Write, n: u32, place: usize) -> io::Result<()> {
+    number(out, b" refused ", n as usize)?;
+    number(out, b" at ", place)
 }
 
-fn found(s: Findings) {
+fn found(out: &mut impl Write, s: Findings) -> io::Result<()> {
     let leak = s.leak;
-    number(b" leak ", leak.bits as usize);
-    number(b" facts ", s.facts);
+    number(out, b" leak ", leak.bits as usize)?;
+    number(out, b" facts ", s.facts)
 }
 
-fn answer(a: Bounded) {
+fn answer(out: &mut impl Write, a: Bounded) -> io::Result<()> {
     match a {
-        Bounded::Refused(f) => refused(fault_number(f), fault_place(f)),
-        Bounded::Over(n) => refused(23, n),
-        Bounded::Solved(s) => found(s),
+        Bounded::Refused(f) => refused(out, fault_number(f), fault_place(f)),
+        Bounded::Over(n) => refused(out, 23, n),
+        Bounded::Solved(s) => found(out, s),
     }
 }
 
@@ -46,7 +47,7 @@ fn zeros(words: &[u32]) -> usize {
 }
 
 // 35 words of estimate and 20 of work are needed.
-fn show(rho: u32, ceiling: usize) {
+fn show(out: &mut impl Write, rho: u32, ceiling: usize) -> io::Result<()> {
     let words = [
         0x01000001u32,
         0x02000000,
@@ -56,19 +57,23 @@ fn show(rho: u32, ceiling: usize) {
     ];
     let mut est = [1u32; 40];
     let mut work = [1u32; 24];
-    number(b"ceiling ", ceiling);
-    answer(analyse_within(&words, rho, ceiling, &mut est, &mut work));
-    number(b" zeros ", zeros(&est));
-    number(b" and ", zeros(&work));
-    streams::text(b"\n");
+    number(out, b"ceiling ", ceiling)?;
+    answer(
+        out,
+        analyse_within(&words, rho, ceiling, &mut est, &mut work),
+    )?;
+    number(out, b" zeros ", zeros(&est))?;
+    number(out, b" and ", zeros(&work))?;
+    streams::text(out, b"\n")
 }
 
-fn main() {
-    show(0, 0);
-    show(0, 69);
-    show(0, 70);
-    show(0, 71);
-    show(0, 814);
-    show(0, 815);
-    show(0x01000000, 0);
+fn main(rt: HostRuntime) -> io::Result<()> {
+    let out = &mut rt.stdout();
+    show(out, 0, 0)?;
+    show(out, 0, 69)?;
+    show(out, 0, 70)?;
+    show(out, 0, 71)?;
+    show(out, 0, 814)?;
+    show(out, 0, 815)?;
+    show(out, 0x01000000, 0)
 }

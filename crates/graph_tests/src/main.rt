@@ -4,61 +4,66 @@
 ghost use Rattle.std.specs.Prelude.{◌≤◌};
 
 use graph::Arrangement;
-use libc::STDOUT_FILENO;
+use std::io;
+use std::io::Write;
 
-fn text(s: &[u8]) {
-    io::write_all(STDOUT_FILENO, s);
+fn text(out: &mut impl Write, s: &[u8]) -> io::Result<()> {
+    out.write_all(s)
 }
 
-fn number(n: u64) {
-    text(b" ");
-    io::print_decimal(STDOUT_FILENO, n);
+fn number(out: &mut impl Write, n: u64) -> io::Result<()> {
+    write!(out, " {n}")
 }
 
-fn position(p: u32) {
-    number(p as u64);
+fn position(out: &mut impl Write, p: u32) -> io::Result<()> {
+    number(out, u64::from(p))
 }
 
-fn answer(a: Arrangement) {
+fn answer(out: &mut impl Write, a: Arrangement) -> io::Result<()> {
     match a {
-        Arrangement::Short => text(b" short"),
+        Arrangement::Short => text(out, b" short"),
         Arrangement::Ordered(count) => {
-            text(b" order of");
-            number(count as u64);
+            text(out, b" order of")?;
+            number(out, count as u64)
         }
         Arrangement::Looped(count) => {
-            text(b" loop of");
-            number(count as u64);
+            text(out, b" loop of")?;
+            number(out, count as u64)
         }
     }
 }
 
-fn slice(positions: &[u32]) {
-    let mut i = 0;
-    while i < positions.len() {
-        position(positions[i]);
-        i += 1;
+fn slice(out: &mut impl Write, positions: &[u32]) -> io::Result<()> {
+    for p in positions {
+        position(out, *p)?;
     }
+    Ok(())
 }
 
-fn show(label: &[u8], rows: &[u64], live: u64, positions: &mut [u32]) {
-    text(label);
-    answer(graph::arrange(rows, live, positions));
-    text(b":");
-    slice(positions);
-    text(b"\n");
+fn show(
+    out: &mut impl Write,
+    label: &[u8],
+    rows: &[u64],
+    live: u64,
+    positions: &mut [u32],
+) -> io::Result<()> {
+    text(out, label)?;
+    answer(out, graph::arrange(rows, live, positions))?;
+    text(out, b":")?;
+    slice(out, positions)?;
+    text(out, b"\n")
 }
 
 // A slice with room for five.
-fn few(label: &[u8], rows: &[u64], live: u64) {
+fn few(out: &mut impl Write, label: &[u8], rows: &[u64], live: u64) -> io::Result<()> {
     let mut positions = [99u32; 5];
-    show(label, rows, live, &mut positions);
+    show(out, label, rows, live, &mut positions)
 }
 
 // A slice with room for 66.
-fn many(label: &[u8], rows: &[u64], live: u64) {
+fn many(out: &mut impl Write, label: &[u8], rows: &[u64], live: u64) -> io::Result<()> {
     let mut positions = [99u32; 66];
-    show(label, rows, live, &mut positions);
+    show(out, label, rows, live, &mut positions)
 }
 
 // Each position gets the one sender that is so many places on, going round.
@@ -73,56 +78,68 @@ fn turn(rows: &mut [u64], by: usize)
     }
 }
 
-fn orders() {
-    few(b"no rows:", &[], 255);
-    few(b"none live:", &[1, 2, 4], 0);
-    few(b"none may send:", &[0, 0, 0], 7);
-    few(b"0 to 2 to 1:", &[0, 4, 1], 7);
-    few(b"1 to 2 to 0:", &[4, 0, 2], 7);
-    few(b"3 to 0:", &[8, 0, 0, 0], 15);
-    few(b"1 to 0:", &[2, 0, 0, 0], 15);
-    few(b"0 to 2 to 1, and 2 is not live:", &[0, 4, 1], 3);
-    few(b"1 to itself, and is not live:", &[0, 2, 0], 5);
-    few(b"0 to 2 to 1 to 0, and 2 is not live:", &[2, 4, 1], 3);
+fn orders(out: &mut impl Write) -> io::Result<()> {
+    few(out, b"no rows:", &[], 255)?;
+    few(out, b"none live:", &[1, 2, 4], 0)?;
+    few(out, b"none may send:", &[0, 0, 0], 7)?;
+    few(out, b"0 to 2 to 1:", &[0, 4, 1], 7)?;
+    few(out, b"1 to 2 to 0:", &[4, 0, 2], 7)?;
+    few(out, b"3 to 0:", &[8, 0, 0, 0], 15)?;
+    few(out, b"1 to 0:", &[2, 0, 0, 0], 15)?;
+    few(out, b"0 to 2 to 1, and 2 is not live:", &[0, 4, 1], 3)?;
+    few(out, b"1 to itself, and is not live:", &[0, 2, 0], 5)?;
+    few(out, b"0 to 2 to 1 to 0, and 2 is not live:", &[2, 4, 1], 3)?;
     few(
+        out,
         b"from where there is no row:",
         &[0x8000000000000000, 4],
         0xffffffffffffffff,
-    );
-    few(b"as many as there is room for:", &[0, 0, 0, 0, 0], 31);
-    few(b"one more:", &[0, 0, 0, 0, 0, 0], 31);
+    )?;
+    few(out, b"as many as there is room for:", &[0, 0, 0, 0, 0], 31)?;
+    few(out, b"one more:", &[0, 0, 0, 0, 0, 0], 31)
 }
 
-fn loops() {
-    few(b"0 to 2 to 0:", &[4, 0, 1], 7);
-    few(b"1 to itself, and 0 to 2 to 0:", &[4, 2, 1], 7);
-    few(b"0 to 2 to 1 to 0:", &[2, 4, 1], 7);
-    few(b"0 to 3 to 0, and 1 to 2 to 1:", &[8, 4, 2, 1], 15);
-    few(b"0 to 1 to 2 to 0, and 3 to 4 to 3:", &[4, 1, 2, 16, 8], 31);
-    few(b"0 to 2 or 3 to 1 to 0:", &[2, 12, 1, 1], 15);
-    few(b"the same, and 2 is not live:", &[2, 12, 1, 1], 11);
-    few(b"0 to 1 to 0, and from 2 and to 3:", &[6, 1, 0, 3], 15);
+fn loops(out: &mut impl Write) -> io::Result<()> {
+    few(out, b"0 to 2 to 0:", &[4, 0, 1], 7)?;
+    few(out, b"1 to itself, and 0 to 2 to 0:", &[4, 2, 1], 7)?;
+    few(out, b"0 to 2 to 1 to 0:", &[2, 4, 1], 7)?;
+    few(out, b"0 to 3 to 0, and 1 to 2 to 1:", &[8, 4, 2, 1], 15)?;
+    few(
+        out,
+        b"0 to 1 to 2 to 0, and 3 to 4 to 3:",
+        &[4, 1, 2, 16, 8],
+        31,
+    )?;
+    few(out, b"0 to 2 or 3 to 1 to 0:", &[2, 12, 1, 1], 15)?;
+    few(out, b"the same, and 2 is not live:", &[2, 12, 1, 1], 11)?;
+    few(out, b"0 to 1 to 0, and from 2 and to 3:", &[6, 1, 0, 3], 15)
 }
 
-fn wide() {
+fn wide(out: &mut impl Write) -> io::Result<()> {
     let mut ring = [0u64; 64];
     turn(&mut ring, 63);
-    many(b"64 round:", &ring, 0xffffffffffffffff);
+    many(out, b"64 round:", &ring, 0xffffffffffffffff)?;
     ring[0] = 0;
-    many(b"64 in a line:", &ring, 0xffffffffffffffff);
+    many(out, b"64 in a line:", &ring, 0xffffffffffffffff)?;
     turn(&mut ring, 1);
-    many(b"64 round the other way:", &ring, 0xffffffffffffffff);
+    many(out, b"64 round the other way:", &ring, 0xffffffffffffffff)?;
     ring[63] = 0;
-    many(b"64 in a line the other way:", &ring, 0xffffffffffffffff);
+    many(
+        out,
+        b"64 in a line the other way:",
+        &ring,
+        0xffffffffffffffff,
+    )?;
     let mut half = [0u64; 32];
     turn(&mut half, 31);
-    many(b"32 round:", &half, 0xffffffff);
-    many(b"32 round, and 31 is not live:", &half, 0x7fffffff);
-    many(b"66 rows:", &[0; 66], 0xffffffffffffffff);
+    many(out, b"32 round:", &half, 0xffffffff)?;
+    many(out, b"32 round, and 31 is not live:", &half, 0x7fffffff)?;
+    many(out, b"66 rows:", &[0; 66], 0xffffffffffffffff)
 }
 
-fn main() {
-    orders();
-    loops();
-    wide();
+fn main(rt: HostRuntime) -> io::Result<()> {
+    let out = &mut rt.stdout();
+    orders(out)?;
+    loops(out)?;
+    wide(out)
 }

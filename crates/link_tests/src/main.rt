@@ -1,6 +1,8 @@
 // What stands at each word of accepted tables, and the links that `link` writes.
 #![tactic(auto)]
 
+use std::io;
+use std::io::Write;
 use table::Item;
 use table_links::{item_at, link_at};
 use test_tables::tables::{RELAY, blocks};
@@ -20,70 +22,77 @@ const CONSTANTS: [u32; 12] = [
 ];
 
 // What stands at a word; of a term its link too.
-fn line(words: &[u32], links: &[u32], p: usize) {
-    number(b"word ", p);
-    text(b" ");
+fn line(out: &mut impl Write, words: &[u32], links: &[u32], p: usize) -> io::Result<()> {
+    number(out, b"word ", p)?;
+    text(out, b" ")?;
     let i = item_at(words, p);
-    item(i);
+    item(out, i)?;
     if let Item::Term(_) = i {
-        link(link_at(links, p));
+        link(out, link_at(links, p))?;
     }
-    end();
+    end(out)
 }
 
-fn lines(words: &[u32], links: &[u32]) {
+fn lines(out: &mut impl Write, words: &[u32], links: &[u32]) -> io::Result<()> {
     let mut p = 0;
     while p < words.len() {
-        line(words, links, p);
+        line(out, words, links, p)?;
         p += 1;
     }
+    Ok(())
 }
 
 // The word of a slice of links after those of the table.
-fn rest(words: &[u32], links: &[u32]) {
+fn rest(out: &mut impl Write, words: &[u32], links: &[u32]) -> io::Result<()> {
     let n = words.len();
     if n < links.len() {
-        hex(b"the next word of the slice ", links[n]);
-        end();
+        hex(out, b"the next word of the slice ", links[n])?;
+        end(out)?;
     }
+    Ok(())
 }
 
 // The links of a table of at most 32 words.
-fn of(label: &[u8], words: &[u32]) {
+fn of(out: &mut impl Write, label: &[u8], words: &[u32]) -> io::Result<()> {
     let mut links = [4294967295u32; 32];
     table_links::link(words, &mut links);
-    text(label);
-    end();
-    lines(words, &links);
-    rest(words, &links);
+    text(out, label)?;
+    end(out)?;
+    lines(out, words, &links)?;
+    rest(out, words, &links)
 }
 
 // A slice that is too short.
-fn short() {
+fn short(out: &mut impl Write) -> io::Result<()> {
     let mut links = [4294967295u32; 10];
     table_links::link(&RELAY, &mut links);
-    hex(b"relay with 10 words for its links, the first ", links[0]);
-    end();
+    hex(
+        out,
+        b"relay with 10 words for its links, the first ",
+        links[0],
+    )?;
+    end(out)
 }
 
 // The last word of a table of 1,024 words, whose last block starts at 991.
-fn last() {
+fn last(out: &mut impl Write) -> io::Result<()> {
     let mut words = [0u32; 1024];
     words[0] = 0x0100001f;
     blocks(&mut words, 33, 0);
     let mut links = [0u32; 1024];
     table_links::link(&words, &mut links);
-    text(b"1,024 words: the last two, and the place after them");
-    end();
-    line(&words, &links, 1022);
-    line(&words, &links, 1023);
-    line(&words, &links, 1024);
+    text(out, b"1,024 words: the last two, and the place after them")?;
+    end(out)?;
+    line(out, &words, &links, 1022)?;
+    line(out, &words, &links, 1023)?;
+    line(out, &words, &links, 1024)
 }
 
-fn main() {
-    of(b"links of relay", &RELAY);
-    of(b"links of a nested table", &NESTED);
-    of(b"links of an if", &CONSTANTS);
-    short();
-    last();
+fn main(rt: HostRuntime) -> io::Result<()> {
+    let out = &mut rt.stdout();
+    of(out, b"links of relay", &RELAY)?;
+    of(out, b"links of a nested table", &NESTED)?;
+    of(out, b"links of an if", &CONSTANTS)?;
+    short(out)?;
+    last(out)
 }

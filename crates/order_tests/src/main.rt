@@ -6,24 +6,21 @@ mod rings;
 
 ghost use Rattle.std.specs.Prelude.{◌≤◌, length};
 
-use libc::STDOUT_FILENO;
 use reading_order::{Ordering, order};
+use std::io;
+use std::io::Write;
 use test_tables::tables::RELAY;
 
-fn three(label: &[u8], a: u32, b: u32, c: u32) {
-    streams::text(label);
-    io::print_decimal(STDOUT_FILENO, a as u64);
-    streams::text(b" ");
-    io::print_decimal(STDOUT_FILENO, b as u64);
-    streams::text(b" ");
-    io::print_decimal(STDOUT_FILENO, c as u64);
+fn three(out: &mut impl Write, label: &[u8], a: u32, b: u32, c: u32) -> io::Result<()> {
+    streams::text(out, label)?;
+    write!(out, "{a} {b} {c}")
 }
 
 // The line of a reply.
-pub fn line(reply: Ordering, positions: &[u32]) {
-    let mut out = [0u8; 1440];
-    let n = order_text::write(reply, positions, &mut out);
-    streams::first(&out, n);
+pub fn line(out: &mut impl Write, reply: Ordering, positions: &[u32]) -> io::Result<()> {
+    let mut written = [0u8; 1440];
+    let n = order_text::write(reply, positions, &mut written);
+    streams::first(out, &written, n)
 }
 
 // The call on the first words of slices: 77 of estimate, 44 of work and 2 positions are needed.
@@ -49,7 +46,13 @@ fn ask(
     )
 }
 
-fn show(ceiling: usize, estimate: usize, room: usize, count: usize)
+fn show(
+    out: &mut impl Write,
+    ceiling: usize,
+    estimate: usize,
+    room: usize,
+    count: usize,
+) -> io::Result<()>
     requires { (estimate ≤ 80) × (room ≤ 48) × (count ≤ 3) }
 {
     let mut est = [1u32; 80];
@@ -64,21 +67,28 @@ fn show(ceiling: usize, estimate: usize, room: usize, count: usize)
         &mut work,
         &mut positions,
     );
-    three(b"estimate ", est[0], est[76], est[77]);
-    three(b" work ", work[0], work[43], work[44]);
-    three(b" positions ", positions[0], positions[1], positions[2]);
-    streams::text(b": ");
-    line(reply, &positions);
+    three(out, b"estimate ", est[0], est[76], est[77])?;
+    three(out, b" work ", work[0], work[43], work[44])?;
+    three(
+        out,
+        b" positions ",
+        positions[0],
+        positions[1],
+        positions[2],
+    )?;
+    streams::text(out, b": ")?;
+    line(out, reply, &positions)
 }
 
-fn main() {
-    show(1000, 80, 48, 3);
-    show(1000, 77, 44, 2);
-    show(207, 77, 44, 2);
-    show(206, 77, 44, 2);
-    show(206, 77, 44, 1);
-    show(1000, 77, 44, 0);
-    show(206, 77, 43, 1);
-    show(206, 76, 43, 1);
-    rings::show();
+fn main(rt: HostRuntime) -> io::Result<()> {
+    let out = &mut rt.stdout();
+    show(out, 1000, 80, 48, 3)?;
+    show(out, 1000, 77, 44, 2)?;
+    show(out, 207, 77, 44, 2)?;
+    show(out, 206, 77, 44, 2)?;
+    show(out, 206, 77, 44, 1)?;
+    show(out, 1000, 77, 44, 0)?;
+    show(out, 206, 77, 43, 1)?;
+    show(out, 206, 76, 43, 1)?;
+    rings::show(out)
 }

@@ -3,6 +3,8 @@ ghost use Rattle.std.specs.Prelude.{◌≤◌, ◌<◌};
 
 use crate::line;
 use reading_order::order;
+use std::io;
+use std::io::Write;
 use test_tables::tables::{put, word};
 
 // The handler of a name, without permissions or guard, which sends its message to another name.
@@ -30,7 +32,7 @@ fn put_ring(words: &mut [u32], step: usize)
 }
 
 // The ring's line, with so many positions.
-fn show_in(step: usize, positions: &mut [u32])
+fn show_in(out: &mut impl Write, step: usize, positions: &mut [u32]) -> io::Result<()>
     requires { step ≤ 64 }
 {
     let mut words = [0u32; 385];
@@ -38,14 +40,14 @@ fn show_in(step: usize, positions: &mut [u32])
     let mut work = [0u32; 1540];
     put_ring(&mut words, step);
     let reply = order(&words, 0, 1000000, &mut est, &mut work, positions);
-    line(reply, positions);
+    line(out, reply, positions)
 }
 
 // Each to the next, and to the one before; a position too few.
-pub fn show() {
+pub fn show(out: &mut impl Write) -> io::Result<()> {
     let mut positions = [0u32; 64];
-    show_in(1, &mut positions);
-    show_in(63, &mut positions);
+    show_in(out, 1, &mut positions)?;
+    show_in(out, 63, &mut positions)?;
     let mut few = [0u32; 63];
-    show_in(1, &mut few);
+    show_in(out, 1, &mut few)
 }

@@ -4,16 +4,20 @@
 mod large;
 mod small;
 
-fn written_out() {
-    small::bodies();
-    small::others();
-    small::branches();
-    small::relays();
+use std::io;
+use std::io::Write;
+
+fn written_out(out: &mut impl Write) -> io::Result<()> {
+    small::bodies(out)?;
+    small::others(out)?;
+    small::branches(out)?;
+    small::relays(out)
 }
 
-fn main() {
-    written_out();
-    small::refusals();
-    large::depths();
-    large::sizes();
+fn main(rt: HostRuntime) -> io::Result<()> {
+    let out = &mut rt.stdout();
+    written_out(out)?;
+    small::refusals(out)?;
+    large::depths(out)?;
+    large::sizes(out)
 }

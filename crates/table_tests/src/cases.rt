@@ -1,6 +1,8 @@
 // Tables that are written as text: words of eight hex digits, a blank between two words, a full stop after each table.
 ghost use Rattle.std.specs.Prelude.{◌≤◌};
 
+use std::io;
+use std::io::Write;
 use test_tables::tables::{copy, first, head, put};
 use test_tables::{end, hex, text};
 
@@ -34,36 +36,58 @@ fn count_after(count: usize, start: usize, b: u8) -> usize
     }
 }
 
-fn word_at(words: &[u32], i: usize) {
+fn word_at(out: &mut impl Write, words: &[u32], i: usize) -> io::Result<()> {
     if i < words.len() {
-        hex(b" ", words[i]);
+        hex(out, b" ", words[i])?;
     }
+    Ok(())
 }
 
 // The words from a place on, and what the reading of all of them answers.
-fn line(label: &[u8], words: &[u32], start: usize, n: usize) {
-    text(label);
+fn line(
+    out: &mut impl Write,
+    label: &[u8],
+    words: &[u32],
+    start: usize,
+    n: usize,
+) -> io::Result<()> {
+    text(out, label)?;
     for i in start..n {
-        word_at(words, i);
+        word_at(out, words, i)?;
     }
-    first(b": ", words, n);
-    end();
+    first(out, b": ", words, n)?;
+    end(out)
 }
 
 // Ends a word at a blank, and a word and its table at a full stop.
-fn finish(label: &[u8], words: &mut [u32], start: usize, count: usize, value: u32, b: u8)
+fn finish(
+    out: &mut impl Write,
+    label: &[u8],
+    words: &mut [u32],
+    start: usize,
+    count: usize,
+    value: u32,
+    b: u8,
+) -> io::Result<()>
     requires { count ≤ 64 }
 {
     if b < b'0' {
         put(words, count, value);
         if b == b'.' {
-            line(label, words, start, count + 1);
+            line(out, label, words, start, count + 1)?;
         }
     }
+    Ok(())
 }
 
 // The tables of a text, each after the first `start` words of a slice.
-fn each(label: &[u8], words: &mut [u32], start: usize, tables: &[u8])
+fn each(
+    out: &mut impl Write,
+    label: &[u8],
+    words: &mut [u32],
+    start: usize,
+    tables: &[u8],
+) -> io::Result<()>
     requires { start ≤ 64 }
 {
     let mut value = 0;
@@ -71,32 +95,33 @@ fn each(label: &[u8], words: &mut [u32], start: usize, tables: &[u8])
     let mut i = 0;
     while i < tables.len() {
         let b = tables[i];
-        finish(label, words, start, count, value, b);
+        finish(out, label, words, start, count, value, b)?;
         value = value_after(value, b);
         count = count_after(count, start, b);
         i += 1;
     }
+    Ok(())
 }
 
-pub fn tables(text: &[u8]) {
+pub fn tables(out: &mut impl Write, text: &[u8]) -> io::Result<()> {
     let mut words = [0u32; 16];
-    each(b"table", &mut words, 0, text);
+    each(out, b"table", &mut words, 0, text)
 }
 
 // Bodies of one handler.
-pub fn bodies(text: &[u8]) {
+pub fn bodies(out: &mut impl Write, text: &[u8]) -> io::Result<()> {
     let mut words = [0u32; 16];
     head(&mut words);
-    each(b"body", &mut words, 4, text);
+    each(out, b"body", &mut words, 4, text)
 }
 
 // Second blocks, after one of name 0 and permissions 3.
-pub fn second_blocks(text: &[u8]) {
+pub fn second_blocks(out: &mut impl Write, text: &[u8]) -> io::Result<()> {
     let mut words = [0u32; 16];
     copy(
         &mut words,
         0,
         &[0x01000002, 0x02000000, 0x03000003, 0x04000000, 0x1c000000],
     );
-    each(b"second block", &mut words, 5, text);
+    each(out, b"second block", &mut words, 5, text)
 }

@@ -9,11 +9,14 @@ mod places;
 mod samples;
 mod sizes;
 
-fn main() {
-    samples::run();
-    places::run();
-    kinds::run();
-    keys::run();
-    nesting::run();
-    sizes::run();
+use std::io;
+
+fn main(rt: HostRuntime) -> io::Result<()> {
+    let out = &mut rt.stdout();
+    samples::run(out)?;
+    places::run(out)?;
+    kinds::run(out)?;
+    keys::run(out)?;
+    nesting::run(out)?;
+    sizes::run(out)
 }

@@ -1,5 +1,7 @@
 // The tables of document 01's samples.
 use crate::cases::{bodies, tables};
+use std::io;
+use std::io::Write;
 use test_tables::answer;
 use test_tables::tables::RELAY;
 
@@ -8,13 +10,17 @@ const TWINS: [u32; 15] = [
     0x03000002, 0x04000008, 0x24000002, 0x02000001, 0x03000004, 0x04000008, 0x24000004,
 ];
 
-pub fn run() {
-    answer(b"no words", &[]);
-    tables(b"01000020.01000021.01000000.01000000 01000000.");
+pub fn run(out: &mut impl Write) -> io::Result<()> {
+    answer(out, b"no words", &[])?;
+    tables(out, b"01000020.01000021.01000000.01000000 01000000.")?;
     bodies(
+        out,
         b"24000002.24000004.19000000 10000002 24000001 24000002.19000000 14000000 24000001 24000002.",
-    );
-    bodies(b"16000000 15000000 24000001 10000000.15000000 24000001.14000001.");
-    answer(b"relay", &RELAY);
-    answer(b"twins", &TWINS);
+    )?;
+    bodies(
+        out,
+        b"16000000 15000000 24000001 10000000.15000000 24000001.14000001.",
+    )?;
+    answer(out, b"relay", &RELAY)?;
+    answer(out, b"twins", &TWINS)
 }

@@ -1,69 +1,71 @@
 // What the program prints.
-use libc::STDOUT_FILENO;
 use permset::PermSet;
+use std::io;
+use std::io::Write;
 use table::read::read;
 use table::{Constant, Handler, Item, Link, Operation, Reading, Refusal, Term};
 
-pub fn text(s: &[u8]) {
-    io::write_all(STDOUT_FILENO, s);
+pub fn text(out: &mut impl Write, s: &[u8]) -> io::Result<()> {
+    out.write_all(s)
 }
 
-pub fn number(label: &[u8], n: usize) {
-    text(label);
-    io::print_decimal(STDOUT_FILENO, n as u64);
+pub fn number(out: &mut impl Write, label: &[u8], n: usize) -> io::Result<()> {
+    text(out, label)?;
+    write!(out, "{n}")
 }
 
-pub fn hex(label: &[u8], w: u32) {
-    text(label);
-    io::print_hex(STDOUT_FILENO, w as u64, 8);
+pub fn hex(out: &mut impl Write, label: &[u8], w: u32) -> io::Result<()> {
+    text(out, label)?;
+    write!(out, "{w:08x}")
 }
 
-fn set(label: &[u8], s: PermSet) {
-    text(label);
-    io::print_hex(STDOUT_FILENO, s.bits as u64, 6);
+fn set(out: &mut impl Write, label: &[u8], s: PermSet) -> io::Result<()> {
+    text(out, label)?;
+    let bits = s.bits;
+    write!(out, "{bits:06x}")
 }
 
-pub fn end() {
-    text(b"\n");
+pub fn end(out: &mut impl Write) -> io::Result<()> {
+    text(out, b"\n")
 }
 
-fn refused(n: usize, place: usize) {
-    number(b"refused ", n);
-    number(b" at ", place);
+fn refused(out: &mut impl Write, n: usize, place: usize) -> io::Result<()> {
+    number(out, b"refused ", n)?;
+    number(out, b" at ", place)
 }
 
 // A refusal, with document 01's number for its case.
-fn refusal(r: Refusal) {
+fn refusal(out: &mut impl Write, r: Refusal) -> io::Result<()> {
     match r {
-        Refusal::NotTable => refused(1, 0),
-        Refusal::TooManyWords => refused(2, 0),
-        Refusal::TooManyHandlers => refused(3, 0),
-        Refusal::NotBlock(p) => refused(4, p),
-        Refusal::NameRange(p) => refused(5, p),
-        Refusal::KeyUsed(p) => refused(6, p),
-        Refusal::NotTerm(p) => refused(7, p),
-        Refusal::NoTerm(p) => refused(8, p),
-        Refusal::ArgumentRange(p) => refused(9, p),
-        Refusal::NoBinder(p) => refused(10, p),
-        Refusal::TooDeep(p) => refused(11, p),
-        Refusal::Trailing(p) => refused(12, p),
+        Refusal::NotTable => refused(out, 1, 0),
+        Refusal::TooManyWords => refused(out, 2, 0),
+        Refusal::TooManyHandlers => refused(out, 3, 0),
+        Refusal::NotBlock(p) => refused(out, 4, p),
+        Refusal::NameRange(p) => refused(out, 5, p),
+        Refusal::KeyUsed(p) => refused(out, 6, p),
+        Refusal::NotTerm(p) => refused(out, 7, p),
+        Refusal::NoTerm(p) => refused(out, 8, p),
+        Refusal::ArgumentRange(p) => refused(out, 9, p),
+        Refusal::NoBinder(p) => refused(out, 10, p),
+        Refusal::TooDeep(p) => refused(out, 11, p),
+        Refusal::Trailing(p) => refused(out, 12, p),
     }
 }
 
 // What the reading of a table answers.
-pub fn reading(label: &[u8], words: &[u32]) {
-    text(label);
+pub fn reading(out: &mut impl Write, label: &[u8], words: &[u32]) -> io::Result<()> {
+    text(out, label)?;
     match read(words) {
-        Reading::Accepted => text(b"accepted"),
-        Reading::Refused(r) => refusal(r),
+        Reading::Accepted => text(out, b"accepted"),
+        Reading::Refused(r) => refusal(out, r),
     }
 }
 
 // A line with what the reading of a table answers.
-pub fn answer(label: &[u8], words: &[u32]) {
-    text(label);
-    reading(b": ", words);
-    end();
+pub fn answer(out: &mut impl Write, label: &[u8], words: &[u32]) -> io::Result<()> {
+    text(out, label)?;
+    reading(out, b": ", words)?;
+    end(out)
 }
 
 fn constant(c: Constant) -> u32 {
@@ -125,29 +127,29 @@ fn argument(t: Term) -> u32 {
     }
 }
 
-fn term(t: Term) {
-    number(b"term ", kind(t));
-    set(b" ", PermSet::of(argument(t)));
+fn term(out: &mut impl Write, t: Term) -> io::Result<()> {
+    number(out, b"term ", kind(t))?;
+    set(out, b" ", PermSet::of(argument(t)))
 }
 
-fn handler(h: Handler) {
-    number(b"block name ", h.name as usize);
+fn handler(out: &mut impl Write, h: Handler) -> io::Result<()> {
+    number(out, b"block name ", h.name as usize)?;
     let perms = h.perms;
-    set(b" permissions ", perms);
+    set(out, b" permissions ", perms)?;
     let guard = h.guard;
-    set(b" guard ", guard);
+    set(out, b" guard ", guard)
 }
 
-pub fn item(i: Item) {
+pub fn item(out: &mut impl Write, i: Item) -> io::Result<()> {
     match i {
-        Item::Gap => text(b"gap"),
-        Item::Block(h) => handler(h),
-        Item::Term(t) => term(t),
+        Item::Gap => text(out, b"gap"),
+        Item::Block(h) => handler(out, h),
+        Item::Term(t) => term(out, t),
     }
 }
 
-pub fn link(l: Link) {
-    number(b" end ", l.end);
-    number(b" binder ", l.binder);
-    number(b" home ", l.home);
+pub fn link(out: &mut impl Write, l: Link) -> io::Result<()> {
+    number(out, b" end ", l.end)?;
+    number(out, b" binder ", l.binder)?;
+    number(out, b" home ", l.home)
 }

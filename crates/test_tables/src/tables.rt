@@ -5,6 +5,8 @@ ghost use Rattle.table.specs.Words.{word_of};
 ghost use Rattle.test_tables.specs.Tables.{block_word, head_words, in_turn, numbered};
 
 use crate::show::{end, reading, text};
+use std::io;
+use std::io::Write;
 
 // Document 01's sample relay.
 pub const RELAY: [u32; 11] = [
@@ -103,23 +105,31 @@ pub fn blocks(words: &mut [u32], span: usize, name: usize)
 }
 
 // What the reading of the first words of a slice answers.
-pub fn first(label: &[u8], words: &[u32], n: usize) {
+pub fn first(out: &mut impl Write, label: &[u8], words: &[u32], n: usize) -> io::Result<()> {
     if n <= words.len() {
-        reading(label, &words[..n]);
+        return reading(out, label, &words[..n]);
     }
+    Ok(())
 }
 
 // The same on a line.
-pub fn first_words(label: &[u8], words: &[u32], n: usize) {
-    text(label);
-    first(b": ", words, n);
-    end();
+pub fn first_words(out: &mut impl Write, label: &[u8], words: &[u32], n: usize) -> io::Result<()> {
+    text(out, label)?;
+    first(out, b": ", words, n)?;
+    end(out)
 }
 
 // Stores a word, and reads the first words.
-pub fn changed(label: &[u8], words: &mut [u32], n: usize, at: usize, w: u32)
+pub fn changed(
+    out: &mut impl Write,
+    label: &[u8],
+    words: &mut [u32],
+    n: usize,
+    at: usize,
+    w: u32,
+) -> io::Result<()>
     ensures { words.new ≡ set words.old at w }
 {
     put(words, at, w);
-    first_words(label, words, n);
+    first_words(out, label, words, n)
 }

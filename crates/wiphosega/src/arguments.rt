@@ -1,5 +1,8 @@
 // The arguments: the command, and sets in hexadecimal digits.
+ghost use Rattle.std.specs.Prelude.{◌≤◌, length};
+
 use commands::arguments::{Value, value_of};
+use std::env::Env;
 
 // The commands that stand in this program, and those of `commands`: with an input to read, or without.
 #[derive(Clone, Copy)]
@@ -70,15 +73,22 @@ fn command_of(word: &[u8]) -> Command {
     }
 }
 
-pub fn read_command() -> Command {
+// Puts the argument at a place at the start of a buffer, and answers its length, 0 where it is absent or longer than the buffer.
+pub fn argument(rt: &impl Env, i: usize, buffer: &mut [u8]) -> usize
+    ensures { result ≤ length buffer.new }
+{
+    rt.arg(i, buffer).unwrap_or(0)
+}
+
+pub fn read_command(rt: &impl Env) -> Command {
     let mut word = [0u8; 16];
-    let n = os::arg(1, &mut word);
+    let n = argument(rt, 1, &mut word);
     command_of(&word[..n])
 }
 
 // The set at a place, in hexadecimal digits.
-pub fn set(i: usize) -> Value {
+pub fn set(rt: &impl Env, i: usize) -> Value {
     let mut digits = [0u8; 16];
-    let n = os::arg(i, &mut digits);
+    let n = argument(rt, i, &mut digits);
     value_of(&digits[..n], 16)
 }

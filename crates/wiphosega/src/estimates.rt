@@ -10,63 +10,66 @@ use little_endian::{bytes_of, words_of};
 use rows::layout::Layout;
 use solver::Analysis;
 use solver::analyse::analyse;
+use std::env::Env;
+use std::io;
+use std::io::{Read, Write};
 use streams::read_input;
 use text::{put, set_field};
 
 // So many words, as bytes.
-fn first_words(bytes: &[u8], count: usize) {
+fn first_words(out: &mut impl Write, bytes: &[u8], count: usize) -> io::Result<()> {
     if count <= 72704 {
-        streams::first(bytes, 4 * count);
+        return streams::first(out, bytes, 4 * count);
     }
+    Ok(())
 }
 
-fn print_words(est: &[u32]) {
-    let mut out = [0u8; 290816];
-    let n = bytes_of(est, &mut out);
-    first_words(&out, n);
+fn print_words(out: &mut impl Write, est: &[u32]) -> io::Result<()> {
+    let mut bytes = [0u8; 290816];
+    let n = bytes_of(est, &mut bytes);
+    first_words(out, &bytes, n)
 }
 
 // The first words of a slice: those of an estimate of a system.
-fn print_estimate(est: &[u32], words: &[u32]) {
+fn print_estimate(out: &mut impl Write, est: &[u32], words: &[u32]) -> io::Result<()> {
     if 1024 < words.len() {
-        return;
+        return Ok(());
     }
     let n = Layout::of(words).words();
     if est.len() < n {
-        return;
+        return Ok(());
     }
-    print_words(&est[..n]);
+    print_words(out, &est[..n])
 }
 
-pub fn estimate_of(words: &[u32], rho: u32) {
+pub fn estimate_of(out: &mut impl Write, words: &[u32], rho: u32) -> io::Result<()> {
     let mut est = [0u32; 72704];
     let mut work = [0u32; 4096];
     match analyse(words, rho, &mut est, &mut work) {
-        Analysis::Refused(f) => streams::refusal(fault_number(f), fault_place(f)),
-        Analysis::Solved(_) => print_estimate(&est, words),
+        Analysis::Refused(f) => streams::refusal(out, fault_number(f), fault_place(f)),
+        Analysis::Solved(_) => print_estimate(out, &est, words),
     }
 }
 
-pub fn estimate() {
-    match set(2) {
-        Value::Number(rho) => run(Request::Estimate(rho)),
-        Value::Other => help(),
+pub fn estimate(rt: &impl Env, input: &mut impl Read, out: &mut impl Write) -> io::Result<()> {
+    match set(rt, 2) {
+        Value::Number(rho) => run(input, out, Request::Estimate(rho)),
+        Value::Other => help(out),
     }
 }
 
-fn obeys(leak: u32) {
+fn obeys(out: &mut impl Write, leak: u32) -> io::Result<()> {
     let mut line = [0u8; 64];
     let a = set_field(&mut line, 0, b"obeys leak ", leak);
     let n = put(&mut line, a, b"\n");
-    streams::first(&line, n);
+    streams::first(out, &line, n)
 }
 
-fn said(a: Audit) {
+fn said(out: &mut impl Write, a: Audit) -> io::Result<()> {
     if let Audit::Obeys(s) = a {
-        obeys(s.bits);
-        return;
+        return obeys(out, s.bits);
     }
-    streams::refusal(audit_number(a), audit_place(a));
+    streams::refusal(out, audit_number(a), audit_place(a))
 }
 
 fn size_of(w: u32) -> usize {
@@ -74,45 +77,42 @@ fn size_of(w: u32) -> usize {
 }
 
 // The first word says how many the system has; the others are the system and the estimate.
-fn audit_words(words: &[u32], rho: u32) {
+fn audit_words(out: &mut impl Write, words: &[u32], rho: u32) -> io::Result<()> {
     if words.len() == 0 {
-        streams::refusal(30, 0);
-        return;
+        return streams::refusal(out, 30, 0);
     }
     let size = size_of(words[0]);
     if words.len() <= size {
-        streams::refusal(30, 0);
-        return;
+        return streams::refusal(out, 30, 0);
     }
     let end = size + 1;
-    said(audit::judge::audit(&words[1..end], rho, &words[end..]));
+    said(out, audit::judge::audit(&words[1..end], rho, &words[end..]))
 }
 
 // The words of the input, over words that are lent.
-fn audit_room(input: &[u8], rho: u32, room: &mut [u32]) {
+fn audit_room(out: &mut impl Write, input: &[u8], rho: u32, room: &mut [u32]) -> io::Result<()> {
     let n = words_of(input, room);
-    audit_words(&room[..n], rho);
+    audit_words(out, &room[..n], rho)
 }
 
-fn audit_in(input: &[u8], rho: u32) {
+fn audit_in(out: &mut impl Write, input: &[u8], rho: u32) -> io::Result<()> {
     if input.len() % 4 != 0 {
-        streams::refusal(30, 0);
-        return;
+        return streams::refusal(out, 30, 0);
     }
     let mut words = [0u32; 73730];
-    audit_room(input, rho, &mut words);
+    audit_room(out, input, rho, &mut words)
 }
 
 // Of a longer input 294,920 bytes are kept: a word more than the largest system and its estimate, which decides.
-fn audit_with(rho: u32) {
-    let mut input = [0u8; 294920];
-    let n = read_input(&mut input);
-    audit_in(&input[..n], rho);
+fn audit_with(input: &mut impl Read, out: &mut impl Write, rho: u32) -> io::Result<()> {
+    let mut bytes = [0u8; 294920];
+    let n = read_input(input, &mut bytes)?;
+    audit_in(out, &bytes[..n], rho)
 }
 
-pub fn audited() {
-    match set(2) {
-        Value::Number(rho) => audit_with(rho),
-        Value::Other => help(),
+pub fn audited(rt: &impl Env, input: &mut impl Read, out: &mut impl Write) -> io::Result<()> {
+    match set(rt, 2) {
+        Value::Number(rho) => audit_with(input, out, rho),
+        Value::Other => help(out),
     }
 }

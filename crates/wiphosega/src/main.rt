@@ -11,16 +11,19 @@ mod sends;
 mod systems;
 
 use crate::arguments::{Command, read_command};
+use std::io;
 
-fn main() {
-    match read_command() {
-        Command::Leak => printing::leak(),
-        Command::Deliveries => sends::deliveries(),
-        Command::Senders => receivers::senders(),
-        Command::Order => ordering::order(),
-        Command::Estimate => estimates::estimate(),
-        Command::Audit => estimates::audited(),
-        Command::WithInput => printing::with_input(),
-        Command::WithoutInput => printing::without_input(),
+fn main(rt: HostRuntime) -> io::Result<()> {
+    let input = &mut rt.stdin();
+    let out = &mut rt.stdout();
+    match read_command(&rt) {
+        Command::Leak => printing::leak(&rt, input, out),
+        Command::Deliveries => sends::deliveries(input, out),
+        Command::Senders => receivers::senders(&rt, input, out),
+        Command::Order => ordering::order(&rt, input, out),
+        Command::Estimate => estimates::estimate(&rt, input, out),
+        Command::Audit => estimates::audited(&rt, input, out),
+        Command::WithInput => printing::with_input(&rt, input, out),
+        Command::WithoutInput => printing::without_input(&rt, out),
     }
 }

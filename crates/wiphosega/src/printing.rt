@@ -1,54 +1,63 @@
 // The commands whose text a proved function writes: arguments and input are read, the text is written. The output has room for 81,920 bytes more than
 // the input.
+use crate::arguments::argument;
+use std::env::Env;
+use std::io;
+use std::io::{Read, Write};
 use streams::read_input;
 
-fn print(input: &[u8]) {
+fn print(rt: &impl Env, out: &mut impl Write, input: &[u8]) -> io::Result<()> {
     let mut command = [0u8; 16];
-    let c = os::arg(1, &mut command);
+    let c = argument(rt, 1, &mut command);
     let mut first = [0u8; 16];
-    let f = os::arg(2, &mut first);
+    let f = argument(rt, 2, &mut first);
     let mut second = [0u8; 16];
-    let s = os::arg(3, &mut second);
-    let mut out = [0u8; 212996];
-    let n = commands::run(&command[..c], &first[..f], &second[..s], input, &mut out);
-    streams::first(&out, n);
+    let s = argument(rt, 3, &mut second);
+    let mut text = [0u8; 212996];
+    let n = commands::run(&command[..c], &first[..f], &second[..s], input, &mut text);
+    streams::first(out, &text, n)
 }
 
 // Of a longer input 131,076 bytes are kept: two listings of the most bytes, and a word more, which decide.
-pub fn with_input() {
-    let mut input = [0u8; 131076];
-    let n = read_input(&mut input);
-    print(&input[..n]);
+pub fn with_input(rt: &impl Env, input: &mut impl Read, out: &mut impl Write) -> io::Result<()> {
+    let mut bytes = [0u8; 131076];
+    let n = read_input(input, &mut bytes)?;
+    print(rt, out, &bytes[..n])
 }
 
-pub fn without_input() {
+pub fn without_input(rt: &impl Env, out: &mut impl Write) -> io::Result<()> {
     let input = [0u8; 1];
-    print(&input[..0]);
+    print(rt, out, &input[..0])
 }
 
-fn print_leak(rho: &[u8], input: &[u8]) {
+fn print_leak(rt: &impl Env, out: &mut impl Write, rho: &[u8], input: &[u8]) -> io::Result<()> {
     let mut bound = [0u8; 16];
-    let b = os::arg(3, &mut bound);
+    let b = argument(rt, 3, &mut bound);
     let mut ceiling = [0u8; 16];
-    let c = os::arg(4, &mut ceiling);
-    let mut out = [0u8; 147457];
-    let n = leaks::run(rho, &bound[..b], &ceiling[..c], input, &mut out);
-    streams::first(&out, n);
+    let c = argument(rt, 4, &mut ceiling);
+    let mut text = [0u8; 147457];
+    let n = leaks::run(rho, &bound[..b], &ceiling[..c], input, &mut text);
+    streams::first(out, &text, n)
 }
 
-fn leak_of(rho: &[u8]) {
-    let mut input = [0u8; 65537];
-    let n = read_input(&mut input);
-    print_leak(rho, &input[..n]);
+fn leak_of(
+    rt: &impl Env,
+    input: &mut impl Read,
+    out: &mut impl Write,
+    rho: &[u8],
+) -> io::Result<()> {
+    let mut bytes = [0u8; 65537];
+    let n = read_input(input, &mut bytes)?;
+    print_leak(rt, out, rho, &bytes[..n])
 }
 
 // The command `leak`; without its first argument the help is printed, and no input is read.
-pub fn leak() {
+pub fn leak(rt: &impl Env, input: &mut impl Read, out: &mut impl Write) -> io::Result<()> {
     let mut rho = [0u8; 16];
-    let p = os::arg(2, &mut rho);
+    let p = argument(rt, 2, &mut rho);
     if p == 0 {
-        without_input();
+        without_input(rt, out)
     } else {
-        leak_of(&rho[..p]);
+        leak_of(rt, input, out, &rho[..p])
     }
 }

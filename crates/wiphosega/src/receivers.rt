@@ -7,28 +7,31 @@ use commands::arguments::Value;
 use listing::Answer;
 use solver::Analysis;
 use solver::analyse::analyse;
+use std::env::Env;
+use std::io;
+use std::io::{Read, Write};
 
 // Enough for every system: 32 lines of at most 119 bytes.
-fn senders_by(words: &[u32], est: &[u32]) {
-    let mut out = [0u8; 4096];
-    match senders::write(words, est, &mut out) {
-        Answer::Done(n) => streams::first(&out, n),
-        Answer::Refused(r) => refusal(r),
+fn senders_by(out: &mut impl Write, words: &[u32], est: &[u32]) -> io::Result<()> {
+    let mut text = [0u8; 4096];
+    match senders::write(words, est, &mut text) {
+        Answer::Done(n) => streams::first(out, &text, n),
+        Answer::Refused(r) => refusal(out, r),
     }
 }
 
-pub fn senders_of(words: &[u32], rho: u32) {
+pub fn senders_of(out: &mut impl Write, words: &[u32], rho: u32) -> io::Result<()> {
     let mut est = [0u32; 72704];
     let mut work = [0u32; 4096];
     match analyse(words, rho, &mut est, &mut work) {
-        Analysis::Refused(f) => streams::refusal(fault_number(f), fault_place(f)),
-        Analysis::Solved(_) => senders_by(words, &est),
+        Analysis::Refused(f) => streams::refusal(out, fault_number(f), fault_place(f)),
+        Analysis::Solved(_) => senders_by(out, words, &est),
     }
 }
 
-pub fn senders() {
-    match set(2) {
-        Value::Number(rho) => run(Request::Senders(rho)),
-        Value::Other => help(),
+pub fn senders(rt: &impl Env, input: &mut impl Read, out: &mut impl Write) -> io::Result<()> {
+    match set(rt, 2) {
+        Value::Number(rho) => run(input, out, Request::Senders(rho)),
+        Value::Other => help(out),
     }
 }

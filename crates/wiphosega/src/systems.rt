@@ -6,6 +6,8 @@ use crate::sends::deliveries_of;
 use listing::numbers::{refusal_number, refusal_place};
 use listing::read::read;
 use listing::{Answer, Refusal};
+use std::io;
+use std::io::{Read, Write};
 use streams::read_input;
 
 #[derive(Clone, Copy)]
@@ -17,30 +19,30 @@ pub enum Request {
     Order(u32),
 }
 
-pub fn refusal(r: Refusal) {
-    streams::refusal(refusal_number(r), refusal_place(r));
+pub fn refusal(out: &mut impl Write, r: Refusal) -> io::Result<()> {
+    streams::refusal(out, refusal_number(r), refusal_place(r))
 }
 
-fn answer(words: &[u32], request: Request) {
+fn answer(out: &mut impl Write, words: &[u32], request: Request) -> io::Result<()> {
     match request {
-        Request::Deliveries => deliveries_of(words),
-        Request::Senders(rho) => senders_of(words, rho),
-        Request::Estimate(rho) => estimate_of(words, rho),
-        Request::Order(rho) => order_of(words, rho),
+        Request::Deliveries => deliveries_of(out, words),
+        Request::Senders(rho) => senders_of(out, words, rho),
+        Request::Estimate(rho) => estimate_of(out, words, rho),
+        Request::Order(rho) => order_of(out, words, rho),
     }
 }
 
-fn answer_in(text: &[u8], request: Request) {
+fn answer_in(out: &mut impl Write, text: &[u8], request: Request) -> io::Result<()> {
     let mut words = [0u32; 1024];
     match read(text, &mut words) {
-        Answer::Done(n) => answer(&words[..n], request),
-        Answer::Refused(r) => refusal(r),
+        Answer::Done(n) => answer(out, &words[..n], request),
+        Answer::Refused(r) => refusal(out, r),
     }
 }
 
 // The answer to a request, for the listing on standard input.
-pub fn run(request: Request) {
-    let mut input = [0u8; 65537];
-    let n = read_input(&mut input);
-    answer_in(&input[..n], request);
+pub fn run(input: &mut impl Read, out: &mut impl Write, request: Request) -> io::Result<()> {
+    let mut text = [0u8; 65537];
+    let n = read_input(input, &mut text)?;
+    answer_in(out, &text[..n], request)
 }
