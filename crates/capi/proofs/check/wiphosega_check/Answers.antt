@@ -1,0 +1,31 @@
+-- `capi::check::wiphosega_check` meets its contract: refused before the reading, or checked on the words of the system. Assumes nothing.
+use mathlib.Core.Path.{refl, sym, ap, ◌∙◌, subst}
+use native.Mathlib.Omega.{arith}
+use Rattle.capi.specs.Check.{check_number, ExactNumber}
+use Rattle.capi.proofs.Systems.{system-size}
+use Rattle.capi.proofs.Taken.{exact-number, refused-before, answered-after}
+use borrow.Author.Rules.{rules}
+use Rattle.capi.proofs.check.wiphosega_check.Goals as goal
+
+pub returns-then-fault-ne0 : goal.returns-then-fault-ne0
+returns-then-fault-ne0 c =
+    let a = c.args in
+    let e = sym (refused-before a.system.now a.rho a.estimate.now c.system_fault-fault.result c.system_fault-fault.ensures c.if-fault-ne0.true) in record {
+      answer = e;
+      exact = subst (ExactNumber a.system.now a.rho a.estimate.now) (sym e)
+          (exact-number a.system.now a.rho a.estimate.now (λ k. omega (arith, c.type_inv.estimate k)));
+    }
+
+pub of_system-requires : goal.of_system-requires
+of_system-requires c =
+    (system-size _ (sym c.system_fault-fault.ensures ∙ c.if-fault-ne0.false), refl)
+
+pub returns : goal.returns
+returns c =
+    let a = c.args in
+    let f = c.system_fault-fault in
+    let e = c.of_system.ensures ∙ ap check_number (answered-after a.system.now a.rho a.estimate.now f.result f.ensures c.if-fault-ne0.false) in record {
+      answer = e;
+      exact = subst (ExactNumber a.system.now a.rho a.estimate.now) (sym e)
+          (exact-number a.system.now a.rho a.estimate.now (λ k. omega (arith, c.type_inv.estimate k)));
+    }
