@@ -32,7 +32,7 @@ use Rattle.graph.proofs.Answers.{answer-short}
 use Rattle.reading_order.specs.declared.Ordering.{Ordering}
 use Rattle.reading_order.specs.declared.Ordering.TheVariants as orderings
 use Rattle.reading_order.specs.Relation.{senders_to, sender_rows}
-use Rattle.reading_order.specs.Reply.{Reply, refused, reply_of, arranged, rows, live, reply_within, reply, estimate_after_order, work_after_order, positions_after, ReplyMeans}
+use Rattle.reading_order.specs.Reply.{Reply, reply_of, arranged, rows, live, reply_within, reply, estimate_after_order, work_after_order, positions_after, ReplyMeans}
 use Rattle.reading_order.specs.Parts.{ArrangedBy, OrderedIn}
 
 -- what an arrangement means, as a reply
