@@ -1,4 +1,4 @@
--- `checker::sends::to_block_lem` meets its contract. Assumes nothing.
+-- `checker::sends::to_block` meets its contract. Assumes nothing.
 use mathlib.Core.Bool.{not}
 use mathlib.Core.Path.{ap}
 use Prim.Native.Nat.{ℕ, ◌+◌}
