@@ -76,8 +76,7 @@ fn of_system(system: &[u8], rho: u32, estimate: &[u8], words: &mut [u32]) -> u64
 
 // Whether the bytes of an estimate have no stray bit and obey every rule of a system: the leak read from it; refused, 2^32 + number × 65,536 +
 // place. Nothing is written.
-#[unsafe(no_mangle)]
-pub extern "C" fn wiphosega_check(system: &[u8], rho: u32, estimate: &[u8]) -> u64
+pub fn wiphosega_check(system: &[u8], rho: u32, estimate: &[u8]) -> u64
     ensures answer { result ≡ check_number (bytes_audited system.now rho estimate.now) }
     ensures exact { ExactNumber system.now rho estimate.now result }
 {

@@ -43,8 +43,7 @@ fn of_system(
 
 // The verdict on the bytes of a system: the leak, plus 2^24 if it is over the bound; refused, 2^32 + number × 65,536 + place. The other
 // two slices count whole words; a refusal leaves both as they were, and a verdict changes their first words alone.
-#[unsafe(no_mangle)]
-pub extern "C" fn wiphosega_verdict(
+pub fn wiphosega_verdict(
     system: &[u8],
     rho: u32,
     bound: u32,

@@ -46,8 +46,7 @@ fn convert_bytes(wide: bool, system: &[u8], out: &mut [u8]) -> u64
 }
 
 // A narrow table made wide.
-#[unsafe(no_mangle)]
-pub extern "C" fn wiphosega_widen(system: &[u8], out: &mut [u8]) -> u64
+pub fn wiphosega_widen(system: &[u8], out: &mut [u8]) -> u64
     ensures answer { result ≡ answer_number (converted_answer true system.now (length out.old)) }
     ensures out { out.new ≡ out_after true system.now out.old }
 {
@@ -55,8 +54,7 @@ pub extern "C" fn wiphosega_widen(system: &[u8], out: &mut [u8]) -> u64
 }
 
 // A wide table made narrow.
-#[unsafe(no_mangle)]
-pub extern "C" fn wiphosega_narrow(system: &[u8], out: &mut [u8]) -> u64
+pub fn wiphosega_narrow(system: &[u8], out: &mut [u8]) -> u64
     ensures answer { result ≡ answer_number (converted_answer false system.now (length out.old)) }
     ensures out { out.new ≡ out_after false system.now out.old }
 {

@@ -24,8 +24,7 @@ fn manifest_refusal(r: Refusal) -> u64
 }
 
 // What a manifest says: set + version × 2^24 + how many strings set nothing × 2^40; refused, 2^32 + number × 65,536.
-#[unsafe(no_mangle)]
-pub extern "C" fn wiphosega_manifest(json: &[u8]) -> u64
+pub fn wiphosega_manifest(json: &[u8]) -> u64
     ensures { result ≡ outcome_number (judged json.now) }
 {
     match read(json) {

@@ -64,8 +64,7 @@ fn join_in(base: &[u8], overlay: &[u8], out: &mut [u32]) -> Joined
 }
 
 // Where a block is: offset + length × 2^16, in bytes, + 2^33 in the overlay; refused, 2^32 + number × 65,536 + place.
-#[unsafe(no_mangle)]
-pub extern "C" fn wiphosega_lookup(base: &[u8], overlay: &[u8], name: u32, perms: u32) -> u64
+pub fn wiphosega_lookup(base: &[u8], overlay: &[u8], name: u32, perms: u32) -> u64
     ensures { result ≡ place_number (lookup_answer base.now overlay.now name perms) }
 {
     let number = odd_number(base, overlay);
@@ -80,8 +79,7 @@ pub extern "C" fn wiphosega_lookup(base: &[u8], overlay: &[u8], name: u32, perms
 }
 
 // The joined table: how many bytes it has; refused, 2^32 + number × 65,536 + place. The output counts whole words.
-#[unsafe(no_mangle)]
-pub extern "C" fn wiphosega_join(base: &[u8], overlay: &[u8], out: &mut [u8]) -> u64
+pub fn wiphosega_join(base: &[u8], overlay: &[u8], out: &mut [u8]) -> u64
     ensures answer { result ≡ answer_number (joined_answer base.now overlay.now (length out.old)) }
     ensures out { out.new ≡ out_after base.now overlay.now out.old }
 {
