@@ -2,10 +2,11 @@
 // which bytes are read and written, where those are known.
 #![tactic(auto)]
 
-ghost use Rattle.std.specs.Prelude.{◌≡◌, ◌*◌, ◌^◌, ◌<◌, ◌≤◌, length, take, IfSome, IfOk, OnOk};
+ghost use Rattle.std.specs.Prelude.{◌≡◌, ◌*◌, ◌^◌, ◌<◌, ◌≤◌, length, take, IfSome, IfOk, OnOk, OnErr};
 ghost use Rattle.std.specs.Io.{ReadsAtMost};
 ghost use Rattle.std.specs.Io.KnownBytes.{Appends, Consumes, IsAtEnd, Keeps};
 ghost use Rattle.report.specs.Lines.{refusal_line};
+ghost use Rattle.streams.specs.Failures.{Loses, LosesTo};
 
 use report::refusal_line;
 use std::io;
@@ -16,6 +17,7 @@ pub fn read_full<R: Read>(input: &mut R, buffer: &mut [u8]) -> io::Result<usize>
     ensures bound { ReadsAtMost result buffer.new }
     ensures bytes { IfOk result (λ n. Consumes (R.remaining input.old) (R.remaining input.new) (take n buffer.new)) }
     ensures end { IfOk result (λ n. n < length buffer.new → IsAtEnd (R.remaining input.new)) }
+    ensures broken { OnErr result (LosesTo (R.remaining input.old) (R.remaining input.new) buffer.new) }
 {
     let mut done = 0;
     while done < buffer.len() {
@@ -30,7 +32,8 @@ pub fn read_full<R: Read>(input: &mut R, buffer: &mut [u8]) -> io::Result<usize>
 
 // Reads what is left of the input, in at most 2^32 turns of a buffer.
 fn read_rest<R: Read>(input: &mut R, buffer: &mut [u8]) -> io::Result<()>
-    ensures { OnOk result (IfSome (R.remaining input.old) (λ xs. length xs < 2 ^ 32 * length buffer.old → IsAtEnd (R.remaining input.new))) }
+    ensures end { OnOk result (IfSome (R.remaining input.old) (λ xs. length xs < 2 ^ 32 * length buffer.old → IsAtEnd (R.remaining input.new))) }
+    ensures broken { OnErr result (Loses (R.remaining input.old) (R.remaining input.new)) }
 {
     let mut turns: u64 = 4294967296;
     while 0 < turns {
@@ -47,6 +50,7 @@ pub fn read_input<R: Read>(input: &mut R, buffer: &mut [u8]) -> io::Result<usize
     ensures bound { ReadsAtMost result buffer.new }
     ensures bytes { IfOk result (λ n. IfSome (R.remaining input.old) (λ xs. take n buffer.new ≡ take (length buffer.old) xs)) }
     ensures end { OnOk result (IfSome (R.remaining input.old) (λ xs. length xs < 2 ^ 44 → IsAtEnd (R.remaining input.new))) }
+    ensures broken { OnErr result (Loses (R.remaining input.old) (R.remaining input.new)) }
 {
     let n = read_full(input, buffer)?;
     if n == buffer.len() {
