@@ -1,0 +1,2 @@
+// What an estimate lacks: definitions and laws. There is no code here.
+#![tactic(auto)]
