@@ -1,5 +1,5 @@
 -- The answer to a table, ρ and the words of an estimate from elsewhere (document 02, wish 12): the leak read from it, or a refusal's number and place.
-use Rattle.std.specs.Prelude.{ℕ, ◌^◌, List, eqb, leb, ltb, length}
+use Rattle.std.specs.Prelude.{ℕ, Result, Ok, Err, ◌^◌, List, eqb, leb, ltb, length}
 use Rattle.std.proofs.Math.Bool.{true, false}
 use Rattle.permset.specs.Sets.{width}
 use Rattle.table.specs.Answer.{number, place}
@@ -10,8 +10,9 @@ use Rattle.calculus.specs.Layout.{estimate_words}
 use Rattle.calculus.specs.Estimate.{leak}
 use Rattle.stray.specs.Stray.{first_stray}
 use Rattle.checker.specs.Obeyed.{first_broken}
-use Rattle.audit.specs.declared.Audit.{Audit}
-use Rattle.audit.specs.declared.Audit.TheVariants as audits
+use Rattle.permset.specs.declared.PermSet.{PermSet}
+use Rattle.audit.specs.declared.AuditFault.{AuditFault}
+use Rattle.audit.specs.declared.AuditFault.TheVariants as faults
 
 pub data Answer : Type 0 where
   refused : (number place : ℕ) → Answer
@@ -27,14 +28,14 @@ place_of (refused n at) = at
 place_of (obeys s) = 0
 
 -- the number, place and leak of each case
-unfoldable pub said : Audit → Answer
+unfoldable pub said : Result PermSet AuditFault → Answer
 unfolding number place
-said (audits.Table r) = refused (number r) (place r)
-said audits.Rho = refused 20 0
-said audits.Length = refused 52 0
-said (audits.Stray k) = refused 53 k
-said (audits.Broken p) = refused 54 p
-said (audits.Obeys s) = obeys s.bits
+said (Err (faults.Table r)) = refused (number r) (place r)
+said (Err faults.Rho) = refused 20 0
+said (Err faults.Length) = refused 52 0
+said (Err (faults.Stray k)) = refused 53 k
+said (Err (faults.Broken p)) = refused 54 p
+said (Ok s) = obeys s.bits
 
 module _ (c : Code) (ρ : ℕ) (est : List ℕ) where
   -- "54 rule broken, place the lowest word p or b a broken rule is stated for"

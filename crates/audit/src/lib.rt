@@ -1,20 +1,29 @@
 // Estimates from elsewhere: whether one obeys every rule, and the leak read from it.
 #![tactic(auto)]
 
+ghost use Rattle.std.specs.Prelude.{◌≡◌};
+ghost use Rattle.audit.specs.declared.AuditFault.TheVariants.{Table};
+
 pub mod judge;
 pub mod numbers;
 
-use permset::PermSet;
 use table::Refusal;
 
-// What is said of an estimate: the table is refused, or ρ, or the slice has another length; the first word with a stray bit; the lowest word
-// whose rule is broken; or it obeys every rule, with its leak. `said` of specs/Audited.antt gives each its number and place.
+// Why an estimate is refused: the table is, or ρ, or the slice has another length; the first word with a stray bit; or the lowest word whose rule is
+// broken. `said` of specs/Audited.antt gives each its number and place.
 #[derive(Clone, Copy)]
-pub enum Audit {
+pub enum AuditFault {
     Table(Refusal),
     Rho,
     Length,
     Stray(usize),
     Broken(usize),
-    Obeys(PermSet),
+}
+
+impl From<Refusal> for AuditFault {
+    ghost from_gives = { λ r f. f ≡ Table r };
+
+    fn from(r: Refusal) -> AuditFault {
+        AuditFault::Table(r)
+    }
 }

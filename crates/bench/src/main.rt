@@ -4,11 +4,10 @@
 
 ghost use Rattle.std.specs.Prelude.{◌≤◌};
 
-use calls::Fault;
+use calls::LimitFault;
 use calls::numbers::{fault_number, fault_place};
 use comparison::Findings;
 use little_endian::words_of;
-use solver::Bounded;
 use solver::analyse::analyse_within;
 use std::env::{Env, FillError};
 use std::io;
@@ -17,30 +16,28 @@ use std::io::Write;
 // More than any estimate has.
 const NO_CEILING: usize = 1000000000;
 
-// The number that refuses an input of this many bytes, and 0 where none does.
-fn feeder_fault(size: usize) -> u32 {
+// The number that refuses an input of this many bytes.
+fn feeder_fault(size: usize) -> Option<u32> {
     if 4104 < size {
-        return 31;
+        return Some(31);
     }
-    if size < 8 {
-        return 30;
+    if size < 8 || size % 4 != 0 {
+        return Some(30);
     }
-    if size % 4 == 0 { 0 } else { 30 }
+    None
 }
 
 fn digit(b: u8) -> usize
     ensures { result ≤ 255 }
 {
-    if b < b'0' { 0 } else { (b - b'0') as usize }
+    b.saturating_sub(b'0') as usize
 }
 
 // A number in decimal digits; one that is too large stays below 10^9.
 fn number(digits: &[u8]) -> usize {
     let mut n: usize = 0;
-    let mut i = 0;
-    while i < digits.len() {
-        n = (n * 10 + digit(digits[i])) % 1000000000;
-        i += 1;
+    for b in digits {
+        n = (n * 10 + digit(*b)) % 1000000000;
     }
     n
 }
@@ -49,52 +46,34 @@ fn number(digits: &[u8]) -> usize {
 fn argument(rt: &impl Env, at: usize, otherwise: usize) -> usize {
     let mut digits = [0u8; 16];
     match rt.arg(at, &mut digits) {
-        Ok(n) => {
-            if n < 16 {
-                number(&digits[..n])
-            } else {
-                otherwise
-            }
-        }
-        Err(FillError::NotPresent) => otherwise,
+        Ok(n) if n < 16 => number(&digits[..n]),
+        Ok(_) | Err(FillError::NotPresent) => otherwise,
         Err(FillError::TooLong) => 0,
     }
 }
 
-fn refusal(out: &mut impl Write, f: Fault) -> io::Result<()> {
-    streams::refusal(out, fault_number(f), fault_place(f))
-}
-
-fn findings(out: &mut impl Write, s: Findings) -> io::Result<()> {
-    let leak = s.leak.bits;
-    let facts = s.facts;
-    write!(out, "leak {leak:06x} facts {facts}\n")
-}
-
-fn answer(out: &mut impl Write, a: Bounded) -> io::Result<()> {
-    match a {
-        Bounded::Refused(f) => refusal(out, f),
-        Bounded::Over(n) => streams::refusal(out, 23, n),
-        Bounded::Solved(s) => findings(out, s),
+fn answer(out: &mut impl Write, found: Result<Findings, LimitFault>) -> io::Result<()> {
+    match found {
+        Ok(s) => writeln!(out, "leak {:06x} facts {}", s.leak.bits, s.facts),
+        Err(LimitFault::Call(f)) => streams::refusal(out, fault_number(f), fault_place(f)),
+        Err(LimitFault::Facts(n)) => streams::refusal(out, 23, n),
     }
 }
 
-// Solves once, and so many times more.
+// Solves so many times, and once where that is 0.
 fn solve(
     words: &[u32],
     rho: u32,
     ceiling: usize,
     est: &mut [u32],
     work: &mut [u32],
-    more: usize,
-) -> Bounded {
-    let mut a = analyse_within(words, rho, ceiling, est, work);
-    let mut i = 0;
-    while i < more {
-        a = analyse_within(words, rho, ceiling, est, work);
-        i += 1;
+    times: usize,
+) -> Result<Findings, LimitFault> {
+    let mut found = analyse_within(words, rho, ceiling, est, work);
+    for _ in 1..times {
+        found = analyse_within(words, rho, ceiling, est, work);
     }
-    a
+    found
 }
 
 fn run(
@@ -106,9 +85,8 @@ fn run(
     work: &mut [u32],
 ) -> io::Result<()> {
     let times = argument(rt, 1, 1);
-    let more = if times == 0 { 0 } else { times - 1 };
     let ceiling = argument(rt, 2, NO_CEILING);
-    answer(out, solve(words, rho, ceiling, est, work, more))
+    answer(out, solve(words, rho, ceiling, est, work, times))
 }
 
 fn with_slices(rt: &impl Env, out: &mut impl Write, words: &[u32], rho: u32) -> io::Result<()> {
@@ -126,9 +104,8 @@ fn bench_words(rt: &impl Env, out: &mut impl Write, words: &[u32]) -> io::Result
 }
 
 fn bench(rt: &impl Env, out: &mut impl Write, input: &[u8]) -> io::Result<()> {
-    let fault = feeder_fault(input.len());
-    if fault != 0 {
-        return streams::refusal(out, fault, 0);
+    if let Some(number) = feeder_fault(input.len()) {
+        return streams::refusal(out, number, 0);
     }
     let mut words = [0u32; 1026];
     let n = words_of(input, &mut words);

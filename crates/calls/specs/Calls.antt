@@ -1,13 +1,12 @@
 -- What a check of a call says: the answer of a refused one, and what the caller of the others got right.
-use Rattle.std.specs.Prelude.{ℕ, ◌^◌, ◌<◌, ◌≤◌, ◌≡◌, Bool, not, ◌&&◌, List, eqb, leb, length}
+use Rattle.std.specs.Prelude.{ℕ, ◌^◌, ◌<◌, ◌≤◌, ◌≡◌, Result, Ok, Err, Bool, not, ◌&&◌, List, eqb, leb, length}
 use Rattle.permset.specs.Sets.{width}
 use Rattle.table.specs.Scan.{accepted, reading}
 use Rattle.table.specs.Code.{code}
 use Rattle.calculus.specs.Layout.{estimate_words}
 use Rattle.calculus.specs.Estimate.{estimate}
 use Rattle.calculus.specs.Answer.{refused, verdict, standing_bound, work_words, judge, answer}
-use Rattle.calls.specs.declared.checks.Checked.{Checked}
-use Rattle.calls.specs.declared.checks.Checked.TheVariants.{Fine, Wrong}
+use Rattle.calls.specs.declared.Fault.{Fault}
 use Rattle.calls.specs.Faults.{fault_number, fault_place}
 
 -- a bound with bits above the permissions, save the standing bound
@@ -26,6 +25,6 @@ pub record Fits (ws : List ℕ) (ρ bound est work : ℕ) : Type 0 where
   pub small : ρ < 2 ^ width
   pub judged : answer ws ρ bound est work ≡ verdict (judge (code ws) ρ bound (estimate (code ws) ρ))
 
-abbrev pub CheckedAs : List ℕ → ℕ → ℕ → ℕ → ℕ → Checked → Type 0
-CheckedAs ws ρ bound est work Fine = Fits ws ρ bound est work
-CheckedAs ws ρ bound est work (Wrong f) = answer ws ρ bound est work ≡ refused (fault_number f) (fault_place f)
+abbrev pub CheckedAs : List ℕ → ℕ → ℕ → ℕ → ℕ → Result (Unit {0}) Fault → Type 0
+CheckedAs ws ρ bound est work (Ok u) = Fits ws ρ bound est work
+CheckedAs ws ρ bound est work (Err f) = answer ws ρ bound est work ≡ refused (fault_number f) (fault_place f)

@@ -7,14 +7,7 @@ ghost use Rattle.calls.specs.Calls.{stray_bound, CheckedAs};
 
 use crate::Fault;
 use rows::layout::Layout;
-use table::Reading;
-
-// Nothing is wrong, or the first fault.
-#[derive(Clone, Copy)]
-pub enum Checked {
-    Fine,
-    Wrong(Fault),
-}
+use table::read::read;
 
 // A bound with bits above the permissions, save the standing bound, which means the empty set.
 fn stray_bound(bound: u32) -> bool
@@ -32,31 +25,29 @@ pub fn words_needed(words: &[u32]) -> usize
 }
 
 // What the caller may get wrong where the table is accepted.
-fn check_call(words: &[u32], rho: u32, bound: u32, est: usize, work: usize) -> Checked
+fn check_call(words: &[u32], rho: u32, bound: u32, est: usize, work: usize) -> Result<(), Fault>
     requires { reading words.now ≡ accepted }
     ensures { CheckedAs words.now rho bound est work result }
 {
     if 16777216 <= rho {
-        return Checked::Wrong(Fault::Rho);
+        return Err(Fault::Rho);
     }
     if stray_bound(bound) {
-        return Checked::Wrong(Fault::Bound);
+        return Err(Fault::Bound);
     }
     if est < words_needed(words) {
-        return Checked::Wrong(Fault::ShortEstimate);
+        return Err(Fault::ShortEstimate);
     }
     if work < 4 * words.len() {
-        return Checked::Wrong(Fault::ShortWork);
+        return Err(Fault::ShortWork);
     }
-    Checked::Fine
+    Ok(())
 }
 
 // What is wrong with a call on slices of `est` and `work` words.
-pub fn check(words: &[u32], rho: u32, bound: u32, est: usize, work: usize) -> Checked
+pub fn check(words: &[u32], rho: u32, bound: u32, est: usize, work: usize) -> Result<(), Fault>
     ensures { CheckedAs words.now rho bound est work result }
 {
-    match table::read::read(words) {
-        Reading::Refused(r) => Checked::Wrong(Fault::Table(r)),
-        Reading::Accepted => check_call(words, rho, bound, est, work),
-    }
+    read(words)?;
+    check_call(words, rho, bound, est, work)
 }

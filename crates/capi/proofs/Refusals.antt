@@ -15,10 +15,11 @@ use Rattle.calculus.specs.Layout.{estimate_words}
 use Rattle.calculus.specs.Estimate.{whole, estimate}
 use Rattle.calculus.specs.Answer.{Verdict, Answer, refused, verdict, work_words, caller_tests, judge, analysis, answer}
 use Rattle.calculus.proofs.Firing.{whole_is}
+use Rattle.std.specs.Prelude.{Result, Ok, Err}
+use Rattle.calls.specs.declared.Fault.{Fault}
 use Rattle.calls.specs.Faults.{fault_number, fault_place}
 use Rattle.calls.specs.Calls.{Fit}
 use Rattle.comparison.specs.declared.Verdict.{Verdict as Declared-as-Verdict}
-use Rattle.comparison.specs.declared.Verdict.TheVariants as variants
 use Rattle.comparison.specs.Values.{answer_of}
 use Rattle.interface.specs.Places.{PlaceFits}
 
@@ -77,8 +78,7 @@ module _ (ws : List ℕ) (ρ bound est work : ℕ) where
           let same : q ≡ p = cc in
           omega (arith, bounded-place (length ws) (reading ws) m q (reading-bounded ws) r)
 
-  pub place-fits : (v : Declared-as-Verdict) → answer_of v ≡ answer ws ρ bound est work → length ws < 65536 → PlaceFits v
+  pub place-fits : (v : Result Declared-as-Verdict Fault) → answer_of v ≡ answer ws ρ bound est work → length ws < 65536 → PlaceFits v
   unfolding answer_of
-  place-fits (variants.Refused f) e h = omega (arith, answer-place (fault_number f) (fault_place f) (sym e))
-  place-fits (variants.Within r) e h = tt
-  place-fits (variants.Over r x) e h = tt
+  place-fits (Err f) e h = omega (arith, answer-place (fault_number f) (fault_place f) (sym e))
+  place-fits (Ok v) e h = tt

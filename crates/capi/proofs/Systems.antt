@@ -1,5 +1,5 @@
 -- The answer to the bytes of a system: refused before the reading, or the answer to its words.
-use Prim.Native.Nat.{ℕ, zero, suc, ◌+◌, ◌*◌, ◌/◌, ◌^◌, ◌≤◌, min}
+use Prim.Native.Nat.{ℕ, zero, suc, ◌+◌, ◌*◌, ◌/◌, ◌^◌, ◌≤◌, ◌<◌, min}
 use mathlib.Core.Path.{◌≡◌, refl, sym, ap, ◌∙◌, subst, subst₂}
 use mathlib.Core.Bool.{Bool, true, false}
 use mathlib.Core.List.{List, [], ◌∷◌, ◌++◌}
@@ -29,24 +29,24 @@ unfolding system_tests
 system-size size h = ltb-false 1024 size (first-left _ _ h)
 
 module _ (system : List ℕ) (ρ bound est work : ℕ) where
-  pub refused-before : (f : ℕ) → f ≡ first_of (system_tests (length system)) → (f ≡ 0 → ⊥) → bytes_answer system ρ bound est work ≡ refused f 0
+  pub refused-before : (f : ℕ) → f ≡ first_of (system_tests (length system)) → 0 < f → bytes_answer system ρ bound est work ≡ refused f 0
   unfolding bytes_answer
   refused-before f e h = go (first_of (system_tests (length system))) f e h
     where
-      go : (n f : ℕ) → f ≡ n → (f ≡ 0 → ⊥)
+      go : (n f : ℕ) → f ≡ n → 0 < f
           → (elim n as (λ k. Answer) [ zero ↦ answer (words_of system) ρ bound (est / 4) (work / 4) | suc k ↦ refused (suc k) 0 ]) ≡ refused f 0
-      go zero f e h = absurd (h e)
+      go zero f e h = absurd (omega arith)
       go (suc n) f e h = ap (λ (m : ℕ). refused m 0) (sym e)
 
-  pub answered-after : (f : ℕ) → f ≡ first_of (system_tests (length system)) → f ≡ 0
+  pub answered-after : first_of (system_tests (length system)) ≡ 0
       → answer (words_of system) ρ bound (est / 4) (work / 4) ≡ bytes_answer system ρ bound est work
   unfolding bytes_answer
-  answered-after f e h = sym (rw (sym e ∙ h, bytes_answer))
+  answered-after e = sym (rw (e, bytes_answer))
 
 -- what a refusal leaves
-pub refused-answered : (ws : List ℕ) (ρ f : ℕ) (est work : List ℕ) → Answered ws ρ (refused f 0) est work (2 ^ 32 + f * 65536) est work
+pub refused-answered : (ws : List ℕ) (ρ f : ℕ) (est work : List ℕ) (r : ℕ) → r ≡ 2 ^ 32 + f * 65536 + 0 → Answered ws ρ (refused f 0) est work r est work
 unfolding answer_number estimate_bytes work_bytes
-refused-answered ws ρ f est work = record { number = omega arith; estimates = refl; works = refl }
+refused-answered ws ρ f est work r e = record { number = e; estimates = refl; works = refl }
 
 -- the equations of a call and the demands, where its answer has another name
 pub answered-as : (system : List ℕ) (ρ bound : ℕ) (est work : List ℕ) (a : Answer) (r : ℕ) (est' work' : List ℕ)

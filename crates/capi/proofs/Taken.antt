@@ -16,7 +16,10 @@ use Rattle.table.specs.Code.{code}
 use Rattle.calculus.specs.Layout.{estimate_words, Words}
 use Rattle.verdict.proofs.Room.{estimate-room}
 use Rattle.interface.specs.Numbers.{system_tests}
-use Rattle.audit.specs.Audited.{Answer, refused, obeys, number_of, place_of, judged, audited}
+use Rattle.std.specs.Prelude.{Err}
+use Rattle.audit.specs.declared.AuditFault.{AuditFault}
+use Rattle.audit.specs.declared.AuditFault.TheVariants as faults
+use Rattle.audit.specs.Audited.{Answer, said, refused, obeys, number_of, place_of, judged, audited}
 use Rattle.audit.specs.Passes.{Passes, Sound, Exact}
 use Rattle.audit.proofs.Exact.{exact}
 use Rattle.audit.proofs.Steps.{other_length, high-rho, low-rho, table-refused, table-accepted}
@@ -84,9 +87,13 @@ module _ (bs : List ℕ) where
 
 -- ---- the number
 
-pub refusal-number : {a : Answer} {n p : ℕ} → a ≡ refused n p → 2 ^ 32 + number_of a * 65536 + place_of a ≡ check_number a
-unfolding check_number number_of place_of
-refusal-number e = subst (λ (x : Answer). 2 ^ 32 + number_of x * 65536 + place_of x ≡ check_number x) (sym e) refl
+pub fault_numbered : (f : AuditFault) → check_number (said (Err f)) ≡ 2 ^ 32 + number_of (said (Err f)) * 65536 + place_of (said (Err f))
+unfolding said check_number number_of place_of
+fault_numbered (faults.Table r) = refl
+fault_numbered faults.Rho = refl
+fault_numbered faults.Length = refl
+fault_numbered (faults.Stray k) = refl
+fault_numbered (faults.Broken p) = refl
 
 none-wrong : (a b : Bool) → first_of ((a, 31) ∷ (b, 30) ∷ []) ≡ 0 → (a ≡ false) × (b ≡ false)
 unfolding first_of
@@ -162,14 +169,14 @@ module _ (system : List ℕ) (ρ : ℕ) (est : List ℕ) where
       go (suc n) e = record { yes = λ l. absurd (omega arith); no = λ l q. omega (arith, bytes_read (length system) q.short q.whole) }
 
   -- refused before the reading, and after it
-  pub refused-before : (f : ℕ) → f ≡ first_of (system_tests (length system)) → (f ≡ 0 → ⊥) → check_number (bytes_audited system ρ est) ≡ 2 ^ 32 + f * 65536
+  pub refused-before : (f : ℕ) → f ≡ first_of (system_tests (length system)) → 0 < f → check_number (bytes_audited system ρ est) ≡ 2 ^ 32 + f * 65536 + 0
   unfolding bytes_audited check_number
   refused-before f e h = go (first_of (system_tests (length system))) e
     where
-      go : (n : ℕ) → f ≡ n → check_number (elim n [ zero ↦ audited ws ρ (estimate_from est) | suc k ↦ refused (suc k) 0 ]) ≡ 2 ^ 32 + f * 65536
-      go zero q = absurd (h q)
+      go : (n : ℕ) → f ≡ n → check_number (elim n [ zero ↦ audited ws ρ (estimate_from est) | suc k ↦ refused (suc k) 0 ]) ≡ 2 ^ 32 + f * 65536 + 0
+      go zero q = absurd (omega arith)
       go (suc n) q = omega arith
 
-  pub answered-after : (f : ℕ) → f ≡ first_of (system_tests (length system)) → f ≡ 0 → audited ws ρ (estimate_from est) ≡ bytes_audited system ρ est
+  pub answered-after : first_of (system_tests (length system)) ≡ 0 → audited ws ρ (estimate_from est) ≡ bytes_audited system ρ est
   unfolding bytes_audited
-  answered-after f e h = sym (rw (sym e ∙ h, bytes_audited))
+  answered-after e = sym (rw (e, bytes_audited))

@@ -1,35 +1,25 @@
 // The check of an estimate from elsewhere for programs in C, over bytes that are only read.
-ghost use Rattle.std.specs.Prelude.{◌≡◌, ◌+◌, ◌*◌, ◌^◌, ◌<◌, ◌≤◌, length};
+ghost use Rattle.std.specs.Prelude.{◌≡◌, ◌<◌, ◌≤◌, length};
 ghost use Rattle.little_endian.specs.LittleEndian.{words_of};
-ghost use Rattle.audit.specs.Audited.{said, number_of, place_of, audited};
+ghost use Rattle.audit.specs.Audited.{said, place_of, audited};
 ghost use Rattle.capi.specs.Check.{check_number, estimate_from, bytes_audited, ExactNumber, TakenIn};
 
-use audit::Audit;
+use audit::AuditFault;
 use audit::judge::audit;
 use audit::numbers::{audit_number, audit_place};
-use interface::system_fault;
+use interface::{refusal, system_fault};
 use little_endian::words_of;
-
-// A refusal as one number.
-fn refusal(a: Audit) -> u64
-    requires { place_of (said a) < 65536 }
-    ensures { result ≡ 2 ^ 32 + number_of (said a) * 65536 + place_of (said a) }
-{
-    4294967296 + audit_number(a) as u64 * 65536 + audit_place(a) as u64
-}
+use permset::PermSet;
 
 // What is said of an estimate, as one number.
-fn check_number(a: Audit) -> u64
-    requires { place_of (said a) < 65536 }
-    ensures { result ≡ check_number (said a) }
+#[tactic(auto, using(crate::proofs::Taken::fault_numbered), unfolding(crate::specs::Check::check_number, audit::specs::Audited::said))]
+fn check_number(audited: Result<PermSet, AuditFault>) -> u64
+    requires { place_of (said audited) < 65536 }
+    ensures { result ≡ check_number (said audited) }
 {
-    match a {
-        Audit::Table(_) => refusal(a),
-        Audit::Rho => refusal(a),
-        Audit::Length => refusal(a),
-        Audit::Stray(_) => refusal(a),
-        Audit::Broken(_) => refusal(a),
-        Audit::Obeys(s) => s.bits as u64,
+    match audited {
+        Ok(leak) => leak.bits as u64,
+        Err(f) => refusal(audit_number(f), audit_place(f)),
     }
 }
 
@@ -80,9 +70,8 @@ pub fn wiphosega_check(system: &[u8], rho: u32, estimate: &[u8]) -> u64
     ensures answer { result ≡ check_number (bytes_audited system.now rho estimate.now) }
     ensures exact { ExactNumber system.now rho estimate.now result }
 {
-    let fault = system_fault(system.len());
-    if fault != 0 {
-        return 4294967296 + fault as u64 * 65536;
+    if let Some(number) = system_fault(system.len()) {
+        return refusal(number, 0);
     }
     let mut words = [0u32; 256];
     of_system(system, rho, estimate, &mut words)

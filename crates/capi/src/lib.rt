@@ -11,7 +11,7 @@ ghost use Rattle.interface.specs.Numbers.{answer_number};
 ghost use Rattle.capi.specs.Interface.{bytes_answer, estimate_bytes, work_bytes, Answered, CorrectNumber, GuaranteedNumber};
 
 use crate::slices::with_bytes;
-use interface::{answer_number, system_fault};
+use interface::{answer_number, refusal, system_fault};
 use little_endian::words_of;
 
 fn of_words(words: &[u32], rho: u32, bound: u32, estimate: &mut [u8], work: &mut [u8]) -> u64
@@ -19,8 +19,7 @@ fn of_words(words: &[u32], rho: u32, bound: u32, estimate: &mut [u8], work: &mut
     ensures { Answered words.now rho (answer words.now rho bound (length estimate.old / 4)
         (length work.old / 4)) estimate.old work.old result estimate.new work.new }
 {
-    let v = with_bytes(words, rho, bound, estimate, work);
-    answer_number(v)
+    answer_number(with_bytes(words, rho, bound, estimate, work))
 }
 
 // The whole words of a system, over words that are lent.
@@ -58,9 +57,8 @@ pub fn wiphosega_verdict(
     ensures correct { CorrectNumber (words_of system.now) rho bound estimate.new result }
     ensures guarantee { GuaranteedNumber (words_of system.now) rho result }
 {
-    let fault = system_fault(system.len());
-    if fault != 0 {
-        return 4294967296 + fault as u64 * 65536;
+    if let Some(number) = system_fault(system.len()) {
+        return refusal(number, 0);
     }
     let mut words = [0u32; 256];
     of_system(system, rho, bound, estimate, work, &mut words)

@@ -4,6 +4,7 @@ ghost use Rattle.calculus.specs.Answer.{answer};
 ghost use Rattle.comparison.specs.Values.{answer_of};
 ghost use Rattle.capi.specs.Interface.{estimate_left, estimate_bytes, work_bytes};
 
+use calls::Fault;
 use comparison::Verdict;
 use little_endian::{bytes_of, words_of};
 use verdict::judge::verdict;
@@ -16,7 +17,7 @@ fn with_own(
     est: &mut [u32],
     work: &mut [u8],
     own: &mut [u32],
-) -> Verdict
+) -> Result<Verdict, Fault>
     requires { (length words.now ≤ 256) × (length own.old ≡ 1024) }
     ensures result_value { answer_of result ≡ answer words.now rho bound (length est.old) (length work.old / 4) }
     ensures est_after { est.new ≡ estimate_left words.now rho (answer_of result) est.old }
@@ -29,7 +30,13 @@ fn with_own(
 }
 
 // The same over an array of words.
-fn with_work(words: &[u32], rho: u32, bound: u32, est: &mut [u32], work: &mut [u8]) -> Verdict
+fn with_work(
+    words: &[u32],
+    rho: u32,
+    bound: u32,
+    est: &mut [u32],
+    work: &mut [u8],
+) -> Result<Verdict, Fault>
     requires { length words.now ≤ 256 }
     ensures result_value { answer_of result ≡ answer words.now rho bound (length est.old) (length work.old / 4) }
     ensures est_after { est.new ≡ estimate_left words.now rho (answer_of result) est.old }
@@ -47,7 +54,7 @@ fn with_room(
     estimate: &mut [u8],
     work: &mut [u8],
     room: &mut [u32],
-) -> Verdict
+) -> Result<Verdict, Fault>
     requires { (length words.now ≤ 256) × (length room.old ≡ 5888) }
     ensures result_value { answer_of result ≡ answer words.now rho bound (length estimate.old / 4) (length work.old / 4) }
     ensures estimate_after { estimate.new ≡ estimate_bytes words.now rho (answer_of result) estimate.old }
@@ -59,14 +66,14 @@ fn with_room(
     v
 }
 
-// Both slices as bytes.
+// Both slices as bytes. Not one function with `with_work`: what is lent as bytes differs, and with it the array that stands in for it.
 pub fn with_bytes(
     words: &[u32],
     rho: u32,
     bound: u32,
     estimate: &mut [u8],
     work: &mut [u8],
-) -> Verdict
+) -> Result<Verdict, Fault>
     requires { length words.now ≤ 256 }
     ensures result_value { answer_of result ≡ answer words.now rho bound (length estimate.old / 4) (length work.old / 4) }
     ensures estimate_after { estimate.new ≡ estimate_bytes words.now rho (answer_of result) estimate.old }

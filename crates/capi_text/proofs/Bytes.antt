@@ -10,16 +10,15 @@ use borrow.Author.Tests.{lt-ltb, le-ltb}
 use Rattle.table.specs.Scan.{first_of}
 use Rattle.little_endian.specs.LittleEndian.{words_of, bytes_of, whole_words}
 use Rattle.little_endian.proofs.First.{words-first}
-use Rattle.listing.specs.declared.Answer.{Answer}
-use Rattle.listing.specs.declared.Answer.TheVariants.{Refused}
+use Rattle.std.specs.Prelude.{Result, Err}
 use Rattle.listing.specs.declared.Refusal.{Refusal}
 use Rattle.listing.specs.Listing.{Answered, done, refusal, left, tested, listing, written, read_as}
-use Rattle.listing.specs.Answer.{number, place, answered}
+use Rattle.listing.specs.Answer.{place, answered}
 use Rattle.listing.proofs.Places.{Within, write-first, write-first-left, in_room, read-room}
 use Rattle.capi_text.specs.Interface.{answer_number, write_answer, in_bytes, read_answer, placed, PutAs}
 
 -- the place of a refusal, as the answer has it
-pub refused-within : (a : Answer) (r : Refusal) (o : Answered) (m : ℕ) → a ≡ Refused r → answered a ≡ o → Within m o → place r ≤ m
+pub refused-within : (a : Result ℕ Refusal) (r : Refusal) (o : Answered) (m : ℕ) → a ≡ Err r → answered a ≡ o → Within m o → place r ≤ m
 unfolding answered
 refused-within a r o m e f w = subst (Within m) (sym f ∙ ap answered e) w
 

@@ -69,7 +69,7 @@ pub bit_32 : (text : List ℕ) → outcome_number (judged text) / 2 ^ 32 % 2 ≡
 bit_32 text = bit (judged text) (judged-fit text)
 
 -- a refusal of a manifest has the place 0
-pub refused-number : (r number : ℕ) → r ≡ 2 ^ 32 + number * 65536 → r ≡ outcome_number (refused number 0)
+pub refused-number : (r number : ℕ) → r ≡ 2 ^ 32 + number * 65536 + 0 → r ≡ outcome_number (refused number 0)
 unfolding outcome_number
 refused-number r number e = omega arith
 

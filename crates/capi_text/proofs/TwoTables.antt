@@ -1,5 +1,5 @@
 -- A table laid over another, told over bytes: of more than 1,024 words the first ones decide, and the parts of an answer are small.
-use Prim.Native.Nat.{ℕ, zero, suc, ◌+◌, ◌-◌, ◌*◌, ◌/◌, ◌%◌, ◌≤◌}
+use Prim.Native.Nat.{ℕ, zero, suc, ◌+◌, ◌*◌, ◌/◌, ◌%◌, ◌≤◌, ◌^◌}
 use mathlib.Core.Path.{◌≡◌, refl, sym, ap, ap₂, ◌∙◌, subst}
 use mathlib.Core.Bool.{Bool, true, false}
 use mathlib.Core.List.{List, [], ◌∷◌}
@@ -155,11 +155,11 @@ module _ (base overlay : List ℕ) where
 
   -- as numbers
   module _ (r : ℕ) (q : r ≡ odd_number base overlay) (h : r ≡ 0 → ⊥) where
-    pub lookup-odd-number : (n s : ℕ) → 4294967296 + r * 65536 ≡ place_number (lookup_answer base overlay n s)
+    pub lookup-odd-number : (n s : ℕ) → 2 ^ 32 + r * 65536 + 0 ≡ place_number (lookup_answer base overlay n s)
     unfolding place_number
     lookup-odd-number n s = let e = ap place_number (lookup-odd (λ z. h (q ∙ z)) n s) in omega arith
 
-    pub join-odd-number : (bytes : ℕ) → 4294967296 + r * 65536 ≡ answer_number (joined_answer base overlay bytes)
+    pub join-odd-number : (bytes : ℕ) → 2 ^ 32 + r * 65536 + 0 ≡ answer_number (joined_answer base overlay bytes)
     unfolding answer_number
     join-odd-number bytes = let e = ap answer_number (join-odd (λ z. h (q ∙ z)) bytes) in omega arith
 

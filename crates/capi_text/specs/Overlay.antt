@@ -1,5 +1,5 @@
 -- The C interface of a table laid over another: both tables and the output as bytes.
-use Rattle.std.specs.Prelude.{ℕ, zero, suc, ◌+◌, ◌-◌, ◌*◌, ◌/◌, ◌%◌, ◌^◌, List, length}
+use Rattle.std.specs.Prelude.{ℕ, zero, suc, ◌+◌, ◌-◌, ◌*◌, ◌/◌, ◌%◌, ◌^◌, ◌≡◌, ◌≢◌, Option, MatchOption, List, length}
 use Rattle.little_endian.specs.LittleEndian.{words_of, bytes_of}
 use Rattle.listing.specs.Listing.{Answered, done, refusal, left}
 use Rattle.overlay.specs.Lookup.{Place, in_base, in_overlay, place_of}
@@ -11,6 +11,10 @@ use Rattle.overlay.specs.Join as join
 unfoldable pub odd_number : (base overlay : List ℕ) → ℕ
 odd_number base overlay =
     elim (length base % 4) [ suc n ↦ 30 | zero ↦ elim (length overlay % 4) [ suc n ↦ 130 | zero ↦ 0 ] ]
+
+-- the same, where none stands for 0
+abbrev pub OddAs : (base overlay : List ℕ) → Option ℕ → Type 0
+OddAs base overlay o = MatchOption o (odd_number base overlay ≡ 0) (λ n. (n ≡ odd_number base overlay) × (n ≢ 0))
 
 -- ---- the look-up
 

@@ -1,27 +1,20 @@
 // Narrow tables made wide and wide tables made narrow, for programs in C, over bytes.
-ghost use Rattle.std.specs.Prelude.{◌≡◌, true, false, ◌+◌, ◌*◌, ◌^◌, ◌≤◌, length};
+ghost use Rattle.std.specs.Prelude.{◌≡◌, true, false, length};
 ghost use Rattle.little_endian.specs.LittleEndian.{words_of};
 ghost use Rattle.widths.specs.Converters.{convert_answer, convert_out};
-ghost use Rattle.widths.specs.Answers.{fault_number, fault_place, converted_as};
+ghost use Rattle.widths.specs.Answers.{converted_as};
 ghost use Rattle.capi_text.specs.Interface.{answer_number};
 ghost use Rattle.capi_text.specs.Converters.{converted_answer, out_after};
 
 use crate::put_words;
+use fields::refusal;
 use little_endian::words_of;
+use widths::Fault;
 use widths::convert::convert;
 use widths::numbers::{fault_number, fault_place};
-use widths::{Converted, Fault};
-
-// A refusal as one number.
-fn fault_answer(f: Fault) -> u64
-    requires { fault_place f ≤ 65536 }
-    ensures { result ≡ 2 ^ 32 + fault_number f * 65536 + fault_place f }
-{
-    4294967296 + fault_number(f) as u64 * 65536 + fault_place(f) as u64
-}
 
 // `convert` over the whole words of bytes: of more than 1,025 words the first decide.
-fn convert_in(wide: bool, system: &[u8], out: &mut [u32]) -> Converted
+fn convert_in(wide: bool, system: &[u8], out: &mut [u32]) -> Result<usize, Fault>
     ensures answer { converted_as result ≡ convert_answer wide (words_of system.now) (length out.old) }
     ensures out { out.new ≡ convert_out wide (words_of system.now) out.old }
 {
@@ -36,12 +29,12 @@ fn convert_bytes(wide: bool, system: &[u8], out: &mut [u8]) -> u64
     ensures out { out.new ≡ out_after wide system.now out.old }
 {
     if system.len() % 4 != 0 {
-        return 4296933376;
+        return refusal(30, 0);
     }
     let mut words = [0u32; 1024];
     match convert_in(wide, system, &mut words) {
-        Converted::Words(count) => put_words(&words, count, out, 57),
-        Converted::Refused(f) => fault_answer(f),
+        Ok(count) => put_words(&words, count, out, 57),
+        Err(f) => refusal(fault_number(f), fault_place(f)),
     }
 }
 

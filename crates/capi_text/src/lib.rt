@@ -6,23 +6,14 @@ pub mod fingerprints;
 pub mod manifests;
 pub mod overlays;
 
-ghost use Rattle.std.specs.Prelude.{◌≡◌, ◌+◌, ◌*◌, ◌^◌, ◌≤◌, length};
-ghost use Rattle.listing.specs.Answer.{number, place};
+ghost use Rattle.std.specs.Prelude.{◌≡◌, ◌≤◌, length};
 ghost use Rattle.capi_text.specs.Interface.{answer_number, write_answer, text_after, read_answer, system_after, PutAs};
 
+use fields::refusal;
 use listing::numbers::{refusal_number, refusal_place};
 use listing::read::read;
 use listing::write::write;
-use listing::{Answer, Refusal};
 use little_endian::{bytes_of, words_of};
-
-// A refusal as one number.
-fn refusal_answer(r: Refusal) -> u64
-    requires { place r ≤ 65536 }
-    ensures { result ≡ 2 ^ 32 + number r * 65536 + place r }
-{
-    4294967296 + refusal_number(r) as u64 * 65536 + refusal_place(r) as u64
-}
 
 // The listing of the bytes of a system: how many bytes it has; refused, 2^32 + number × 65,536 + place.
 pub fn wiphosega_listing_write(system: &[u8], text: &mut [u8]) -> u64
@@ -30,13 +21,13 @@ pub fn wiphosega_listing_write(system: &[u8], text: &mut [u8]) -> u64
     ensures text { text.new ≡ text_after system.now text.old }
 {
     if system.len() % 4 != 0 {
-        return 4296933376;
+        return refusal(30, 0);
     }
     let mut words = [0u32; 1025];
     let n = words_of(system, &mut words);
     match write(&words[..n], text) {
-        Answer::Done(count) => count as u64,
-        Answer::Refused(r) => refusal_answer(r),
+        Ok(count) => count as u64,
+        Err(r) => refusal(refusal_number(r), refusal_place(r)),
     }
 }
 
@@ -46,7 +37,7 @@ fn put_words(words: &[u32], count: usize, bytes: &mut [u8], number: u32) -> u64
     ensures { PutAs number words.now count bytes.old bytes.new result }
 {
     if bytes.len() / 4 < count {
-        return 4294967296 + number as u64 * 65536;
+        return refusal(number, 0);
     }
     bytes_of(&words[..count], bytes);
     4 * count as u64
@@ -60,7 +51,7 @@ pub fn wiphosega_listing_read(text: &[u8], system: &mut [u8]) -> u64
 {
     let mut words = [0u32; 1024];
     match read(text, &mut words) {
-        Answer::Done(count) => put_words(&words, count, system, 42),
-        Answer::Refused(r) => refusal_answer(r),
+        Ok(count) => put_words(&words, count, system, 42),
+        Err(r) => refusal(refusal_number(r), refusal_place(r)),
     }
 }

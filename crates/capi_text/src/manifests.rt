@@ -1,12 +1,11 @@
 // Manifests for programs in C.
 ghost use Rattle.std.specs.Prelude.{◌≡◌, ◌+◌, ◌*◌, ◌^◌, ◌≤◌};
-ghost use Rattle.manifest.specs.Answer.{number};
 ghost use Rattle.manifest.specs.Manifest.{judged};
 ghost use Rattle.capi_text.specs.Manifest.{outcome_number};
 
+use fields::refusal;
 use manifest::numbers::refusal_number;
 use manifest::read::read;
-use manifest::{Reading, Refusal};
 
 // A set, a version and a count as one number.
 fn manifest_answer(version: u32, set: u32, others: u32) -> u64
@@ -16,19 +15,12 @@ fn manifest_answer(version: u32, set: u32, others: u32) -> u64
     set as u64 + version as u64 * 16777216 + others as u64 * 1099511627776
 }
 
-// A refusal as one number.
-fn manifest_refusal(r: Refusal) -> u64
-    ensures { result ≡ 2 ^ 32 + number r * 65536 }
-{
-    4294967296 + refusal_number(r) as u64 * 65536
-}
-
 // What a manifest says: set + version × 2^24 + how many strings set nothing × 2^40; refused, 2^32 + number × 65,536.
 pub fn wiphosega_manifest(json: &[u8]) -> u64
     ensures { result ≡ outcome_number (judged json.now) }
 {
     match read(json) {
-        Reading::Accepted(version, set, others) => manifest_answer(version, set.bits, others),
-        Reading::Refused(r) => manifest_refusal(r),
+        Ok(m) => manifest_answer(m.version, m.set.bits, m.others),
+        Err(r) => refusal(refusal_number(r), 0),
     }
 }

@@ -3,24 +3,17 @@ ghost use Rattle.std.specs.Prelude.{◌≡◌, ◌+◌, ◌-◌, ◌*◌, ◌^�
 ghost use Rattle.little_endian.specs.LittleEndian.{words_of};
 ghost use Rattle.overlay.specs.Lookup.{place_of};
 ghost use Rattle.overlay.specs.Join.{join_answer, out_after as words_after};
-ghost use Rattle.overlay.specs.Answers.{fault_number, fault_place, found_as, joined_as};
+ghost use Rattle.overlay.specs.Answers.{found_as, joined_as};
 ghost use Rattle.capi_text.specs.Interface.{answer_number};
-ghost use Rattle.capi_text.specs.Overlay.{odd_number, lookup_answer, place_number, joined_answer, out_after};
+ghost use Rattle.capi_text.specs.Overlay.{OddAs, lookup_answer, place_number, joined_answer, out_after};
 
 use crate::put_words;
+use fields::refusal;
 use little_endian::words_of;
 use overlay::join::join;
 use overlay::lookup::find;
 use overlay::numbers::{fault_number, fault_place};
-use overlay::{Fault, Found, Joined};
-
-// A refusal as one number.
-fn fault_answer(f: Fault) -> u64
-    requires { fault_place f ≤ 65536 }
-    ensures { result ≡ 2 ^ 32 + fault_number f * 65536 + fault_place f }
-{
-    4294967296 + fault_number(f) as u64 * 65536 + fault_place(f) as u64
-}
+use overlay::{Fault, Found};
 
 // A part of a table, its offset and its length in bytes.
 fn part_answer(start: usize, end: usize) -> u64
@@ -30,18 +23,21 @@ fn part_answer(start: usize, end: usize) -> u64
     4 * start as u64 + 4 * (end - start) as u64 * 65536
 }
 
-// 30 where the base's bytes are no whole words, then 130 for the overlay's, 0 where both are.
-fn odd_number(base: &[u8], overlay: &[u8]) -> u64
-    ensures { result ≡ odd_number base.now overlay.now }
+// 30 where the base's bytes are no whole words, then 130 for the overlay's.
+fn odd_number(base: &[u8], overlay: &[u8]) -> Option<u32>
+    ensures { OddAs base.now overlay.now result }
 {
     if base.len() % 4 != 0 {
-        return 30;
+        return Some(30);
     }
-    if overlay.len() % 4 != 0 { 130 } else { 0 }
+    if overlay.len() % 4 != 0 {
+        return Some(130);
+    }
+    None
 }
 
 // `find` over the whole words of bytes: of more than 1,025 words the first decide.
-fn find_in(base: &[u8], overlay: &[u8], name: u32, perms: u32) -> Found
+fn find_in(base: &[u8], overlay: &[u8], name: u32, perms: u32) -> Result<Found, Fault>
     ensures { found_as result ≡ place_of (words_of base.now) (words_of overlay.now) name perms }
 {
     let mut under = [0u32; 1025];
@@ -52,7 +48,7 @@ fn find_in(base: &[u8], overlay: &[u8], name: u32, perms: u32) -> Found
 }
 
 // `join` over the whole words of bytes.
-fn join_in(base: &[u8], overlay: &[u8], out: &mut [u32]) -> Joined
+fn join_in(base: &[u8], overlay: &[u8], out: &mut [u32]) -> Result<usize, Fault>
     ensures answer { joined_as result ≡ join_answer (words_of base.now) (words_of overlay.now) (length out.old) }
     ensures out { out.new ≡ words_after (words_of base.now) (words_of overlay.now) out.old }
 {
@@ -67,14 +63,15 @@ fn join_in(base: &[u8], overlay: &[u8], out: &mut [u32]) -> Joined
 pub fn wiphosega_lookup(base: &[u8], overlay: &[u8], name: u32, perms: u32) -> u64
     ensures { result ≡ place_number (lookup_answer base.now overlay.now name perms) }
 {
-    let number = odd_number(base, overlay);
-    if number != 0 {
-        return 4294967296 + number * 65536;
+    if let Some(number) = odd_number(base, overlay) {
+        return refusal(number, 0);
     }
     match find_in(base, overlay, name, perms) {
-        Found::Base(start, end) => part_answer(start, end),
-        Found::Overlay(start, end) => part_answer(start, end) + 8589934592,
-        Found::Refused(f) => fault_answer(f),
+        Err(f) => refusal(fault_number(f), fault_place(f)),
+        Ok(found) => match found {
+            Found::Base(start, end) => part_answer(start, end),
+            Found::Overlay(start, end) => part_answer(start, end) + 8589934592,
+        },
     }
 }
 
@@ -83,13 +80,12 @@ pub fn wiphosega_join(base: &[u8], overlay: &[u8], out: &mut [u8]) -> u64
     ensures answer { result ≡ answer_number (joined_answer base.now overlay.now (length out.old)) }
     ensures out { out.new ≡ out_after base.now overlay.now out.old }
 {
-    let number = odd_number(base, overlay);
-    if number != 0 {
-        return 4294967296 + number * 65536;
+    if let Some(number) = odd_number(base, overlay) {
+        return refusal(number, 0);
     }
     let mut words = [0u32; 1024];
     match join_in(base, overlay, &mut words) {
-        Joined::Words(count) => put_words(&words, count, out, 50),
-        Joined::Refused(f) => fault_answer(f),
+        Ok(count) => put_words(&words, count, out, 50),
+        Err(f) => refusal(fault_number(f), fault_place(f)),
     }
 }

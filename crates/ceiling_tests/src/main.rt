@@ -2,9 +2,9 @@
 // many words of the two slices are zero then.
 #![tactic(auto)]
 
+use calls::LimitFault;
 use calls::numbers::{fault_number, fault_place};
 use comparison::Findings;
-use solver::Bounded;
 use solver::analyse::analyse_within;
 use std::io;
 use std::io::Write;
@@ -25,25 +25,17 @@ fn found(out: &mut impl Write, s: Findings) -> io::Result<()> {
     number(out, b" facts ", s.facts)
 }
 
-fn answer(out: &mut impl Write, a: Bounded) -> io::Result<()> {
-    match a {
-        Bounded::Refused(f) => refused(out, fault_number(f), fault_place(f)),
-        Bounded::Over(n) => refused(out, 23, n),
-        Bounded::Solved(s) => found(out, s),
+fn answer(out: &mut impl Write, analysis: Result<Findings, LimitFault>) -> io::Result<()> {
+    match analysis {
+        Ok(s) => found(out, s),
+        Err(LimitFault::Call(f)) => refused(out, fault_number(f), fault_place(f)),
+        Err(LimitFault::Facts(n)) => refused(out, 23, n),
     }
 }
 
 // How many words are zero.
 fn zeros(words: &[u32]) -> usize {
-    let mut n: usize = 0;
-    let mut i = 0;
-    while i < words.len() {
-        if words[i] == 0 {
-            n += 1;
-        }
-        i += 1;
-    }
-    n
+    words.iter().filter(|w| **w == 0).count()
 }
 
 // 35 words of estimate and 20 of work are needed.

@@ -1,22 +1,19 @@
 -- What the terms ask, put together from what their tests decide.
-use Prim.Native.Nat.{ℕ, ◌+◌, ◌*◌, ◌≤◌, ◌<◌}
+use Prim.Native.Nat.{ℕ, ◌+◌, ◌*◌}
 use mathlib.Core.Path.{◌≡◌, sym, ap, ◌∙◌, subst}
 use mathlib.Core.Logic.{⊎_elim}
 use mathlib.Core.Bool.{Bool}
-use mathlib.Core.List.{List}
 use native.Mathlib.Omega.{arith}
 use lib.Dec.{T}
-use lib.ListN.{length}
 use Rattle.table.specs.Code.{Code, Linked}
 use Rattle.calculus.specs.Elements.{made, undefined, opponent_record, is_record, is_cell, any_record}
 use Rattle.calculus.specs.Constraint.{C, B, Sets, put, sub, given, some, ◌and◌}
 use Rattle.calculus.specs.Rules.{fill, each_made}
 use Rattle.calculus.proofs.Ranges.{below_in}
 use Rattle.rows.specs.declared.layout.Layout.{Layout}
-use Rattle.rows.specs.Laid.{LaidOut, Sized}
+use Rattle.rows.specs.Laid.{LaidOut}
 use Rattle.rows.specs.Mask.{made_as}
 use Rattle.clauses.proofs.Sorts.{record-by, cell-by, is_made_lem, is-record}
-use Rattle.queries.proofs.Laws.{value_in}
 use Rattle.checker.specs.Decides.{Decides}
 use Rattle.checker.proofs.Laws.{put_is, same-rule}
 
@@ -63,7 +60,3 @@ module _ (c : Code) (k : Linked c) {e : Sets} {a p : ℕ} {r : Bool} where
 -- the element that p makes
 pub own_is : {c : Code} {l : Layout} → LaidOut c l → {e : Sets} {p : ℕ} {r : Bool} → r ≡ e (C p) (32 * l.lead + p) → Decides e (put (C p) (made c p)) r
 own_is o {e} {p} q = put_is (q ∙ ap (λ (x : ℕ). e (C p) (x + p)) (sym o.lead))
-
--- the words of a value set that plain elements fill
-pub side-in : {l : Layout} {est : List ℕ} → Sized l est → (a : ℕ) → a < l.size → 2 * a * l.row + l.lead ≤ length est
-side-in s a h = omega (arith, value_in s a h, s.wide)

@@ -37,10 +37,6 @@ module _ {ws masks est : List ℕ} {l : Layout} {s : Sending} (h : Sent ws masks
   abbrev c : Code
   c = code ws
 
-  pub size_is : length ws ≡ l.size
-  unfolding code
-  size_is = h.laid.size
-
   pub name_in : name_element (argument (get_or ws b 0)) < 32 * l.lead
   unfolding code
   name_in = omega (arith, (Block-words ws h.readable b i t).named, h.laid.lead)

@@ -19,7 +19,7 @@ use Rattle.calculus.proofs.Digits.{T_and, T-fst, T-snd, T_true}
 use Rattle.calculus.proofs.Fitting.{body-lt}
 use Rattle.calculus.proofs.Ranges.{below_in, in-below}
 use Rattle.rows.specs.declared.layout.Layout.{Layout}
-use Rattle.rows.specs.Laid.{LaidOut}
+use Rattle.rows.specs.Laid.{LaidOut, Sized}
 use Rattle.rows.specs.Mask.{made_as}
 use Rattle.rows.proofs.Laws.{get_or-row}
 use Rattle.clauses.specs.Asks.{sort_at, thing_at}
@@ -28,7 +28,7 @@ use Rattle.queries.specs.Things.{both, Next, Searched}
 use Rattle.queries.proofs.Laws.{row_in, mask-in, has-is, C-sets}
 use Rattle.checker.specs.declared.things.Action.{Action}
 use Rattle.checker.specs.declared.things.Action.TheVariants as actions
-use Rattle.checker.specs.Decides.{Checked, CheckedBy, MasksOf, Term}
+use Rattle.checker.specs.Decides.{Checked, CheckedBy, MasksOf}
 use Rattle.checker.specs.Things.{Suits}
 
 pub suits : (a : Action) (m : ℕ) → Suits a m → (m < 3) × (a ≡ actions.Call → m ≡ 0)
@@ -80,15 +80,15 @@ module _ {l : Layout} {est masks : List ℕ} {p m : ℕ} {k : ℕ → Rule} wher
       go c o w g h b (no j) (yes e) = subst (λ (y : ℕ). Obeys (sets c est) (k y)) (sym e) ((d c o w).yes (subst T (sym (not-false r q)) tt))
       go c o w g h b (no j) (no e) = absurd (true≢false (sym b ∙ n.none g (omega arith) h))
 
-module _ {l : Layout} {est masks : List ℕ} {p : ℕ} (t : Term l est p) {m : ℕ} (hm : m < 3) where
+module _ {l : Layout} {est masks : List ℕ} (p : ℕ) (s : Sized l est) (first : p + 1 < l.size) {m : ℕ} (hm : m < 3) where
   -- what the search asks
   pub may-search : MasksOf l masks → Searched l est masks (2 * (p + 1)) m
   may-search y =
       record {
-        size = t.sized.size;
-        wide = t.sized.wide;
-        most = t.sized.most;
-        row = row_in t.sized (2 * (p + 1)) (omega (arith, t.first));
+        size = s.size;
+        wide = s.wide;
+        most = s.most;
+        row = row_in s (2 * (p + 1)) (omega (arith, first));
         mask = mask-in _ l.row m y.masked.long (omega arith);
       }
 
@@ -103,8 +103,8 @@ module _ {l : Layout} {est masks : List ℕ} {p : ℕ} (t : Term l est p) {m : �
       member-and (get_or est (2 * (p + 1) * l.row + (l.lead + f / 32)) 0) (get_or masks (m * l.row + (l.lead + f / 32)) 0) (f % 32)
       ∙ rw (← i, ← j)
       (ap₂ (λ (x y : Bool). x && y)
-      (has-is c l o est (2 * (p + 1)) (made c f) (omega (arith, t.first)) g ∙ C-sets c est (p + 1) (made c f))
-      (ap (λ (x : ℕ). member x (made c f % 32)) (sym (get_or-row masks (m * l.row) l.row (made c f / 32) (omega (arith, t.sized.wide, o.lead))))
+      (has-is c l o est (2 * (p + 1)) (made c f) (omega (arith, first)) g ∙ C-sets c est (p + 1) (made c f))
+      (ap (λ (x : ℕ). member x (made c f % 32)) (sym (get_or-row masks (m * l.row) l.row (made c f / 32) (omega (arith, s.wide, o.lead))))
       ∙ (k.mask m (omega arith)).digits (made c f) g ∙ thing-sort c m f hm))
 
   -- the body of a function that is found

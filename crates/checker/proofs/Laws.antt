@@ -51,13 +51,6 @@ module _ {e : Sets} where
   both-elim {r = true} d f = both d f
   both-elim {r = false} d f = both d f
 
-  -- after a branch on the first answer
-  pub and_no : {k l : Rule} {r : Bool} → not r ≡ true → Decides e k r → Decides e (k and l) false
-  and_no {r = r} q d = record { yes = λ t. absurd t; no = λ o. subst T (not-true r q) (d.no o.0) }
-
-  pub and-rest : {k l : Rule} {r s : Bool} → not r ≡ false → Decides e k r → Decides e l s → Decides e (k and l) s
-  and-rest {r = r} q d f = record { yes = λ t. (d.yes (subst T (sym (not-false r q)) tt), f.yes t); no = λ o. f.no o.1 }
-
   -- nothing is asked besides
   pub both-idle : {k l : Rule} {r : Bool} → Decides e k r → Decides e l true → Decides e (k and l) r
   both-idle {r = r} d f = decided (sym (and-true r)) (both d f)

@@ -128,29 +128,27 @@ module _ (l : Layout) (est : List ℕ) (s : Sized l est) (c : Code) (o : LaidOut
   -- ---- all plain elements
 
   module _ (r : ℕ) (h : r < 2 * l.size) where
-    pub full_is : ((k : ℕ) → k < l.lead → get_or est (r * l.row + k) 0 ≡ 4294967295) → Decides e (fill c (row_at r)) true
-    full_is f =
-        record {
-          yes = λ t v m. let i : v < 32 * l.lead = omega (arith, in-below m, o.lead) in
-              subst T (has-is c l o est r v h (omega (arith, o.lead)))
-              (subst T (sym (ap (λ (x : ℕ). member x (v % 32)) (f (v / 32) (omega arith)) ∙ full-digit (v % 32) (omega arith))) tt);
-          no = λ x. tt;
-        }
-
-    pub gap_is : (k : ℕ) → k < l.lead → (get_or est (r * l.row + k) 0 ≡ 4294967295 → ⊥) → Decides e (fill c (row_at r)) false
-    gap_is k i f =
-        record {
-          yes = λ t. absurd t;
-          no = λ x. f (same-below 32 (get_or est (r * l.row + k) 0) 4294967295 (w.words (r * l.row + k)) (lit< tt)
-              (λ n j. T_true _ (digit x n j) ∙ sym (full-digit n j)));
-        }
+    full-words : Obeys e (fill c (row_at r)) → (k : ℕ) → k < l.lead → get_or est (r * l.row + k) 0 ≡ 4294967295
+    full-words x k i =
+        same-below 32 (get_or est (r * l.row + k) 0) 4294967295 (w.words (r * l.row + k)) (lit< tt)
+        (λ n j. T_true _ (digit n j) ∙ sym (full-digit n j))
       where
-        digit : Obeys e (fill c (row_at r)) → (n : ℕ) → n < 32 → T (member (get_or est (r * l.row + k) 0) n)
-        digit x n j =
+        digit : (n : ℕ) → n < 32 → T (member (get_or est (r * l.row + k) 0) n)
+        digit n j =
             let q : (32 * k + n) / 32 ≡ k = omega arith in
             let z : (32 * k + n) % 32 ≡ n = omega arith in
             subst T (sym (has-is c l o est r (32 * k + n) h (omega (arith, o.lead))) ∙ ap₂ (λ (a b : ℕ). member (get_or est (r * l.row + a) 0) b) q z)
             (x (32 * k + n) (below_in (omega (arith, o.lead))))
+
+    pub full_is : {b : Bool} → (T b → (k : ℕ) → k < l.lead → get_or est (r * l.row + k) 0 ≡ 4294967295)
+        → (((k : ℕ) → k < l.lead → get_or est (r * l.row + k) 0 ≡ 4294967295) → T b) → Decides e (fill c (row_at r)) b
+    full_is f g =
+        record {
+          yes = λ t v m. let i : v < 32 * l.lead = omega (arith, in-below m, o.lead) in
+              subst T (has-is c l o est r v h (omega (arith, o.lead)))
+              (subst T (sym (ap (λ (x : ℕ). member x (v % 32)) (f t (v / 32) (omega arith)) ∙ full-digit (v % 32) (omega arith))) tt);
+          no = λ x. g (full-words x);
+        }
 
   -- ---- permissions
 

@@ -1,10 +1,10 @@
 -- An answer that decides a rule: yes exactly where the sets of an estimate obey it.
-use Rattle.std.specs.Prelude.{ℕ, ◌+◌, ◌<◌, Bool, List, T}
+use Rattle.std.specs.Prelude.{ℕ, Bool, List, T}
 use Rattle.table.specs.Code.{Code, Linked}
 use Rattle.calculus.specs.Constraint.{Sets, Rule, Obeys}
 use Rattle.calculus.specs.Layout.{sets, WellFormed}
 use Rattle.rows.specs.declared.layout.Layout.{Layout}
-use Rattle.rows.specs.Laid.{LaidOut, Sized}
+use Rattle.rows.specs.Laid.{LaidOut}
 use Rattle.queries.specs.Passes.{Masked}
 
 pub record Decides (e : Sets) (k : Rule) (r : Bool) : Type 0 where
@@ -29,8 +29,3 @@ pub record MasksOf (l : Layout) (masks : List ℕ) : Type 0 where
 -- the same, where masks are used
 abbrev pub CheckedBy : Layout → (est masks : List ℕ) → (Code → Rule) → Bool → Type 0
 CheckedBy l est masks k r = (c : Code) → Linked c → LaidOut c l → WellFormed c est → Masked c l masks → Decides (sets c est) (k c) r
-
--- the term at p has a first part
-pub record Term (l : Layout) (est : List ℕ) (p : ℕ) : Type 0 where
-  pub sized : Sized l est
-  pub first : p + 1 < l.size

@@ -8,7 +8,7 @@ use Rattle.calculus.specs.Constraint.{C, B, P, Sets, Rule, Obeys, put, sub, some
 use Rattle.calculus.specs.Rules.{permissions, delivering, live, pass}
 use Rattle.calculus.specs.Layout.{WellFormed}
 use Rattle.rows.specs.declared.layout.Layout.{Layout}
-use Rattle.rows.specs.Laid.{LaidOut, Sized}
+use Rattle.rows.specs.Laid.{LaidOut}
 use Rattle.queries.specs.Passes.{Masked}
 use Rattle.checker.specs.declared.sends.Sending.{Sending}
 
@@ -39,7 +39,6 @@ pub record Sent (ws masks est : List ℕ) (l : Layout) (s : Sending) : Type 0 wh
   pub readable : reading ws ≡ accepted
   pub laid : LaidOut (code ws) l
   pub masked : Masked (code ws) l masks
-  pub sized : Sized l est
   pub well : WellFormed (code ws) est
   pub target : s.p + 1 < l.size
   pub message : s.d < l.size

@@ -1,5 +1,5 @@
 -- What the tests on the words of an accepted table decide.
-use Rattle.std.specs.Prelude.{ℕ, ◌≡◌, Bool}
+use Rattle.std.specs.Prelude.{ℕ, ◌≡◌}
 use mathlib.Core.List.{List, Memᴰ}
 use Rattle.table.specs.Scan.{accepted, reading}
 use Rattle.table.specs.Code.{Code, code}
@@ -8,12 +8,7 @@ use Rattle.calculus.specs.Rules.{flow, entry, sender}
 use Rattle.calculus.specs.Layout.{sets}
 use Rattle.rows.specs.declared.layout.Layout.{Layout}
 use Rattle.rows.specs.Laid.{LaidOut}
-use Rattle.checker.specs.Decides.{Decides}
 use Rattle.checker.specs.Lowered.{Lowered}
-
--- r decides a rule of the table on the words of an estimate
-abbrev pub Obeyed : (ws est : List ℕ) → (Code → Rule) → Bool → Type 0
-Obeyed ws est k r = Decides (sets (code ws) est) (k (code ws)) r
 
 -- a table that was accepted, and its layout
 pub record Accepted (ws : List ℕ) (l : Layout) : Type 0 where

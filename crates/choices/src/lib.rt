@@ -10,7 +10,8 @@ const PLACES: usize = 1024;
 
 const CLAUSES: usize = 4096;
 
-// The word at a place of a slice, 0 past the end. The worklist reads its memory and the table by it too.
+// The word at a place of a slice, 0 past the end. The worklist reads its memory and the table by it too. No Option: `get_or` of the clauses is this
+// number, and what a memory says is never trusted, so nobody asks whether it was there.
 pub fn word(list: &[u32], i: usize) -> u32
     ensures { result ≡ get_or list.now i 0 }
 {
@@ -52,7 +53,7 @@ pub fn count(list: &[u32]) -> usize
     word(list, 0) as usize
 }
 
-// The choice at a place of a list, from 1 on; clause 0 of word 0 past the end.
+// The choice at a place of a list, from 1 on; clause 0 of word 0 past the end, for the same reason.
 pub fn choice_at(list: &[u32], i: usize) -> u32
     ensures { result ≡ get_or list.now i 0 }
 {

@@ -87,6 +87,9 @@ fn turn(
 }
 
 // Every turn writes a line or fills the buffer: a stream of the most systems takes less than 10,200 of them.
+const MOST_TURNS: u32 = 65536;
+
+// The report, turn by turn.
 fn report(
     input: &mut impl Read,
     out: &mut impl Write,
@@ -100,13 +103,11 @@ fn report(
         ended: false,
         done: false,
     };
-    let mut turns: u32 = 65536;
-    while 0 < turns {
+    for _ in 0..MOST_TURNS {
         w = turn(input, out, w, buffer, text)?;
         if w.done {
-            return Ok(());
+            break;
         }
-        turns -= 1;
     }
     Ok(())
 }

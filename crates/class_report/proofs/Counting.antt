@@ -1,4 +1,5 @@
 -- Laws of the counts: one system more, permission by permission.
+use Rattle.std.specs.Prelude.{Ok, Err}
 use Prim.Native.Nat.{ℕ, zero, suc, ◌+◌, ◌≤◌, ◌<◌}
 use mathlib.Core.Path.{◌≡◌, refl, sym, ap, ap₂, ◌∙◌}
 use mathlib.Core.Bool.{true}
@@ -10,7 +11,7 @@ use lib.Seq.{length-take-le, take_all, get_or-append-add, get_or-drop}
 use Rattle.little_endian.proofs.Laws.{copy_more}
 use Rattle.permset.specs.Sets.{member}
 use Rattle.permset.specs.declared.PermSet.{PermSet}
-use Rattle.class_report.specs.declared.Outcome.TheVariants.{Leak, Refused}
+use Rattle.class_report.specs.declared.Refusal.{Refusal}
 use Rattle.class_report.specs.declared.Tally.{Tally}
 use Rattle.class_report.specs.Stream.{most_systems}
 use Rattle.class_report.specs.Tally.{raised, counted, tallied}
@@ -64,11 +65,11 @@ counted-all s ns next i e h =
 
 -- one system more, by its outcome
 pub tallied-leak : (t : Tally) (s : PermSet) (a : ℕ) (ns : List ℕ) → a ≡ raised true t.accepted → ns ≡ counted 0 s.bits t.leaks
-    → record { accepted = a; refused = t.refused; leaks = ns } ≡ tallied t (Leak s)
+    → record { accepted = a; refused = t.refused; leaks = ns } ≡ tallied t (Ok s)
 unfolding tallied
 tallied-leak t s a ns e f = ap₂ (λ (x : ℕ) (y : List ℕ). record { accepted = x; refused = t.refused; leaks = y }) e f
 
-pub tallied-refused : (t : Tally) (n at a : ℕ) → a ≡ raised true t.refused
-    → record { accepted = t.accepted; refused = a; leaks = t.leaks } ≡ tallied t (Refused n at)
+pub tallied-refused : (t : Tally) (r : Refusal) (a : ℕ) → a ≡ raised true t.refused
+    → record { accepted = t.accepted; refused = a; leaks = t.leaks } ≡ tallied t (Err r)
 unfolding tallied
-tallied-refused t n at a e = ap (λ (x : ℕ). record { accepted = t.accepted; refused = x; leaks = t.leaks }) e
+tallied-refused t r a e = ap (λ (x : ℕ). record { accepted = t.accepted; refused = x; leaks = t.leaks }) e

@@ -7,5 +7,4 @@ pub mod Tasks
 pub mod Pieces
 pub mod Judged
 pub mod Stepped
-pub mod Windows
 pub mod Samples

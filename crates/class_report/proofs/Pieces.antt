@@ -1,4 +1,5 @@
 -- However a stream is cut into pieces, a caller who steps through it prints the report.
+use Rattle.std.specs.Prelude.{Ok, Err, Some, None}
 use Prim.Native.Nat.{ℕ, zero, suc, ◌+◌, ◌-◌, ◌≤◌, ◌<◌}
 use mathlib.Core.Path.{◌≡◌, refl, sym, ap, ap₂, ◌∙◌}
 use mathlib.Core.Bool.{Bool, true, false}
@@ -11,10 +12,9 @@ use lib.Seq.{append_snoc}
 use borrow.Author.Tests.{eq-eqb, ne_eqb, ltb-true, ltb-false, eqb-true, eqb-false}
 use Rattle.fingerprint.specs.Fnv.{fnv1a}
 use Rattle.report.specs.Lines.{refusal_line}
+use Rattle.class_report.specs.Outcome.{Outcome}
 use Rattle.class_report.specs.declared.Fault.{Fault}
 use Rattle.class_report.specs.declared.Fault.TheVariants.{TooMany, TooLong, CutShort}
-use Rattle.class_report.specs.declared.Front.TheVariants.{Nothing, Broken, Whole}
-use Rattle.class_report.specs.declared.Outcome.{Outcome}
 use Rattle.class_report.specs.declared.Tally.{Tally}
 use Rattle.class_report.specs.declared.Task.{Task}
 use Rattle.class_report.specs.declared.Task.TheVariants as tasks
@@ -63,15 +63,15 @@ line_of : ℕ → System → List ℕ
 line_of p s = line p (fnv1a s.bytes) (outcome s)
 
 module _ (left : ℕ) (stream : List ℕ) where
-  cut-nothing : front stream ≡ Nothing → cut (suc left) stream ≡ record { systems = []; ending = whole }
+  cut-nothing : front stream ≡ Ok None → cut (suc left) stream ≡ record { systems = []; ending = whole }
   unfolding cut
   cut-nothing e = rw (e, cut)
 
-  cut-broken : (f : Fault) → front stream ≡ Broken f → cut (suc left) stream ≡ record { systems = []; ending = broken f }
+  cut-broken : (f : Fault) → front stream ≡ Err f → cut (suc left) stream ≡ record { systems = []; ending = broken f }
   unfolding cut
   cut-broken f e = rw (e, cut)
 
-  cut-whole : (n : ℕ) → front stream ≡ Whole n → cut (suc left) stream ≡ further (system_at stream n) (cut left (after stream n))
+  cut-whole : (n : ℕ) → front stream ≡ Ok (Some n) → cut (suc left) stream ≡ further (system_at stream n) (cut left (after stream n))
   unfolding cut
   cut-whole n e = rw (e, cut)
 
@@ -89,16 +89,16 @@ module _ (os : List Outcome) (stream : List ℕ) where
     left : most_systems - length os ≡ suc (most_systems - suc (length os))
     left = omega arith
 
-    rest-nothing : front stream ≡ Nothing → rest os stream ≡ totals_of os
+    rest-nothing : front stream ≡ Ok None → rest os stream ≡ totals_of os
     unfolding rest
     rest-nothing e = ap (λ (k : ℕ). cut_rest os (cut k stream)) left ∙ ap (cut_rest os) (cut-nothing (most_systems - suc (length os)) stream e) ∙ ends-whole os
 
-    rest-broken : (f : Fault) → front stream ≡ Broken f → rest os stream ≡ refusal_line (number f) (length os)
+    rest-broken : (f : Fault) → front stream ≡ Err f → rest os stream ≡ refusal_line (number f) (length os)
     unfolding rest
     rest-broken f e =
         ap (λ (k : ℕ). cut_rest os (cut k stream)) left ∙ ap (cut_rest os) (cut-broken (most_systems - suc (length os)) stream f e) ∙ ends-broken os f
 
-    rest-whole : (n : ℕ) → front stream ≡ Whole n
+    rest-whole : (n : ℕ) → front stream ≡ Ok (Some n)
         → rest os stream ≡ line_of (length os) (system_at stream n) ++ rest (os ++ outcome (system_at stream n) ∷ []) (after stream n)
     unfolding rest cut_rest lines line_of
     rest-whole n e =
@@ -204,7 +204,7 @@ module _ (n : ℕ) (ih : Follows n) (t : Tally) (held : List ℕ) (os : List Out
       by_front = task-front (last pieces) held (position t) (omega (arith, counts-position t os k))
 
       -- a whole system
-      advances : (m : ℕ) → Sized held m → front held ≡ Whole m → Goal pieces h
+      advances : (m : ℕ) → Sized held m → front held ≡ Ok (Some m) → Goal pieces h
       unfolding Follows Goal on_task front_task text_for line_of
       advances m z e =
           let x : List ℕ = joined pieces in
@@ -218,7 +218,7 @@ module _ (n : ℕ) (ih : Follows n) (t : Tally) (held : List ℕ) (os : List Out
           ∙ ap₂ (λ (y : System) (r : List ℕ). line_of (length os) y ++ rest (os ++ outcome y ∷ []) r) (sym (system-kept held x m z.fits)) (sym (after_kept held x m z.fits))
           ∙ sym (rest-whole os (held ++ x) few m (whole-kept held x m z))
 
-      lacks : front held ≡ Broken CutShort → Goal pieces h
+      lacks : front held ≡ Err CutShort → Goal pieces h
       unfolding on_task front_task broken_task
       lacks e = waits pieces h (tasks.Refusal CutShort) (by_front ∙ ap (front_task (last pieces)) e) (end-refusal CutShort ∙ sym (rest-broken os held few CutShort e))
 

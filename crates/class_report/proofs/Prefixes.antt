@@ -1,4 +1,5 @@
 -- What stands at the front of a stream is known from its first bytes: a whole system, and a length that is too long.
+use Rattle.std.specs.Prelude.{Result, Option, Ok, Err, Some, None}
 use Prim.Native.Nat.{ℕ, ◌+◌, ◌*◌, ◌≤◌, ◌<◌}
 use mathlib.Core.Path.{◌≡◌, refl, sym, ap, ap₂, ◌∙◌}
 use mathlib.Core.Bool.{Bool, true, false}
@@ -9,9 +10,8 @@ use lib.ListN.{length, take, drop, length-append, length-drop}
 use lib.Seq.{take-append-le, drop-append-le}
 use borrow.Author.Tests.{ltb-true, ltb-false, eqb-true, eqb-false}
 use Rattle.little_endian.specs.LittleEndian.{number as number_of}
+use Rattle.class_report.specs.declared.Fault.{Fault}
 use Rattle.class_report.specs.declared.Fault.TheVariants.{TooLong, CutShort}
-use Rattle.class_report.specs.declared.Front.{Front}
-use Rattle.class_report.specs.declared.Front.TheVariants.{Nothing, Broken, Whole}
 use Rattle.class_report.specs.Stream.{most_words, word_at, span, sized, front, system_at, after}
 use Rattle.class_report.proofs.Fronts.{front-nothing, front-short, front-sized, sized-long, sized-short, sized-whole}
 
@@ -30,8 +30,8 @@ pub record Lengthy (s : List ℕ) : Type 0 where
 
 module _ (s : List ℕ) where
   -- the four tests in turn
-  pub by_tests : (P : Front → Type 0) → (length s ≡ 0 → P Nothing) → (length s < 4 → P (Broken CutShort)) → (Lengthy s → P (Broken TooLong))
-      → (length s < span (word_at 0 s) → P (Broken CutShort)) → ((n : ℕ) → Sized s n → P (Whole n)) → P (front s)
+  pub by_tests : (P : Result (Option ℕ) Fault → Type 0) → (length s ≡ 0 → P (Ok None)) → (length s < 4 → P (Err CutShort)) → (Lengthy s → P (Err TooLong))
+      → (length s < span (word_at 0 s) → P (Err CutShort)) → ((n : ℕ) → Sized s n → P (Ok (Some n))) → P (front s)
   by_tests P p q r t u = first (eqb (length s) 0) refl
     where
       fourth : (length s ≡ 0 → ⊥) → 4 ≤ length s → word_at 0 s ≤ most_words → (b : Bool) → ltb (length s) (span (word_at 0 s)) ≡ b → P (front s)
@@ -65,14 +65,14 @@ module _ (s x : List ℕ) where
   not-empty : 4 ≤ length s → length (s ++ x) ≡ 0 → ⊥
   not-empty h e = omega (arith, length-append s x)
 
-  pub whole-kept : (n : ℕ) → Sized s n → front (s ++ x) ≡ Whole n
+  pub whole-kept : (n : ℕ) → Sized s n → front (s ++ x) ≡ Ok (Some n)
   whole-kept n z =
       let e : word_at 0 (s ++ x) ≡ n = word_kept 0 (omega (arith, z.long)) ∙ sym z.word in
       front-sized (s ++ x) (not-empty z.long) (omega (arith, length-append s x, z.long))
       ∙ ap (sized (s ++ x)) e
       ∙ sized-whole (s ++ x) n z.few (omega (arith, length-append s x, z.fits))
 
-  pub long_kept : Lengthy s → front (s ++ x) ≡ Broken TooLong
+  pub long_kept : Lengthy s → front (s ++ x) ≡ Err TooLong
   long_kept z =
       let e : word_at 0 (s ++ x) ≡ word_at 0 s = word_kept 0 (omega (arith, z.long)) in
       front-sized (s ++ x) (not-empty z.long) (omega (arith, length-append s x, z.long))

@@ -1,5 +1,5 @@
 -- A step does what the piece calls for.
-use Prim.Native.Nat.{ℕ, ◌+◌, ◌-◌, ◌*◌, ◌≤◌}
+use Prim.Native.Nat.{ℕ, ◌-◌, ◌*◌, ◌≤◌}
 use mathlib.Core.Path.{◌≡◌, refl, sym, ap, ap₂, subst, ◌∙◌}
 use mathlib.Core.Bool.{Bool, true, false}
 use mathlib.Core.List.{List, ◌++◌}
@@ -10,9 +10,9 @@ use borrow.Author.Tests.{ltb-true, ltb-false}
 use Rattle.fingerprint.specs.Fnv.{fnv1a}
 use Rattle.text.specs.Writing.{Wrote}
 use Rattle.report.specs.Lines.{refusal_line}
+use Rattle.class_report.specs.Outcome.{Outcome}
 use Rattle.class_report.specs.declared.Fault.{Fault}
 use Rattle.class_report.specs.declared.Fault.TheVariants.{TooMany, TooLong, CutShort}
-use Rattle.class_report.specs.declared.Outcome.{Outcome}
 use Rattle.class_report.specs.declared.Tally.{Tally}
 use Rattle.class_report.specs.declared.Task.{Task}
 use Rattle.class_report.specs.declared.Task.TheVariants as tasks

@@ -1,4 +1,5 @@
 -- The counts of a step stand for the systems read so far, and give their totals.
+use Rattle.std.specs.Prelude.{Ok, Err}
 use Prim.Native.Nat.{ℕ, zero, suc, ◌+◌, ◌≤◌, ◌<◌}
 use mathlib.Core.Path.{◌≡◌, refl, sym, ap, ap₂, ◌∙◌}
 use mathlib.Core.Bool.{Bool, true, false}
@@ -7,8 +8,7 @@ use native.Mathlib.Nat.{zero-add, add-zero}
 use native.Mathlib.Omega.{arith}
 use lib.ListN.{length, get_or, get_or-replicate}
 use Rattle.permset.specs.Sets.{width, member}
-use Rattle.class_report.specs.declared.Outcome.{Outcome}
-use Rattle.class_report.specs.declared.Outcome.TheVariants.{Leak, Refused}
+use Rattle.class_report.specs.Outcome.{Outcome}
 use Rattle.class_report.specs.declared.Tally.{Tally}
 use Rattle.class_report.specs.Stream.{most_systems}
 use Rattle.class_report.specs.Report.{is_accepted, is_refused, leaks_it, how_many, permission_line, permission_lines, count_line, totals, totals_of}
@@ -50,8 +50,8 @@ module _ (q : Outcome → Bool) where
 all-counted : (os : List Outcome) → how_many is_accepted os + how_many is_refused os ≡ length os
 unfolding how_many is_accepted is_refused
 all-counted [] = refl
-all-counted (Leak s ∷ os) = let e = all-counted os in omega arith
-all-counted (Refused n at ∷ os) = let e = all-counted os in omega arith
+all-counted (Ok s ∷ os) = let e = all-counted os in omega arith
+all-counted (Err r ∷ os) = let e = all-counted os in omega arith
 
 -- ---- counts that stand for outcomes
 
@@ -80,20 +80,20 @@ unchanged q os o e = sym (many-snoc q os o ∙ ap (λ (b : Bool). how_many q os 
 
 pub counts-more : (t : Tally) (os : List Outcome) (o : Outcome) → Counts t os → length os < most_systems → Counts (tallied t o) (os ++ o ∷ [])
 unfolding tallied one is_accepted is_refused leaks_it
-counts-more t os (Leak s) k h =
+counts-more t os (Ok s) k h =
     record {
-      accepts = raised-as true _ _ k.accepts (omega (arith, many-most is_accepted os)) ∙ sym (many-snoc is_accepted os (Leak s));
-      refuses = k.refuses ∙ unchanged is_refused os (Leak s) refl;
+      accepts = raised-as true _ _ k.accepts (omega (arith, many-most is_accepted os)) ∙ sym (many-snoc is_accepted os (Ok s));
+      refuses = k.refuses ∙ unchanged is_refused os (Ok s) refl;
       wide = length-counted 0 s.bits t.leaks ∙ k.wide;
       leaks = λ i w. counted-at 0 s.bits t.leaks i (omega (arith, k.wide)) ∙ ap (λ (j : ℕ). raised (member s.bits j) (get_or t.leaks i 0)) (zero-add i)
-          ∙ raised-as (member s.bits i) _ _ (k.leaks i w) (omega (arith, many-most (leaks_it i) os)) ∙ sym (many-snoc (leaks_it i) os (Leak s));
+          ∙ raised-as (member s.bits i) _ _ (k.leaks i w) (omega (arith, many-most (leaks_it i) os)) ∙ sym (many-snoc (leaks_it i) os (Ok s));
     }
-counts-more t os (Refused n at) k h =
+counts-more t os (Err r) k h =
     record {
-      accepts = k.accepts ∙ unchanged is_accepted os (Refused n at) refl;
-      refuses = raised-as true _ _ k.refuses (omega (arith, many-most is_refused os)) ∙ sym (many-snoc is_refused os (Refused n at));
+      accepts = k.accepts ∙ unchanged is_accepted os (Err r) refl;
+      refuses = raised-as true _ _ k.refuses (omega (arith, many-most is_refused os)) ∙ sym (many-snoc is_refused os (Err r));
       wide = k.wide;
-      leaks = λ i w. k.leaks i w ∙ unchanged (leaks_it i) os (Refused n at) refl;
+      leaks = λ i w. k.leaks i w ∙ unchanged (leaks_it i) os (Err r) refl;
     }
 
 -- ---- the totals

@@ -1,4 +1,5 @@
 pub mod Stream
+pub mod Outcome
 pub mod Report
 pub mod Tally
 pub mod Writing

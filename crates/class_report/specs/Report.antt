@@ -1,5 +1,5 @@
 -- The report on a class (document 02, wish 14): a line for each system of the stream, then the totals, or the line of the fault that ends the stream.
-use Rattle.std.specs.Prelude.{ℕ, zero, suc, Bool, true, false, List, [], ◌∷◌, ◌++◌, map, length}
+use Rattle.std.specs.Prelude.{ℕ, zero, suc, Bool, true, false, List, [], ◌∷◌, ◌++◌, map, length, Ok, Err}
 use Rattle.permset.specs.Sets.{width, member}
 use Rattle.little_endian.specs.LittleEndian.{words_of}
 use Rattle.fingerprint.specs.Fnv.{fnv1a}
@@ -8,15 +8,14 @@ use Rattle.calculus.specs.Layout.{estimate_words}
 use Rattle.calculus.specs.Answer.{Answer, refused, verdict, standing_bound, work_words, answer}
 use Rattle.text.specs.Text.{bytes, decimal, set, hex_word}
 use Rattle.report.specs.Lines.{refusal_line}
-use Rattle.class_report.specs.declared.Outcome.{Outcome}
-use Rattle.class_report.specs.declared.Outcome.TheVariants.{Leak, Refused}
+use Rattle.class_report.specs.Outcome.{Outcome}
 use Rattle.class_report.specs.Stream.{System, Ending, whole, broken, number, most_systems, cut}
 
 -- ---- the outcome of a system
 
 unfoldable pub outcome_of : Answer → Outcome
-outcome_of (refused n at) = Refused n at
-outcome_of (verdict v) = Leak (record { bits = v.leak })
+outcome_of (refused n at) = Err (record { number = n; place = at })
+outcome_of (verdict v) = Ok (record { bits = v.leak })
 
 -- the answer to the words of a system: its slices are never short, and no bound is asked about
 unfoldable pub answer_on : List ℕ → (ρ : ℕ) → Answer
@@ -30,8 +29,8 @@ outcome s = outcome_of (answer_on (words_of s.bytes) s.rho)
 -- ---- the line of a system
 
 unfoldable pub outcome_text : Outcome → List ℕ
-outcome_text (Leak s) = (bytes "leak " ++ set s.bits) ++ bytes "\n"
-outcome_text (Refused n at) = refusal_line n at
+outcome_text (Ok s) = (bytes "leak " ++ set s.bits) ++ bytes "\n"
+outcome_text (Err r) = refusal_line r.number r.place
 
 -- position, fingerprint, outcome
 unfoldable pub line : (position fingerprint : ℕ) → Outcome → List ℕ
@@ -47,16 +46,16 @@ lines position (s ∷ ss) = line position (fnv1a s.bytes) (outcome s) ++ lines (
 -- ---- the totals
 
 unfoldable pub is_accepted : Outcome → Bool
-is_accepted (Leak s) = true
-is_accepted (Refused n at) = false
+is_accepted (Ok s) = true
+is_accepted (Err r) = false
 
 unfoldable pub is_refused : Outcome → Bool
-is_refused (Leak s) = false
-is_refused (Refused n at) = true
+is_refused (Ok s) = false
+is_refused (Err r) = true
 
 unfoldable pub leaks_it : (permission : ℕ) → Outcome → Bool
-leaks_it i (Leak s) = member s.bits i
-leaks_it i (Refused n at) = false
+leaks_it i (Ok s) = member s.bits i
+leaks_it i (Err r) = false
 
 -- how many pass a test
 unfoldable pub how_many : (Outcome → Bool) → List Outcome → ℕ

@@ -1,5 +1,5 @@
 -- One step of the report on a stream that comes in pieces: what is written for the bytes at its front, and what a caller prints who steps through it.
-use Rattle.std.specs.Prelude.{ℕ, zero, suc, ◌+◌, ◌≤◌, ◌≡◌, Bool, true, false, List, [], ◌∷◌, ◌++◌, eqb, ltb, drop}
+use Rattle.std.specs.Prelude.{ℕ, zero, suc, ◌+◌, ◌≤◌, ◌≡◌, Bool, true, false, List, [], ◌∷◌, ◌++◌, eqb, ltb, drop, Result, Option, Ok, Err, Some, None}
 use Rattle.std.proofs.Math.ListN.{length}
 use Rattle.table.specs.Code.{code}
 use Rattle.calculus.specs.Estimate.{estimate}
@@ -8,12 +8,9 @@ use Rattle.calculus.specs.Correct.{Least}
 use Rattle.little_endian.specs.LittleEndian.{words_of}
 use Rattle.fingerprint.specs.Fnv.{fnv1a}
 use Rattle.report.specs.Lines.{refusal_line}
+use Rattle.class_report.specs.Outcome.{Outcome}
 use Rattle.class_report.specs.declared.Fault.{Fault}
 use Rattle.class_report.specs.declared.Fault.TheVariants.{TooMany, TooLong, CutShort}
-use Rattle.class_report.specs.declared.Front.{Front}
-use Rattle.class_report.specs.declared.Front.TheVariants.{Nothing, Broken, Whole}
-use Rattle.class_report.specs.declared.Outcome.{Outcome}
-use Rattle.class_report.specs.declared.Outcome.TheVariants.{Leak, Refused}
 use Rattle.class_report.specs.declared.Tally.{Tally}
 use Rattle.class_report.specs.declared.Task.{Task}
 use Rattle.class_report.specs.declared.Task.TheVariants as tasks
@@ -37,11 +34,11 @@ broken_task ended TooMany = tasks.Refusal TooMany
 broken_task ended TooLong = tasks.Refusal TooLong
 broken_task ended CutShort = at_end ended (tasks.Refusal CutShort)
 
-unfoldable pub front_task : (ended : Bool) → Front → Task
+unfoldable pub front_task : (ended : Bool) → Result (Option ℕ) Fault → Task
 unfolding at_end broken_task
-front_task ended Nothing = at_end ended tasks.Totals
-front_task ended (Broken f) = broken_task ended f
-front_task ended (Whole size) = tasks.System size
+front_task ended (Ok None) = at_end ended tasks.Totals
+front_task ended (Err f) = broken_task ended f
+front_task ended (Ok (Some size)) = tasks.System size
 
 -- after the last system that a stream may have
 unfoldable pub full_task : (ended : Bool) → List ℕ → Task
@@ -100,14 +97,14 @@ pub record Done (t : Tally) (piece : List ℕ) (k : Task) (before : List ℕ) (r
 
 -- demands 2 and 3 of an outcome: the leak is that of the least estimate, and covers every run
 unfoldable pub Sound : System → Outcome → Type 0
-Sound s (Refused n at) = Unit {0}
-Sound s (Leak l) =
+Sound s (Err r) = Unit {0}
+Sound s (Ok l) =
     Least (code (words_of s.bytes)) s.rho (estimate (code (words_of s.bytes)) s.rho) l.bits
     × Covers (code (words_of s.bytes)) s.rho l.bits
 
 -- of the system at the front of a piece
 abbrev pub SoundFor : List ℕ → Type 0
-SoundFor piece = (size : ℕ) → front piece ≡ Whole size → Sound (system_at piece size) (outcome (system_at piece size))
+SoundFor piece = (size : ℕ) → front piece ≡ Ok (Some size) → Sound (system_at piece size) (outcome (system_at piece size))
 
 -- ---- a caller
 

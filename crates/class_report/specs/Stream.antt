@@ -1,10 +1,8 @@
 -- The stream of a class (document 02, wish 14): for each system its length in words, ρ, and its words, all little-endian. How it is cut into systems.
-use Rattle.std.specs.Prelude.{ℕ, zero, suc, ◌+◌, ◌*◌, true, false, List, [], ◌∷◌, eqb, ltb, length, take, drop}
+use Rattle.std.specs.Prelude.{ℕ, zero, suc, ◌+◌, ◌*◌, true, false, List, [], ◌∷◌, eqb, ltb, length, take, drop, Result, Option, Ok, Err, Some, None}
 use Rattle.little_endian.specs.LittleEndian.{number as number_of}
 use Rattle.class_report.specs.declared.Fault.{Fault}
 use Rattle.class_report.specs.declared.Fault.TheVariants.{TooMany, TooLong, CutShort}
-use Rattle.class_report.specs.declared.Front.{Front}
-use Rattle.class_report.specs.declared.Front.TheVariants.{Nothing, Broken, Whole}
 
 -- the most systems of a stream, and the most words of a system
 abbrev pub most_systems : ℕ
@@ -34,19 +32,19 @@ abbrev pub span : ℕ → ℕ
 span size = 8 + 4 * size
 
 -- the whole length word is there, and says so many words
-unfoldable pub sized : List ℕ → (size : ℕ) → Front
+unfoldable pub sized : List ℕ → (size : ℕ) → Result (Option ℕ) Fault
 sized stream size =
     elim (ltb most_words size) [
-      | true ↦ Broken TooLong
-      | false ↦ elim (ltb (length stream) (span size)) [ true ↦ Broken CutShort | false ↦ Whole size ]
+      | true ↦ Err TooLong
+      | false ↦ elim (ltb (length stream) (span size)) [ true ↦ Err CutShort | false ↦ Ok (Some size) ]
     ]
 
-unfoldable pub front : List ℕ → Front
+unfoldable pub front : List ℕ → Result (Option ℕ) Fault
 unfolding sized word_at
 front stream =
     elim (eqb (length stream) 0) [
-      | true ↦ Nothing
-      | false ↦ elim (ltb (length stream) 4) [ true ↦ Broken CutShort | false ↦ sized stream (word_at 0 stream) ]
+      | true ↦ Ok None
+      | false ↦ elim (ltb (length stream) 4) [ true ↦ Err CutShort | false ↦ sized stream (word_at 0 stream) ]
     ]
 
 -- the system at the front, and what follows it
@@ -81,7 +79,7 @@ unfolding front system_at full
 cut zero stream = record { systems = []; ending = full stream }
 cut (suc left) stream =
     elim (front stream) [
-      | Nothing ↦ record { systems = []; ending = whole }
-      | Broken f ↦ record { systems = []; ending = broken f }
-      | Whole size ↦ further (system_at stream size) (cut left (after stream size))
+      | Ok None ↦ record { systems = []; ending = whole }
+      | Err f ↦ record { systems = []; ending = broken f }
+      | Ok (Some size) ↦ further (system_at stream size) (cut left (after stream size))
     ]

@@ -1,8 +1,7 @@
 -- The counts that stand for the systems read so far.
-use Rattle.std.specs.Prelude.{ℕ, suc, ◌+◌, min, Bool, true, false, List, [], ◌∷◌, replicate}
+use Rattle.std.specs.Prelude.{ℕ, suc, ◌+◌, min, Bool, true, false, List, [], ◌∷◌, replicate, Ok, Err}
 use Rattle.permset.specs.Sets.{width, member}
-use Rattle.class_report.specs.declared.Outcome.{Outcome}
-use Rattle.class_report.specs.declared.Outcome.TheVariants.{Leak, Refused}
+use Rattle.class_report.specs.Outcome.{Outcome}
 use Rattle.class_report.specs.declared.Tally.{Tally}
 use Rattle.class_report.specs.Stream.{most_systems}
 
@@ -28,5 +27,5 @@ counted i s (n ∷ ns) = raised (member s i) n ∷ counted (suc i) s ns
 -- one system more
 unfoldable pub tallied : Tally → Outcome → Tally
 unfolding raised counted
-tallied t (Leak s) = record { accepted = raised true t.accepted; refused = t.refused; leaks = counted 0 s.bits t.leaks }
-tallied t (Refused n at) = record { accepted = t.accepted; refused = raised true t.refused; leaks = t.leaks }
+tallied t (Ok s) = record { accepted = raised true t.accepted; refused = t.refused; leaks = counted 0 s.bits t.leaks }
+tallied t (Err r) = record { accepted = t.accepted; refused = raised true t.refused; leaks = t.leaks }

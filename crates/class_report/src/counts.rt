@@ -3,7 +3,7 @@ ghost use Rattle.std.specs.Prelude.{◌≡◌};
 ghost use Rattle.class_report.specs.Tally.{fresh, position as Tally·position};
 ghost use Rattle.class_report.specs.Tally.{raised as Tally·raised, counted as Tally·counted, tallied as Tally·tallied};
 
-use crate::{Outcome, Tally};
+use crate::{Outcome, PERMISSIONS, Tally};
 use permset::PermSet;
 
 // Before the first system.
@@ -13,7 +13,7 @@ pub fn empty_tally() -> Tally
     Tally {
         accepted: 0,
         refused: 0,
-        leaks: [0u32; 24],
+        leaks: [0; PERMISSIONS],
     }
 }
 
@@ -36,15 +36,12 @@ fn raised(more: bool, n: u32) -> u32
 }
 
 // The counts with one more for each permission of the set.
-fn counted(leaks: [u32; 24], leak: PermSet) -> [u32; 24]
+fn counted(leaks: [u32; PERMISSIONS], leak: PermSet) -> [u32; PERMISSIONS]
     ensures { result ≡ Tally·counted 0 leak.bits leaks }
 {
     let mut next = leaks;
-    let mut i: u32 = 0;
-    while i < 24 {
-        let at = i as usize;
-        next[at] = raised(leak.has(i), next[at]);
-        i += 1;
+    for i in 0..PERMISSIONS {
+        next[i] = raised(leak.has(i as u32), next[i]);
     }
     next
 }
@@ -55,7 +52,7 @@ pub fn tallied(tally: Tally, outcome: Outcome) -> Tally
 {
     let before = tally.leaks;
     match outcome {
-        Outcome::Leak(s) => {
+        Ok(s) => {
             let leaks = counted(before, s);
             Tally {
                 accepted: raised(true, tally.accepted),
@@ -63,7 +60,7 @@ pub fn tallied(tally: Tally, outcome: Outcome) -> Tally
                 leaks,
             }
         }
-        Outcome::Refused(_, _) => Tally {
+        Err(_) => Tally {
             accepted: tally.accepted,
             refused: raised(true, tally.refused),
             leaks: before,

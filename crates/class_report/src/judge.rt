@@ -4,25 +4,24 @@ ghost use Rattle.comparison.specs.Values.{answer_of};
 ghost use Rattle.class_report.specs.Report.{outcome_of, answer_on};
 ghost use Rattle.class_report.specs.Report.{outcome as Report·outcome};
 
-use crate::Outcome;
+use crate::{Outcome, Refusal};
+use calls::Fault;
 use calls::numbers::{fault_number, fault_place};
 use comparison::Verdict;
 use little_endian::words_of;
 use verdict::judge::verdict;
 
-fn outcome_of(v: Verdict) -> Outcome
-    ensures { result ≡ outcome_of (answer_of v) }
+#[tactic(auto, unfolding(crate::specs::Report::outcome_of, comparison::specs::Values::answer_of))]
+fn outcome_of(answer: Result<Verdict, Fault>) -> Outcome
+    ensures { result ≡ outcome_of (answer_of answer) }
 {
-    match v {
-        Verdict::Refused(f) => Outcome::Refused(fault_number(f), fault_place(f)),
-        Verdict::Within(r) => {
-            let leak = r.leak;
-            Outcome::Leak(leak)
-        }
-        Verdict::Over(r, _) => {
-            let leak = r.leak;
-            Outcome::Leak(leak)
-        }
+    match answer {
+        Err(f) => Err(Refusal {
+            number: fault_number(f),
+            place: fault_place(f),
+        }),
+        Ok(Verdict::Within(r)) => Ok(r.leak),
+        Ok(Verdict::Over(r, _)) => Ok(r.leak),
     }
 }
 

@@ -11,27 +11,25 @@ pub mod window;
 pub use crate::counts::empty_tally;
 use permset::PermSet;
 
-// What an analysis says of a system. `outcome_of` of specs/Report.antt gives each its number, place or leak.
-#[derive(Clone, Copy)]
-pub enum Outcome {
-    Leak(PermSet),
-    Refused(u32, usize),
+// How many permissions there are.
+const PERMISSIONS: usize = 24;
+
+// Why an analysis refuses a system: the number of its refusal, and the place.
+#[derive(Clone, Copy, PartialEq, Eq)]
+pub struct Refusal {
+    pub number: u32,
+    pub place: usize,
 }
 
+// What an analysis says of a system: its leak, or why it is refused. `outcome_of` of specs/Report.antt gives each its number, place or leak.
+pub type Outcome = Result<PermSet, Refusal>;
+
 // Why a stream is not whole. `number` of specs/Stream.antt gives each its number.
-#[derive(Clone, Copy)]
+#[derive(Clone, Copy, PartialEq, Eq)]
 pub enum Fault {
     TooMany,
     TooLong,
     CutShort,
-}
-
-// What stands at the front of a stream: no byte, a fault, or a whole system of so many words.
-#[derive(Clone, Copy)]
-pub enum Front {
-    Nothing,
-    Broken(Fault),
-    Whole(usize),
 }
 
 // How many systems were accepted and refused so far, and how many of the accepted leak each permission.
@@ -39,7 +37,7 @@ pub enum Front {
 pub struct Tally {
     pub accepted: u32,
     pub refused: u32,
-    pub leaks: [u32; 24],
+    pub leaks: [u32; PERMISSIONS],
 }
 
 // What a piece of a stream calls for: more bytes, the totals, the line of a fault, or the line of a system of so many words.
@@ -52,7 +50,7 @@ pub enum Task {
 }
 
 // What the caller does next: it comes again with more bytes, or behind those that were used, or not at all.
-#[derive(Clone, Copy)]
+#[derive(Clone, Copy, PartialEq, Eq)]
 pub enum Status {
     More,
     Line,

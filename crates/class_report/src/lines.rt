@@ -5,7 +5,7 @@ ghost use Rattle.text.specs.Writing.{Wrote};
 ghost use Rattle.class_report.specs.Report.{outcome_text, line, permission_line, permission_lines, count_line, totals};
 ghost use Rattle.class_report.specs.Writing.{count_in};
 
-use crate::Outcome;
+use crate::{Outcome, PERMISSIONS};
 use permset::PermSet;
 use report::refusal_line;
 use text::{hex_field, number_field, put, set_field};
@@ -13,7 +13,7 @@ use text::{hex_field, number_field, put, set_field};
 // The leak, and a line feed.
 fn put_leak(out: &mut [u8], at: usize, leak: PermSet) -> usize
     requires { at + 12 ≤ length out.old }
-    ensures { Wrote out.old at (outcome_text (Outcome.Leak leak)) out.new result }
+    ensures { Wrote out.old at (outcome_text (Ok leak)) out.new result }
 {
     let next = set_field(out, at, b"leak ", leak.bits);
     put(out, next, b"\n")
@@ -25,8 +25,8 @@ fn put_outcome(out: &mut [u8], at: usize, outcome: Outcome) -> usize
     ensures { Wrote out.old at (outcome_text outcome) out.new result }
 {
     match outcome {
-        Outcome::Leak(s) => put_leak(out, at, s),
-        Outcome::Refused(number, place) => refusal_line(out, at, number, place),
+        Ok(s) => put_leak(out, at, s),
+        Err(r) => refusal_line(out, at, r.number, r.place),
     }
 }
 
@@ -59,10 +59,8 @@ fn permission_lines(out: &mut [u8], start: usize, leaks: &[u32], of: u32) -> usi
     ensures { Wrote out.old start (permission_lines width 0 of (count_in leaks.now)) out.new result }
 {
     let mut at = start;
-    let mut i = 0;
-    while i < 24 {
+    for i in 0..PERMISSIONS {
         at = permission_line(out, at, i, leaks[i], of);
-        i += 1;
     }
     at
 }

@@ -8,7 +8,7 @@ use crate::counts::{position, tallied};
 use crate::judge::judge;
 use crate::lines::{put_totals, system_line};
 use crate::stream::{front_of, word_at};
-use crate::{Fault, Front, Status, Step, Tally, Task};
+use crate::{Fault, Status, Step, Tally, Task};
 use fingerprint::fingerprint;
 use report::refusal_line;
 
@@ -29,13 +29,15 @@ fn broken_task(ended: bool, fault: Fault) -> Task
     }
 }
 
-fn front_task(ended: bool, front: Front) -> Task
+fn front_task(ended: bool, front: Result<Option<usize>, Fault>) -> Task
     ensures { result ≡ front_task ended front }
 {
     match front {
-        Front::Nothing => at_end(ended, Task::Totals),
-        Front::Broken(fault) => broken_task(ended, fault),
-        Front::Whole(size) => Task::System(size),
+        Ok(whole) => match whole {
+            None => at_end(ended, Task::Totals),
+            Some(size) => Task::System(size),
+        },
+        Err(fault) => broken_task(ended, fault),
     }
 }
 
@@ -61,7 +63,7 @@ fn task_for(position: usize, ended: bool, piece: &[u8]) -> Task
     }
 }
 
-// The number of a fault.
+// The number of a fault; a function, as for the refusals that have a place.
 fn fault_number(fault: Fault) -> u32
     ensures { result ≡ number fault }
 {

@@ -2,7 +2,7 @@
 ghost use Rattle.std.specs.Prelude.{◌≡◌, ◌+◌, ◌≤◌, length};
 ghost use Rattle.class_report.specs.Stream.{word_at, sized, front};
 
-use crate::{Fault, Front};
+use crate::Fault;
 use little_endian::word;
 
 // The word at a place.
@@ -14,27 +14,28 @@ pub fn word_at(stream: &[u8], at: usize) -> u32
 }
 
 // A system of so many words, as far as the stream has it.
-fn front_sized(stream: &[u8], size: u32) -> Front
+fn front_sized(stream: &[u8], size: u32) -> Result<Option<usize>, Fault>
     ensures { result ≡ sized stream.now size }
 {
     if 256 < size {
-        return Front::Broken(Fault::TooLong);
+        return Err(Fault::TooLong);
     }
     let words = size as usize;
     if stream.len() < 8 + 4 * words {
-        return Front::Broken(Fault::CutShort);
+        return Err(Fault::CutShort);
     }
-    Front::Whole(words)
+    Ok(Some(words))
 }
 
-pub fn front_of(stream: &[u8]) -> Front
+// No byte, a whole system of so many words, or a fault.
+pub fn front_of(stream: &[u8]) -> Result<Option<usize>, Fault>
     ensures { result ≡ front stream.now }
 {
     if stream.len() == 0 {
-        return Front::Nothing;
+        return Ok(None);
     }
     if stream.len() < 4 {
-        return Front::Broken(Fault::CutShort);
+        return Err(Fault::CutShort);
     }
     front_sized(stream, word_at(stream, 0))
 }

@@ -1,6 +1,4 @@
-pub mod Arms
 pub mod Asked
-pub mod ByKind
 pub mod Few
 pub mod Numbered
 pub mod OfWord

@@ -1,5 +1,5 @@
 -- The clauses of each word, in the order and the words of document 01, "Flow rules": what the words and links of a table make of them.
-use Rattle.std.specs.Prelude.{ℕ, ◌+◌, ◌*◌, true, false, List, [], ◌∷◌, ltb, get_or}
+use Rattle.std.specs.Prelude.{ℕ, ◌+◌, ◌*◌, true, false, List, [], ◌∷◌, get_or}
 use Rattle.permset.specs.Sets.{within}
 use Rattle.table.specs.declared.Item.{Item}
 use Rattle.table.specs.declared.Item.TheVariants as items
@@ -183,10 +183,6 @@ of_send p d set = free (parts p d 0) ∷ free (put (value p) unit) ∷ some d me
 -- "A live b makes b+3 live. P(b+3) is in P(b)."
 unfoldable pub of_block : (b : ℕ) → List Clause
 of_block b = free (of whats.Part b (b + 3) 0) ∷ []
-
--- a word of no kind of document 01
-unfoldable pub of_other : (p own kind : ℕ) → List Clause
-of_other p own kind = elim (ltb kind 16) [ true ↦ [] | false ↦ of_value p own ]
 
 -- What the clauses of a term take from elsewhere: its own element, its binder, its block's permissions, its second and third parts.
 pub record Site : Type 0 where

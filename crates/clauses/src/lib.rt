@@ -1,7 +1,9 @@
 // The flow rules as data: clause k of the word p says under which condition the rule of p asks something of an estimate, and what.
 #![tactic(auto)]
 
+pub mod elements;
 pub mod make;
+pub mod masks;
 
 // Under which condition: never, always, or by what C(a) and C(d) have.
 #[derive(Clone, Copy)]

@@ -1,48 +1,30 @@
 -- Laws of letters that agree, one by one.
-use Prim.Native.Nat.{ℕ, zero, suc, ◌+◌, ◌<◌, ◌≤◌}
-use mathlib.Core.Path.{◌≡◌, refl, sym}
-use mathlib.Core.Bool.{Bool, true, false}
+use Prim.Native.Nat.{ℕ, suc, ◌+◌, ◌<◌, ◌≤◌}
+use mathlib.Core.Path.{◌≡◌, refl, ap, ◌∙◌}
+use mathlib.Core.Bool.{Bool, true, false, ◌&&◌}
 use mathlib.Core.List.{List, [], ◌∷◌}
 use native.Mathlib.Numerals.{add-one}
-use native.Mathlib.Omega.{arith}
-use lib.Dec.{leb}
-use borrow.Author.Tests.{eq-eqb, ne_eqb, leb-true, leb-false}
+use lib.Dec.{eqb}
+use lib.Pointwise.{pointwise}
+use borrow.Author.Tests.{eq-eqb, ne_eqb}
 use lib.ListN.{length, get_or, drop, drop_of_length-le}
 use lib.Seq.{drop-cons}
 use Rattle.closeness.specs.Closeness.{same, shared, agree, exchanged, close_from}
 
-pub past_end : (l : List ℕ) (i : ℕ) → length l ≤ i → get_or l i 0 ≡ 0
-past_end [] i h = refl
-past_end (x ∷ xs) zero h = absurd (omega arith)
-past_end (x ∷ xs) (suc i) h = past_end xs i (omega arith)
+pointwise-same : (x y : List ℕ) → pointwise eqb x y ≡ same x y
+unfolding same
+pointwise-same [] [] = refl
+pointwise-same [] (b ∷ y) = refl
+pointwise-same (a ∷ x) [] = refl
+pointwise-same (a ∷ x) (b ∷ y) = ap (λ (t : Bool). eqb a b && t) (pointwise-same x y) ∙ by (eqb a b)
+  where
+    by : (t : Bool) → (t && same x y) ≡ elim t [ true ↦ same x y | false ↦ false ]
+    by true = refl
+    by false = refl
 
-module _ (x y : List ℕ) (i j : ℕ) where
-  pub agree-short : i < length x → length y ≤ j → agree x i y j ≡ false
-  unfolding agree same
-  agree-short h k = rw (agree, drop-cons x i 0 h, drop_of_length-le y k, same)
-
-  pub agree-other : i < length x → j < length y → (get_or x i 0 ≡ get_or y j 0 → ⊥) → agree x i y j ≡ false
-  unfolding agree same
-  agree-other h k n = rw (agree, drop-cons x i 0 h, drop-cons y j 0 k, same, ne_eqb (get_or x i 0) (get_or y j 0) n)
-
-  pub agree-more : i < length x → j < length y → get_or x i 0 ≡ get_or y j 0 → agree x i y j ≡ agree x (i + 1) y (j + 1)
-  unfolding agree same
-  agree-more h k e = rw (agree, add-one, add-one, drop-cons x i 0 h, drop-cons y j 0 k, same, eq-eqb (get_or x i 0) (get_or y j 0) e)
-
-  agree-done : length x ≤ i → length y ≤ j → agree x i y j ≡ true
-  unfolding agree same
-  agree-done h k = rw (agree, drop_of_length-le x h, drop_of_length-le y k, same)
-
-  agree-long : length x ≤ i → j < length y → agree x i y j ≡ false
-  unfolding agree same
-  agree-long h k = rw (agree, drop_of_length-le x h, drop-cons y j 0 k, same)
-
-  pub agree-ends : length x ≤ i → leb (length y) j ≡ agree x i y j
-  agree-ends h = go (leb (length y) j) refl
-    where
-      go : (t : Bool) → leb (length y) j ≡ t → t ≡ agree x i y j
-      go true e = sym (agree-done h (leb-true (length y) j e))
-      go false e = sym (agree-long h (leb-false (length y) j e))
+pub agree-pointwise : (x y : List ℕ) (i j : ℕ) → pointwise eqb (drop i x) (drop j y) ≡ agree x i y j
+unfolding agree
+agree-pointwise x y i j = pointwise-same (drop i x) (drop j y)
 
 module _ (x y : List ℕ) (i : ℕ) where
   pub shared-none : length x ≤ i → shared (drop i x) (drop i y) ≡ 0

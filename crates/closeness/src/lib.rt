@@ -1,53 +1,43 @@
 // Whether two words are close: one letter changed, left out or added, or two neighbours exchanged.
 #![tactic(auto)]
 
-ghost use Rattle.std.specs.Prelude.{◌≡◌, ◌+◌, ◌≤◌, length, get_or};
+ghost use Rattle.std.specs.Prelude.{◌≡◌, ◌+◌, ◌≤◌, length, drop, get_or};
 ghost use Rattle.closeness.specs.Closeness.{shared as Closeness·shared};
 ghost use Rattle.closeness.specs.Closeness.{agree as Closeness·agree};
 ghost use Rattle.closeness.specs.Closeness.{exchanged as Closeness·exchanged};
 ghost use Rattle.closeness.specs.Closeness.{close as Closeness·close};
 
-// The letter at a place, 0 past the end.
+// The letter at a place, 0 past the end: as the specification's `get_or` has it, which no letter is.
 pub fn byte_at(x: &[u8], i: usize) -> u8
     ensures { result ≡ get_or x.now i 0 }
 {
-    if i < x.len() { x[i] } else { 0 }
+    x.get(i).copied().unwrap_or(0)
+}
+
+// The letters from a place on.
+fn from(x: &[u8], i: usize) -> &[u8]
+    ensures { result.now ≡ drop i x.now }
+{
+    x.get(i..).unwrap_or(&[])
 }
 
 // Whether x from i on is y from j on.
 pub fn agree(x: &[u8], i: usize, y: &[u8], j: usize) -> bool
     ensures { result ≡ Closeness·agree x.now i y.now j }
 {
-    let mut a = i;
-    let mut b = j;
-    while a < x.len() {
-        if y.len() <= b {
-            return false;
-        }
-        if x[a] != y[b] {
-            return false;
-        }
-        a += 1;
-        b += 1;
-    }
-    y.len() <= b
+    from(x, i) == from(y, j)
 }
 
 // How many letters they share at their start.
 fn shared(x: &[u8], y: &[u8]) -> usize
     ensures { (result ≡ Closeness·shared x.now y.now) × (result ≤ length x.now) }
 {
-    let mut i = 0;
-    while i < x.len() {
-        if y.len() <= i {
+    for (i, a) in x.iter().enumerate() {
+        if y.len() <= i || *a != y[i] {
             return i;
         }
-        if x[i] != y[i] {
-            return i;
-        }
-        i += 1;
     }
-    i
+    x.len()
 }
 
 // Whether the letters at i and i + 1 are exchanged, and those behind them agree.

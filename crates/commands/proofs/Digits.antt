@@ -5,9 +5,9 @@ use mathlib.Core.List.{List, [], ◌∷◌}
 use native.Mathlib.Numerals.{add-one}
 use native.Mathlib.Omega.{arith}
 use borrow.Author.Tests.{lt-ltb, le-ltb}
+use Rattle.std.specs.Prelude.{Some, None}
 use lib.ListN.{length, get_or, drop, drop_of_length-le}
 use lib.Seq.{drop-cons}
-use Rattle.commands.specs.declared.arguments.Value.TheVariants.{Number, Other}
 use Rattle.commands.specs.Arguments.{digit, folded, value_of}
 
 module _ (b : ℕ) where
@@ -35,7 +35,7 @@ module _ (b : ℕ) where
         digit-high h = rw (digit, le-ltb b 48 l, le-ltb b 58 m, le-ltb b 97 n, le-ltb b 103 h)
 
 module _ (base n : ℕ) (l : List ℕ) (i : ℕ) where
-  pub folded-end : length l ≤ i → folded base n (drop i l) ≡ Number n
+  pub folded-end : length l ≤ i → folded base n (drop i l) ≡ Some n
   unfolding folded
   folded-end h = rw (drop_of_length-le l h, folded)
 
@@ -45,16 +45,16 @@ module _ (base n : ℕ) (l : List ℕ) (i : ℕ) where
     unfolding folded
     folded-digit d = rw (add-one, drop-cons l i 0 h, folded, lt-ltb (digit (get_or l i 0)) base d)
 
-    pub folded-other : base ≤ digit (get_or l i 0) → folded base n (drop i l) ≡ Other
+    pub folded-other : base ≤ digit (get_or l i 0) → folded base n (drop i l) ≡ None
     unfolding folded
     folded-other d = rw (drop-cons l i 0 h, folded, le-ltb (digit (get_or l i 0)) base d)
 
-pub value_none : (base : ℕ) (l : List ℕ) → length l ≡ 0 → value_of base l ≡ Other
+pub value_none : (base : ℕ) (l : List ℕ) → length l ≡ 0 → value_of base l ≡ None
 unfolding value_of
 value_none base [] h = refl
 value_none base (b ∷ bs) h = absurd (omega arith)
 
-pub value-long : (base : ℕ) (l : List ℕ) → 8 < length l → value_of base l ≡ Other
+pub value-long : (base : ℕ) (l : List ℕ) → 8 < length l → value_of base l ≡ None
 unfolding value_of
 value-long base [] h = refl
 value-long base (b ∷ bs) h = rw (value_of, lt-ltb 8 (length (b ∷ bs)) h)

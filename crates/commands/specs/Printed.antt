@@ -1,5 +1,5 @@
 -- What the program prints, from the bytes of its arguments and of its input (document 02, wishes 1, 4, 5, 13 and 14).
-use Rattle.std.specs.Prelude.{ℕ, zero, suc, ◌+◌, ◌-◌, ◌%◌, Bool, true, false, ◌&&◌, List, [], ◌∷◌, ◌++◌, eqb, leb, ltb, length, get_or, take, drop}
+use Rattle.std.specs.Prelude.{ℕ, zero, suc, ◌+◌, ◌-◌, ◌%◌, Bool, true, false, ◌&&◌, List, [], ◌∷◌, ◌++◌, eqb, leb, ltb, length, get_or, take, drop, Option, Some, None}
 use Rattle.text.specs.Text.{bytes, decimal, set}
 use Rattle.little_endian.specs.LittleEndian.{words_of, bytes_of}
 use Rattle.listing.specs.Spelling.{feed}
@@ -13,8 +13,6 @@ use Rattle.overlay.specs.Join as join
 use Rattle.widths.specs.Converters.{converted, convert_answer}
 use Rattle.widths.specs.Converters as widths
 use Rattle.report.specs.Lines.{refusal_line}
-use Rattle.commands.specs.declared.arguments.Value.{Value}
-use Rattle.commands.specs.declared.arguments.Value.TheVariants.{Number, Other}
 use Rattle.commands.specs.Arguments.{value_of}
 use Rattle.commands.specs.Meanings.{lines_at, sentence, help}
 use Rattle.commands.specs.Checked.{check_text}
@@ -26,9 +24,9 @@ answer_text (refusal number place) text = refusal_line number place
 
 -- ---- explain NUMBER
 
-unfoldable pub value_text : Value → List ℕ
-value_text (Number n) = sentence n
-value_text Other = help
+unfoldable pub value_text : Option ℕ → List ℕ
+value_text (Some n) = sentence n
+value_text None = help
 
 abbrev pub explain_text : (number : List ℕ) → List ℕ
 explain_text number = value_text (value_of 10 number)
@@ -118,11 +116,11 @@ found_text name permissions input =
     (place_text (first_listing input) (second_listing input)
     (place_of (Listing·words_of (first_listing input)) (Listing·words_of (second_listing input)) name permissions))
 
-unfoldable pub key_text : (name permissions : Value) (input : List ℕ) → List ℕ
+unfoldable pub key_text : (name permissions : Option ℕ) (input : List ℕ) → List ℕ
 unfolding found_text
-key_text (Number name) (Number permissions) input = found_text name permissions input
-key_text (Number name) Other input = help
-key_text Other permissions input = help
+key_text (Some name) (Some permissions) input = found_text name permissions input
+key_text (Some name) None input = help
+key_text None permissions input = help
 
 abbrev pub block_text : (name permissions input : List ℕ) → List ℕ
 block_text name permissions input = key_text (value_of 10 name) (value_of 16 permissions) input
@@ -141,10 +139,10 @@ unfoldable pub pack_text : (ρ : ℕ) (input : List ℕ) → List ℕ
 unfolding answer_text system_text
 pack_text ρ input = answer_text (read_as input 1024) (system_text ρ (Listing·words_of input))
 
-unfoldable pub packed_for : (ρ : Value) (input : List ℕ) → List ℕ
+unfoldable pub packed_for : (ρ : Option ℕ) (input : List ℕ) → List ℕ
 unfolding pack_text
-packed_for (Number ρ) input = pack_text ρ input
-packed_for Other input = help
+packed_for (Some ρ) input = pack_text ρ input
+packed_for None input = help
 
 -- ---- widen, narrow: the words of a system in, those of the converted system out
 

@@ -1,31 +1,16 @@
 // The arguments: numbers in decimal and in hexadecimal digits.
 ghost use Rattle.std.specs.Prelude.{◌≡◌, ◌+◌, ◌*◌, ◌%◌, ◌^◌, ◌<◌, ◌≤◌};
-ghost use Rattle.commands.specs.Arguments.{digit as Arguments·digit, value_of};
+ghost use Rattle.commands.specs.Arguments.{IsDigit, value_of};
 
-// What an argument says: a number, or anything else.
-#[derive(Clone, Copy)]
-pub enum Value {
-    Number(u32),
-    Other,
-}
-
-// The digit that a byte is, 16 where it is none.
-fn digit(b: u8) -> u32
-    ensures { (result ≡ Arguments·digit b) × (result ≤ 16) }
+// The digit that a byte is.
+fn digit(b: u8) -> Option<u32>
+    ensures { IsDigit b result }
 {
-    if b < 48 {
-        return 16;
+    match b {
+        b'0'..=b'9' => Some(b as u32 - 48),
+        b'a'..=b'f' => Some(b as u32 - 87),
+        _ => None,
     }
-    if b < 58 {
-        return b as u32 - 48;
-    }
-    if b < 97 {
-        return 16;
-    }
-    if b < 103 {
-        return b as u32 - 87;
-    }
-    16
 }
 
 // A number with one digit more, of 32 bits.
@@ -37,25 +22,23 @@ fn with_digit(n: u32, base: u32, d: u32) -> u32
 }
 
 // The number of one to eight digits in a base.
-pub fn value_of(digits: &[u8], base: u32) -> Value
+pub fn value_of(digits: &[u8], base: u32) -> Option<u32>
     requires { base ≤ 16 }
     ensures { result ≡ value_of base digits.now }
 {
     if digits.len() == 0 {
-        return Value::Other;
+        return None;
     }
     if 8 < digits.len() {
-        return Value::Other;
+        return None;
     }
     let mut n = 0;
-    let mut i = 0;
-    while i < digits.len() {
-        let d = digit(digits[i]);
+    for b in digits {
+        let d = digit(*b)?;
         if base <= d {
-            return Value::Other;
+            return None;
         }
         n = with_digit(n, base, d);
-        i += 1;
     }
-    Value::Number(n)
+    Some(n)
 }

@@ -7,7 +7,6 @@ ghost use Rattle.commands.specs.Checked.{labelled as Checked·labelled};
 
 use crate::explain::sentence;
 use crate::lines::behind;
-use listing::Answer;
 use listing::numbers::{refusal_number, refusal_place};
 use listing::read::{line_end, read, word_of_line};
 use listing::write::write;
@@ -60,8 +59,8 @@ fn right_line(out: &mut [u8], at: usize, k: usize, words: &[u32]) -> usize
 {
     let mut listed = [0u8; 65536];
     match write(words, &mut listed) {
-        Answer::Done(n) => shown_line(out, at, b"right, line ", k, &listed[..n]),
-        Answer::Refused(_) => at,
+        Ok(n) => shown_line(out, at, b"right, line ", k, &listed[..n]),
+        Err(_) => at,
     }
 }
 
@@ -70,17 +69,15 @@ fn line_words(text: &[u8], words: &mut [u32]) -> usize
     ensures { Wrote words.old 0 (take (length words.old) (words_of text.now)) words.new result }
 {
     let mut at = 0;
-    let mut n = 0;
-    while n < words.len() {
+    for (n, word) in words.iter_mut().enumerate() {
         if text.len() <= at {
             return n;
         }
         let end = line_end(text, at);
-        words[n] = word_of_line(&text[at..end]);
+        *word = word_of_line(&text[at..end]).unwrap_or(0);
         at = end;
-        n += 1;
     }
-    n
+    words.len()
 }
 
 // The same from the text: of more than 1,024 lines the first 1,025 decide.
@@ -139,7 +136,7 @@ pub fn check_text(input: &[u8], out: &mut [u8]) -> usize
 {
     let mut words = [0u32; 1024];
     match read(input, &mut words) {
-        Answer::Done(n) => accepted_text(n, input, out),
-        Answer::Refused(r) => refused_text(refusal_number(r), refusal_place(r), input, out),
+        Ok(n) => accepted_text(n, input, out),
+        Err(r) => refused_text(refusal_number(r), refusal_place(r), input, out),
     }
 }

@@ -5,7 +5,6 @@ ghost use Rattle.commands.specs.Printed.{converted_text, convert_text};
 
 use little_endian::{bytes_of, words_of};
 use report::refusal_line;
-use widths::Converted;
 use widths::convert::convert;
 use widths::numbers::{fault_number, fault_place};
 
@@ -16,8 +15,8 @@ fn converted_text(wide: bool, words: &[u32], out: &mut [u8]) -> usize
 {
     let mut converted = [0u32; 1024];
     match convert(wide, words, &mut converted) {
-        Converted::Words(n) => 4 * bytes_of(&converted[..n], out),
-        Converted::Refused(f) => refusal_line(out, 0, fault_number(f), fault_place(f)),
+        Ok(n) => 4 * bytes_of(&converted[..n], out),
+        Err(f) => refusal_line(out, 0, fault_number(f), fault_place(f)),
     }
 }
 

@@ -16,15 +16,12 @@ const NUMBERS: [u32; 39] = [
 fn row(n: u32) -> usize
     ensures { result ≡ position n numbers }
 {
-    let listed = NUMBERS;
-    let mut i = 0;
-    while i < 39 {
-        if listed[i] == n {
+    for (i, listed) in NUMBERS.iter().enumerate() {
+        if *listed == n {
             return i;
         }
-        i += 1;
     }
-    i
+    NUMBERS.len()
 }
 
 fn meaning(out: &mut [u8], at: usize, n: u32) -> usize

@@ -15,7 +15,7 @@ ghost use Rattle.std.specs.Prelude.{◌≡◌, ◌+◌, ◌≤◌, length};
 ghost use Rattle.text.specs.Writing.{Wrote};
 ghost use Rattle.commands.specs.Printed.{key_text, explain_text, block_text, packed_for, other_text, room, printed, printed_size, out_after};
 
-use crate::arguments::{Value, value_of};
+use crate::arguments::value_of;
 use crate::checking::check_text;
 use crate::converters::convert_text;
 pub use crate::explain::help;
@@ -31,22 +31,22 @@ fn explain_text(number: &[u8], out: &mut [u8]) -> usize
     ensures { Wrote out.old 0 (explain_text number.now) out.new result }
 {
     match value_of(number, 10) {
-        Value::Number(n) => sentence(out, 0, n),
-        Value::Other => help(out),
+        Some(n) => sentence(out, 0, n),
+        None => help(out),
     }
 }
 
 // The lines of the handler with this name and these permissions.
-fn key_text(name: Value, perms: Value, input: &[u8], out: &mut [u8]) -> usize
+fn key_text(name: Option<u32>, perms: Option<u32>, input: &[u8], out: &mut [u8]) -> usize
     requires { (length input.now ≤ length out.old) × (8192 ≤ length out.old) }
     ensures { Wrote out.old 0 (key_text name perms input.now) out.new result }
 {
     match name {
-        Value::Number(n) => match perms {
-            Value::Number(s) => found_text(n, s, input, out),
-            Value::Other => help(out),
+        Some(n) => match perms {
+            Some(s) => found_text(n, s, input, out),
+            None => help(out),
         },
-        Value::Other => help(out),
+        None => help(out),
     }
 }
 
@@ -59,13 +59,13 @@ fn block_text(name: &[u8], perms: &[u8], input: &[u8], out: &mut [u8]) -> usize
     key_text(n, s, input, out)
 }
 
-fn packed_for(rho: Value, input: &[u8], out: &mut [u8]) -> usize
+fn packed_for(rho: Option<u32>, input: &[u8], out: &mut [u8]) -> usize
     requires { room ≤ length out.old }
     ensures { Wrote out.old 0 (packed_for rho input.now) out.new result }
 {
     match rho {
-        Value::Number(n) => pack_text(n, input, out),
-        Value::Other => help(out),
+        Some(n) => pack_text(n, input, out),
+        None => help(out),
     }
 }
 

@@ -12,10 +12,8 @@ pub fn behind(text: &[u8], start: usize, k: usize) -> usize
     ensures { Behind text.now start k result }
 {
     let mut at = start;
-    let mut left = k;
-    while 0 < left {
+    for _ in 0..k {
         at = line_end(text, at);
-        left -= 1;
     }
     at
 }

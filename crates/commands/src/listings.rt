@@ -3,7 +3,6 @@ ghost use Rattle.std.specs.Prelude.{◌≤◌, length};
 ghost use Rattle.text.specs.Writing.{Wrote};
 ghost use Rattle.commands.specs.Printed.{listing_text, text_text, words_text};
 
-use listing::Answer;
 use listing::numbers::{refusal_number, refusal_place};
 use listing::read::read;
 use listing::write::write;
@@ -16,8 +15,8 @@ pub fn listing_text(words: &[u32], out: &mut [u8]) -> usize
     ensures { Wrote out.old 0 (listing_text words.now) out.new result }
 {
     match write(words, out) {
-        Answer::Done(n) => n,
-        Answer::Refused(r) => refusal_line(out, 0, refusal_number(r), refusal_place(r)),
+        Ok(n) => n,
+        Err(r) => refusal_line(out, 0, refusal_number(r), refusal_place(r)),
     }
 }
 
@@ -41,7 +40,7 @@ pub fn words_text(input: &[u8], out: &mut [u8]) -> usize
 {
     let mut words = [0u32; 1024];
     match read(input, &mut words) {
-        Answer::Done(n) => 4 * bytes_of(&words[..n], out),
-        Answer::Refused(r) => refusal_line(out, 0, refusal_number(r), refusal_place(r)),
+        Ok(n) => 4 * bytes_of(&words[..n], out),
+        Err(r) => refusal_line(out, 0, refusal_number(r), refusal_place(r)),
     }
 }

@@ -4,7 +4,6 @@ ghost use Rattle.text.specs.Writing.{Wrote};
 ghost use Rattle.manifest.specs.Manifest.{accepted};
 ghost use Rattle.commands.specs.Printed.{outcome_text, manifest_text};
 
-use manifest::Reading;
 use manifest::numbers::refusal_number;
 use manifest::read::read;
 use report::refusal_line;
@@ -27,7 +26,7 @@ pub fn manifest_text(input: &[u8], out: &mut [u8]) -> usize
     ensures { Wrote out.old 0 (manifest_text input.now) out.new result }
 {
     match read(input) {
-        Reading::Accepted(version, set, others) => accepted_line(out, version, set.bits, others),
-        Reading::Refused(r) => refusal_line(out, 0, refusal_number(r), 0),
+        Ok(m) => accepted_line(out, m.version, m.set.bits, m.others),
+        Err(r) => refusal_line(out, 0, refusal_number(r), 0),
     }
 }

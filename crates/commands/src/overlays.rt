@@ -7,20 +7,19 @@ ghost use Rattle.commands.specs.Pairs.{PairAs, PlacedAs};
 
 use crate::lines::put_lines;
 use crate::listings::listing_text;
-use listing::Answer;
 use listing::numbers::{refusal_number, refusal_place};
 use listing::read::read;
+use overlay::Found;
 use overlay::join::join;
 use overlay::lookup::find;
 use overlay::numbers::{fault_number, fault_place};
-use overlay::{Found, Joined};
 use report::refusal_line;
 
-// How many words each of two listings has, or the refusal.
+// Why one of two listings is refused: the number of its refusal, 100 more for that of the second, and its place.
 #[derive(Clone, Copy)]
-enum Pair {
-    Words(usize, usize),
-    Refused(u32, usize),
+struct PairRefusal {
+    number: u32,
+    place: usize,
 }
 
 fn byte_at(text: &[u8], i: usize) -> u8
@@ -48,29 +47,36 @@ fn second_start(text: &[u8]) -> usize
     ensures { (result ≡ Printed·before false text.now) × (result ≤ length text.now) }
 {
     let mut start = false;
-    let mut i = 0;
-    while i < text.len() {
-        if start {
-            if starts_system(text, i) {
-                return i;
-            }
+    for (i, b) in text.iter().enumerate() {
+        if start && starts_system(text, i) {
+            return i;
         }
-        start = text[i] == 10;
-        i += 1;
+        start = *b == b'\n';
     }
-    i
+    text.len()
 }
 
-// The words of two listings.
-fn read_pair(first: &[u8], second: &[u8], under: &mut [u32], over: &mut [u32]) -> Pair
+// The words of two listings, and how many each has.
+fn read_pair(
+    first: &[u8],
+    second: &[u8],
+    under: &mut [u32],
+    over: &mut [u32],
+) -> Result<(usize, usize), PairRefusal>
     requires { (length under.old ≡ 1024) × (length over.old ≡ 1024) }
     ensures { PairAs first.now second.now under.new over.new result }
 {
     match read(first, under) {
-        Answer::Refused(r) => Pair::Refused(refusal_number(r), refusal_place(r)),
-        Answer::Done(m) => match read(second, over) {
-            Answer::Refused(r) => Pair::Refused(100 + refusal_number(r), refusal_place(r)),
-            Answer::Done(n) => Pair::Words(m, n),
+        Err(r) => Err(PairRefusal {
+            number: refusal_number(r),
+            place: refusal_place(r),
+        }),
+        Ok(m) => match read(second, over) {
+            Err(r) => Err(PairRefusal {
+                number: 100 + refusal_number(r),
+                place: refusal_place(r),
+            }),
+            Ok(n) => Ok((m, n)),
         },
     }
 }
@@ -82,8 +88,8 @@ fn joined_text(base: &[u32], overlay: &[u32], out: &mut [u8]) -> usize
 {
     let mut words = [0u32; 1024];
     match join(base, overlay, &mut words) {
-        Joined::Words(n) => listing_text(&words[..n], out),
-        Joined::Refused(f) => refusal_line(out, 0, fault_number(f), fault_place(f)),
+        Ok(n) => listing_text(&words[..n], out),
+        Err(f) => refusal_line(out, 0, fault_number(f), fault_place(f)),
     }
 }
 
@@ -96,8 +102,8 @@ pub fn join_text(input: &[u8], out: &mut [u8]) -> usize
     let mut under = [0u32; 1024];
     let mut over = [0u32; 1024];
     match read_pair(&input[..k], &input[k..], &mut under, &mut over) {
-        Pair::Words(m, n) => joined_text(&under[..m], &over[..n], out),
-        Pair::Refused(number, place) => refusal_line(out, 0, number, place),
+        Ok((m, n)) => joined_text(&under[..m], &over[..n], out),
+        Err(r) => refusal_line(out, 0, r.number, r.place),
     }
 }
 
@@ -116,9 +122,11 @@ fn place_text(
         out.old out.new result }
 {
     match find(base, overlay, name, perms) {
-        Found::Base(a, e) => put_lines(out, first, a, e - a),
-        Found::Overlay(a, e) => put_lines(out, second, a, e - a),
-        Found::Refused(f) => refusal_line(out, 0, fault_number(f), fault_place(f)),
+        Err(f) => refusal_line(out, 0, fault_number(f), fault_place(f)),
+        Ok(found) => match found {
+            Found::Base(a, e) => put_lines(out, first, a, e - a),
+            Found::Overlay(a, e) => put_lines(out, second, a, e - a),
+        },
     }
 }
 
@@ -133,7 +141,7 @@ pub fn found_text(name: u32, perms: u32, input: &[u8], out: &mut [u8]) -> usize
     let first = &input[..k];
     let second = &input[k..];
     match read_pair(first, second, &mut under, &mut over) {
-        Pair::Words(m, n) => place_text(first, second, &under[..m], &over[..n], name, perms, out),
-        Pair::Refused(number, place) => refusal_line(out, 0, number, place),
+        Ok((m, n)) => place_text(first, second, &under[..m], &over[..n], name, perms, out),
+        Err(r) => refusal_line(out, 0, r.number, r.place),
     }
 }

@@ -3,7 +3,6 @@ ghost use Rattle.std.specs.Prelude.{◌≤◌, length};
 ghost use Rattle.text.specs.Writing.{Wrote};
 ghost use Rattle.commands.specs.Printed.{packed, system_text, pack_text};
 
-use listing::Answer;
 use listing::numbers::{refusal_number, refusal_place};
 use listing::read::read;
 use little_endian::bytes_of;
@@ -37,7 +36,7 @@ pub fn pack_text(rho: u32, input: &[u8], out: &mut [u8]) -> usize
 {
     let mut words = [0u32; 1024];
     match read(input, &mut words) {
-        Answer::Done(n) => put_system(rho, &words[..n], out),
-        Answer::Refused(r) => refusal_line(out, 0, refusal_number(r), refusal_place(r)),
+        Ok(n) => put_system(rho, &words[..n], out),
+        Err(r) => refusal_line(out, 0, refusal_number(r), refusal_place(r)),
     }
 }

@@ -1,11 +1,10 @@
 // A leak compared with a bound: what a verdict is, and what it says of what was found.
 #![tactic(auto)]
 
-ghost use Rattle.std.specs.Prelude.{◌≡◌};
+ghost use Rattle.std.specs.Prelude.{◌≡◌, Ok};
 ghost use Rattle.calculus.specs.Answer.{bound_used};
 ghost use Rattle.comparison.specs.Values.{answer_of, compare};
 
-use calls::Fault;
 use permset::PermSet;
 
 // What was found of an accepted system: its leak, the bound that it is compared with, and the number of facts.
@@ -16,11 +15,9 @@ pub struct Report {
     pub facts: usize,
 }
 
-// The answer to a call: refused, the leak within the bound, or over it with the lowest permission outside. `answer_of` of
-// specs/Values.antt gives each its number, place and values.
+// The leak within the bound, or over it with the lowest permission outside. `answer_of` of specs/Values.antt gives each its values.
 #[derive(Clone, Copy)]
 pub enum Verdict {
-    Refused(Fault),
     Within(Report),
     Over(Report, u32),
 }
@@ -45,7 +42,7 @@ pub fn bound_used(bound: u32) -> PermSet
 
 // What was found, compared with a bound.
 pub fn compared(found: Findings, bound: PermSet) -> Verdict
-    ensures { answer_of result ≡ compare found.leak.bits bound.bits found.facts }
+    ensures { answer_of (Ok result) ≡ compare found.leak.bits bound.bits found.facts }
 {
     let leak = found.leak;
     let facts = found.facts;

@@ -5,7 +5,6 @@ use mathlib.Core.Bool.{Bool, true, false}
 use mathlib.Core.List.{List, [], ◌∷◌, ◌++◌, append-nil, append_assoc}
 use native.Mathlib.Numerals.{add-one}
 use native.Mathlib.Omega.{arith}
-use borrow.Author.Tests.{eq-eqb, ne_eqb}
 use lib.Dec.{eqb}
 use lib.ListN.{length, get_or, drop, length-drop}
 use lib.Seq.{drop-cons}
@@ -13,14 +12,6 @@ use Rattle.table.specs.Words.{kind}
 use Rattle.text.specs.Added.{Added}
 use Rattle.text.proofs.Adding.{added-nothing, added_then, added-as}
 use Rattle.deliveries.specs.Positions.{counted, each_word}
-
-pub counted-block : (w count : ℕ) → kind w ≡ 2 → counted w count ≡ count + 1
-unfolding counted
-counted-block w count k = rw (eq-eqb (kind w) 2 k, counted)
-
-pub counted_none : (w count : ℕ) → (kind w ≡ 2 → ⊥) → counted w count ≡ count
-unfolding counted
-counted_none w count k = rw (ne_eqb (kind w) 2 k, counted)
 
 pub counted-most : (w count : ℕ) → counted w count ≤ count + 1
 unfolding counted

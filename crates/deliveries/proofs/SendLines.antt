@@ -19,15 +19,6 @@ use Rattle.deliveries.specs.Positions.{counted}
 use Rattle.deliveries.specs.Text.{name_for, line, answer_at, receiver, receivers, lines_of, sends}
 use Rattle.deliveries.proofs.Positions.{past_end}
 
--- the name that is compared
-pub target_name : (t own : ℕ) → kind t ≡ 19 → name_for t own ≡ argument t
-unfolding name_for
-target_name t own k = rw (eq-eqb (kind t) 19 k, name_for)
-
-pub own_name : (t own : ℕ) → (kind t ≡ 19 → ⊥) → name_for t own ≡ own
-unfolding name_for
-own_name t own k = rw (ne_eqb (kind t) 19 k, name_for)
-
 pub answer-is : (ws : List ℕ) (p home q : ℕ) (h g : Handler) (w a v n : ℕ) (r : PermSet) (d : Delivery) → h ≡ handler_at ws q → g ≡ handler_at ws home
     → w ≡ get_or ws p 0 → a ≡ argument w → r ≡ record { bits = a } → v ≡ get_or ws (p + 1) 0 → n ≡ name_for v h.name
     → d ≡ judged n r.bits g.perms.bits h → d ≡ answer_at ws p home q

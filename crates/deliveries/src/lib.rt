@@ -13,27 +13,30 @@ ghost use Rattle.text.specs.Added.{Added};
 
 use crate::lines::add_line;
 use delivery::{Delivery, judge};
-use listing::{Answer, Refusal};
+use listing::Refusal;
 use permset::PermSet;
-use table::{Reading, argument_of, kind_of};
+use table::kinds::{BLOCK, NAME, SEND};
+use table::read::read;
+use table::{argument_of, kind_of};
 use table_links::{block_of, handler_at};
 
 // The name that a send to this target is compared with, where the receiver has the name `own`.
+#[tactic(auto, unfolding(crate::specs::Text::name_for))]
 fn name_for(target: u32, own: u32) -> u32
     ensures { result ≡ name_for target own }
 {
-    if kind_of(target) == 19 {
+    if kind_of(target) == NAME {
         argument_of(target)
     } else {
         own
     }
 }
 
-// The word at a place, 0 past the end.
+// The word at a place, 0 past the end: as the specification's `get_or` has it.
 pub fn word_at(words: &[u32], p: usize) -> u32
     ensures { result ≡ get_or words.now p 0 }
 {
-    if p < words.len() { words[p] } else { 0 }
+    words.get(p).copied().unwrap_or(0)
 }
 
 // What becomes of the send at p, in the block at `home`, for the block at q.
@@ -50,11 +53,16 @@ fn answer(words: &[u32], p: usize, home: usize, q: usize) -> Delivery
 }
 
 // How many blocks there are with the word w.
+#[tactic(auto, unfolding(crate::specs::Positions::counted))]
 pub fn counted(w: u32, count: usize) -> usize
     requires { count < 1024 }
     ensures { result ≡ Positions·counted w count }
 {
-    if kind_of(w) == 2 { count + 1 } else { count }
+    if kind_of(w) == BLOCK {
+        count + 1
+    } else {
+        count
+    }
 }
 
 // The line of the send at p for the word at q, if a block starts there and the line has room, and the place after it.
@@ -72,7 +80,7 @@ fn put_receiver(
     ensures added { Added out.old at (receiver words.now p home from q to (get_or words.now q 0)) out.new result }
     ensures upper_bound { result ≤ at + 96 }
 {
-    if kind_of(words[q]) == 2 {
+    if kind_of(words[q]) == BLOCK {
         add_line(out, at, p, from, to, answer(words, p, home, q))
     } else {
         at
@@ -94,11 +102,9 @@ fn put_receivers(
 {
     let mut next = at;
     let mut to = 0;
-    let mut q = 0;
-    while q < words.len() {
+    for (q, &w) in words.iter().enumerate() {
         next = put_receiver(words, p, home, from, q, to, out, next);
-        to = counted(words[q], to);
-        q += 1;
+        to = counted(w, to);
     }
     next
 }
@@ -109,18 +115,11 @@ fn put_word(words: &[u32], p: usize, home: usize, from: usize, out: &mut [u8], a
     ensures added { Added out.old at (lines_of words.now p home from (get_or words.now p 0)) out.new result }
     ensures upper_bound { result ≤ at + 98304 }
 {
-    if kind_of(words[p]) == 35 {
+    if kind_of(words[p]) == SEND {
         put_receivers(words, p, home, from, out, at)
     } else {
         at
     }
-}
-
-// The position of the last of so many blocks.
-fn last(count: usize) -> usize
-    ensures { result ≡ count - 1 }
-{
-    if count == 0 { 0 } else { count - 1 }
 }
 
 // The lines of all words, as far as there is room, and their length.
@@ -130,38 +129,34 @@ fn put_words(words: &[u32], out: &mut [u8]) -> usize
 {
     let mut next = 0;
     let mut home = 0;
-    let mut count = 0;
-    let mut p = 0;
-    while p < words.len() {
-        next = put_word(words, p, home, last(count), out, next);
-        home = block_of(words[p], p, home);
-        count = counted(words[p], count);
-        p += 1;
+    let mut count = 0usize;
+    for (p, &w) in words.iter().enumerate() {
+        next = put_word(words, p, home, count.saturating_sub(1), out, next);
+        home = block_of(w, p, home);
+        count = counted(w, count);
     }
     next
 }
 
 // The text, at the start of out, and its length: measured first, since a text without room changes nothing.
-fn write_accepted(words: &[u32], out: &mut [u8]) -> Answer
+fn write_accepted(words: &[u32], out: &mut [u8]) -> Result<usize, Refusal>
     requires { reading words.now ≡ accepted }
     ensures answer { answered result ≡ written words.now (length out.old) }
     ensures text { out.new ≡ text_after words.now out.old }
 {
     let n = put_words(words, &mut out[..0]);
     if out.len() < n {
-        return Answer::Refused(Refusal::NoRoom);
+        return Err(Refusal::NoRoom);
     }
     put_words(words, out);
-    Answer::Done(n)
+    Ok(n)
 }
 
 // The deliveries of a system as text, at the start of out, and its length.
-pub fn write(words: &[u32], out: &mut [u8]) -> Answer
+pub fn write(words: &[u32], out: &mut [u8]) -> Result<usize, Refusal>
     ensures answer { answered result ≡ written words.now (length out.old) }
     ensures text { out.new ≡ text_after words.now out.old }
 {
-    if let Reading::Refused(r) = table::read::read(words) {
-        return Answer::Refused(Refusal::Table(r));
-    }
+    read(words)?;
     write_accepted(words, out)
 }

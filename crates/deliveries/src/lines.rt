@@ -18,6 +18,7 @@ fn set_line(out: &mut [u8], at: usize, label: &[u8], s: u32) -> usize
 }
 
 // What became of the send, and a line feed.
+#[tactic(auto, unfolding(crate::specs::Text::outcome))]
 fn put_outcome(out: &mut [u8], at: usize, d: Delivery) -> usize
     requires { at + 14 ≤ length out.old }
     ensures { Wrote out.old at (outcome d) out.new result }

@@ -21,19 +21,16 @@ pub enum Delivery {
 
 impl Delivery {
     // Whether the send may start the handler.
+    #[tactic(auto, unfolding(crate::specs::Delivery::delivered))]
     pub fn delivered(self) -> bool
         ensures { result ≡ Delivered·so self }
     {
-        match self {
-            Delivery::OtherName => false,
-            Delivery::ReceiverLacks(_) => false,
-            Delivery::SenderLacks(_) => false,
-            Delivery::Delivered => true,
-        }
+        matches!(self, Delivery::Delivered)
     }
 }
 
 // What becomes of a send to a name, with a set required of the receiver, from a sender with these permissions: the first cause that applies.
+#[tactic(auto, unfolding(crate::specs::Delivery::judged))]
 pub fn judge(name: u32, required: PermSet, sender: PermSet, receiver: Handler) -> Delivery
     ensures { result ≡ judged name required.bits sender.bits receiver }
 {

@@ -1,32 +1,24 @@
 // The fingerprint of a system: the published hash FNV-1a of 32 bits.
 #![tactic(auto)]
 
-ghost use Rattle.std.specs.Prelude.{◌≡◌, ◌*◌, ◌%◌, ◌^◌};
+ghost use Rattle.std.specs.Prelude.{◌≡◌};
 ghost use Rattle.fingerprint.specs.Fnv.{fnv1a};
 ghost use Rattle.fingerprint.specs.Fnv.{step as Fnv-step};
 
-// The product modulo 2^32.
-fn wrapping_mul(a: u32, b: u32) -> u32
-    ensures { result ≡ a * b % 2 ^ 32 }
-{
-    (a as u64 * b as u64 % 0x100000000) as u32
-}
+const PRIME: u32 = 0x01000193;
+
+const BASIS: u32 = 0x811c9dc5;
 
 // One byte more.
+#[tactic(auto, unfolding(crate::specs::Fnv::step))]
 fn step(hash: u32, byte: u8) -> u32
     ensures { result ≡ Fnv-step hash byte }
 {
-    wrapping_mul(hash ^ byte as u32, 0x01000193)
+    (hash ^ u32::from(byte)).wrapping_mul(PRIME)
 }
 
 pub fn fingerprint(bytes: &[u8]) -> u32
     ensures { result ≡ fnv1a bytes.now }
 {
-    let mut hash: u32 = 0x811c9dc5;
-    let mut i = 0;
-    while i < bytes.len() {
-        hash = step(hash, bytes[i]);
-        i += 1;
-    }
-    hash
+    bytes.iter().fold(BASIS, |hash, byte| step(hash, *byte))
 }

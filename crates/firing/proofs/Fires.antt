@@ -20,7 +20,7 @@ use Rattle.calculus.proofs.OperationResults.{operation_mask, fire-operation-mask
 use Rattle.calculus.proofs.RowOperations.{fire-put-C, fire-put-B, fire-live, fire-sub, fire-sub-P}
 use Rattle.calculus.proofs.RowRules.{fire-pass, fire-fill, fire-members}
 use Rattle.rows.specs.declared.layout.Layout.{Layout}
-use Rattle.rows.specs.Laid.{LaidOut}
+use Rattle.rows.specs.Laid.{LaidOut, Sized}
 use Rattle.rows.specs.Mask.{Mask}
 use Rattle.rows.specs.Rows.{Poured}
 use Rattle.rows.proofs.Full.{full, full-bit, full-words, full-short}
@@ -131,6 +131,11 @@ module _ {l : Layout} {old mid new : List ℕ} {m n : ℕ} where
   pub and_in : {k j : Rule} → FiredIn l k old mid m → FiredIn l j mid new n → FiredIn l (k and j) old new (m + n)
   and_in p q = and_then p q (λ c o x. (tt, λ e. tt))
 
--- two additions fit
+-- two additions fit, and three
 pub sum_fits : (old mid new : List ℕ) (m n : ℕ) → facts mid ≡ facts old + m → facts new ≡ facts mid + n → m + n ≤ 32 * length new
 sum_fits old mid new m n e f = omega (arith, facts-most new)
+
+pub three_fit : {l : Layout} {h g u : Code → Type 0} {i j k : Code → Rule} {old a b new : List ℕ} {m n o : ℕ} → Sized l old
+    → FiredFor l h i old a m → FiredFor l g j a b n → FiredFor l u k b new o
+    → length a ≡ length old → length b ≡ length a → length new ≡ length b → m + (n + o) < 2 ^ 32
+three_fit {new = new} s p q r e f g = omega (arith, p.count, q.count, r.count, facts-most new, s.short)

@@ -14,7 +14,7 @@ use clauses::{Clause, Effect, What};
 use queries::holds;
 use rows::layout::Layout;
 
-// An effect, for all its targets or (f not 0) for the target f.
+// An effect, for all its targets or (f not 0) for the target f: a number, as a choice packs it and `effect` of clauses takes it.
 fn add(
     words: &[u32],
     links: &[u32],
@@ -46,7 +46,9 @@ fn add(
         What::Parts => parts(est, h, l, x, y, z),
         What::Branches => branches(est, h, l, x, y, z),
         What::Send => send(words, links, masks, est, h, l, e, f),
-        _ => fire_things(est, masks, h, l, e, f),
+        What::Enter | What::Lower | What::Hand | What::Take | What::Back => {
+            fire_things(est, masks, h, l, e, f)
+        }
     }
 }
 

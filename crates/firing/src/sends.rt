@@ -18,7 +18,7 @@ use clauses::make::permissions_of;
 use permset::PermSet;
 use queries::starts;
 use rows::layout::Layout;
-use table::kind_of;
+use table::{kind_of, kinds};
 use table_links::link_at;
 
 // The block of a send: its permissions and its first word.
@@ -89,6 +89,7 @@ fn send_all(
 {
     let mut added = 0;
     let mut b = 1;
+    // From block to block by the links: no range.
     while b < words.len() {
         added += send_to(words, est, masks, h, l, e, own, b);
         b = link_at(links, b + 3).end;
@@ -119,7 +120,7 @@ pub fn send(
     if words.len() <= f {
         return 0;
     }
-    if kind_of(words[f]) == 2 {
+    if kind_of(words[f]) == kinds::BLOCK {
         send_to(words, est, masks, h, l, e, own, f)
     } else {
         0

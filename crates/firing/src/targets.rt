@@ -13,7 +13,10 @@ ghost use Rattle.firing.specs.Fired.{FiredFor, FiredIn};
 
 use rows::layout::Layout;
 use rows::row;
-use worklist::notes::{note_live, note_perms, note_row};
+use worklist::notes::{Growth, note};
+
+// Below the live flag stand the permissions.
+const LIVE_FLAG: u32 = 16777216;
 
 // ---- rows
 
@@ -37,21 +40,9 @@ fn gain(est: &mut [u32], l: Layout, p: usize, bits: u32) -> usize
 
 // ---- what grows is noted
 
-pub fn grew_row(h: &mut [u32], r: usize, added: usize) {
+pub fn grew(h: &mut [u32], growth: Growth, added: usize) {
     if added != 0 {
-        note_row(h, r);
-    }
-}
-
-fn grew_perms(h: &mut [u32], p: usize, added: usize) {
-    if added != 0 {
-        note_perms(h, p);
-    }
-}
-
-fn grew_live(h: &mut [u32], q: usize, added: usize) {
-    if added != 0 {
-        note_live(h, q);
+        note(h, growth);
     }
 }
 
@@ -71,7 +62,7 @@ pub fn put(est: &mut [u32], h: &mut [u32], l: Layout, r: usize, v: usize) -> usi
     ensures { FiredIn l (Put (row_at r) v) est.old est.new result }
 {
     let added = mark(est, l, r, v);
-    grew_row(h, r, added);
+    grew(h, Growth::Row(r), added);
     added
 }
 
@@ -81,7 +72,7 @@ pub fn flow(est: &mut [u32], h: &mut [u32], l: Layout, a: usize, b: usize) -> us
     ensures { FiredIn l (Sub (row_at a) (row_at b)) est.old est.new result }
 {
     let added = row::join(est, l.row, a, b);
-    grew_row(h, b, added);
+    grew(h, Growth::Row(b), added);
     added
 }
 
@@ -94,12 +85,10 @@ pub fn fill(est: &mut [u32], h: &mut [u32], l: Layout, r: usize) -> usize
     let row = l.row;
     let lead = l.lead;
     let mut added = 0;
-    let mut k = 0;
-    while k < lead {
-        added += put_bits(est, row, r, k, 4294967295);
-        k += 1;
+    for k in 0..lead {
+        added += put_bits(est, row, r, k, u32::MAX);
     }
-    grew_row(h, r, added);
+    grew(h, Growth::Row(r), added);
     added
 }
 
@@ -120,18 +109,18 @@ pub fn pass(
     let row = l.row;
     let at = m * row;
     let added = row::join_masked(est, &masks[at..at + row], row, a, b);
-    grew_row(h, b, added);
+    grew(h, Growth::Row(b), added);
     added
 }
 
-// The permissions `bits` in P(p).
+// The permissions `bits` in P(p). Not one function with `put`: three lines each, and what is asked differs.
 pub fn permit(est: &mut [u32], h: &mut [u32], l: Layout, p: usize, bits: u32) -> usize
     requires { Sized l est.old × (p < l.size) × (bits < 2 ^ width) }
     ensures { FiredFor l (λ c. WellFormed c est.old) (λ c. every width (λ i. Only (member bits i) (Put (P p) i))) est.old
         est.new result }
 {
     let added = gain(est, l, p, bits);
-    grew_perms(h, p, added);
+    grew(h, Growth::Permissions(p), added);
     added
 }
 
@@ -141,9 +130,9 @@ pub fn lift(est: &mut [u32], h: &mut [u32], l: Layout, q: usize, p: usize) -> us
     ensures { FiredIn l (Sub (P q) (P p)) est.old est.new result }
 {
     let at = l.flags(q);
-    let bits = est[at] % 16777216;
+    let bits = est[at] % LIVE_FLAG;
     let added = gain(est, l, p, bits);
-    grew_perms(h, p, added);
+    grew(h, Growth::Permissions(p), added);
     added
 }
 
@@ -163,7 +152,7 @@ pub fn wake(est: &mut [u32], h: &mut [u32], l: Layout, q: usize) -> usize
     ensures kept { Kept h.old h.new }
 {
     let added = start(est, l, q);
-    grew_live(h, q, added);
+    grew(h, Growth::Live(q), added);
     added
 }
 
@@ -176,7 +165,8 @@ pub fn part(est: &mut [u32], h: &mut [u32], l: Layout, p: usize, q: usize) -> us
     started + lift(est, h, l, q, p)
 }
 
-// The same where q is a part, and not 0.
+// The same where q is a part, and not 0. This and `lift_if` are not one function over what is added: no clause can say of a function that is handed
+// on what it does to `est`.
 pub fn part_if(est: &mut [u32], h: &mut [u32], l: Layout, p: usize, q: usize) -> usize
     requires { Sized l est.old × (p < l.size) × (q < l.size) }
     ensures { FiredIn l (Only (not (eqb q 0)) (Part p q)) est.old est.new result }

@@ -8,9 +8,10 @@ ghost use Rattle.calculus.specs.Layout.{WellFormed};
 ghost use Rattle.rows.specs.Laid.{Sized};
 ghost use Rattle.firing.specs.Fired.{FiredFor, FiredIn};
 
-use crate::targets::{grew_row, lift, lift_if, part, part_if, put_bits};
+use crate::targets::{grew, lift, lift_if, part, part_if, put_bits};
 use rows::layout::Layout;
 use table::operation_of;
+use worklist::notes::Growth;
 
 // The parts p + 1, b and d, which are live with p; b and d may be 0.
 pub fn parts(est: &mut [u32], h: &mut [u32], l: Layout, p: usize, b: usize, d: usize) -> usize
@@ -43,6 +44,6 @@ pub fn operate_at(est: &mut [u32], h: &mut [u32], l: Layout, p: usize, d: usize,
     let a = 2 * (p + 1);
     let bits = results::operate_at(est, l.lead, operation_of(o as u32), a * row, 2 * d * row);
     let added = put_bits(est, row, 2 * p, 0, bits);
-    grew_row(h, 2 * p, added);
+    grew(h, Growth::Row(2 * p), added);
     added
 }

@@ -50,6 +50,7 @@ fn each_thing(est: &mut [u32], masks: &[u32], h: &mut [u32], l: Layout, e: Effec
     let size = l.size;
     let mut added = 0;
     let mut f = next_thing(est, masks, l, r, z, 0);
+    // From one thing of the row to the next, in an estimate that grows meanwhile: no range and no iterator.
     while f < size {
         added += for_thing(est, h, l, what, x, y, f);
         f = next_thing(est, masks, l, r, z, f + 1);

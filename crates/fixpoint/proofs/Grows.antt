@@ -13,7 +13,7 @@ use Rattle.calculus.specs.Constraint.{Sets, Rule, Obeys, B, C, put, ◌and◌}
 use Rattle.calculus.specs.Elements.{opponent_record}
 use Rattle.calculus.specs.Rules.{live, fill, guarded, entry, rule, Estimate}
 use Rattle.calculus.specs.Layout.{sets, WellFormed, LiesIn}
-use Rattle.calculus.specs.Estimate.{fire, facts}
+use Rattle.calculus.specs.Estimate.{fire}
 use Rattle.calculus.proofs.Slices.{◌≼◌}
 use Rattle.calculus.proofs.Facts.{facts-same}
 use Rattle.calculus.proofs.Least.{lies-adds}

@@ -11,7 +11,7 @@ use choices::{choice_at, choice_clause, choice_place, choice_target, choice_word
 use firing::step::step;
 use permset::PermSet;
 use rows::layout::Layout;
-use worklist::next::{NOTHING, next};
+use worklist::next::next;
 use worklist::past;
 use worklist::plan::prepare;
 
@@ -45,14 +45,15 @@ fn drain(
 {
     let last = count(list);
     let mut added = 0;
-    let mut i = 0;
-    while i < last && added <= room {
+    for i in 0..last {
+        if room < added {
+            return added;
+        }
         let w = choice_at(list, i + 1);
         let p = within(choice_place(w), l.size);
         let k = choice_clause(w);
         let f = choice_target(w);
         added += step(words, links, masks, est, h, l, p, k, f);
-        i += 1;
     }
     added
 }
@@ -73,11 +74,15 @@ fn events(
 {
     let mut added = 0;
     let mut turn = 0;
-    let mut left = EVENTS;
-    while 0 < left && turn != NOTHING && added <= room {
+    for event in 0..EVENTS {
+        if room < added {
+            return added;
+        }
         added += drain(words, links, masks, est, h, out, l, room - added);
-        turn = next(words, links, masks, est, h, out, l, turn);
-        left -= 1;
+        let Some(after) = next(words, links, masks, est, h, out, l, turn) else {
+            return added;
+        };
+        turn = after;
     }
     added
 }
@@ -101,6 +106,7 @@ pub fn follow(
     let size = l.size;
     let mut added = 0;
     let mut p = 1;
+    // From block to block by the links: no range.
     while p < size {
         added += enter(words, est, h, l, rho, p);
         p = past(links, p + 3);
@@ -129,14 +135,15 @@ pub fn sweep(
 {
     let last = CLAUSES * l.size;
     let mut added = 0;
-    let mut i = 0;
-    while i < last && added <= room {
+    for i in 0..last {
+        if room < added {
+            return added;
+        }
         let p = i / CLAUSES;
         out[0] = 1;
         out[1] = choice_word(i % CLAUSES, p, 0);
         added += enter(words, est, h, l, rho, p)
             + events(words, links, masks, est, h, out, l, room);
-        i += 1;
     }
     added
 }

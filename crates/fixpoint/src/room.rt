@@ -1,4 +1,5 @@
 // Memory for the worklist and its choices by the size of the table, as worklist/specs/Memory.antt counts them (proofs/Rooms.antt).
+ghost use Rattle.std.specs.Prelude.{◌<◌};
 ghost use Rattle.table.specs.Code.{code};
 ghost use Rattle.calculus.specs.Layout.{WellFormed};
 ghost use Rattle.queries.specs.Ready.{Ready};
@@ -8,8 +9,8 @@ use crate::closing::settle;
 use permset::PermSet;
 use rows::layout::Layout;
 
-// Up to 64 words.
-fn small(
+// With so many words of memory and of choices.
+fn sized<const MEMORY: usize, const CHOICES: usize>(
     words: &[u32],
     links: &[u32],
     masks: &[u32],
@@ -18,65 +19,12 @@ fn small(
     rho: PermSet,
     room: usize,
 ) -> usize
-    requires { Ready words.now links.now masks.now l × WellFormed (code words.now) est.old }
+    requires { Ready words.now links.now masks.now l × WellFormed (code words.now) est.old
+        × (MEMORY < 65536) × (1 < CHOICES) × (CHOICES < 65536) }
     ensures { Closed (code words.now) rho.bits room est.old est.new result }
 {
-    let mut h = [0u32; 772];
-    let mut out = [0u32; 200];
-    settle(words, links, masks, est, &mut h, &mut out, l, rho, room)
-}
-
-// Up to 256.
-fn medium(
-    words: &[u32],
-    links: &[u32],
-    masks: &[u32],
-    est: &mut [u32],
-    l: Layout,
-    rho: PermSet,
-    room: usize,
-) -> usize
-    requires { Ready words.now links.now masks.now l × WellFormed (code words.now) est.old }
-    ensures { Closed (code words.now) rho.bits room est.old est.new result }
-{
-    let mut h = [0u32; 4228];
-    let mut out = [0u32; 776];
-    settle(words, links, masks, est, &mut h, &mut out, l, rho, room)
-}
-
-// Up to 512.
-fn large(
-    words: &[u32],
-    links: &[u32],
-    masks: &[u32],
-    est: &mut [u32],
-    l: Layout,
-    rho: PermSet,
-    room: usize,
-) -> usize
-    requires { Ready words.now links.now masks.now l × WellFormed (code words.now) est.old }
-    ensures { Closed (code words.now) rho.bits room est.old est.new result }
-{
-    let mut h = [0u32; 12420];
-    let mut out = [0u32; 1544];
-    settle(words, links, masks, est, &mut h, &mut out, l, rho, room)
-}
-
-// Up to 1,024.
-fn largest(
-    words: &[u32],
-    links: &[u32],
-    masks: &[u32],
-    est: &mut [u32],
-    l: Layout,
-    rho: PermSet,
-    room: usize,
-) -> usize
-    requires { Ready words.now links.now masks.now l × WellFormed (code words.now) est.old }
-    ensures { Closed (code words.now) rho.bits room est.old est.new result }
-{
-    let mut h = [0u32; 41092];
-    let mut out = [0u32; 3080];
+    let mut h = [0u32; MEMORY];
+    let mut out = [0u32; CHOICES];
     settle(words, links, masks, est, &mut h, &mut out, l, rho, room)
 }
 
@@ -93,15 +41,10 @@ pub fn run(
     requires { Ready words.now links.now masks.now l × WellFormed (code words.now) est.old }
     ensures { Closed (code words.now) rho.bits room est.old est.new result }
 {
-    let n = l.size;
-    if n <= 64 {
-        return small(words, links, masks, est, l, rho, room);
+    match l.size {
+        0..=64 => sized::<772, 200>(words, links, masks, est, l, rho, room),
+        65..=256 => sized::<4228, 776>(words, links, masks, est, l, rho, room),
+        257..=512 => sized::<12420, 1544>(words, links, masks, est, l, rho, room),
+        _ => sized::<41092, 3080>(words, links, masks, est, l, rho, room),
     }
-    if n <= 256 {
-        return medium(words, links, masks, est, l, rho, room);
-    }
-    if n <= 512 {
-        return large(words, links, masks, est, l, rho, room);
-    }
-    largest(words, links, masks, est, l, rho, room)
 }

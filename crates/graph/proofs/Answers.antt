@@ -11,10 +11,11 @@ use lib.ListN.{length, take, drop}
 use lib.Pow.{pow_pos, pow_mono}
 use lib.Seq.{take_at}
 use borrow.Author.Tests.{lt-ltb, le-ltb, le-leb, lt-leb}
+use Rattle.std.specs.Prelude.{Option, Some, None}
 use Rattle.permset.specs.Sets.{member}
 use Rattle.permset.proofs.Digits.{member-lt}
 use Rattle.graph.specs.declared.Arrangement.{Arrangement}
-use Rattle.graph.specs.declared.Arrangement.TheVariants.{Short, Ordered, Looped}
+use Rattle.graph.specs.declared.Arrangement.TheVariants.{Ordered, Looped}
 use Rattle.graph.specs.Relation.{Live}
 use Rattle.graph.specs.Order.{Order}
 use Rattle.graph.specs.Loop.{Shortest}
@@ -39,18 +40,18 @@ module _ (rows : List ℕ) (live : ℕ) where
   m = loop_length rows a n
 
   -- the answer by its tests
-  abbrev pick : Bool → Bool → Arrangement
-  pick s l = elim s [ true ↦ Short | false ↦ elim l [ true ↦ Looped m | false ↦ Ordered (length order) ] ]
+  abbrev pick : Bool → Bool → Option Arrangement
+  pick s l = elim s [ true ↦ None | false ↦ elim l [ true ↦ Some (Looped m) | false ↦ Some (Ordered (length order)) ] ]
 
-  pub answer-short : (room : ℕ) → room < n → answer rows live room ≡ Short
+  pub answer-short : (room : ℕ) → room < n → answer rows live room ≡ None
   unfolding answer
   answer-short room h = ap (λ (s : Bool). pick s (leb m n)) (lt-ltb room n h)
 
-  pub answer-order : (room : ℕ) → n ≤ room → n < m → answer rows live room ≡ Ordered (length order)
+  pub answer-order : (room : ℕ) → n ≤ room → n < m → answer rows live room ≡ Some (Ordered (length order))
   unfolding answer
   answer-order room h l = ap (λ (s : Bool). pick s (leb m n)) (le-ltb room n h) ∙ ap (pick false) (lt-leb m n l)
 
-  pub answer-loop : (room : ℕ) → n ≤ room → m ≤ n → answer rows live room ≡ Looped m
+  pub answer-loop : (room : ℕ) → n ≤ room → m ≤ n → answer rows live room ≡ Some (Looped m)
   unfolding answer
   answer-loop room h l = ap (λ (s : Bool). pick s (leb m n)) (le-ltb room n h) ∙ ap (pick false) (le-leb m n l)
 
@@ -69,7 +70,7 @@ module _ (rows : List ℕ) (live : ℕ) where
 -- ---- a call, by the numbers that its code has
 
 -- what the contract says
-abbrev pub Answered : (rows : List ℕ) (live : ℕ) (old new : List ℕ) → Arrangement → Type 0
+abbrev pub Answered : (rows : List ℕ) (live : ℕ) (old new : List ℕ) → Option Arrangement → Type 0
 Answered rows live old new r =
     (r ≡ answer rows live (length old)) × ((new ≡ starting_with (written rows live r) old) × Means rows live r new)
 
@@ -84,7 +85,7 @@ module _ (rows : List ℕ) (live n a m : ℕ) (old : List ℕ) (e-n : n ≡ plac
   m-is : m ≡ loop_length rows (alive rows live) (places rows)
   m-is = e-m ∙ ap₂ (loop_length rows) a-is e-n
 
-  pub short : length old < n → Answered rows live old old Short
+  pub short : length old < n → Answered rows live old old None
   unfolding written
   short h = (sym (answer-short rows live (length old) (omega (arith, e-n))), (refl, tt))
 
@@ -93,13 +94,13 @@ module _ (rows : List ℕ) (live n a m : ℕ) (old : List ℕ) (e-n : n ≡ plac
 
   module _ (fits : live < 2 ^ 64) (room : n ≤ length old) where
     pub ordered : (count : ℕ) (new : List ℕ) → n < m → count ≡ length (order_from rows n n a) → new ≡ starting_with (order_from rows n n a) old
-        → Answered rows live old new (Ordered count)
+        → Answered rows live old new (Some (Ordered count))
     unfolding written
     ordered count new l e w =
         let none : places rows < loop_length rows (alive rows live) (places rows) = omega (arith, e-n, m-is) in
         let size = e ∙ ap₂ (λ (k s : ℕ). length (order_from rows k k s)) e-n a-is in
         let content = w ∙ ap₂ (λ (k s : ℕ). starting_with (order_from rows k k s) old) e-n a-is in (
-          ap Ordered size ∙ sym (answer-order rows live (length old) (omega (arith, e-n)) none),
+          ap (λ (k : ℕ). Some (Ordered k)) size ∙ sym (answer-order rows live (length old) (omega (arith, e-n)) none),
           (
             content,
             subst (Order rows live) (sym (starts_with new _ old count (sym size) content))
@@ -118,7 +119,7 @@ module _ (rows : List ℕ) (live n a m : ℕ) (old : List ℕ) (e-n : n ≡ plac
           omega (arith, e, e-n, found-start rows live (alive rows live) (places rows) (below rows live) (same rows live fits) some)
 
       pub looped : (t : ℕ) (new : List ℕ) → t ≡ loop_start rows a n m → new ≡ starting_with (follow rows a n t m t) old
-          → Answered rows live old new (Looped m)
+          → Answered rows live old new (Some (Looped m))
       unfolding written loop_of
       looped t new e w =
           let content =
@@ -128,7 +129,7 @@ module _ (rows : List ℕ) (live n a m : ℕ) (old : List ℕ) (e-n : n ≡ plac
           (follow-length rows (alive rows live) (places rows) (loop_start rows (alive rows live) (places rows) m) m
           (loop_start rows (alive rows live) (places rows) m)) content
           ∙ ap (loop_of rows (alive rows live) (places rows)) m-is in (
-            ap Looped m-is ∙ sym (answer-loop rows live (length old) (omega (arith, e-n)) some),
+            ap (λ (k : ℕ). Some (Looped k)) m-is ∙ sym (answer-loop rows live (length old) (omega (arith, e-n)) some),
             (
               content,
               subst (Shortest rows live) (sym found)

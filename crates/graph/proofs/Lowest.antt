@@ -6,8 +6,24 @@ use native.Mathlib.Decide.{ℕ_discrete, dec_lt}
 use native.Mathlib.Numerals.{add-one}
 use native.Mathlib.Nat.{le_antisymm}
 use native.Mathlib.Omega.{arith}
-use lib.Dec.{T}
-use Rattle.graph.specs.Search.{lowest_from}
+use borrow.Author.Tests.{lt-leb, le-leb}
+use lib.Dec.{T, leb}
+use Rattle.std.specs.Prelude.{Option, Some, None, MatchOption}
+use Rattle.std.specs.Bool.{then_some}
+use Rattle.std.specs.Option.{unwrap_or}
+use Rattle.graph.specs.Search.{lowest_from, IsBelow}
+
+-- the number that is found, or else the end
+pub or-end : (n k : ℕ) (r : Option ℕ) → IsBelow n k r → k ≤ n → unwrap_or r n ≡ k
+or-end n k None h l = le_antisymm h l
+or-end n k (Some i) h l = h.1
+
+pub then-below : (n k : ℕ) → IsBelow (n + 1) k (then_some (leb k n) k)
+then-below n k = go (dec_lt n k)
+  where
+    go : Dec (n < k) → IsBelow (n + 1) k (then_some (leb k n) k)
+    go (yes l) = subst (λ (b : Bool). IsBelow (n + 1) k (then_some b k)) (sym (lt-leb k n l)) (omega arith)
+    go (no l) = subst (λ (b : Bool). IsBelow (n + 1) k (then_some b k)) (sym (le-leb k n (omega (arith, l)))) (omega (arith, l), refl)
 
 sub-step : (n i : ℕ) → i < n → n - i ≡ suc (n - suc i)
 sub-step n i l = omega arith
@@ -83,10 +99,15 @@ module _ (passes : ℕ → Bool) where
       go (yes s) = absurd (f (lowest_from count i passes) (lowest-least count i) s (lowest-passes count i s))
       go (no s) = omega arith
 
-  -- ---- as a loop goes, from i up to n
+  -- as a search through 0..n finds it
+  pub found-below : (n : ℕ) (r : Option ℕ)
+      → MatchOption r ((k : ℕ) → 0 ≤ k → k < n → passes k ≡ false) (λ i. (0 ≤ i) × (i < n) × (passes i ≡ true) × ((k : ℕ) → 0 ≤ k → k < i → passes k ≡ false))
+      → IsBelow n (lowest_from n 0 passes) r
+  found-below n None h = omega (arith, lowest-end n 0 (λ z g l t. subst T (h z g (omega arith)) t))
+  found-below n (Some i) h =
+      (h.1, sym (lowest-is n 0 i h.0 (omega (arith, h.1)) (subst T (sym h.2) tt) (λ z g l t. subst T (h.3 z g l) t)))
 
-  pub scan-start : (n : ℕ) → lowest_from (n - 0) 0 passes ≡ lowest_from n 0 passes
-  scan-start n = let e : n - 0 ≡ n = omega arith in rw e refl
+  -- ---- as a loop goes, from i up to n
 
   pub scan-here : (n i : ℕ) → i < n → passes i ≡ true → lowest_from (n - i) i passes ≡ i
   scan-here n i l e = rw (sub-step n i l) (lowest-here (n - suc i) i e)

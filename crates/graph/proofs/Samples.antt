@@ -2,12 +2,13 @@
 use Prim.Native.Nat.{ℕ}
 use mathlib.Core.Path.{◌≡◌, refl}
 use mathlib.Core.List.{List, [], ◌∷◌}
+use Rattle.std.specs.Prelude.{Some, None}
 use Rattle.graph.specs.declared.Arrangement.{Arrangement}
-use Rattle.graph.specs.declared.Arrangement.TheVariants.{Short, Ordered, Looped}
+use Rattle.graph.specs.declared.Arrangement.TheVariants.{Ordered, Looped}
 use Rattle.graph.specs.Answer.{answer, written}
 
 abbrev Found : List ℕ → ℕ → Arrangement → List ℕ → Type 0
-Found rows live a xs = (answer rows live 64 ≡ a) × (written rows live a ≡ xs)
+Found rows live a xs = (answer rows live 64 ≡ Some a) × (written rows live (Some a) ≡ xs)
 
 -- nothing at all; and three positions of which none may send
 nothing : Found [] 7 (Ordered 0) []
@@ -49,6 +50,6 @@ unfolding answer written
 lower = (refl, refl)
 
 -- no room
-short : answer (0 ∷ 0 ∷ 0 ∷ []) 7 2 ≡ Short
+short : answer (0 ∷ 0 ∷ 0 ∷ []) 7 2 ≡ None
 unfolding answer
 short = refl

@@ -1,5 +1,5 @@
 -- How the order and the shortest loop are found. The positions are those below n, and `alive` has those of them that are live.
-use Rattle.std.specs.Prelude.{ℕ, zero, suc, ◌/◌, ◌^◌, Bool, true, false, ◌&&◌, List, [], ◌∷◌, eqb, ltb, get_or}
+use Rattle.std.specs.Prelude.{ℕ, zero, suc, ◌/◌, ◌^◌, ◌≤◌, ◌<◌, ◌≡◌, Bool, true, false, ◌&&◌, Option, MatchOption, List, [], ◌∷◌, eqb, ltb, get_or}
 use Rattle.std.specs.Int.Bits.{bit_and}
 use Rattle.permset.specs.Sets.{member, union, difference}
 
@@ -7,6 +7,10 @@ use Rattle.permset.specs.Sets.{member, union, difference}
 unfoldable pub lowest_from : (count i : ℕ) → (ℕ → Bool) → ℕ
 lowest_from zero i passes = i
 lowest_from (suc count) i passes = elim (passes i) [ true ↦ i | false ↦ lowest_from count (suc i) passes ]
+
+-- the number k, if it is below n, and none otherwise
+abbrev pub IsBelow : (n k : ℕ) → Option ℕ → Type 0
+IsBelow n k r = MatchOption r (n ≤ k) (λ i. (i < n) × (i ≡ k))
 
 -- ---- the order
 

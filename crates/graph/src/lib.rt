@@ -8,10 +8,8 @@ mod set;
 ghost use Rattle.std.specs.Prelude.{◌≡◌, length};
 ghost use Rattle.graph.specs.Answer.{answer, written, starting_with, Means};
 
-#[derive(Clone, Copy)]
+#[derive(Clone, Copy, PartialEq, Eq)]
 pub enum Arrangement {
-    // The slice has fewer entries than there are positions.
-    Short,
     // An order, of so many positions.
     Ordered(usize),
     // There is none, but a shortest loop, of so many positions.
@@ -19,21 +17,22 @@ pub enum Arrangement {
 }
 
 // Writes an order of the live positions, or else the first of their shortest loops, from the start of `positions`.
-pub fn arrange(rows: &[u64], live: u64, positions: &mut [u32]) -> Arrangement
+// None: the slice has fewer entries than there are positions.
+pub fn arrange(rows: &[u64], live: u64, positions: &mut [u32]) -> Option<Arrangement>
     ensures value { result ≡ answer rows.now live (length positions.old) }
     ensures positions_after { positions.new ≡ starting_with (written rows.now live result) positions.old }
     ensures means { Means rows.now live result positions.new }
 {
     let n = set::places(rows);
     if positions.len() < n {
-        return Arrangement::Short;
+        return None;
     }
     let alive = set::below(live, n);
-    let m = loops::loop_length(rows, n, alive);
-    if n < m {
-        return Arrangement::Ordered(order::write_order(rows, n, alive, positions));
-    }
+    let Some(m) = loops::loop_length(rows, n, alive) else {
+        let count = order::write_order(rows, n, alive, positions);
+        return Some(Arrangement::Ordered(count));
+    };
     let t = loops::loop_start(rows, n, alive, m);
     loops::write_loop(rows, n, alive, t, m, positions);
-    Arrangement::Looped(m)
+    Some(Arrangement::Looped(m))
 }

@@ -1,6 +1,6 @@
 // The first of the shortest loops.
-ghost use Rattle.std.specs.Prelude.{◌≡◌, ◌-◌, ◌^◌, ◌≤◌, ◌<◌, length};
-ghost use Rattle.graph.specs.Search.{lowest_from, closes, loop_length, loop_start, is_next, lowest_next, follow};
+ghost use Rattle.std.specs.Prelude.{◌≡◌, ◌+◌, ◌-◌, ◌^◌, ◌≤◌, ◌<◌, length};
+ghost use Rattle.graph.specs.Search.{lowest_from, closes, loop_length, loop_start, is_next, lowest_next, follow, IsBelow};
 ghost use Rattle.graph.specs.Search.{senders as Search·senders};
 ghost use Rattle.graph.specs.Search.{reaching as Search·reaching};
 ghost use Rattle.graph.specs.Answer.{starting_with};
@@ -13,10 +13,10 @@ fn senders(rows: &[u64], set: u64) -> u64
     ensures { result ≡ Search·senders rows.now set }
 {
     let mut left = set;
-    let mut found = 0u64;
+    let mut found = 0;
     while left != 0 {
-        let p = u64::trailing_zeros(left) as usize;
-        found = found | rows[p];
+        let p = left.trailing_zeros() as usize;
+        found |= rows[p];
         left = set::without(left, p);
     }
     found
@@ -28,42 +28,38 @@ fn reaching(rows: &[u64], alive: u64, t: usize, m: usize) -> u64
     ensures { result ≡ Search·reaching rows.now alive t m }
 {
     let mut set = set::only(alive, t);
-    let mut i = 0;
-    while i < m {
+    for _ in 0..m {
         set = senders(rows, set) & alive;
-        i += 1;
     }
     set
 }
 
-// In how many messages, from 1 and below the limit, t first reaches itself; the limit where it does not.
+// In how many messages, from 1 and below the limit, t first reaches itself; the limit where it does not. No Option: `loop_length` takes the
+// number as the least so far, either way.
 fn closing(rows: &[u64], alive: u64, t: usize, limit: usize) -> usize
     requires { (t < 64) × (1 ≤ limit) × (alive < 2 ^ length rows.now) }
     ensures { result ≡ lowest_from (limit - 1) 1 (λ m. closes rows.now alive m t) }
 {
     let mut set = set::only(alive, t);
-    let mut m = 1;
-    while m < limit {
+    for m in 1..limit {
         set = senders(rows, set) & alive;
         if set::has(set, t) {
             return m;
         }
-        m += 1;
     }
-    m
+    limit
 }
 
-pub fn loop_length(rows: &[u64], n: usize, alive: u64) -> usize
+// How many positions the shortest loop has.
+pub fn loop_length(rows: &[u64], n: usize, alive: u64) -> Option<usize>
     requires { (n ≤ 64) × (n ≤ length rows.now) × (alive < 2 ^ length rows.now) }
-    ensures { result ≡ loop_length rows.now alive n }
+    ensures { IsBelow (n + 1) (loop_length rows.now alive n) result }
 {
     let mut shortest = n + 1;
-    let mut t = 0;
-    while t < n {
+    for t in 0..n {
         shortest = closing(rows, alive, t, shortest);
-        t += 1;
     }
-    shortest
+    (shortest <= n).then_some(shortest)
 }
 
 fn is_closing(rows: &[u64], alive: u64, m: usize, t: usize) -> bool
@@ -73,18 +69,12 @@ fn is_closing(rows: &[u64], alive: u64, m: usize, t: usize) -> bool
     set::has(reaching(rows, alive, t, m), t)
 }
 
+// The lowest position that reaches itself in m messages, where there is one. No Option: n, where `Search.loop_start` says n, is never used.
 pub fn loop_start(rows: &[u64], n: usize, alive: u64, m: usize) -> usize
     requires { (n ≤ 64) × (n ≤ length rows.now) × (alive < 2 ^ length rows.now) }
     ensures { result ≡ loop_start rows.now alive n m }
 {
-    let mut t = 0;
-    while t < n {
-        if is_closing(rows, alive, m, t) {
-            return t;
-        }
-        t += 1;
-    }
-    n
+    (0..n).find(|&t| is_closing(rows, alive, m, t)).unwrap_or(n)
 }
 
 fn is_next(rows: &[u64], set: u64, x: usize, z: usize) -> bool
@@ -94,18 +84,12 @@ fn is_next(rows: &[u64], set: u64, x: usize, z: usize) -> bool
     set::has(set, z) && set::has(rows[z], x)
 }
 
+// The lowest member of the set that x may send to. No Option: n stands for none in `Search.lowest_next` too, and the walk never comes to it.
 fn lowest_next(rows: &[u64], n: usize, set: u64, x: usize) -> usize
     requires { n ≤ length rows.now }
     ensures { result ≡ lowest_next rows.now n set x }
 {
-    let mut z = 0;
-    while z < n {
-        if is_next(rows, set, x, z) {
-            return z;
-        }
-        z += 1;
-    }
-    n
+    (0..n).find(|&z| is_next(rows, set, x, z)).unwrap_or(n)
 }
 
 pub fn write_loop(rows: &[u64], n: usize, alive: u64, t: usize, m: usize, positions: &mut [u32])
@@ -113,10 +97,8 @@ pub fn write_loop(rows: &[u64], n: usize, alive: u64, t: usize, m: usize, positi
     ensures { positions.new ≡ starting_with (follow rows.now alive n t m t) positions.old }
 {
     let mut x = t;
-    let mut i = 0;
-    while i < m {
+    for i in 0..m {
         positions[i] = x as u32;
-        i += 1;
-        x = lowest_next(rows, n, reaching(rows, alive, t, m - i), x);
+        x = lowest_next(rows, n, reaching(rows, alive, t, m - (i + 1)), x);
     }
 }

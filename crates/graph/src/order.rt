@@ -1,6 +1,6 @@
 // The order: the lowest free position each time.
 ghost use Rattle.std.specs.Prelude.{◌≡◌, ◌≤◌, ◌<◌, length};
-ghost use Rattle.graph.specs.Search.{is_free, lowest_free, order_from};
+ghost use Rattle.graph.specs.Search.{is_free, lowest_free, order_from, IsBelow};
 ghost use Rattle.graph.specs.Answer.{starting_with};
 
 use crate::set;
@@ -12,18 +12,11 @@ fn is_free(rows: &[u64], left: u64, p: usize) -> bool
     set::has(left, p) && rows[p] & left == 0
 }
 
-fn lowest_free(rows: &[u64], n: usize, left: u64) -> usize
+fn lowest_free(rows: &[u64], n: usize, left: u64) -> Option<usize>
     requires { n ≤ length rows.now }
-    ensures { result ≡ lowest_free rows.now n left }
+    ensures { IsBelow n (lowest_free rows.now n left) result }
 {
-    let mut p = 0;
-    while p < n {
-        if is_free(rows, left, p) {
-            return p;
-        }
-        p += 1;
-    }
-    n
+    (0..n).find(|&p| is_free(rows, left, p))
 }
 
 pub fn write_order(rows: &[u64], n: usize, alive: u64, positions: &mut [u32]) -> usize
@@ -32,15 +25,12 @@ pub fn write_order(rows: &[u64], n: usize, alive: u64, positions: &mut [u32]) ->
     ensures positions_after { positions.new ≡ starting_with (order_from rows.now n n alive) positions.old }
 {
     let mut left = alive;
-    let mut count = 0;
-    while count < n {
-        let p = lowest_free(rows, n, left);
-        if n <= p {
+    for count in 0..n {
+        let Some(p) = lowest_free(rows, n, left) else {
             return count;
-        }
+        };
         positions[count] = p as u32;
         left = set::without(left, p);
-        count += 1;
     }
-    count
+    n
 }

@@ -8,7 +8,7 @@ ghost use Rattle.graph.specs.Answer.{places as Answer·places};
 pub fn places(rows: &[u64]) -> usize
     ensures { result ≡ Answer·places rows.now }
 {
-    if rows.len() < 64 { rows.len() } else { 64 }
+    rows.len().min(64)
 }
 
 // The set of i alone.
@@ -30,10 +30,7 @@ pub fn below(set: u64, n: usize) -> u64
 pub fn has(set: u64, i: usize) -> bool
     ensures { result ≡ member set i }
 {
-    if 64 <= i {
-        return false;
-    }
-    (set >> i as u32) % 2 == 1
+    i < 64 && (set >> i as u32) % 2 == 1
 }
 
 // The set without i.

@@ -7,7 +7,7 @@ use mathlib.Core.Logic.{⊎_elim}
 use native.Mathlib.Omega.{arith}
 use borrow.Author.Tests.{eq-eqb, ne_eqb}
 use lib.Dec.{eqb}
-use lib.ListN.{length, get_or, replicate}
+use lib.ListN.{length, replicate}
 use Rattle.table.specs.Words.{kind, argument}
 use Rattle.table.specs.Scan.{Task, head, name, perms, guard, term, accepted, keep, next, scan, names_at, reading}
 use Rattle.table.proofs.Faults.{stands}

@@ -1,6 +1,6 @@
 -- How long numbers, sets and the parts of a line on a handler are at most.
 use Prim.Native.Nat.{ℕ, zero, suc, ◌+◌, ◌-◌, ◌*◌, ◌/◌, ◌%◌, ◌^◌, ◌≤◌, ◌<◌}
-use mathlib.Core.Path.{◌≡◌, refl, sym, ap, ap₂, ◌∙◌}
+use mathlib.Core.Path.{◌≡◌, refl, ap, ap₂}
 use mathlib.Core.Bool.{Bool, true, false, ◌&&◌}
 use mathlib.Core.List.{List, [], ◌∷◌, ◌++◌}
 use native.Mathlib.Nat.{pow-suc, div-lt_iff_lt-mul}
@@ -11,7 +11,7 @@ use Rattle.table.specs.Words.{argument}
 use Rattle.table.proofs.TermWords.{argument-lt}
 use Rattle.text.specs.Text.{bytes, left_out, glyph, numeral, decimal, set}
 use Rattle.text.proofs.Digits.{numeral-none, numeral-stop, numeral-more}
-use Rattle.handler_lines.specs.Parts.{head, tail, line_of, head_at, tail_at}
+use Rattle.handler_lines.specs.Parts.{head, tail, head_at, tail_at}
 
 -- no more digits than places
 places-most : (base optional places n : ℕ) → length (numeral base optional places n) ≤ places

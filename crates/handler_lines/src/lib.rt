@@ -40,7 +40,7 @@ fn set_line(out: &mut [u8; 64], label: &[u8], s: u32) -> usize
     set_field(out, 0, label, s)
 }
 
-// A label and a set, where they have room, and the place after them.
+// A label and a set, where they have room, and the place after them. Not one function with `add_number`: three lines each, and what is written differs.
 pub fn add_set(out: &mut [u8], at: usize, label: &[u8], s: u32) -> usize
     requires { (at ≤ 1000000000) × (length label.now ≤ 40) }
     ensures added { Added out.old at (label.now ++ set s) out.new result }
@@ -51,11 +51,11 @@ pub fn add_set(out: &mut [u8], at: usize, label: &[u8], s: u32) -> usize
     put_room(out, at, &line[..size])
 }
 
-// The word at a place, 0 past the end.
+// The word at a place, 0 past the end: as the specification's `get_or` has it.
 fn word_at(words: &[u32], p: usize) -> u32
     ensures { result ≡ get_or words.now p 0 }
 {
-    if p < words.len() { words[p] } else { 0 }
+    words.get(p).copied().unwrap_or(0)
 }
 
 // Which handler it is that starts at b.

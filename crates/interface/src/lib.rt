@@ -1,8 +1,7 @@
 // What the C interface makes of numbers: an answer as one number, and what is wrong with the bytes of a system before they are read.
 #![tactic(auto)]
 
-ghost use Rattle.std.specs.Prelude.{◌≡◌, ◌+◌, ◌*◌, ◌^◌, ◌<◌};
-ghost use Rattle.calls.specs.Faults.{fault_number, fault_place};
+ghost use Rattle.std.specs.Prelude.{◌≡◌, ◌+◌, ◌*◌, ◌^◌, ◌<◌, MatchOption};
 ghost use Rattle.comparison.specs.Values.{answer_of};
 ghost use Rattle.table.specs.Scan.{first_of};
 ghost use Rattle.interface.specs.Numbers.{answer_number, system_tests};
@@ -12,37 +11,36 @@ use calls::Fault;
 use calls::numbers::{fault_number, fault_place};
 use comparison::Verdict;
 
-// The number that refuses a system of this many bytes before it is read, and 0 where none does.
-pub fn system_fault(size: usize) -> u32
-    ensures { result ≡ first_of (system_tests size) }
+// The number that refuses a system of this many bytes before it is read.
+pub fn system_fault(size: usize) -> Option<u32>
+    ensures { MatchOption result (first_of (system_tests size) ≡ 0) (λ n. (n ≡ first_of (system_tests size)) × (0 < n)) }
 {
     if 1024 < size {
-        return 31;
+        return Some(31);
     }
-    if size % 4 == 0 { 0 } else { 30 }
+    if size % 4 != 0 {
+        return Some(30);
+    }
+    None
 }
 
-fn fault_answer(f: Fault) -> u64
-    requires { fault_place f < 65536 }
-    ensures { result ≡ 2 ^ 32 + fault_number f * 65536 + fault_place f }
+// A refusal as one number.
+pub fn refusal(number: u32, place: usize) -> u64
+    requires { place < 65536 }
+    ensures { result ≡ 2 ^ 32 + number * 65536 + place }
 {
-    4294967296 + fault_number(f) as u64 * 65536 + fault_place(f) as u64
+    4294967296 + number as u64 * 65536 + place as u64
 }
 
 // An answer as one number.
-pub fn answer_number(v: Verdict) -> u64
-    requires { PlaceFits v }
-    ensures { result ≡ answer_number (answer_of v) }
+#[tactic(auto, unfolding(crate::specs::Numbers::answer_number, comparison::specs::Values::answer_of))]
+pub fn answer_number(answer: Result<Verdict, Fault>) -> u64
+    requires { PlaceFits answer }
+    ensures { result ≡ answer_number (answer_of answer) }
 {
-    match v {
-        Verdict::Refused(f) => fault_answer(f),
-        Verdict::Within(report) => {
-            let leak = report.leak;
-            leak.bits as u64
-        }
-        Verdict::Over(report, _) => {
-            let leak = report.leak;
-            leak.bits as u64 + 16777216
-        }
+    match answer {
+        Err(f) => refusal(fault_number(f), fault_place(f)),
+        Ok(Verdict::Within(report)) => report.leak.bits as u64,
+        Ok(Verdict::Over(report, _)) => report.leak.bits as u64 + 16777216,
     }
 }

@@ -3,12 +3,14 @@
 use Prim.Native.Nat.{ℕ, suc, ◌+◌, ◌*◌, ◌%◌, ◌^◌, ◌<◌}
 use native.Mathlib.Omega.{arith}
 use mathlib.Core.Path.{◌≡◌, refl, sym, ap, ap₂, ◌∙◌}
-use mathlib.Core.Bool.{Bool, true, false, ◌&&◌, ◌||◌}
+use mathlib.Core.Bool.{Bool, true, false, not, ◌&&◌, ◌||◌}
 use mathlib.Core.List.{List, [], ◌∷◌}
+use Rattle.std.specs.Prelude.{Option, None, Some, is_some}
+use Rattle.json_text.specs.declared.units.Next.{Next}
 use lib.Dec.{eqb}
 use lib.ListN.{length}
-use borrow.Author.Tests.{eq-eqb, ne_eqb, eqb-true}
-use Rattle.json_text.specs.Units.{matches, contains, spread}
+use borrow.Author.Tests.{eq-eqb, ne_eqb, eqb-true, not-true, not-false}
+use Rattle.json_text.specs.Units.{matches, contains, spread, uncons}
 
 pub shorter : {u : ℕ} {us vs : List ℕ} → us ≡ u ∷ vs → length vs < length us
 shorter {u} {us} {vs} e = let h : length us ≡ suc (length vs) = ap length e in omega arith
@@ -47,6 +49,12 @@ module _ (whole : Bool) (word us : List ℕ) where
     pub other-unit : {u : ℕ} {vs : List ℕ} → us ≡ u ∷ vs → (u ≡ a → ⊥) → matches whole word us ≡ false
     unfolding matches
     other-unit {u} {vs} q n = ap₂ (matches whole) p q ∙ ap (λ (b : Bool). b && matches whole rest vs) (ne_eqb u a n)
+
+-- whether a word that is over is all that is left
+pub all-read : (text : List ℕ) (whole : Bool) (word us : List ℕ) (o : Option Next) (over : Bool) → whole ≡ true → word ≡ [] → us ≡ uncons text o → is_some o ≡ not over
+    → over ≡ matches whole word us
+all-read text whole word us None over w p q e = not-false over (sym e) ∙ sym (word_over whole word us p q)
+all-read text whole word us (Some n) over w p q e = not-true over (sym e) ∙ sym (more-behind whole word us w p q)
 
 module _ (word us : List ℕ) where
   pub contains-here : matches false word us ≡ true → contains word us ≡ true

@@ -1,4 +1,3 @@
-pub mod Characters
 pub mod Choice
 pub mod Compared
 pub mod Enough

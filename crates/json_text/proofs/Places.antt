@@ -43,6 +43,12 @@ there [] (suc at) e h = omega arith
 there (b ∷ t) zero e h = omega arith
 there (b ∷ t) (suc at) e h = let r : at < length t = there t at e h in omega arith
 
+pub read_in : (t : List ℕ) (at : ℕ) → head (drop at t) < 256 → at < length t
+read_in t at h = there t at refl h
+
+-- what a byte that was read says of the place behind it
+pub ruleset reading = (read_in, tail-drop)
+
 pub within-true : (a e b : ℕ) → within a e b ≡ true → (a ≤ b) × (b ≤ e)
 within-true a e b q = by (leb a b) refl
   where

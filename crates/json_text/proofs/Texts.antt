@@ -6,15 +6,13 @@ use native.Mathlib.Decide.{dec_lt}
 use native.Mathlib.Omega.{arith}
 use mathlib.Core.Path.{◌≡◌, sym, ap, ap₂, ◌∙◌}
 use mathlib.Core.Bool.{Bool, true, false}
-use mathlib.Core.List.{List, [], ◌∷◌}
+use mathlib.Core.List.{List, ◌∷◌}
 use lib.Dec.{eqb, leb}
 use lib.ListN.{length, get_or, drop, drop_of_length-le}
 use lib.Seq.{drop-cons}
 use borrow.Author.Tests.{eq-eqb, ne_eqb, le-leb, lt-leb}
-use Rattle.json_text.specs.Bytes.{head, tail, Rest, nothing, rest, then, fails, goes, ends, after, space}
-use Rattle.json_text.specs.Numbers.{number}
-use Rattle.json_text.specs.Strings.{string}
-use Rattle.json_text.specs.Values.{literal, plain, opens, start, closing, mark, name, separated, item, items, first, value, over, is_text}
+use Rattle.json_text.specs.Bytes.{head, tail, Rest, nothing, rest, then, fails, after, space}
+use Rattle.json_text.specs.Values.{literal, plain, opens, start, closing, name, separated, item, items, value, over, is_text}
 use Rattle.json_text.proofs.Places.{tail-drop}
 
 -- ---- a word, byte by byte
@@ -45,90 +43,9 @@ module _ (word text : List ℕ) (i p : ℕ) where
         ap (λ (w : List ℕ). literal w (drop p text)) (drop-cons word i 0 inside)
         ∙ literal-no (get_or word i 0) (drop (suc i) word) (drop p text) (ne_eqb (head (drop p text)) (get_or word i 0) (λ e. n (read ∙ e)))
 
--- ---- what starts a value
-
-module _ (bs : List ℕ) where
-  pub start-false : eqb (head bs) 0x66 ≡ true → start bs ≡ plain (literal (0x61 ∷ 0x6c ∷ 0x73 ∷ 0x65 ∷ []) (tail bs))
-  unfolding start
-  start-false e = rw (e, start)
-
-  module _ (f : eqb (head bs) 0x66 ≡ false) where
-    pub start-null : eqb (head bs) 0x6e ≡ true → start bs ≡ plain (literal (0x75 ∷ 0x6c ∷ 0x6c ∷ []) (tail bs))
-    unfolding start
-    start-null e = rw (f, e, start)
-
-    module _ (n : eqb (head bs) 0x6e ≡ false) where
-      pub start-true : eqb (head bs) 0x74 ≡ true → start bs ≡ plain (literal (0x72 ∷ 0x75 ∷ 0x65 ∷ []) (tail bs))
-      unfolding start
-      start-true e = rw (f, n, e, start)
-
-      module _ (t : eqb (head bs) 0x74 ≡ false) where
-        pub start-object : eqb (head bs) 0x7b ≡ true → start bs ≡ opens true (tail bs)
-        unfolding start
-        start-object e = rw (f, n, t, e, start)
-
-        module _ (o : eqb (head bs) 0x7b ≡ false) where
-          pub start-array : eqb (head bs) 0x5b ≡ true → start bs ≡ opens false (tail bs)
-          unfolding start
-          start-array e = rw (f, n, t, o, e, start)
-
-          module _ (a : eqb (head bs) 0x5b ≡ false) where
-            pub start-string : eqb (head bs) 0x22 ≡ true → start bs ≡ plain (string (tail bs))
-            unfolding start
-            start-string e = rw (f, n, t, o, a, e, start)
-
-            pub start-number : eqb (head bs) 0x22 ≡ false → start bs ≡ plain (number bs)
-            unfolding start
-            start-number e = rw (f, n, t, o, a, e, start)
-
 -- ---- items
 
-module _ (b : ℕ) (bs : List ℕ) where
-  pub mark-yes : eqb (head bs) b ≡ true → mark b bs ≡ rest (space (tail bs))
-  unfolding mark
-  mark-yes e = rw (e, mark)
-
-  pub mark-no : eqb (head bs) b ≡ false → mark b bs ≡ nothing
-  unfolding mark
-  mark-no e = rw (e, mark)
-
 module _ (k : Bool) (bs : List ℕ) where
-  pub name-element : k ≡ false → name k bs ≡ rest bs
-  unfolding name
-  name-element e = rw e
-
-  pub name-none : k ≡ true → eqb (head bs) 0x22 ≡ false → name k bs ≡ nothing
-  unfolding name
-  name-none e q = rw (e, q, name)
-
-  pub name-half : k ≡ true → eqb (head bs) 0x22 ≡ true → string (tail bs) ≡ nothing → name k bs ≡ nothing
-  unfolding name then
-  name-half e q s = rw (e, q, name) (ap (λ (r : Rest). then r (λ cs. mark 0x3a (space cs))) s)
-
-  pub name-whole : k ≡ true → eqb (head bs) 0x22 ≡ true → (cs : List ℕ) → string (tail bs) ≡ rest cs → name k bs ≡ mark 0x3a (space cs)
-  unfolding name then
-  name-whole e q cs s = rw (e, q, name) (ap (λ (r : Rest). then r (λ ds. mark 0x3a (space ds))) s)
-
-  pub separated-comma : eqb (head bs) 0x2c ≡ true → separated k bs ≡ goes [] (space (tail bs))
-  unfolding separated
-  separated-comma e = rw (e, separated)
-
-  pub separated-close : eqb (head bs) 0x2c ≡ false → eqb (head bs) (closing k) ≡ true → separated k bs ≡ ends (tail bs)
-  unfolding separated
-  separated-close n e = rw (n, e, separated)
-
-  pub separated-none : eqb (head bs) 0x2c ≡ false → eqb (head bs) (closing k) ≡ false → separated k bs ≡ fails
-  unfolding separated
-  separated-none n e = rw (n, e, separated)
-
-  pub first-none : eqb (head (space bs)) (closing k) ≡ true → first k bs ≡ nothing
-  unfolding first
-  first-none e = rw (e, first)
-
-  pub first_some : eqb (head (space bs)) (closing k) ≡ false → first k bs ≡ rest (space bs)
-  unfolding first
-  first_some e = rw (e, first)
-
   module _ (f : List ℕ → Rest) where
     pub item-none : name k bs ≡ nothing → item f k bs ≡ fails
     unfolding item then
@@ -173,10 +90,6 @@ module _ (bs : List ℕ) where
 
     pub value-opens : (nest m : ℕ) → nest ≡ suc m → value nest bs ≡ items (value m) k cs
     value-opens nest m z = ap (λ (n : ℕ). value n bs) z ∙ value-suc bs k cs e m
-
-  pub text-none : (nest : ℕ) → value nest (space bs) ≡ nothing → is_text nest bs ≡ false
-  unfolding is_text
-  text-none nest e = rw (e, is_text)
 
   pub text-ends : (nest : ℕ) (cs : List ℕ) → value nest (space bs) ≡ rest cs → is_text nest bs ≡ over (space cs)
   unfolding is_text

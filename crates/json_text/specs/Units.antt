@@ -1,8 +1,8 @@
 -- The units of strings, compared.
-use Rattle.std.specs.Prelude.{ℕ, ◌+◌, ◌*◌, ◌%◌, ◌^◌, Bool, true, false, ◌&&◌, ◌||◌, List, [], ◌∷◌, eqb, drop}
+use Rattle.std.specs.Prelude.{ℕ, ◌+◌, ◌*◌, ◌%◌, ◌^◌, Bool, true, false, ◌&&◌, ◌||◌, List, [], ◌∷◌, eqb, drop, Option, None, Some}
 use Rattle.json_text.specs.Strings.{units}
 use Rattle.json_text.specs.declared.units.Next.{Next}
-use Rattle.json_text.specs.declared.units.Next.TheVariants as next
+use Rattle.json_text.specs.declared.units.Cursor.{Cursor}
 
 -- a word at the start of some units; as the whole of them, or with others behind it
 unfoldable pub matches : (whole : Bool) → List ℕ → List ℕ → Bool
@@ -23,11 +23,14 @@ unfoldable pub spread : ℕ → List ℕ → ℕ
 spread n [] = n
 spread n (u ∷ us) = spread ((n * 31337 + u % 2 ^ 16) % 2 ^ 18) us
 
--- the units from a place on, where the second unit of a pair may be held back
-abbrev pub held : Bool → ℕ → List ℕ → List ℕ
-held false low bs = units bs
-held true low bs = low ∷ units bs
+-- the units from a place on, behind the second unit of a pair that is held back
+abbrev pub held : Option ℕ → List ℕ → List ℕ
+held None bs = units bs
+held (Some low) bs = low ∷ units bs
 
-abbrev pub uncons : List ℕ → Next → List ℕ
-uncons text next.End = []
-uncons text (next.Unit u p h low) = u ∷ held h low (drop p text)
+abbrev pub left : List ℕ → Cursor → List ℕ
+left text c = held c.held (drop c.at text)
+
+abbrev pub uncons : List ℕ → Option Next → List ℕ
+uncons text None = []
+uncons text (Some n) = n.unit ∷ left text n.behind

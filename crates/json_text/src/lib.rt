@@ -7,17 +7,9 @@ mod strings;
 pub mod units;
 pub mod values;
 
-// Where a production ends, if one starts.
-#[derive(Clone, Copy)]
-pub enum Ending {
-    Nowhere,
-    At(usize),
-}
-
 // A character of a string as UTF-16 units, and where it ends; or the quotation mark that ends the string.
 #[derive(Clone, Copy)]
 pub enum Character {
-    Fails,
     One(u32, usize),
     Two(u32, u32, usize),
     Ends(usize),
@@ -26,7 +18,6 @@ pub enum Character {
 // Behind an item of an array or an object: where the next one starts, or where the whole ends.
 #[derive(Clone, Copy)]
 pub enum Item {
-    Fails,
     Goes(usize),
     Ends(usize),
 }

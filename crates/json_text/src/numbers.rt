@@ -3,10 +3,9 @@ ghost use Rattle.std.specs.Prelude.{◌≡◌, drop};
 ghost use Rattle.json_text.specs.Numbers.{digits, some_digits, minus, int, frac, sign, exp, number};
 ghost use Rattle.json_text.specs.Answers.{ended};
 
-use crate::Ending;
 use crate::bytes::{byte, is_either, is_within};
 
-// The place behind the digits at a place.
+// The place behind the digits at a place, as in `space`.
 fn digits(text: &[u8], at: usize) -> usize
     ensures { drop result text.now ≡ digits (drop at text.now) }
 {
@@ -17,42 +16,47 @@ fn digits(text: &[u8], at: usize) -> usize
     p
 }
 
-fn some_digits(text: &[u8], at: usize) -> Ending
+#[tactic(auto, using(crate::proofs::Places::reading), unfolding(crate::specs::Numbers::some_digits))]
+fn some_digits(text: &[u8], at: usize) -> Option<usize>
     ensures { ended text.now result ≡ some_digits (drop at text.now) }
 {
     if is_within(48, 57, byte(text, at)) {
-        Ending::At(digits(text, at + 1))
+        Some(digits(text, at + 1))
     } else {
-        Ending::Nowhere
+        None
     }
 }
 
+#[tactic(auto, using(crate::proofs::Places::reading), unfolding(crate::specs::Numbers::minus))]
 fn minus(text: &[u8], at: usize) -> usize
     ensures { drop result text.now ≡ minus (drop at text.now) }
 {
     if byte(text, at) == 45 { at + 1 } else { at }
 }
 
-fn int(text: &[u8], at: usize) -> Ending
+#[tactic(auto, using(crate::proofs::Places::reading), unfolding(crate::specs::Numbers::int))]
+fn int(text: &[u8], at: usize) -> Option<usize>
     ensures { ended text.now result ≡ int (drop at text.now) }
 {
     if byte(text, at) == 48 {
-        Ending::At(at + 1)
+        Some(at + 1)
     } else {
         some_digits(text, at)
     }
 }
 
-fn frac(text: &[u8], at: usize) -> Ending
+#[tactic(auto, using(crate::proofs::Places::reading), unfolding(crate::specs::Numbers::frac))]
+fn frac(text: &[u8], at: usize) -> Option<usize>
     ensures { ended text.now result ≡ frac (drop at text.now) }
 {
     if byte(text, at) == 46 {
         some_digits(text, at + 1)
     } else {
-        Ending::At(at)
+        Some(at)
     }
 }
 
+#[tactic(auto, using(crate::proofs::Places::reading), unfolding(crate::specs::Numbers::sign))]
 fn sign(text: &[u8], at: usize) -> usize
     ensures { drop result text.now ≡ sign (drop at text.now) }
 {
@@ -63,24 +67,22 @@ fn sign(text: &[u8], at: usize) -> usize
     }
 }
 
-fn exp(text: &[u8], at: usize) -> Ending
+#[tactic(auto, using(crate::proofs::Places::reading), unfolding(crate::specs::Numbers::exp))]
+fn exp(text: &[u8], at: usize) -> Option<usize>
     ensures { ended text.now result ≡ exp (drop at text.now) }
 {
     if is_either(101, 69, byte(text, at)) {
         some_digits(text, sign(text, at + 1))
     } else {
-        Ending::At(at)
+        Some(at)
     }
 }
 
-pub fn number(text: &[u8], at: usize) -> Ending
+#[tactic(auto, using(crate::proofs::Places::reading), unfolding(crate::specs::Numbers::number, crate::specs::Bytes::then))]
+pub fn number(text: &[u8], at: usize) -> Option<usize>
     ensures { ended text.now result ≡ number (drop at text.now) }
 {
-    let Ending::At(p) = int(text, minus(text, at)) else {
-        return Ending::Nowhere;
-    };
-    let Ending::At(q) = frac(text, p) else {
-        return Ending::Nowhere;
-    };
+    let p = int(text, minus(text, at))?;
+    let q = frac(text, p)?;
     exp(text, q)
 }

@@ -6,8 +6,7 @@ use Rattle.calculus.specs.Answer.{refused, work_words}
 use Rattle.verdict.specs.Limits.{answer_under}
 use Rattle.printout.specs.Program.{answer_text, unless_wide}
 use Rattle.listing.specs.Listing.{words_of, read_as}
-use Rattle.commands.specs.declared.arguments.Value.{Value}
-use Rattle.commands.specs.declared.arguments.Value.TheVariants.{Number, Other}
+use Rattle.std.specs.Prelude.{Option, Some, None}
 use Rattle.commands.specs.Arguments.{value_of}
 use Rattle.commands.specs.Meanings.{help}
 use Rattle.commands.specs.Printed as printed
@@ -24,8 +23,8 @@ unfolding system_leak printed.answer_text
 listing_leak ρ bound n input = printed.answer_text (read_as input 1024) (system_leak ρ bound n (words_of input))
 
 -- a number in a base, which may be left out
-unfoldable pub value_or : (base default : ℕ) → List ℕ → Value
-value_or base default [] = Number default
+unfoldable pub value_or : (base default : ℕ) → List ℕ → Option ℕ
+value_or base default [] = Some default
 value_or base default (b ∷ bs) = value_of base (b ∷ bs)
 
 -- a ceiling that refuses nothing
@@ -33,11 +32,11 @@ abbrev pub unlimited : ℕ
 unlimited = 2 ^ 32 - 1
 
 -- the text for a number, or the help
-unfoldable pub given : Value → (ℕ → List ℕ) → List ℕ
-given (Number n) text = text n
-given Other text = help
+unfoldable pub given : Option ℕ → (ℕ → List ℕ) → List ℕ
+given (Some n) text = text n
+given None text = help
 
-unfoldable pub values_text : (rho bound ceiling : Value) (input : List ℕ) → List ℕ
+unfoldable pub values_text : (rho bound ceiling : Option ℕ) (input : List ℕ) → List ℕ
 unfolding given listing_leak
 values_text rho bound ceiling input = given rho (λ ρ. given bound (λ b. given ceiling (λ n. listing_leak ρ b n input)))
 

@@ -9,9 +9,8 @@ ghost use Rattle.commands.specs.Printed.{printed_size, out_after};
 ghost use Rattle.leaks.specs.Leak.{listing_leak, value_or, values_text, leak_text};
 
 use crate::systems::system_leak;
-use commands::arguments::{Value, value_of};
+use commands::arguments::value_of;
 use commands::help;
-use listing::Answer;
 use listing::numbers::{refusal_number, refusal_place};
 use listing::read::read;
 use report::refusal_line;
@@ -23,37 +22,45 @@ fn listing_leak(rho: u32, bound: u32, ceiling: u32, input: &[u8], out: &mut [u8]
 {
     let mut words = [0u32; 1024];
     match read(input, &mut words) {
-        Answer::Done(n) => system_leak(&words[..n], rho, bound, ceiling, out),
-        Answer::Refused(r) => refusal_line(out, 0, refusal_number(r), refusal_place(r)),
+        Ok(n) => system_leak(&words[..n], rho, bound, ceiling, out),
+        Err(r) => refusal_line(out, 0, refusal_number(r), refusal_place(r)),
     }
 }
 
 // A number in a base, which may be left out.
-fn value_or(digits: &[u8], base: u32, default: u32) -> Value
+#[tactic(auto, unfolding(crate::specs::Leak::value_or))]
+fn value_or(digits: &[u8], base: u32, default: u32) -> Option<u32>
     requires { base ≤ 16 }
     ensures { result ≡ value_or base default digits.now }
 {
     if digits.len() == 0 {
-        return Value::Number(default);
+        return Some(default);
     }
     value_of(digits, base)
 }
 
 // The text for three numbers, or the help.
-fn values_text(rho: Value, bound: Value, ceiling: Value, input: &[u8], out: &mut [u8]) -> usize
+#[tactic(auto, unfolding(crate::specs::Leak::values_text, crate::specs::Leak::given))]
+fn values_text(
+    rho: Option<u32>,
+    bound: Option<u32>,
+    ceiling: Option<u32>,
+    input: &[u8],
+    out: &mut [u8],
+) -> usize
     requires { 4096 ≤ length out.old }
     ensures { Wrote out.old 0 (values_text rho bound ceiling input.now) out.new result }
 {
-    match rho {
-        Value::Number(p) => match bound {
-            Value::Number(b) => match ceiling {
-                Value::Number(n) => listing_leak(p, b, n, input, out),
-                Value::Other => help(out),
-            },
-            Value::Other => help(out),
-        },
-        Value::Other => help(out),
-    }
+    let Some(rho) = rho else {
+        return help(out);
+    };
+    let Some(bound) = bound else {
+        return help(out);
+    };
+    let Some(ceiling) = ceiling else {
+        return help(out);
+    };
+    listing_leak(rho, bound, ceiling, input, out)
 }
 
 fn leak_text(rho: &[u8], bound: &[u8], ceiling: &[u8], input: &[u8], out: &mut [u8]) -> usize

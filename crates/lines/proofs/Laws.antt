@@ -1,20 +1,20 @@
 -- Laws of lines: where they start and stop, and the words of the first ones.
-use Prim.Native.Nat.{ℕ, zero, suc, ◌+◌, ◌-◌, ◌<◌, ◌≤◌}
+use Prim.Native.Nat.{ℕ, zero, suc, ◌+◌, ◌-◌, ◌<◌, ◌≤◌, min}
 use mathlib.Core.Path.{◌≡◌, refl, sym, ap, ◌∙◌, subst}
-use mathlib.Core.Bool.{Bool, true, false}
+use mathlib.Core.Bool.{Bool, true, false, not, cond}
+use Rattle.std.specs.Prelude.{Some, None}
+use Rattle.std.specs.List.{position, position_or_len}
 use mathlib.Core.List.{List, [], ◌∷◌, ◌++◌, map}
-use native.Mathlib.Numerals.{add-one}
 use native.Mathlib.Omega.{arith}
-use borrow.Author.Tests.{eq-eqb, ne_eqb}
 use lib.Dec.{eqb}
-use lib.ListN.{length, get_or, take, drop, set, length-drop, drop_of_length-le}
-use lib.Seq.{take-add, drop-drop, drop-cons}
+use lib.ListN.{length, take, drop, set, length-drop, drop_of_length-le}
+use lib.Seq.{take-add, drop-drop}
 use Rattle.text.specs.Writing.{Wrote}
 use Rattle.text.proofs.Writing.{reworded, then, wrote-byte}
 use Rattle.listing.specs.Spelling.{feed}
 use Rattle.listing.specs.Listing.{cut, word_in, words_of}
 use Rattle.listing.specs.Decoding.{line_size}
-use Rattle.listing.proofs.Cutting.{rest_lines, cut-none}
+use Rattle.listing.proofs.Cutting.{feed-found, feed-none, rest_lines, cut-none}
 use Rattle.lines.specs.Lines.{from_line, bare, bare_line, Starts, Stops}
 
 pub from_next : (text : List ℕ) (at left : ℕ) → 0 < left
@@ -27,18 +27,21 @@ from_next text at (suc m) h =
 
 -- ---- the bytes before a line feed
 
-module _ (l : List ℕ) (i : ℕ) where
-  pub bare-end : length l ≤ i → bare (drop i l) ≡ []
-  unfolding bare
-  bare-end h = rw (drop_of_length-le l h, bare)
+bare-by : (l : List ℕ) → length (bare l) ≡ min (position_or_len (λ b. eqb b 10) l) (length l)
+unfolding bare
+bare-by [] = refl
+bare-by (b ∷ bs) = go (eqb b 10) (bare-by bs)
+  where
+    go : (t : Bool) → length (bare bs) ≡ min (position_or_len (λ b. eqb b 10) bs) (length bs)
+        → length {A = ℕ} (elim t [ true ↦ [] | false ↦ b ∷ bare bs ]) ≡ min (cond (not t) (1 + position_or_len (λ b. eqb b 10) bs) 0) (suc (length bs))
+    go true h = omega arith
+    go false h = omega arith
 
-  pub bare-feed : i < length l → get_or l i 0 ≡ feed → bare (drop i l) ≡ []
-  unfolding bare
-  bare-feed h e = rw (drop-cons l i 0 h, bare, eq-eqb (get_or l i 0) feed e)
+pub bare-found : (l : List ℕ) (i : ℕ) → position (λ b. eqb b 10) l ≡ Some i → (length (bare l) ≡ i) × (i < length l)
+bare-found l i e = let f = feed-found l i e in (omega (arith, bare-by l, f.0, f.1), f.1)
 
-  pub bare-more : i < length l → (get_or l i 0 ≡ feed → ⊥) → bare (drop i l) ≡ get_or l i 0 ∷ bare (drop (i + 1) l)
-  unfolding bare
-  bare-more h n = rw (add-one, drop-cons l i 0 h, bare, ne_eqb (get_or l i 0) feed n)
+pub bare-none : (l : List ℕ) → position (λ b. eqb b 10) l ≡ None → length (bare l) ≡ length l
+bare-none l e = omega (arith, bare-by l, feed-none l e)
 
 bare-taken : (l : List ℕ) → take (length (bare l)) l ≡ bare l
 unfolding bare

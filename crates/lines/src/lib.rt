@@ -6,17 +6,15 @@ ghost use Rattle.text.specs.Writing.{Wrote};
 ghost use Rattle.listing.specs.Listing.{words_of};
 ghost use Rattle.lines.specs.Lines.{Starts, Stops};
 
-use listing::read::{line_end, word_of_line};
+use listing::read::{first_feed, line_end, word_of_line};
 
 // The place where line k starts.
 pub fn line_start(text: &[u8], k: usize) -> usize
     ensures { Starts text.now k result }
 {
     let mut at = 0;
-    let mut left = k;
-    while 0 < left {
+    for _ in 0..k {
         at = line_end(text, at);
-        left -= 1;
     }
     at
 }
@@ -26,14 +24,10 @@ pub fn line_stop(text: &[u8], start: usize) -> usize
     requires { start ≤ length text.now }
     ensures { Stops text.now start result }
 {
-    let mut i = start;
-    while i < text.len() {
-        if text[i] == 10 {
-            return i;
-        }
-        i += 1;
+    match first_feed(&text[start..]) {
+        Some(i) => start + i,
+        None => text.len(),
     }
-    i
 }
 
 // The words of the first lines, as many as there is room for; 0 for a line that spells none.
@@ -41,15 +35,13 @@ pub fn line_words(text: &[u8], words: &mut [u32]) -> usize
     ensures { Wrote words.old 0 (take (length words.old) (words_of text.now)) words.new result }
 {
     let mut at = 0;
-    let mut n = 0;
-    while n < words.len() {
+    for (n, word) in words.iter_mut().enumerate() {
         if text.len() <= at {
             return n;
         }
         let end = line_end(text, at);
-        words[n] = word_of_line(&text[at..end]);
+        *word = word_of_line(&text[at..end]).unwrap_or(0);
         at = end;
-        n += 1;
     }
-    n
+    words.len()
 }

@@ -27,17 +27,15 @@ fn line(out: &mut impl Write, words: &[u32], links: &[u32], p: usize) -> io::Res
     text(out, b" ")?;
     let i = item_at(words, p);
     item(out, i)?;
-    if let Item::Term(_) = i {
+    if matches!(i, Item::Term(_)) {
         link(out, link_at(links, p))?;
     }
     end(out)
 }
 
 fn lines(out: &mut impl Write, words: &[u32], links: &[u32]) -> io::Result<()> {
-    let mut p = 0;
-    while p < words.len() {
+    for p in 0..words.len() {
         line(out, words, links, p)?;
-        p += 1;
     }
     Ok(())
 }
@@ -54,7 +52,7 @@ fn rest(out: &mut impl Write, words: &[u32], links: &[u32]) -> io::Result<()> {
 
 // The links of a table of at most 32 words.
 fn of(out: &mut impl Write, label: &[u8], words: &[u32]) -> io::Result<()> {
-    let mut links = [4294967295u32; 32];
+    let mut links = [u32::MAX; 32];
     table_links::link(words, &mut links);
     text(out, label)?;
     end(out)?;
@@ -64,7 +62,7 @@ fn of(out: &mut impl Write, label: &[u8], words: &[u32]) -> io::Result<()> {
 
 // A slice that is too short.
 fn short(out: &mut impl Write) -> io::Result<()> {
-    let mut links = [4294967295u32; 10];
+    let mut links = [u32::MAX; 10];
     table_links::link(&RELAY, &mut links);
     hex(
         out,

@@ -1,15 +1,14 @@
 -- The answers of writer and reader, case by case.
 use Prim.Native.Nat.{ℕ, zero, suc, ◌+◌, ◌*◌, ◌<◌, ◌≤◌}
-use mathlib.Core.Path.{◌≡◌, refl, sym, ap, ap₂, ◌∙◌}
-use mathlib.Core.Logic.{inl}
+use mathlib.Core.Path.{◌≡◌, refl, sym, ap, ◌∙◌}
+use mathlib.Core.Logic.{◌⊎◌, inl, inr}
 use mathlib.Core.Bool.{Bool, true, false, not, ◌||◌, false≢true}
 use mathlib.Core.List.{List, [], ◌∷◌}
 use native.Mathlib.Decide.{ℕ_discrete}
 use native.Mathlib.Numerals.{add-one}
 use native.Mathlib.Omega.{arith}
 use lib.Dec.{eqb, ltb}
-use lib.ListN.{length, get_or, drop, drop_of_length-le}
-use lib.Seq.{drop-cons}
+use lib.ListN.{length, get_or}
 use borrow.Author.Tests.{lt-ltb, le-ltb, eq-eqb, ne_eqb}
 use Rattle.table.specs.Words.{kind, argument, names_of}
 use Rattle.table.specs.Scan.{head, accepted, refused, first_of, tests, fault, reading, narrow_reading}
@@ -62,33 +61,21 @@ module _ (ws : List ℕ) (room : ℕ) where
 
 -- ---- the reader
 
-misplaced-next : (n d i : ℕ) (ds is : List ℕ) → i ≡ 2 * d → misplaced n (d ∷ ds) (i ∷ is) ≡ misplaced (suc n) ds is
+module _ (n d i : ℕ) (ds is : List ℕ) where
+  pub misplaced-here : (i ≡ 2 * d → ⊥) → misplaced n (d ∷ ds) (i ∷ is) ≡ n
+  unfolding misplaced
+  misplaced-here e = rw (ne_eqb i (2 * d) e, misplaced)
+
+  pub misplaced-next : i ≡ 2 * d → misplaced n (d ∷ ds) (i ∷ is) ≡ misplaced (n + 1) ds is
+  unfolding misplaced
+  misplaced-next e = rw (eq-eqb i (2 * d) e, misplaced, add-one)
+
+pub misplaced-end : (n : ℕ) (ds is : List ℕ) → (length ds ≡ 0) ⊎ (length is ≡ 0) → misplaced n ds is ≡ 0
 unfolding misplaced
-misplaced-next n d i ds is e = rw (eq-eqb i (2 * d) e, misplaced)
-
--- from line i + 1 on
-abbrev pub misplaced_from : List ℕ → List ℕ → ℕ → ℕ
-misplaced_from ds is k = misplaced (k + 1) (drop k ds) (drop k is)
-
-module _ (ds is : List ℕ) (i : ℕ) where
-  pub placed_end : length ds ≤ i → misplaced_from ds is i ≡ 0
-  unfolding misplaced
-  placed_end h = rw (drop_of_length-le ds h)
-
-  pub placed-short : i < length ds → length is ≤ i → misplaced_from ds is i ≡ 0
-  unfolding misplaced
-  placed-short h k = rw (drop_of_length-le is k, drop-cons ds i 0)
-
-  pub placed-other : i < length ds → i < length is → (get_or is i 0 ≡ 2 * get_or ds i 0 → ⊥) → misplaced_from ds is i ≡ i + 1
-  unfolding misplaced
-  placed-other h k n = rw (drop-cons ds i 0, drop-cons is i 0, ne_eqb (get_or is i 0) (2 * get_or ds i 0) n, misplaced)
-
-  pub placed-more : i < length ds → i < length is → get_or is i 0 ≡ 2 * get_or ds i 0 → misplaced_from ds is i ≡ misplaced_from ds is (i + 1)
-  placed-more h k e =
-      ap₂ (misplaced (i + 1)) (drop-cons ds i 0 h) (drop-cons is i 0 k)
-      ∙ misplaced-next (i + 1) (get_or ds i 0) (get_or is i 0) (drop (suc i) ds) (drop (suc i) is) e
-      ∙ ap (λ (m : ℕ). misplaced m (drop (suc i) ds) (drop (suc i) is)) (sym (add-one (i + 1)))
-      ∙ ap (λ (m : ℕ). misplaced (i + 1 + 1) (drop m ds) (drop m is)) (sym (add-one i))
+misplaced-end n [] is h = refl
+misplaced-end n (d ∷ ds) [] h = refl
+misplaced-end n (d ∷ ds) (i ∷ is) (inl e) = absurd (omega arith)
+misplaced-end n (d ∷ ds) (i ∷ is) (inr e) = absurd (omega arith)
 
 module _ (ws is : List ℕ) (room : ℕ) where
   pub table-refused : (n p : ℕ) → narrow_reading ws ≡ refused n p → tabled ws is room ≡ refusal n p

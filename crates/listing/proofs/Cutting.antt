@@ -1,46 +1,73 @@
 -- A text cut into lines, one line after the other.
-use Prim.Native.Nat.{ℕ, zero, suc, ◌+◌, ◌-◌, ◌<◌, ◌≤◌}
+use Prim.Native.Nat.{ℕ, zero, suc, ◌+◌, ◌-◌, ◌<◌, ◌≤◌, min}
 use mathlib.Core.Path.{◌≡◌, refl, sym, ap, ◌∙◌}
-use mathlib.Core.Bool.{Bool, true, false}
+use mathlib.Core.Bool.{Bool, true, false, not, cond}
 use mathlib.Core.List.{List, [], ◌∷◌, map}
 use native.Mathlib.Nat.{add-zero}
 use native.Mathlib.Numerals.{add-one}
 use native.Mathlib.Omega.{arith}
-use lib.Dec.{eqb}
+use lib.Dec.{eqb, ltb}
 use lib.ListN.{length, get_or, take, drop, set, length-drop, length-map, drop_of_length-le}
-use lib.Seq.{take_all, drop-cons, drop-drop, get_or-drop, get_or-take}
-use borrow.Author.Tests.{eq-eqb, ne_eqb}
+use lib.Seq.{take_all, drop-drop, get_or-drop, get_or-take}
+use borrow.Author.Tests.{ltb-true, ltb-false}
+use Rattle.std.specs.Prelude.{Option, None, Some}
+use Rattle.std.specs.List.{position, position_or_len, prefix_len, take_while}
+use Rattle.std.proofs.lemmas.List.Folds.{length-prefix_len}
 use Rattle.listing.specs.Spelling.{feed}
 use Rattle.listing.specs.Listing.{onto, cut, indent, word_in, words_of, indents, misspelled}
 use Rattle.listing.specs.Decoding.{line_size, Taken}
 use Rattle.listing.proofs.Taken.{taken_more}
 
--- ---- the end of a line and its leading spaces, byte by byte
+-- ---- the end of a line and its leading spaces, as the library finds them
 
-module _ (l : List ℕ) (i : ℕ) where
-  pub size-end : length l ≤ i → line_size (drop i l) ≡ 0
-  unfolding line_size
-  size-end h = rw (drop_of_length-le l h)
+size-by : (l : List ℕ) → line_size l ≡ min (position_or_len (λ b. eqb b 10) l + 1) (length l)
+unfolding line_size
+size-by [] = refl
+size-by (b ∷ bs) = go (eqb b 10) (size-by bs)
+  where
+    go : (t : Bool) → line_size bs ≡ min (position_or_len (λ b. eqb b 10) bs + 1) (length bs)
+        → elim t [ true ↦ 1 | false ↦ suc (line_size bs) ] ≡ min (cond (not t) (1 + position_or_len (λ b. eqb b 10) bs) 0 + 1) (suc (length bs))
+    go true h = omega arith
+    go false h = omega arith
 
-  pub size-feed : i < length l → get_or l i 0 ≡ 10 → line_size (drop i l) ≡ 1
-  unfolding line_size
-  size-feed h e = rw (drop-cons l i 0, eq-eqb (get_or l i 0) 10 e, line_size)
+-- where the first line feed stands
+module _ (l : List ℕ) where
+  pub feed-found : (i : ℕ) → position (λ b. eqb b 10) l ≡ Some i → (position_or_len (λ b. eqb b 10) l ≡ i) × (i < length l)
+  feed-found i e = go (ltb (position_or_len (λ b. eqb b 10) l) (length l)) refl e
+    where
+      go : (t : Bool) → ltb (position_or_len (λ b. eqb b 10) l) (length l) ≡ t → ◌≡◌ {A = Option ℕ} (cond t (Some (position_or_len (λ b. eqb b 10) l)) None) (Some i)
+          → (position_or_len (λ b. eqb b 10) l ≡ i) × (i < length l)
+      go true t f =
+          let same : position_or_len (λ b. eqb b 10) l ≡ i = cc in
+          (same, omega (arith, ltb-true _ _ t))
+      go false t f = absurd (let o : ⊥ = cc in o)
 
-  pub size-more : i < length l → (get_or l i 0 ≡ 10 → ⊥) → line_size (drop i l) ≡ suc (line_size (drop (i + 1) l))
-  unfolding line_size
-  size-more h n = rw (add-one, drop-cons l i 0, ne_eqb (get_or l i 0) 10 n, line_size)
+  pub feed-none : position (λ b. eqb b 10) l ≡ None → length l ≤ position_or_len (λ b. eqb b 10) l
+  feed-none e = go (ltb (position_or_len (λ b. eqb b 10) l) (length l)) refl e
+    where
+      go : (t : Bool) → ltb (position_or_len (λ b. eqb b 10) l) (length l) ≡ t → ◌≡◌ {A = Option ℕ} (cond t (Some (position_or_len (λ b. eqb b 10) l)) None) None
+          → length l ≤ position_or_len (λ b. eqb b 10) l
+      go true t f = absurd (let o : ⊥ = cc in o)
+      go false t f = omega (arith, ltb-false _ _ t)
 
-  pub indent-end : length l ≤ i → indent (drop i l) ≡ 0
-  unfolding indent
-  indent-end h = rw (drop_of_length-le l h)
+-- it ends the first line
+pub size-found : (l : List ℕ) (i : ℕ) → position (λ b. eqb b 10) l ≡ Some i → (line_size l ≡ i + 1) × (i < length l)
+size-found l i e = let f = feed-found l i e in (omega (arith, size-by l, f.0, f.1), f.1)
 
-  pub indent-other : i < length l → (get_or l i 0 ≡ 32 → ⊥) → indent (drop i l) ≡ 0
-  unfolding indent
-  indent-other h n = rw (drop-cons l i 0, ne_eqb (get_or l i 0) 32 n, indent)
+pub size-none : (l : List ℕ) → position (λ b. eqb b 10) l ≡ None → line_size l ≡ length l
+size-none l e = omega (arith, size-by l, feed-none l e)
 
-  pub indent-more : i < length l → get_or l i 0 ≡ 32 → indent (drop i l) ≡ suc (indent (drop (i + 1) l))
-  unfolding indent
-  indent-more h e = rw (add-one, drop-cons l i 0, eq-eqb (get_or l i 0) 32 e, indent)
+pub indent-spaces : (l : List ℕ) → length (take_while (λ b. eqb b 32) l) ≡ indent l
+unfolding indent
+indent-spaces l = length-prefix_len (λ b. eqb b 32) l ∙ go l
+  where
+    step : (t : Bool) (n m : ℕ) → n ≡ m → cond t (1 + n) 0 ≡ elim t [ true ↦ suc m | false ↦ 0 ]
+    step true n m e = omega arith
+    step false n m e = refl
+
+    go : (l : List ℕ) → prefix_len (λ b. eqb b 32) l ≡ indent l
+    go [] = refl
+    go (b ∷ bs) = step (eqb b 32) _ _ (go bs)
 
 -- ---- the first line
 

@@ -5,32 +5,31 @@ use mathlib.Core.Bool.{Bool, true, false, not, ◌&&◌, false≢true}
 use mathlib.Core.List.{List, [], ◌∷◌}
 use native.Mathlib.Numerals.{add-one}
 use native.Mathlib.Omega.{arith}
-use lib.Dec.{eqb, eqb-zero-suc, eqb-suc-suc}
+use lib.Dec.{eqb}
+use lib.Pointwise.{pointwise}
 use lib.ListN.{length, get_or, drop, drop_of_length-le, get_or-eq_default}
 use lib.Seq.{drop-cons, drop-drop, get_or-drop}
 use borrow.Author.Tests.{eq-eqb, ne_eqb, eqb-true}
-use Rattle.listing.specs.Keywords.{hex, whole, signed, Entry, unused, entries, entry_of, used}
+use Rattle.std.specs.List.{starts_with}
+use Rattle.listing.specs.declared.keywords.Style.TheVariants.{Hex, Whole, Signed}
+use Rattle.listing.specs.Keywords.{Entry, unused, entries, entry_of, used}
 use Rattle.listing.specs.Spelling.{prefix, kind_from, guessed_kind, digit_of, folded, guessed_argument, guessed, same, spelled, spells, line_word}
 
--- ---- prefixes
+-- ---- how the library compares
 
-module _ (word l : List ℕ) (i : ℕ) where
-  pub prefix-done : length word ≤ i → prefix (drop i word) (drop i l) ≡ true
-  unfolding prefix
-  prefix-done h = rw (drop_of_length-le word h)
+pub prefix-starts : (word l : List ℕ) → starts_with eqb l word ≡ prefix word l
+unfolding prefix
+prefix-starts [] [] = refl
+prefix-starts [] (b ∷ bs) = refl
+prefix-starts (a ∷ xs) [] = refl
+prefix-starts (a ∷ xs) (b ∷ bs) = ap (λ (t : Bool). eqb a b && t) (prefix-starts xs bs)
 
-  pub prefix-short : i < length word → length l ≤ i → prefix (drop i word) (drop i l) ≡ false
-  unfolding prefix
-  prefix-short h k = rw (drop_of_length-le l k, drop-cons word i 0)
-
-  pub prefix-other : i < length word → i < length l → (get_or word i 0 ≡ get_or l i 0 → ⊥) → prefix (drop i word) (drop i l) ≡ false
-  unfolding prefix
-  prefix-other h k n = rw (drop-cons word i 0, drop-cons l i 0, ne_eqb (get_or word i 0) (get_or l i 0) n)
-
-  pub prefix-more : i < length word → i < length l → get_or word i 0 ≡ get_or l i 0
-      → prefix (drop i word) (drop i l) ≡ prefix (drop (i + 1) word) (drop (i + 1) l)
-  unfolding prefix
-  prefix-more h k e = rw (add-one, drop-cons word i 0, drop-cons l i 0, eq-eqb (get_or word i 0) (get_or l i 0) e)
+pub same-equal : (xs l : List ℕ) → pointwise eqb xs l ≡ same xs l
+unfolding same
+same-equal [] [] = refl
+same-equal [] (b ∷ bs) = refl
+same-equal (a ∷ xs) [] = refl
+same-equal (a ∷ xs) (b ∷ bs) = ap (λ (t : Bool). eqb a b && t) (same-equal xs bs)
 
 -- ---- digits
 
@@ -99,6 +98,12 @@ module _ (k : ℕ) (l : List ℕ) where
   unfolding used
   used-yes n = ap (λ (b : Bool). not b && prefix (entry_of k).keyword l) (sym (ne_eqb (length (entry_of k).keyword) 0 n))
 
+-- number 0 is no kind, so no line starts with its keyword
+pub unused-first : (k : ℕ) (l : List ℕ) → used (entry_of k) && prefix (entry_of k).keyword l ≡ true → k ≡ 0 → ⊥
+unfolding entry_of entries used
+unused-first zero l e z = false≢true e
+unused-first (suc k) l e z = omega arith
+
 pub kind-start : (l : List ℕ) → guessed_kind l ≡ kind_from 0 (drop 0 entries) l
 unfolding guessed_kind
 kind-start l = refl
@@ -106,20 +111,20 @@ kind-start l = refl
 -- ---- arguments
 
 module _ (l : List ℕ) (at : ℕ) where
-  pub argument-hex : folded 16 0 (drop (at + 1) l) ≡ guessed_argument hex (drop at l)
+  pub argument-hex : folded 16 0 (drop (at + 1) l) ≡ guessed_argument Hex (drop at l)
   unfolding guessed_argument
   argument-hex = ap (folded 16 0) (sym (drop-drop 1 at l))
 
-  pub argument-whole : folded 10 0 (drop (at + 1) l) ≡ guessed_argument whole (drop at l)
+  pub argument-whole : folded 10 0 (drop (at + 1) l) ≡ guessed_argument Whole (drop at l)
   unfolding guessed_argument
   argument-whole = ap (folded 10 0) (sym (drop-drop 1 at l))
 
-  pub argument-minus : get_or l (at + 1) 0 ≡ 45 → (2 ^ 24 - folded 10 0 (drop (at + 2) l)) % 2 ^ 24 ≡ guessed_argument signed (drop at l)
+  pub argument-minus : get_or l (at + 1) 0 ≡ 45 → (2 ^ 24 - folded 10 0 (drop (at + 2) l)) % 2 ^ 24 ≡ guessed_argument Signed (drop at l)
   unfolding guessed_argument
   argument-minus e =
       rw (get_or-drop at l 1 0, eq-eqb (get_or l (at + 1) 0) 45 e, guessed_argument) (ap (λ (m : List ℕ). (2 ^ 24 - folded 10 0 m) % 2 ^ 24) (sym (drop-drop 2 at l)))
 
-  pub argument-plus : (get_or l (at + 1) 0 ≡ 45 → ⊥) → folded 10 0 (drop (at + 1) l) ≡ guessed_argument signed (drop at l)
+  pub argument-plus : (get_or l (at + 1) 0 ≡ 45 → ⊥) → folded 10 0 (drop (at + 1) l) ≡ guessed_argument Signed (drop at l)
   unfolding guessed_argument
   argument-plus n = rw (get_or-drop at l 1 0, ne_eqb (get_or l (at + 1) 0) 45 n, guessed_argument) (ap (folded 10 0) (sym (drop-drop 1 at l)))
 
@@ -133,22 +138,6 @@ guessed-as l k a n e f =
     ap (λ (x : ℕ). k * 2 ^ 24 + x) (f ∙ ap (λ (m : ℕ). guessed_argument (entry_of k).style (drop m l)) e)
 
 -- ---- the comparison
-
-and_no : (b : Bool) → b && false ≡ false
-and_no true = refl
-and_no false = refl
-
-same-prefix : (xs l : List ℕ) → same xs l ≡ prefix xs l && eqb (length xs) (length l)
-unfolding same prefix
-same-prefix [] [] = refl
-same-prefix [] (b ∷ bs) = sym (eqb-zero-suc (length bs))
-same-prefix (a ∷ xs) [] = refl
-same-prefix (a ∷ xs) (b ∷ bs) = go (eqb a b) (same-prefix xs bs)
-  where
-    go : (t : Bool) → same xs bs ≡ prefix xs bs && eqb (length xs) (length bs)
-        → t && same xs bs ≡ (t && prefix xs bs) && eqb (suc (length xs)) (suc (length bs))
-    go true e = e ∙ ap (λ (q : Bool). prefix xs bs && q) (sym (eqb-suc-suc (length xs) (length bs)))
-    go false e = refl
 
 judged : Bool → ℕ → ℕ
 judged true w = w
@@ -172,36 +161,21 @@ spells-step l (suc j) n = go (same (spelled (guessed (suc j) l)) l)
     go false = refl
 
 module _ (l : List ℕ) (k : ℕ) (e : k ≡ guessed_kind l) where
-  pub spells-none : k ≡ 0 → 0 ≡ line_word l
+  pub spells-none : k ≡ 0 → line_word l ≡ 0
   unfolding line_word spells
-  spells-none z = sym (ap (spells l) (sym e ∙ z))
+  spells-none z = ap (spells l) (sym e ∙ z)
 
   spells-kind : (k ≡ 0 → ⊥) → line_word l ≡ judged (same (spelled (guessed k l)) l) (guessed k l)
   unfolding line_word
   spells-kind n = ap (spells l) (sym e) ∙ spells-step l k n
 
-  pub spells-yes : (k ≡ 0 → ⊥) → length (spelled (guessed k l)) ≡ length l → prefix (spelled (guessed k l)) l ≡ true → guessed k l ≡ line_word l
+  pub spells-yes : (k ≡ 0 → ⊥) → same (spelled (guessed k l)) l ≡ true → guessed k l ≡ line_word l
   unfolding judged
-  spells-yes n size p =
-      sym
-      (spells-kind n
-      ∙ ap (λ (b : Bool). judged b (guessed k l)) (same-prefix (spelled (guessed k l)) l ∙ ap₂ ◌&&◌ p (eq-eqb (length (spelled (guessed k l))) (length l) size)))
+  spells-yes n p = sym (spells-kind n ∙ ap (λ (b : Bool). judged b (guessed k l)) p)
 
-  pub spells-longer : (k ≡ 0 → ⊥) → (length (spelled (guessed k l)) ≡ length l → ⊥) → 0 ≡ line_word l
+  pub spells-other : (k ≡ 0 → ⊥) → same (spelled (guessed k l)) l ≡ false → line_word l ≡ 0
   unfolding judged
-  spells-longer n size =
-      sym
-      (spells-kind n
-      ∙ ap (λ (b : Bool). judged b (guessed k l))
-      (same-prefix (spelled (guessed k l)) l ∙ ap (λ (b : Bool). prefix (spelled (guessed k l)) l && b) (ne_eqb (length (spelled (guessed k l))) (length l) size) ∙ and_no (prefix (spelled (guessed k l)) l)))
-
-  pub spells-other : (k ≡ 0 → ⊥) → prefix (spelled (guessed k l)) l ≡ false → 0 ≡ line_word l
-  unfolding judged
-  spells-other n p =
-      sym
-      (spells-kind n
-      ∙ ap (λ (b : Bool). judged b (guessed k l))
-      (same-prefix (spelled (guessed k l)) l ∙ ap (λ (b : Bool). b && eqb (length (spelled (guessed k l))) (length l)) p))
+  spells-other n p = spells-kind n ∙ ap (λ (b : Bool). judged b (guessed k l)) p
 
 -- ---- a line that spells a word is how that word is spelled
 
@@ -225,6 +199,6 @@ spells-sound l n = kinds (guessed_kind l) refl
     judge k false e s = absurd (n (e ∙ judged-false (guessed k l)))
 
     kinds : (k : ℕ) → guessed_kind l ≡ k → spelled (spells l (guessed_kind l)) ≡ l
-    kinds zero e = absurd (n (sym (spells-none l 0 (sym e) refl)))
+    kinds zero e = absurd (n (spells-none l 0 (sym e) refl))
     kinds (suc j) e =
         judge (suc j) (same (spelled (guessed (suc j) l)) l) (ap (spells l) e ∙ spells-step l (suc j) (λ z. omega arith)) refl

@@ -12,3 +12,4 @@ pub mod Pushed
 pub mod Depths
 pub mod Samples
 pub mod Styles
+pub mod Zeros

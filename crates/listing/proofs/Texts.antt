@@ -19,7 +19,9 @@ use Rattle.table.proofs.Widths.{narrow-accepted, no-wide-word}
 use Rattle.table.proofs.TermWords.{argument-lt}
 use Rattle.table.proofs.Constants.{at}
 use Rattle.text.specs.Text.{decimal, set}
-use Rattle.listing.specs.Keywords.{Style, omitted, hex, whole, signed, Entry, unused, entries, entry_of, used}
+use Rattle.listing.specs.declared.keywords.Style.{Style}
+use Rattle.listing.specs.declared.keywords.Style.TheVariants.{Omitted, Hex, Whole, Signed}
+use Rattle.listing.specs.Keywords.{Entry, unused, entries, entry_of, used}
 use Rattle.listing.specs.Spelling.{space, feed, signed_decimal, spelled_argument, line_of, spelled, line_word}
 use Rattle.listing.specs.Listing.{indented, lines, onto, cut, indent, word_in, words_of, indents, misspelled, misplaced}
 use Rattle.listing.proofs.Styles.{signed_low, signed_high}
@@ -93,10 +95,10 @@ plain-letters (b ∷ bs) t =
 
 plain-argument : (s : Style) (a : ℕ) → Plain (spelled_argument s a)
 unfolding spelled_argument
-plain-argument omitted a = tt
-plain-argument hex a = (λ e. omega arith, plain-high (set a) (set-high a))
-plain-argument whole a = (λ e. omega arith, plain-high (decimal a) (decimal-high a))
-plain-argument signed a = go (ltb a (2 ^ 23)) refl
+plain-argument Omitted a = tt
+plain-argument Hex a = (λ e. omega arith, plain-high (set a) (set-high a))
+plain-argument Whole a = (λ e. omega arith, plain-high (decimal a) (decimal-high a))
+plain-argument Signed a = go (ltb a (2 ^ 23)) refl
   where
     go : (b : Bool) → ltb a (2 ^ 23) ≡ b → Plain (space ∷ signed_decimal a)
     go true t = subst Plain (signed_low a (ltb-true a (2 ^ 23) t)) (λ e. omega arith, plain-high (decimal a) (decimal-high a))
@@ -216,17 +218,17 @@ known_of w k e h u a =
     }
 
 is_omitted : Style → Bool
-is_omitted omitted = true
-is_omitted hex = false
-is_omitted whole = false
-is_omitted signed = false
+is_omitted Omitted = true
+is_omitted Hex = false
+is_omitted Whole = false
+is_omitted Signed = false
 
 keeps : (s : Style) (a : ℕ) → a < 2 ^ 24 → (T (is_omitted s) → a ≡ 0) → Kept s a
 unfolding is_omitted
-keeps omitted a h z = z tt
-keeps hex a h z = h
-keeps whole a h z = h
-keeps signed a h z = h
+keeps Omitted a h z = z tt
+keeps Hex a h z = h
+keeps Whole a h z = h
+keeps Signed a h z = h
 
 -- every kind of a term has a keyword, and an argument that is left out has the limit 1
 implies : Bool → Bool → Bool

@@ -14,8 +14,10 @@ use Rattle.table.proofs.TermWords.{word_of-parts}
 use Rattle.table.proofs.Constants.{at}
 use Rattle.text.specs.Text.{digits, value, glyph, numeral, decimal, set}
 use Rattle.text.proofs.Digits.{Below, digits-below, digits_value}
-use Rattle.listing.specs.Keywords.{Style, omitted, hex, whole, signed, Entry, unused, entries, entry_of, used}
-use Rattle.listing.specs.Spelling.{space, feed, minus, spelled_argument, line_of, spelled, prefix, kind_from, guessed_kind, digit_of, folded, guessed_argument, guessed, line_word}
+use Rattle.listing.specs.declared.keywords.Style.{Style}
+use Rattle.listing.specs.declared.keywords.Style.TheVariants.{Omitted, Hex, Whole, Signed}
+use Rattle.listing.specs.Keywords.{Entry, unused, entries, entry_of, used}
+use Rattle.listing.specs.Spelling.{space, feed, minus, spelled_argument, line_of, spelled, prefix, kind_from, guessed_kind, digit_of, folded, guessed_argument, guessed, same, line_word}
 use Rattle.listing.proofs.Styles.{signed_low, signed_high}
 use Rattle.listing.proofs.Guessing.{argument-minus, argument-plus, guessed-as, spells-yes}
 
@@ -123,19 +125,19 @@ no_sign (b ∷ l) bs h e = omega (arith, h.0)
 
 -- the arguments that a style writes: what is left out is 0
 abbrev pub Kept : Style → ℕ → Type 0
-Kept omitted a = a ≡ 0
-Kept hex a = a < 2 ^ 24
-Kept whole a = a < 2 ^ 24
-Kept signed a = a < 2 ^ 24
+Kept Omitted a = a ≡ 0
+Kept Hex a = a < 2 ^ 24
+Kept Whole a = a < 2 ^ 24
+Kept Signed a = a < 2 ^ 24
 
-signed-undone : (a : ℕ) (b : Bool) → ltb a (2 ^ 23) ≡ b → a < 2 ^ 24 → guessed_argument signed (spelled_argument signed a ++ feed ∷ []) ≡ a
+signed-undone : (a : ℕ) (b : Bool) → ltb a (2 ^ 23) ≡ b → a < 2 ^ 24 → guessed_argument Signed (spelled_argument Signed a ++ feed ∷ []) ≡ a
 signed-undone a true t h =
-    ap (λ (l : List ℕ). guessed_argument signed (l ++ feed ∷ [])) (sym (signed_low a (ltb-true a (2 ^ 23) t)))
+    ap (λ (l : List ℕ). guessed_argument Signed (l ++ feed ∷ [])) (sym (signed_low a (ltb-true a (2 ^ 23) t)))
     ∙ sym (argument-plus (space ∷ decimal a ++ feed ∷ []) 0 (no_sign (decimal a) [] (decimal-high a)))
     ∙ decimal-folded a h
 signed-undone a false t h =
     let back : 2 ^ 24 - (2 ^ 24 - a) ≡ a = omega arith in
-    ap (λ (l : List ℕ). guessed_argument signed (l ++ feed ∷ [])) (sym (signed_high a (ltb-false a (2 ^ 23) t)))
+    ap (λ (l : List ℕ). guessed_argument Signed (l ++ feed ∷ [])) (sym (signed_high a (ltb-false a (2 ^ 23) t)))
     ∙ sym (argument-minus (space ∷ minus ∷ decimal (2 ^ 24 - a) ++ feed ∷ []) 0 refl)
     ∙ ap (λ (n : ℕ). (2 ^ 24 - n) % 2 ^ 24) (decimal-folded (2 ^ 24 - a) (omega (arith, ltb-false a (2 ^ 23) t)))
     ∙ ap (λ (n : ℕ). n % 2 ^ 24) back
@@ -143,10 +145,10 @@ signed-undone a false t h =
 
 argument-undone : (s : Style) (a : ℕ) → Kept s a → guessed_argument s (spelled_argument s a ++ feed ∷ []) ≡ a
 unfolding spelled_argument guessed_argument
-argument-undone omitted a h = sym h
-argument-undone hex a h = set-folded a h
-argument-undone whole a h = decimal-folded a h
-argument-undone signed a h = signed-undone a (ltb a (2 ^ 23)) refl h
+argument-undone Omitted a h = sym h
+argument-undone Hex a h = set-folded a h
+argument-undone Whole a h = decimal-folded a h
+argument-undone Signed a h = signed-undone a (ltb a (2 ^ 23)) refl h
 
 -- ---- keywords: none starts another, so each line's keyword is found
 
@@ -179,10 +181,10 @@ not-zero : T (used (entry_of 0)) → ⊥
 unfolding entry_of entries used
 not-zero t = t
 
-same_self : (l : List ℕ) → prefix l l ≡ true
-unfolding prefix
+same_self : (l : List ℕ) → same l l ≡ true
+unfolding same
 same_self [] = refl
-same_self (b ∷ bs) = ap (λ (t : Bool). t && prefix bs bs) (eq-eqb b b refl) ∙ same_self bs
+same_self (b ∷ bs) = ap (λ (t : Bool). t && same bs bs) (eq-eqb b b refl) ∙ same_self bs
 
 module _ (w : ℕ) (known : Known w) where
   kind-undone : kind w ≡ guessed_kind (spelled w)
@@ -209,6 +211,5 @@ module _ (w : ℕ) (known : Known w) where
   pub word-undone : line_word (spelled w) ≡ w
   word-undone =
       sym
-      (spells-yes (spelled w) (kind w) kind-undone kind-some (ap (λ (v : ℕ). length (spelled v)) guess-undone)
-      (ap (λ (v : ℕ). prefix (spelled v) (spelled w)) guess-undone ∙ same_self (spelled w)))
+      (spells-yes (spelled w) (kind w) kind-undone kind-some (ap (λ (v : ℕ). same (spelled v) (spelled w)) guess-undone ∙ same_self (spelled w)))
       ∙ guess-undone

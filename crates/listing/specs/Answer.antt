@@ -1,10 +1,8 @@
 -- The number and the place of each refusal (document 02, wish 1), and what an answer says.
-use Rattle.std.specs.Prelude.{ℕ}
+use Rattle.std.specs.Prelude.{ℕ, Result, Ok, Err}
 use Rattle.table.specs.Answer.{number as table_number, place as table_place}
 use Rattle.listing.specs.declared.Refusal.{Refusal}
 use Rattle.listing.specs.declared.Refusal.TheVariants.{Table, Line, TooLong, NoRoom}
-use Rattle.listing.specs.declared.Answer.{Answer}
-use Rattle.listing.specs.declared.Answer.TheVariants.{Done, Refused}
 use Rattle.listing.specs.Listing.{Answered, done, refusal}
 
 unfoldable pub number : Refusal → ℕ
@@ -19,7 +17,7 @@ place (Line n) = n
 place TooLong = 0
 place NoRoom = 0
 
-unfoldable pub answered : Answer → Answered
+unfoldable pub answered : Result ℕ Refusal → Answered
 unfolding number place
-answered (Done n) = done n
-answered (Refused r) = refusal (number r) (place r)
+answered (Ok n) = done n
+answered (Err r) = refusal (number r) (place r)

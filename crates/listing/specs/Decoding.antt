@@ -1,7 +1,8 @@
 -- What the reader has of a text before the table is looked at.
-use Rattle.std.specs.Prelude.{ℕ, suc, ◌+◌, ◌<◌, ◌≤◌, ◌≡◌, true, false, ◌⊎◌, List, [], ◌∷◌, eqb, length, take, drop}
-use Rattle.listing.specs.declared.read.Decoded.{Decoded}
-use Rattle.listing.specs.declared.read.Decoded.TheVariants.{Misspelled, Lines}
+use Rattle.std.specs.Prelude.{ℕ, suc, ◌+◌, ◌<◌, ◌≤◌, ◌≡◌, true, false, ◌⊎◌, List, [], ◌∷◌, eqb, length, take, drop, Result, Ok, Err}
+use Rattle.listing.specs.declared.read.Lines.{Lines}
+use Rattle.listing.specs.declared.Refusal.{Refusal}
+use Rattle.listing.specs.declared.Refusal.TheVariants.{Line}
 use Rattle.listing.specs.Spelling.{feed}
 use Rattle.listing.specs.Listing.{cut, words_of, indents, misspelled}
 
@@ -19,7 +20,12 @@ pub record Taken (text : List ℕ) (n at : ℕ) (words spaces : List ℕ) : Type
   pub read : take n words ≡ take n (words_of text)
   pub indented : take n spaces ≡ take n (indents text)
 
--- the answer: a line that spells no word, or all lines, or the first 1,024
-abbrev pub DecodedAs : List ℕ → Decoded → List ℕ → List ℕ → Type 0
-DecodedAs text (Misspelled n) words spaces = (misspelled 1 (words_of text) ≡ n) × (0 < n)
-DecodedAs text (Lines n at) words spaces = Taken text n at words spaces × (n ≤ 1024) × ((length text ≤ at) ⊎ (n ≡ 1024))
+-- these lines are taken: all, or the first 1,024
+abbrev pub AreTaken : List ℕ → Lines → List ℕ → List ℕ → Type 0
+AreTaken text lines words spaces =
+    Taken text lines.count lines.end words spaces × (lines.count ≤ 1024) × ((length text ≤ lines.end) ⊎ (lines.count ≡ 1024))
+
+-- the answer: the lines that are taken, or the first one that spells no word
+abbrev pub DecodedAs : List ℕ → Result Lines Refusal → List ℕ → List ℕ → Type 0
+DecodedAs text (Ok lines) words spaces = AreTaken text lines words spaces
+DecodedAs text (Err r) words spaces = (n : ℕ) × (r ≡ Line n) × (misspelled 1 (words_of text) ≡ n) × (0 < n)

@@ -1,5 +1,5 @@
 -- The listing of a system, what the writer answers and what the reader answers (document 02, wish 1).
-use Rattle.std.specs.Prelude.{ℕ, zero, suc, ◌*◌, Bool, true, false, List, [], ◌∷◌, ◌++◌, map, eqb, ltb, length, drop, replicate}
+use Rattle.std.specs.Prelude.{ℕ, zero, suc, ◌*◌, ◌≡◌, ◌≢◌, Option, None, Some, Bool, true, false, List, [], ◌∷◌, ◌++◌, map, eqb, ltb, length, drop, replicate}
 use Rattle.table.specs.Scan.{Task, head, name, perms, guard, term, accepted, refused, first_of, narrow_reading}
 use Rattle.table.specs.Code.{tasks}
 use Rattle.listing.specs.Spelling.{space, feed, spelled, line_word}
@@ -8,6 +8,11 @@ use Rattle.listing.specs.Spelling.{space, feed, spelled, line_word}
 pub data Answered : Type 0 where
   done : (count : ℕ) → Answered
   refusal : (number place : ℕ) → Answered
+
+-- how the code answers a number of which 0 stands for nothing: a word, or the number of a line
+abbrev pub NoneAtZero : ℕ → Option ℕ → Type 0
+NoneAtZero n None = n ≡ 0
+NoneAtZero n (Some v) = (v ≡ n) × (v ≢ 0)
 
 -- the most bytes of a listing
 abbrev pub most : ℕ

@@ -2,7 +2,9 @@
 use Rattle.std.specs.Prelude.{ℕ, zero, suc, ◌+◌, ◌-◌, ◌*◌, ◌/◌, ◌%◌, ◌^◌, Bool, true, false, ◌&&◌, List, [], ◌∷◌, ◌++◌, eqb, ltb, length, drop, get_or}
 use Rattle.table.specs.Words.{kind, argument, word_of}
 use Rattle.text.specs.Text.{decimal, set}
-use Rattle.listing.specs.Keywords.{Style, omitted, hex, whole, signed, Entry, entries, entry_of, used}
+use Rattle.listing.specs.declared.keywords.Style.{Style}
+use Rattle.listing.specs.declared.keywords.Style.TheVariants.{Omitted, Hex, Whole, Signed}
+use Rattle.listing.specs.Keywords.{Entry, entries, entry_of, used}
 
 abbrev pub space : ℕ
 space = 32
@@ -20,10 +22,10 @@ signed_decimal a = elim (ltb a (2 ^ 23)) [ true ↦ decimal a | false ↦ minus 
 -- the argument with the space before it
 unfoldable pub spelled_argument : Style → ℕ → List ℕ
 unfolding signed_decimal
-spelled_argument omitted a = []
-spelled_argument hex a = space ∷ set a
-spelled_argument whole a = space ∷ decimal a
-spelled_argument signed a = space ∷ signed_decimal a
+spelled_argument Omitted a = []
+spelled_argument Hex a = space ∷ set a
+spelled_argument Whole a = space ∷ decimal a
+spelled_argument Signed a = space ∷ signed_decimal a
 
 unfoldable pub line_of : Entry → ℕ → List ℕ
 unfolding spelled_argument
@@ -63,10 +65,10 @@ folded base v (b ∷ bs) = elim (eqb b feed) [ true ↦ v | false ↦ folded bas
 -- the argument, from what follows the keyword
 unfoldable pub guessed_argument : Style → List ℕ → ℕ
 unfolding folded
-guessed_argument omitted l = 0
-guessed_argument hex l = folded 16 0 (drop 1 l)
-guessed_argument whole l = folded 10 0 (drop 1 l)
-guessed_argument signed l =
+guessed_argument Omitted l = 0
+guessed_argument Hex l = folded 16 0 (drop 1 l)
+guessed_argument Whole l = folded 10 0 (drop 1 l)
+guessed_argument Signed l =
     elim (eqb (get_or l 1 0) minus) [ true ↦ (2 ^ 24 - folded 10 0 (drop 2 l)) % 2 ^ 24 | false ↦ folded 10 0 (drop 1 l) ]
 
 unfoldable pub guessed : ℕ → List ℕ → ℕ

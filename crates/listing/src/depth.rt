@@ -4,14 +4,8 @@ ghost use Rattle.table.specs.Scan.{accepted, narrow_reading};
 ghost use Rattle.listing.specs.Listing.{depths as Listing·depths};
 ghost use Rattle.listing.specs.Depths.{leaves};
 
+use table::kinds::{BLOCK, FIRST_TERM, TABLE};
 use table::{argument_of, arity_of, kind_of};
-
-// A depth as a number of words.
-pub fn wide(x: u8) -> usize
-    ensures { (result ≡ x) × (result < 256) }
-{
-    x as usize
-}
 
 // The depth d, so many times.
 fn push(stack: &mut [u8], top: usize, count: usize, d: u8) -> usize
@@ -19,13 +13,8 @@ fn push(stack: &mut [u8], top: usize, count: usize, d: u8) -> usize
     ensures count_value { result + count ≡ top }
     ensures stack_after { drop result stack.new ≡ replicate count d ++ drop top stack.old }
 {
-    let mut at = top;
-    let mut left = count;
-    while 0 < left {
-        at -= 1;
-        stack[at] = d;
-        left -= 1;
-    }
+    let at = top - count;
+    stack[at..top].fill(d);
     at
 }
 
@@ -35,18 +24,15 @@ fn push_left(stack: &mut [u8], top: usize, w: u32, d: u8) -> usize
     ensures d_value { result + length (leaves w d) ≡ top }
     ensures stack_after { drop result stack.new ≡ leaves w d ++ drop top stack.old }
 {
-    let kind = kind_of(w);
-    if kind == 1 {
-        return push(stack, top, argument_of(w) as usize, 0);
+    match kind_of(w) {
+        TABLE => push(stack, top, argument_of(w) as usize, 0),
+        BLOCK => {
+            let body = push(stack, top, 1, 1);
+            push(stack, body, 2, 0)
+        }
+        kind if kind < FIRST_TERM => top,
+        _ => push(stack, top, arity_of(w), d + 1),
     }
-    if kind == 2 {
-        let body = push(stack, top, 1, 1);
-        return push(stack, body, 2, 0);
-    }
-    if kind < 16 {
-        return top;
-    }
-    push(stack, top, arity_of(w), d + 1)
 }
 
 // The depths of all words, at the start of `depths`.
@@ -56,12 +42,9 @@ pub fn find_depths(words: &[u32], depths: &mut [u8])
 {
     let mut stack = [0u8; 1024];
     let mut top = 1023;
-    let mut i = 0;
-    while i < words.len() {
+    for (i, &w) in words.iter().enumerate() {
         let d = stack[top];
-        let w = words[i];
         depths[i] = d;
         top = push_left(&mut stack, top + 1, w, d);
-        i += 1;
     }
 }

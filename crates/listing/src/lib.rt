@@ -9,9 +9,12 @@ pub mod read;
 mod spell;
 pub mod write;
 
+ghost use Rattle.std.specs.Prelude.{◌≡◌};
+ghost use Rattle.listing.specs.declared.Refusal.TheVariants.{Table};
+
 // Why a call is refused: by the numbers of the table, at a line, or for its sizes. `number` and `place` of specs/Answer.antt give each its
 // number and place.
-#[derive(Clone, Copy)]
+#[derive(Clone, Copy, PartialEq, Eq)]
 pub enum Refusal {
     Table(table::Refusal),
     Line(usize),
@@ -19,9 +22,10 @@ pub enum Refusal {
     NoRoom,
 }
 
-// How many bytes or words were written.
-#[derive(Clone, Copy)]
-pub enum Answer {
-    Done(usize),
-    Refused(Refusal),
+impl From<table::Refusal> for Refusal {
+    ghost from_gives = { λ refusal result. result ≡ Table refusal };
+
+    fn from(refusal: table::Refusal) -> Refusal {
+        Refusal::Table(refusal)
+    }
 }

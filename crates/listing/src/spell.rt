@@ -2,17 +2,18 @@
 ghost use Rattle.std.specs.Prelude.{◌≡◌, ◌+◌, ◌<◌, ◌≤◌, ◌^◌, length};
 ghost use Rattle.table.specs.Words.{kind};
 ghost use Rattle.text.specs.Writing.{Wrote, Line};
-ghost use Rattle.listing.specs.Keywords.{Style, style_letter, entry_of};
+ghost use Rattle.listing.specs.Keywords.{entry_of};
 ghost use Rattle.listing.specs.Keywords.{letters as Keywords·letters};
 ghost use Rattle.listing.specs.Spelling.{spelled_argument, spelled};
 
+use crate::keywords::Style;
 use table::{argument_of, kind_of};
 use text::{number_field, put, set_field};
 
 // A number of 24 bits with its sign, and the space before it.
 fn signed_field(out: &mut [u8], at: usize, a: u32) -> usize
     requires { (at + 22 ≤ length out.old) × (a < 2 ^ 24) }
-    ensures wrote { Wrote out.old at (spelled_argument Style.signed a) out.new result }
+    ensures wrote { Wrote out.old at (spelled_argument Style.Signed a) out.new result }
     ensures upper_bound { result ≤ at + 22 }
 {
     if a < 8388608 {
@@ -22,17 +23,17 @@ fn signed_field(out: &mut [u8], at: usize, a: u32) -> usize
     }
 }
 
-// The argument of a word, by the letter of its style.
-fn argument_field(out: &mut [u8], at: usize, style: u8, a: u32) -> usize
+// The argument of a word, in its style.
+fn argument_field(out: &mut [u8], at: usize, style: Style, a: u32) -> usize
     requires { (at + 22 ≤ length out.old) × (a < 2 ^ 24) }
-    ensures wrote { (s : Style) → style ≡ style_letter s → Wrote out.old at (spelled_argument s a) out.new result }
+    ensures wrote { Wrote out.old at (spelled_argument style a) out.new result }
     ensures upper_bound { result ≤ at + 22 }
 {
     match style {
-        111 => at,
-        104 => set_field(out, at, b" ", a),
-        119 => number_field(out, at, b" ", a as u64),
-        _ => signed_field(out, at, a),
+        Style::Omitted => at,
+        Style::Hex => set_field(out, at, b" ", a),
+        Style::Whole => number_field(out, at, b" ", a as u64),
+        Style::Signed => signed_field(out, at, a),
     }
 }
 
@@ -41,16 +42,20 @@ pub fn keyword_size(letters: &[u8], k: usize) -> usize
     requires { (letters.now ≡ Keywords·letters) × (k ≤ 36) }
     ensures { result ≡ length (entry_of k).keyword }
 {
-    let b = letters[16 * k];
-    b as usize
+    usize::from(letters[16 * k])
 }
 
-// The letter of a kind's style.
-pub fn style_at(letters: &[u8], k: usize) -> u8
+// A kind's style, by its letter.
+pub fn style_at(letters: &[u8], k: usize) -> Style
     requires { (letters.now ≡ Keywords·letters) × (k ≤ 36) }
-    ensures { result ≡ style_letter (entry_of k).style }
+    ensures { result ≡ (entry_of k).style }
 {
-    letters[16 * k + 1]
+    match letters[16 * k + 1] {
+        b'o' => Style::Omitted,
+        b'h' => Style::Hex,
+        b'w' => Style::Whole,
+        _ => Style::Signed,
+    }
 }
 
 // The keyword of a kind, at the start of out.

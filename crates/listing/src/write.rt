@@ -9,11 +9,11 @@ ghost use Rattle.listing.specs.Listing.{indented, listing, written, left, text_a
 ghost use Rattle.listing.specs.Listing.{depths as Listing·depths};
 ghost use Rattle.listing.specs.Answer.{answered};
 
-use crate::depth::{find_depths, wide};
+use crate::Refusal;
+use crate::depth::find_depths;
 use crate::keywords::LETTERS;
 use crate::spell::spell;
-use crate::{Answer, Refusal};
-use table::Reading;
+use table::read::read_narrow;
 use text::put;
 
 // So many spaces.
@@ -21,12 +21,9 @@ fn put_spaces(out: &mut [u8], at: usize, count: usize) -> usize
     requires { at + count ≤ length out.old }
     ensures { Wrote out.old at (replicate count space) out.new result }
 {
-    let mut i = 0;
-    while i < count {
-        out[at + i] = 32;
-        i += 1;
-    }
-    at + i
+    let next = at + count;
+    out[at..next].fill(b' ');
+    next
 }
 
 // The line of a word at a depth.
@@ -36,7 +33,7 @@ fn put_line(letters: &[u8], w: u32, d: u8, out: &mut [u8], at: usize) -> usize
 {
     let mut line = [0u8; 48];
     let n = spell(letters, w, &mut line);
-    let next = put_spaces(out, at, 2 * wide(d));
+    let next = put_spaces(out, at, 2 * usize::from(d));
     put(out, next, &line[..n])
 }
 
@@ -48,10 +45,8 @@ fn text_size(letters: &[u8], words: &[u32], depths: &[u8]) -> usize
 {
     let mut line = [0u8; 48];
     let mut n = 0;
-    let mut i = 0;
-    while i < words.len() {
-        n += 2 * wide(depths[i]) + spell(letters, words[i], &mut line);
-        i += 1;
+    for (i, &w) in words.iter().enumerate() {
+        n += 2 * usize::from(depths[i]) + spell(letters, w, &mut line);
     }
     n
 }
@@ -64,14 +59,12 @@ fn put_lines(letters: &[u8], words: &[u32], depths: &[u8], out: &mut [u8])
     ensures { out.new ≡ listing words.now ++ drop (length (listing words.now)) out.old }
 {
     let mut at = 0;
-    let mut i = 0;
-    while i < words.len() {
-        at = put_line(letters, words[i], depths[i], out, at);
-        i += 1;
+    for (i, &w) in words.iter().enumerate() {
+        at = put_line(letters, w, depths[i], out, at);
     }
 }
 
-fn write_accepted(words: &[u32], out: &mut [u8]) -> Answer
+fn write_accepted(words: &[u32], out: &mut [u8]) -> Result<usize, Refusal>
     requires { narrow_reading words.now ≡ accepted }
     ensures result_value { answered result ≡ written words.now (length out.old) }
     ensures out_after { out.new ≡ left (answered result) (listing words.now) out.old }
@@ -81,22 +74,20 @@ fn write_accepted(words: &[u32], out: &mut [u8]) -> Answer
     find_depths(words, &mut depths);
     let n = text_size(&letters, words, &depths);
     if 65536 < n {
-        return Answer::Refused(Refusal::TooLong);
+        return Err(Refusal::TooLong);
     }
     if out.len() < n {
-        return Answer::Refused(Refusal::NoRoom);
+        return Err(Refusal::NoRoom);
     }
     put_lines(&letters, words, &depths, out);
-    Answer::Done(n)
+    Ok(n)
 }
 
 // The listing of a system, at the start of out, and its length.
-pub fn write(words: &[u32], out: &mut [u8]) -> Answer
+pub fn write(words: &[u32], out: &mut [u8]) -> Result<usize, Refusal>
     ensures answer { answered result ≡ written words.now (length out.old) }
     ensures text { out.new ≡ text_after words.now out.old }
 {
-    if let Reading::Refused(r) = table::read::read_narrow(words) {
-        return Answer::Refused(Refusal::Table(r));
-    }
+    read_narrow(words)?;
     write_accepted(words, out)
 }

@@ -95,20 +95,6 @@ words_of-below (a ∷ b ∷ c ∷ []) h k = lit< tt
 words_of-below (a ∷ b ∷ c ∷ d ∷ bs) h zero = number-below (a ∷ b ∷ c ∷ d ∷ []) (first-four bs (lit< tt) h)
 words_of-below (a ∷ b ∷ c ∷ d ∷ bs) h (suc k) = words_of-below bs (λ j. h (suc (suc (suc (suc j))))) k
 
--- the word at an index
-pub words_of-at : (bs : List ℕ) (i : ℕ) → i < length bs / 4
-    → get_or (words_of bs) i 0
-    ≡ number (get_or bs (4 * i) 0 ∷ get_or bs (4 * i + 1) 0 ∷ get_or bs (4 * i + 2) 0 ∷ get_or bs (4 * i + 3) 0 ∷ [])
-unfolding words_of
-words_of-at [] i h = refl
-words_of-at (a ∷ []) i h = absurd (omega arith)
-words_of-at (a ∷ b ∷ []) i h = absurd (omega arith)
-words_of-at (a ∷ b ∷ c ∷ []) i h = absurd (omega arith)
-words_of-at (a ∷ b ∷ c ∷ d ∷ bs) zero h = refl
-words_of-at (a ∷ b ∷ c ∷ d ∷ bs) (suc i) h =
-    let past : (k : ℕ) → 4 * suc i + k ≡ suc (suc (suc (suc (4 * i + k)))) = λ k. omega arith in
-    rw (past 1, past 2, past 3, four-more i) (words_of-at bs i (omega arith))
-
 pub bytes_of-append : (ws xs : List ℕ) → bytes_of (ws ++ xs) ≡ bytes_of ws ++ bytes_of xs
 unfolding bytes_of
 bytes_of-append [] xs = refl

@@ -5,9 +5,9 @@ use mathlib.Core.Path.{◌≡◌, refl, sym, ap, ◌∙◌}
 use mathlib.Core.Bool.{Bool, true, false}
 use mathlib.Core.List.{List, [], ◌∷◌}
 use lib.Dec.{eqb}
-use lib.ListN.{drop}
+use lib.ListN.{drop, length}
 use Rattle.permset.specs.Sets.{union}
-use Rattle.json_text.specs.Bytes.{head, tail, nothing, rest}
+use Rattle.json_text.specs.Bytes.{head, tail, nothing, rest, Step, fails, goes, ends, starts_by, starts}
 use Rattle.json_text.specs.Strings.{units}
 use Rattle.json_text.specs.Values.{value, first, starts_from, parts}
 use Rattle.json_text.proofs.Places.{tail-drop}
@@ -52,6 +52,13 @@ module _ (n h : Bool) where
           sets-nothing e es set others p q ∙ ap (counted n h es) (sym (sets-nothing e [] set others p q ∙ counted_none _))
       by true false p q =
           sets-some e es set others p q ∙ ap (counted n h es) (sym (sets-some e [] set others p q ∙ counted_none _))
+
+  -- of the items from a place on, where the first is no string
+  pub counted-bad : (f : List ℕ → Step) (bs : List ℕ) (c : Count) → counted n h (bs ∷ []) c ≡ not_strings → counted n h (starts f bs) c ≡ not_strings
+  unfolding starts_by
+  counted-bad f bs c e =
+      let es : List (List ℕ) = elim (f bs) [ fails ↦ [] | goes us cs ↦ starts_by f (length bs) cs | ends cs ↦ [] ] in
+      counted-cons bs es c ∙ ap (counted n h es) e ∙ counted-not es
 
   module _ (c : Count) where
     pub list-missing : listed n h nothing c ≡ c

@@ -7,8 +7,7 @@ use mathlib.Core.Path.{◌≡◌, refl, ap, ◌∙◌}
 use mathlib.Core.Bool.{Bool, true, false, ◌||◌}
 use mathlib.Core.List.{List, [], ◌∷◌, ◌++◌}
 use lib.ListN.{length, take, drop}
-use Rattle.json_text.specs.declared.Ending.{Ending}
-use Rattle.json_text.specs.declared.Ending.TheVariants as ending
+use Rattle.std.specs.Prelude.{Option, None, Some}
 use Rattle.json_text.specs.Bytes.{nothing, Step, fails, goes, ends, starts_by, starts}
 use Rattle.json_text.specs.Answers.{ended}
 use Rattle.json_text.specs.Units.{matches}
@@ -20,14 +19,14 @@ use Rattle.manifest.specs.Members.{key_of, has, repeated, find}
 pub narrow : (nest : ℕ) (k : Bool) → Narrow (item (value nest) k)
 narrow nest k = item-narrow (value nest) (value_in nest) k
 
-module _ (nest : ℕ) (k : Bool) (text : List ℕ) (e : Ending) where
-  pub starts_none : e ≡ ending.Nowhere → starts_from (value nest) k (ended text e) ≡ []
+module _ (nest : ℕ) (k : Bool) (text : List ℕ) (e : Option ℕ) where
+  pub starts_none : e ≡ None → starts_from (value nest) k (ended text e) ≡ []
   unfolding starts_from
-  starts_none q = ap (λ (x : Ending). starts_from (value nest) k (ended text x)) q
+  starts_none q = ap (λ (x : Option ℕ). starts_from (value nest) k (ended text x)) q
 
-  pub starts-at : (at : ℕ) → e ≡ ending.At at → starts_from (value nest) k (ended text e) ≡ starts (item (value nest) k) (drop at text)
+  pub starts-at : (at : ℕ) → e ≡ Some at → starts_from (value nest) k (ended text e) ≡ starts (item (value nest) k) (drop at text)
   unfolding starts_from
-  starts-at at q = ap (λ (x : Ending). starts_from (value nest) k (ended text x)) q
+  starts-at at q = ap (λ (x : Option ℕ). starts_from (value nest) k (ended text x)) q
 
 -- ---- the value of a key
 

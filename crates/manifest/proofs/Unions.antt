@@ -64,7 +64,7 @@ module _ (n h : Bool) where
       by true = counted-set (parts (value 14) false (tail bs)) s o
       by false = tt
 
-  listed-not : (r : Rest) → listed n h r not_strings ≡ not_strings
+  pub listed-not : (r : Rest) → listed n h r not_strings ≡ not_strings
   unfolding listed
   listed-not nothing = refl
   listed-not (rest bs) = by (eqb (head bs) 0x5b)

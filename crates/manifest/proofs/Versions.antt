@@ -1,6 +1,7 @@
 -- The version that a value spells, by its first byte and the one behind it.
 -- Assumes nothing.
-use Prim.Native.Nat.{ℕ, ◌<◌, ◌≤◌}
+use Prim.Native.Nat.{ℕ, zero, suc, ◌<◌, ◌≤◌}
+use Rattle.std.specs.Prelude.{None, Some}
 use native.Mathlib.Omega.{arith}
 use mathlib.Core.Path.{◌≡◌, refl, ap, ◌∙◌}
 use mathlib.Core.Bool.{Bool, true, false, ◌||◌}
@@ -12,6 +13,7 @@ use Rattle.json_text.specs.Numbers.{is_digit, int, number}
 use Rattle.json_text.proofs.Numerals.{digits-yes, minus-no, int-more, frac-no, exp-no, number-whole}
 use Rattle.json_text.proofs.Places.{digits-end}
 use Rattle.manifest.specs.Manifest.{goes_on, version}
+use Rattle.manifest.specs.Answer.{spelled}
 
 none_of : (a b : Bool) → (a || b) ≡ false → (a ≡ false) × (b ≡ false)
 none_of true b e = let z : ◌≡◌ {A = ℕ} 0 1 = cc in absurd (omega arith)
@@ -38,6 +40,16 @@ module _ (bs : List ℕ) where
     pub version-other : eqb (head bs) 0x32 ≡ false → eqb (head bs) 0x33 ≡ false → version (rest bs) ≡ 0
     unfolding version
     version-other n e = rw (alone, n, e, version)
+
+-- ---- a version that is spelled
+
+pub unspelled : (v : ℕ) → None ≡ spelled v → v ≡ 0
+unspelled zero e = refl
+unspelled (suc v) e = cc
+
+pub spelled-is : (w v : ℕ) → Some v ≡ spelled w → (w ≡ v) × (v ≡ 0 → ⊥)
+spelled-is zero v e = cc
+spelled-is (suc w) v e = let q : suc w ≡ v = cc in (q, λ z. omega arith)
 
 -- ---- a value that spells a version is a number of that one byte
 

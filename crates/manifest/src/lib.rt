@@ -17,9 +17,10 @@ pub enum Refusal {
     NotStrings,
 }
 
-// The version, the set, and how many strings of the lists read set nothing.
+// What a manifest says: its version, its set, and how many strings of the lists read set nothing.
 #[derive(Clone, Copy)]
-pub enum Reading {
-    Accepted(u32, PermSet, u32),
-    Refused(Refusal),
+pub struct Manifest {
+    pub version: u32,
+    pub set: PermSet,
+    pub others: u32,
 }

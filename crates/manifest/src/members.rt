@@ -1,24 +1,24 @@
 // The top members of a manifest: repeated keys, the value of a key, and what a list of strings says.
-ghost use Rattle.std.specs.Prelude.{◌≡◌, true, false, [], ◌∷◌, ◌+◌, ◌≤◌, ◌<◌, ◌^◌, length, drop, take};
-ghost use Rattle.json_text.specs.Bytes.{tail};
+ghost use Rattle.std.specs.Prelude.{◌≡◌, true, false, [], ◌∷◌, ◌+◌, ◌≤◌, ◌<◌, ◌^◌, MatchOption, length, drop, take};
+ghost use Rattle.json_text.specs.Bytes.{tail, starts};
 ghost use Rattle.json_text.specs.Strings.{units};
-ghost use Rattle.json_text.specs.Values.{value, starts_from};
+ghost use Rattle.json_text.specs.Values.{item, value, starts_from};
 ghost use Rattle.json_text.specs.Answers.{ended};
 ghost use Rattle.manifest.specs.Members.{members_from, elements_from, has, repeated, unless_zero, find, counted, listed};
 ghost use Rattle.manifest.specs.Answer.{count_of, others_of};
 
 use crate::strings::set_of;
+use json_text::Item;
 use json_text::bytes::byte;
 use json_text::units::{hash, same, spells};
 use json_text::values::{first, item, name};
-use json_text::{Ending, Item};
 use permset::PermSet;
 
-// The set of some strings, and how many of them set nothing; or that not all are strings.
+// The set of some strings, and how many of them set nothing.
 #[derive(Clone, Copy)]
-pub enum Tally {
-    NotStrings,
-    Strings(PermSet, u32),
+pub struct Tally {
+    pub set: PermSet,
+    pub others: u32,
 }
 
 // The place behind the byte at a place.
@@ -28,23 +28,26 @@ pub fn behind(text: &[u8], at: usize) -> usize
     if at < text.len() { at + 1 } else { at }
 }
 
+// Where the item behind the one at a place starts, if there is one.
+fn following(text: &[u8], at: usize, keyed: bool, nest: usize) -> Option<usize>
+    ensures { MatchOption result (starts (item (value nest) keyed) (drop at text.now) ≡ drop at text.now ∷ []) (λ next. (starts (item (value nest) keyed) (drop at text.now) ≡ drop at text.now ∷ starts (item (value nest) keyed) (drop next text.now)) × (length (drop next text.now) < length (drop at text.now))) }
+{
+    match item(text, at, keyed, nest)? {
+        Item::Goes(next) => Some(next),
+        Item::Ends(_) => None,
+    }
+}
+
 // The value of the first member with this key.
-pub fn find(text: &[u8], members: Ending, key: &[u8]) -> Ending
+pub fn find(text: &[u8], members: Option<usize>, key: &[u8]) -> Option<usize>
     ensures { ended text.now result ≡ find key.now (starts_from (value 15) true (ended text.now members)) }
 {
-    let Ending::At(at) = members else {
-        return Ending::Nowhere;
-    };
-    let mut p = at;
+    let mut member = members?;
     loop {
-        if spells(text, behind(text, p), key) {
-            return name(text, p, true);
+        if spells(text, behind(text, member), key) {
+            return name(text, member, true);
         }
-        match item(text, p, true, 15) {
-            Item::Fails => return Ending::Nowhere,
-            Item::Goes(q) => p = q,
-            Item::Ends(_) => return Ending::Nowhere,
-        }
+        member = following(text, member, true, 15)?;
     }
 }
 
@@ -52,30 +55,25 @@ pub fn find(text: &[u8], members: Ending, key: &[u8]) -> Ending
 fn has(text: &[u8], at: usize, count: usize, key: usize) -> bool
     ensures { result ≡ has (take count (members_from (drop at text.now))) (units (drop key text.now)) }
 {
-    let mut p = at;
-    let mut left = count;
-    while 0 < left {
-        if same(text, behind(text, p), key) {
+    let mut member = at;
+    for _ in 0..count {
+        if same(text, behind(text, member), key) {
             return true;
         }
-        match item(text, p, true, 15) {
-            Item::Fails => return false,
-            Item::Goes(q) => p = q,
-            Item::Ends(_) => return false,
-        }
-        left -= 1;
+        let Some(next) = following(text, member, true, 15) else {
+            return false;
+        };
+        member = next;
     }
     false
 }
 
 // The same, where a mark says whether there may be one.
+#[tactic(auto, unfolding(crate::specs::Members::unless_zero))]
 fn has_marked(text: &[u8], at: usize, count: usize, key: usize, mark: u8) -> bool
     ensures { result ≡ unless_zero mark (has (take count (members_from (drop at text.now))) (units (drop key text.now))) }
 {
-    if mark == 0 {
-        return false;
-    }
-    has(text, at, count, key)
+    mark != 0 && has(text, at, count, key)
 }
 
 // Whether a member from a place on has the key of one before it. A key that one of them has is marked, by its number; what was
@@ -84,86 +82,97 @@ fn repeated_from(text: &[u8], at: usize, marks: &mut [u8]) -> bool
     requires { 2 ^ 18 ≤ length marks.old }
     ensures { result ≡ repeated [] (members_from (drop at text.now)) }
 {
-    let mut p = at;
+    let mut member = at;
     let mut count = 0;
     loop {
-        let key = behind(text, p);
+        let key = behind(text, member);
         let number = hash(text, key);
         if has_marked(text, at, count, key, marks[number]) {
             return true;
         }
         marks[number] = 1;
-        match item(text, p, true, 15) {
-            Item::Fails => return false,
-            Item::Goes(q) => p = q,
-            Item::Ends(_) => return false,
-        }
+        let Some(next) = following(text, member, true, 15) else {
+            return false;
+        };
+        member = next;
         count += 1;
     }
 }
 
 // Whether a member has the key of one before it.
-pub fn repeated(text: &[u8], members: Ending) -> bool
+pub fn repeated(text: &[u8], members: Option<usize>) -> bool
     ensures { result ≡ repeated [] (starts_from (value 15) true (ended text.now members)) }
 {
-    let Ending::At(at) = members else {
+    let Some(at) = members else {
         return false;
     };
     let mut marks = [0u8; 262144];
     repeated_from(text, at, &mut marks)
 }
 
-// With one more element of a list.
-fn element(text: &[u8], at: usize, names: bool, hosts: bool, tally: Tally) -> Tally
-    requires { others_of tally + 1 < 2 ^ 32 }
-    ensures { (count_of result ≡ counted names hosts (drop at text.now ∷ []) (count_of tally)) × (others_of result ≤ others_of tally + 1) }
+// With one more element of a list, if that is a string.
+#[tactic(auto, using(json_text::proofs::Places::read_in))]
+fn element(text: &[u8], at: usize, names: bool, hosts: bool, tally: Tally) -> Option<Tally>
+    requires { tally.others + 1 < 2 ^ 32 }
+    ensures counts { count_of result ≡ counted names hosts (drop at text.now ∷ []) (count_of (Some tally)) }
+    ensures few { others_of result ≤ tally.others + 1 }
 {
-    let Tally::Strings(set, others) = tally else {
-        return Tally::NotStrings;
-    };
     if byte(text, at) != 0x22 {
-        return Tally::NotStrings;
+        return None;
     }
+    let Tally { set, others } = tally;
     let more = set_of(text, at + 1, names, hosts);
     if more.is_empty() {
-        Tally::Strings(set, others + 1)
+        Some(Tally {
+            set,
+            others: others + 1,
+        })
     } else {
-        Tally::Strings(set.union(more), others)
+        Some(Tally {
+            set: set.union(more),
+            others,
+        })
     }
 }
 
-// With the elements of a list from a place on.
-fn elements(text: &[u8], at: usize, names: bool, hosts: bool, tally: Tally) -> Tally
-    requires { others_of tally + length text.now + 1 < 2 ^ 32 }
-    ensures counts { count_of result ≡ counted names hosts (elements_from (drop at text.now)) (count_of tally) }
-    ensures few { others_of result ≤ others_of tally + length text.now + 1 }
+// With the elements of a list from a place on, if all are strings.
+fn elements(text: &[u8], at: usize, names: bool, hosts: bool, tally: Tally) -> Option<Tally>
+    requires { tally.others + length text.now + 1 < 2 ^ 32 }
+    ensures counts { count_of result ≡ counted names hosts (elements_from (drop at text.now)) (count_of (Some tally)) }
+    ensures few { others_of result ≤ tally.others + length text.now + 1 }
 {
-    let mut p = at;
+    let mut place = at;
     let mut sum = tally;
     loop {
-        sum = element(text, p, names, hosts, sum);
-        match item(text, p, false, 14) {
-            Item::Fails => return sum,
-            Item::Goes(q) => p = q,
-            Item::Ends(_) => return sum,
-        }
+        sum = element(text, place, names, hosts, sum)?;
+        let Some(next) = following(text, place, false, 14) else {
+            return Some(sum);
+        };
+        place = next;
     }
 }
 
-// With a list that is read, where it is there.
-pub fn list(text: &[u8], value: Ending, names: bool, hosts: bool, tally: Tally) -> Tally
-    requires { others_of tally + length text.now + 1 < 2 ^ 32 }
-    ensures counts { count_of result ≡ listed names hosts (ended text.now value) (count_of tally) }
-    ensures few { others_of result ≤ others_of tally + length text.now + 1 }
+// With a list that is read, where it is there, if it is one of strings.
+#[tactic(auto, using(json_text::proofs::Places::read_in))]
+pub fn list(
+    text: &[u8],
+    value: Option<usize>,
+    names: bool,
+    hosts: bool,
+    tally: Tally,
+) -> Option<Tally>
+    requires { tally.others + length text.now + 1 < 2 ^ 32 }
+    ensures counts { count_of result ≡ listed names hosts (ended text.now value) (count_of (Some tally)) }
+    ensures few { others_of result ≤ tally.others + length text.now + 1 }
 {
-    let Ending::At(at) = value else {
-        return tally;
+    let Some(at) = value else {
+        return Some(tally);
     };
     if byte(text, at) != 0x5b {
-        return Tally::NotStrings;
+        return None;
     }
-    let Ending::At(p) = first(text, at + 1, false) else {
-        return tally;
+    let Some(start) = first(text, at + 1, false) else {
+        return Some(tally);
     };
-    elements(text, p, names, hosts, tally)
+    elements(text, start, names, hosts, tally)
 }

@@ -1,4 +1,4 @@
-// The number of a refusal; its place is 0.
+// The number of a refusal; its place is 0. A function, as for the refusals that have a place.
 ghost use Rattle.std.specs.Prelude.{◌≡◌};
 ghost use Rattle.manifest.specs.Answer.{number};
 

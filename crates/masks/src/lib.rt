@@ -11,8 +11,7 @@ ghost use Rattle.masks.specs.Masks.{word_makes, sort_has, mark_if, mark_word, pl
 
 use results::digit;
 use rows::layout::Layout;
-use rows::row::set;
-use table::kind_of;
+use table::{kind_of, kinds};
 
 // The sorts of elements, in the order of their masks.
 #[derive(Clone, Copy)]
@@ -29,10 +28,11 @@ fn set_digit(masks: &mut [u32], n: usize)
     ensures { masks.new ≡ mark masks.old n }
 {
     let at = n / 32;
-    masks[at] = masks[at] | digit((n % 32) as u32);
+    masks[at] |= digit((n % 32) as u32);
 }
 
 // Sets digit n if it is told to.
+#[tactic(auto, unfolding(crate::specs::Masks::mark_if))]
 pub fn set_if(masks: &mut [u32], n: usize, told: bool)
     requires { n < 32 * length masks.old }
     ensures { masks.new ≡ mark_if told masks.old n }
@@ -49,16 +49,17 @@ pub fn word_makes(w: u32) -> u32
     ensures { result ≡ word_makes w }
 {
     let kind = kind_of(w);
-    if kind < 16 {
+    if kind < kinds::FIRST_TERM {
         return 0;
     }
-    if 36 < kind {
+    if kinds::LAST_TERM < kind {
         return 2;
     }
-    ((MAKES >> (2 * (kind - 16))) % 4) as u32
+    ((MAKES >> (2 * (kind - kinds::FIRST_TERM))) % 4) as u32
 }
 
 // Whether what a word makes is of a sort.
+#[tactic(auto, unfolding(crate::specs::Masks::sort_has))]
 fn made_has(s: Sort, m: u32) -> bool
     ensures { result ≡ sort_has s m }
 {
@@ -79,6 +80,7 @@ fn set_sort(masks: &mut [u32], s: Sort, n: usize, m: u32)
 }
 
 // Sets the element v, which is a word that makes m, in the mask of each sort that it has.
+#[tactic(auto, unfolding(crate::specs::Masks::mark_word))]
 fn set_word(masks: &mut [u32], row: usize, v: usize, m: u32)
     requires { (v < 32 * row) × (4 * row ≤ length masks.old) × (length masks.old ≤ 256) }
     ensures { masks.new ≡ mark_word row v m masks.old }
@@ -97,10 +99,8 @@ fn fill_made(words: &[u32], masks: &mut [u32], row: usize, first: usize)
     ensures filled { Filled (code words.now) row (first + length words.now) masks.new }
     ensures rest { drop (4 * row) masks.new ≡ drop (4 * row) masks.old }
 {
-    let mut p = 0;
-    while p < words.len() {
-        set_word(masks, row, first + p, word_makes(words[p]));
-        p += 1;
+    for (p, word) in words.iter().enumerate() {
+        set_word(masks, row, first + p, word_makes(*word));
     }
 }
 
@@ -109,14 +109,11 @@ fn set_words(masks: &mut [u32], at: usize, n: usize)
     requires { (at + n ≤ length masks.old) × (length masks.old ≤ 256) }
     ensures { masks.new ≡ pour masks.old at (replicate n 4294967295) }
 {
-    let mut k = 0;
-    while k < n {
-        set(masks, at + k, 4294967295);
-        k += 1;
-    }
+    masks[at..at + n].fill(u32::MAX);
 }
 
 // Sets the plain elements, which fill `lead` words: 7, the opponent's record, and all that may be sent.
+#[tactic(auto, unfolding(crate::specs::Masks::plain_masks))]
 fn fill_plain(masks: &mut [u32], row: usize, lead: usize)
     requires { (1 ≤ lead) × (lead ≤ row) × (4 * row ≤ length masks.old) × (length masks.old ≤ 256) }
     ensures { masks.new ≡ plain_masks row lead masks.old }

@@ -6,7 +6,7 @@ mod rings;
 
 ghost use Rattle.std.specs.Prelude.{◌≤◌, length};
 
-use reading_order::{Ordering, order};
+use reading_order::{Arrangement, OrderFault, order};
 use std::io;
 use std::io::Write;
 use test_tables::tables::RELAY;
@@ -17,7 +17,11 @@ fn three(out: &mut impl Write, label: &[u8], a: u32, b: u32, c: u32) -> io::Resu
 }
 
 // The line of a reply.
-pub fn line(out: &mut impl Write, reply: Ordering, positions: &[u32]) -> io::Result<()> {
+pub fn line(
+    out: &mut impl Write,
+    reply: Result<Arrangement, OrderFault>,
+    positions: &[u32],
+) -> io::Result<()> {
     let mut written = [0u8; 1440];
     let n = order_text::write(reply, positions, &mut written);
     streams::first(out, &written, n)
@@ -32,7 +36,7 @@ fn ask(
     est: &mut [u32],
     work: &mut [u32],
     positions: &mut [u32],
-) -> Ordering
+) -> Result<Arrangement, OrderFault>
     requires { (estimate ≤ length est.old) × (room ≤ length work.old) × (count ≤ length positions.old) }
 {
     let words = RELAY;

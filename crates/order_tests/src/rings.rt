@@ -24,10 +24,8 @@ fn put_ring(words: &mut [u32], step: usize)
     requires { step ≤ 64 }
 {
     put(words, 0, word(5, 64));
-    let mut name = 0;
-    while name < 64 {
+    for name in 0..64 {
         put_handler(words, name, (name + step) % 64);
-        name += 1;
     }
 }
 

@@ -5,22 +5,26 @@ use Prim.Native.Nat.{ℕ, ◌+◌, ◌≤◌}
 use native.Mathlib.Omega.{arith}
 use lib.ListN.{length}
 use Rattle.table.specs.Scan.{Outcome, accepted, refused}
-use Rattle.overlay.specs.declared.search.Span.TheVariants as spans
+use Rattle.std.specs.Prelude.{Some, None}
 use Rattle.overlay.specs.Lookup.{tables_read, Sought, nothing, found, sought, Place, in_base, in_overlay, refusal, place_in, words_in, place_of, looked_up}
 use Rattle.overlay.specs.Parts.{part, span_of}
 use Rattle.overlay.proofs.Refusals.{tables-accepted}
 use Rattle.overlay.proofs.Seek.{sought-part}
 
 -- what the span of a search says of it
-pub at-span : (q : Sought) (a e : ℕ) → span_of q ≡ spans.At a e → (b : List ℕ) × (q ≡ found a b) × (e ≡ a + length b)
+pub at-span : (q : Sought) (a e : ℕ) → span_of q ≡ Some (a, e) → (b : List ℕ) × (q ≡ found a b) × (e ≡ a + length b)
 unfolding span_of
 at-span nothing a e h =
     let z : ◌≡◌ {A = ℕ} 0 1 = cc in
     let f : ⊥ = omega arith in
     absurd f
-at-span (found x b) a e h = let y : x ≡ a = cc in (b, ap (λ (i : ℕ). found i b) y, cc)
+at-span (found x b) a e h =
+    let p : ◌≡◌ {A = ℕ × ℕ} (x, x + length b) (a, e) = cc in
+    let y = ap (λ (q : ℕ × ℕ). q.0) p in
+    let z = ap (λ (q : ℕ × ℕ). q.1) p in
+    (b, ap (λ (i : ℕ). found i b) y, sym z ∙ ap (λ (i : ℕ). i + length b) y)
 
-pub no_span : (q : Sought) → span_of q ≡ spans.Nothing → q ≡ nothing
+pub no_span : (q : Sought) → span_of q ≡ None → q ≡ nothing
 unfolding span_of
 no_span nothing h = refl
 no_span (found x b) h =

@@ -4,12 +4,13 @@ use mathlib.Core.List.{List}
 use Prim.Native.Nat.{ℕ, ◌+◌, ◌≤◌}
 use native.Mathlib.Omega.{arith}
 use Rattle.table.specs.Scan.{Outcome, accepted, refused, narrow_reading}
-use Rattle.table.specs.Answer.{number}
+use Rattle.table.specs.Answer.{number, place, outcome}
 use Rattle.table.specs.declared.Refusal.{Refusal}
 use Rattle.table.specs.declared.Refusal.TheVariants as refusals
 use Rattle.table.proofs.Stack.{refused-not-accepted}
-use Rattle.overlay.specs.declared.Checked.{Checked}
-use Rattle.overlay.specs.declared.Checked.TheVariants as checks
+use Rattle.std.specs.Prelude.{Result, Ok, Err}
+use Rattle.std.specs.Result.{MatchResult, IsErrAnd}
+use Rattle.overlay.specs.declared.Fault.{Fault}
 use Rattle.overlay.specs.Lookup.{tables_read}
 use Rattle.overlay.specs.Answers.{checked_as}
 
@@ -37,9 +38,28 @@ module _ (base overlay : List ℕ) where
       go (refused n k) o p q = absurd (refused-not-accepted (sym (base-refused n k p) ∙ e))
 
   -- where `check` answers so
-  pub checked-accepted : {r : Checked} → checked_as r ≡ tables_read base overlay → r ≡ checks.Accepted → tables_read base overlay ≡ accepted
+  pub checked-accepted : {r : Result (Unit {0}) Fault} {u : Unit {0}} → checked_as r ≡ tables_read base overlay → r ≡ Ok u → tables_read base overlay ≡ accepted
   unfolding checked_as
   checked-accepted e h = sym e ∙ ap checked_as h
+
+-- ---- what `map_err` makes of the reading of a table
+
+abbrev Mapped : (Refusal → Fault) → Result (Unit {0}) Refusal → Result (Unit {0}) Fault → Type 0
+Mapped wrap r m = MatchResult r (λ x. m ≡ Ok x) (λ e. IsErrAnd m (λ f. f ≡ wrap e))
+
+pub mapped-ok : (wrap : Refusal → Fault) (r : Result (Unit {0}) Refusal) (m : Result (Unit {0}) Fault) {u : Unit {0}} → Mapped wrap r m → m ≡ Ok u
+    → outcome r ≡ accepted
+unfolding outcome
+mapped-ok wrap (Ok x) m h e = refl
+mapped-ok wrap (Err e) (Ok x) h k = absurd h
+mapped-ok wrap (Err e) (Err f) h k = absurd (cc)
+
+pub mapped-err : (wrap : Refusal → Fault) (r : Result (Unit {0}) Refusal) (m : Result (Unit {0}) Fault) {f : Fault} → Mapped wrap r m → m ≡ Err f
+    → (e : Refusal) × (outcome r ≡ refused (number e) (place e)) × (f ≡ wrap e)
+unfolding outcome
+mapped-err wrap (Ok x) m h e = absurd (cc)
+mapped-err wrap (Err e) (Ok x) h k = absurd h
+mapped-err wrap (Err e) (Err f) h k = (e, refl, cc)
 
 -- a table has the numbers up to 12
 pub number_small : (r : Refusal) → number r ≤ 12

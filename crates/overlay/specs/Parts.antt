@@ -1,21 +1,26 @@
 -- What the code is made of: from where up to where a block stands, what one block of a table gives to the joined system, and words
 -- that are written to a slice.
-use Rattle.std.specs.Prelude.{ℕ, suc, ◌+◌, ◌-◌, ◌≤◌, ◌≡◌, Bool, true, false, length, take, drop}
+use Rattle.std.specs.Prelude.{ℕ, suc, ◌+◌, ◌-◌, ◌≤◌, ◌≡◌, Bool, true, false, Option, Some, None, length, take, drop}
 use mathlib.Core.List.{List, [], ◌∷◌, flatten}
 use Rattle.std.proofs.Math.Seq.{paste}
 use Rattle.blocks.specs.Blocks.{name_of, perms_of}
 use Rattle.overlay.specs.declared.join.Put.{Put}
-use Rattle.overlay.specs.declared.search.Span.{Span}
-use Rattle.overlay.specs.declared.search.Span.TheVariants as spans
+use Rattle.overlay.specs.declared.join.Wanted.{Wanted}
+use Rattle.overlay.specs.declared.join.Wanted.TheVariants as wants
 use Rattle.overlay.specs.Lookup.{Sought, nothing, found, seek}
 
 -- the words from a place up to another
 abbrev pub part : (start end : ℕ) → List ℕ → List ℕ
 part a e ws = take (e - a) (drop a ws)
 
-unfoldable pub span_of : Sought → Span
-span_of nothing = spans.Nothing
-span_of (found a b) = spans.At a (a + length b)
+unfoldable pub span_of : Sought → Option (ℕ × ℕ)
+span_of nothing = None
+span_of (found a b) = Some (a, a + length b)
+
+-- only new blocks are wanted
+abbrev pub is_new : Wanted → Bool
+is_new wants.Each = false
+is_new wants.New = true
 
 -- the words that a block gives: where the other table has its key those of the other's block, or none if only new blocks are
 -- wanted; otherwise its own

@@ -10,12 +10,12 @@ ghost use Rattle.std.specs.Prelude.{◌≡◌};
 ghost use Rattle.overlay.specs.Lookup.{tables_read};
 ghost use Rattle.overlay.specs.Answers.{checked_as};
 
+use table::Refusal;
 use table::read::read_narrow;
-use table::{Reading, Refusal};
 
 // Why a look-up or a join is refused: one of the tables, no block with the key, or a join that is too large for a table or for
 // the output. `fault_number` and `fault_place` of specs/Answers.antt give each its number and place.
-#[derive(Clone, Copy)]
+#[derive(Clone, Copy, PartialEq, Eq)]
 pub enum Fault {
     Base(Refusal),
     Overlay(Refusal),
@@ -26,35 +26,16 @@ pub enum Fault {
 }
 
 // Where a block is: in which table, from which word up to which. `found_as` of specs/Answers.antt says what each case means.
-#[derive(Clone, Copy)]
+#[derive(Clone, Copy, PartialEq, Eq)]
 pub enum Found {
     Base(usize, usize),
     Overlay(usize, usize),
-    Refused(Fault),
-}
-
-// How many words a join wrote, or why it was refused. `joined_as` of specs/Answers.antt says what each case means.
-#[derive(Clone, Copy)]
-pub enum Joined {
-    Words(usize),
-    Refused(Fault),
 }
 
 // Whether both tables are accepted.
-#[derive(Clone, Copy)]
-enum Checked {
-    Accepted,
-    Refused(Fault),
-}
-
-fn check(base: &[u32], overlay: &[u32]) -> Checked
+fn check(base: &[u32], overlay: &[u32]) -> Result<(), Fault>
     ensures { checked_as result ≡ tables_read base.now overlay.now }
 {
-    if let Reading::Refused(r) = read_narrow(base) {
-        return Checked::Refused(Fault::Base(r));
-    }
-    if let Reading::Refused(r) = read_narrow(overlay) {
-        return Checked::Refused(Fault::Overlay(r));
-    }
-    Checked::Accepted
+    read_narrow(base).map_err(Fault::Base)?;
+    read_narrow(overlay).map_err(Fault::Overlay)
 }

@@ -3,22 +3,20 @@ ghost use Rattle.std.specs.Prelude.{◌≡◌};
 ghost use Rattle.overlay.specs.Lookup.{place_of, looked_up};
 ghost use Rattle.overlay.specs.Answers.{found_as};
 
-use crate::search::{Span, seek};
-use crate::{Checked, Fault, Found, check};
+use crate::search::seek;
+use crate::{Fault, Found, check};
 
 // Where the block with this name and this permission set is: in the overlay if it is there, otherwise in the base.
-pub fn find(base: &[u32], overlay: &[u32], name: u32, perms: u32) -> Found
+pub fn find(base: &[u32], overlay: &[u32], name: u32, perms: u32) -> Result<Found, Fault>
     ensures { found_as result ≡ place_of base.now overlay.now name perms }
 {
-    if let Checked::Refused(f) = check(base, overlay) {
-        return Found::Refused(f);
-    }
-    if let Span::At(start, end) = seek(overlay, name, perms) {
-        return Found::Overlay(start, end);
+    check(base, overlay)?;
+    if let Some((start, end)) = seek(overlay, name, perms) {
+        return Ok(Found::Overlay(start, end));
     }
     match seek(base, name, perms) {
-        Span::At(start, end) => Found::Base(start, end),
-        Span::Nothing => Found::Refused(Fault::NoBlock),
+        Some((start, end)) => Ok(Found::Base(start, end)),
+        None => Err(Fault::NoBlock),
     }
 }
 
@@ -27,8 +25,8 @@ pub fn lookup<'a>(base: &'a [u32], overlay: &'a [u32], name: u32, perms: u32) ->
     ensures { result.now ≡ looked_up base.now overlay.now name perms }
 {
     match find(base, overlay, name, perms) {
-        Found::Overlay(start, end) => &overlay[start..end],
-        Found::Base(start, end) => &base[start..end],
-        Found::Refused(_) => &base[0..0],
+        Ok(Found::Overlay(start, end)) => &overlay[start..end],
+        Ok(Found::Base(start, end)) => &base[start..end],
+        Err(_) => &base[..0],
     }
 }

@@ -1,4 +1,4 @@
-// The number and the place of a refusal.
+// The number and the place of a refusal. A refusal has two numbers and not one, so no `From` stands for either.
 ghost use Rattle.std.specs.Prelude.{◌≡◌};
 ghost use Rattle.overlay.specs.Answers.{fault_number, fault_place};
 

@@ -8,28 +8,19 @@ ghost use Rattle.overlay.specs.Parts.{span_of};
 
 use table::{argument_of, arity_of};
 
-// From where up to where a block stands.
-#[derive(Clone, Copy)]
-pub enum Span {
-    At(usize, usize),
-    Nothing,
-}
-
 // The word after the term at a place.
 fn term_end(words: &[u32], at: usize) -> usize
     requires { length words.now ≤ 1024 }
     ensures { result ≡ at + skip (drop at words.now) 1 }
 {
-    let mut next = at;
     let mut left = 1;
-    while 0 < left {
-        if words.len() <= next {
-            return next;
-        }
+    for next in at..words.len() {
         left = left - 1 + arity_of(words[next]);
-        next += 1;
+        if left == 0 {
+            return next + 1;
+        }
     }
-    next
+    words.len().max(at)
 }
 
 // The word after the block at a place.
@@ -45,27 +36,22 @@ fn has_key(words: &[u32], at: usize, name: u32, perms: u32) -> bool
     requires { at + 2 ≤ length words.now }
     ensures { result ≡ keyed name perms (drop at words.now) }
 {
-    if argument_of(words[at]) == name {
-        argument_of(words[at + 1]) == perms
-    } else {
-        false
-    }
+    argument_of(words[at]) == name && argument_of(words[at + 1]) == perms
 }
 
-// The block with this name and this permission set.
-pub fn seek(words: &[u32], name: u32, perms: u32) -> Span
+// From where up to where the block with this name and this permission set stands.
+pub fn seek(words: &[u32], name: u32, perms: u32) -> Option<(usize, usize)>
     requires { narrow_reading words.now ≡ accepted }
     ensures { result ≡ span_of (sought words.now name perms) }
 {
-    let mut left = argument_of(words[0]);
+    let handlers = argument_of(words[0]);
     let mut at = 1;
-    while 0 < left {
+    for _ in 0..handlers {
         let end = block_end(words, at);
         if has_key(words, at, name, perms) {
-            return Span::At(at, end);
+            return Some((at, end));
         }
         at = end;
-        left -= 1;
     }
-    Span::Nothing
+    None
 }

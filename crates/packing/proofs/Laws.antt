@@ -1,9 +1,9 @@
 -- What a stream holds, the words of lines taken one by one, and words with a part of one behind them.
-use Prim.Native.Nat.{ℕ, zero, suc, ◌+◌, ◌-◌, ◌/◌, ◌%◌, ◌≤◌, ◌<◌, min}
+use Prim.Native.Nat.{ℕ, zero, suc, ◌+◌, ◌-◌, ◌%◌, ◌≤◌, ◌<◌}
 use mathlib.Core.Path.{◌≡◌, refl, sym, ap, ap₂, ◌∙◌}
 use mathlib.Core.Bool.{Bool, true, false, ◌&&◌}
 use mathlib.Core.List.{List, [], ◌∷◌, ◌++◌, map, append-nil, append_assoc}
-use mathlib.Core.Logic.{◌⊎◌, inl, inr}
+use Rattle.std.specs.Prelude.{Option, Some, None}
 use native.Mathlib.Numerals.{add-one}
 use native.Mathlib.Omega.{arith}
 use borrow.Author.Tests.{le-leb, lt-leb}
@@ -46,24 +46,12 @@ module _ (bytes : ℕ) (all : List ℕ) where
   unfolding kept
   kept-all e = rw (e, kept)
 
-module _ (all slice : List ℕ) (n : ℕ) (long : length slice ≡ 256) (h : Held all slice n) where
-  pub more-held : 256 < n → 256 < length all
-  more-held k = go h
-    where
-      go : Held all slice n → 256 < length all
-      go (inl l) = absurd (let m : n ≤ 256 = l.0 in omega arith)
-      go (inr r) = r.1
+pub held-some : (all slice : List ℕ) (n : Option ℕ) → Held all slice n → (k : ℕ) → n ≡ Some k → k ≤ 256
+held-some all slice (Some n) h k e = let same : n ≡ k = cc in omega (arith, h.0)
+held-some all slice None h k e = absurd (let o : ⊥ = cc in o)
 
-  module _ (k : n ≤ 256) where
-    pub all_held : take n slice ≡ all
-    all_held = go h
-      where
-        go : Held all slice n → take n slice ≡ all
-        go (inl l) = l.1
-        go (inr r) = absurd (let m : 256 < n = r.0 in omega arith)
-
-    pub few-held : length all ≤ 256
-    few-held = omega (arith, sym (ap length all_held), length-take-le n slice (omega arith))
+pub few-held : (all slice : List ℕ) (n : ℕ) → length slice ≡ 256 → Held all slice (Some n) → length all ≤ 256
+few-held all slice n long h = omega (arith, sym (ap length h.1), length-take-le n slice (omega (arith, h.0)))
 
 -- ---- the words of lines
 

@@ -1,7 +1,6 @@
 -- The words that bytes stand for in a stream, computed: whole words, a part of one, none.
-use Prim.Native.Nat.{ℕ}
 use mathlib.Core.Path.{◌≡◌, refl}
-use mathlib.Core.List.{List, [], ◌∷◌, map}
+use mathlib.Core.List.{[], ◌∷◌, map}
 use Rattle.packing.specs.Packing.{table_words}
 
 pub words-of-bytes : map table_words ((0 ∷ 0 ∷ 0 ∷ 1 ∷ []) ∷ (0 ∷ 0 ∷ 0 ∷ 1 ∷ 7 ∷ []) ∷ [] ∷ []) ≡ (0x01000000 ∷ []) ∷ (0x01000000 ∷ 0 ∷ []) ∷ [] ∷ []

@@ -1,11 +1,10 @@
 -- A system of the stream of a class (document 02, wish 14): its length, ρ and its words; made of whatever input, so that the class is told what is wrong
 -- with it, and the systems behind it are read.
-use Rattle.std.specs.Prelude.{ℕ, zero, suc, ◌*◌, ◌%◌, ◌+◌, Bool, true, false, ◌&&◌, List, [], ◌∷◌, ◌++◌, leb, length}
+use Rattle.std.specs.Prelude.{ℕ, zero, suc, ◌%◌, Bool, true, false, ◌&&◌, List, [], ◌∷◌, ◌++◌, leb, length, Result, Ok, Err}
 use Rattle.little_endian.specs.LittleEndian.{words_of, bytes_of}
 use Rattle.listing.specs.Listing.{most}
 use Rattle.listing.specs.Listing.{words_of as line_words}
-use Rattle.packing.specs.declared.Packed.{Packed}
-use Rattle.packing.specs.declared.Packed.TheVariants.{System, TooLarge}
+use Rattle.packing.specs.declared.TooLarge.{TooLarge}
 
 -- the most words of a system in a stream
 abbrev pub most_words : ℕ
@@ -41,10 +40,10 @@ abbrev pub table_packed : (ρ : ℕ) (bytes : List ℕ) → List ℕ
 table_packed ρ bytes = packed ρ (kept (length bytes) (table_words bytes))
 
 -- how many bytes a call wrote, and whether the stream holds the input
-abbrev pub size_of : Packed → ℕ
-size_of (System n) = n
-size_of (TooLarge n) = n
+abbrev pub size_of : Result ℕ TooLarge → ℕ
+size_of (Ok n) = n
+size_of (Err e) = e.size
 
-abbrev pub is_held : Packed → Bool
-is_held (System n) = true
-is_held (TooLarge n) = false
+abbrev pub is_held : Result ℕ TooLarge → Bool
+is_held (Ok n) = true
+is_held (Err e) = false

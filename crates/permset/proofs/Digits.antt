@@ -1,8 +1,7 @@
 -- Laws of tests as types, and of the binary digits of a word: `member s i` is digit i of s.
 use Prim.Native.Nat.{ℕ, zero, suc, ◌/◌, ◌%◌, ◌^◌, ◌<◌}
 use mathlib.Core.Path.{◌≡◌, refl, sym, ap, ◌∙◌, subst}
-use mathlib.Core.Bool.{Bool, true, false, ◌&&◌, ◌||◌}
-use mathlib.Core.Logic.{◌⊎◌, inl, inr}
+use mathlib.Core.Bool.{Bool, true, false, ◌||◌}
 use native.Mathlib.Nat.{pow-suc, mul-div_cancel, mul-mod_left}
 use native.Mathlib.Decide.{dec_lt}
 use native.Mathlib.Numerals.{add-one}
@@ -11,33 +10,10 @@ use lib.Dec.{T, lit<}
 use lib.Bits.{bit_or}
 use lib.Pow.{field, mod-mod-pow}
 use Rattle.permset.specs.Sets.{member, union}
+pub use Rattle.permset.proofs.Laws.{T-or, T-or-left, T-or-right, T_and, T-fst, T-snd}
 use Rattle.permset.proofs.Laws.{member-zero, member-suc, member-empty, member_union, member-beyond}
 
 -- ---- tests as types
-
-pub T-or : (a b : Bool) → T (a || b) → T a ⊎ T b
-T-or true b h = inl tt
-T-or false b h = inr h
-
-pub T-or-left : (a b : Bool) → T a → T (a || b)
-T-or-left true b h = tt
-T-or-left false b h = absurd h
-
-pub T-or-right : (a b : Bool) → T b → T (a || b)
-T-or-right true b h = tt
-T-or-right false b h = h
-
-pub T_and : (a b : Bool) → T a → T b → T (a && b)
-T_and true b h k = k
-T_and false b h k = absurd h
-
-pub T-fst : (a b : Bool) → T (a && b) → T a
-T-fst true b h = tt
-T-fst false b h = h
-
-pub T-snd : (a b : Bool) → T (a && b) → T b
-T-snd true b h = h
-T-snd false b h = absurd h
 
 pub T_true : (a : Bool) → T a → a ≡ true
 T_true true h = refl

@@ -91,31 +91,31 @@ member-beyond n s i h l =
     let k : s / 2 ^ i < 2 ^ 0 = shr_lt 0 i (let e : 0 + i ≡ i = omega arith in rw e (le_trans h (pow_mono l))) in
     ap (λ (x : ℕ). eqb (x % 2) 1) (lt-one k)
 
--- ---- the same by T, one way and the other
+-- ---- tests as types
 
-or_cases : (a b : Bool) → T (a || b) → T a ⊎ T b
-or_cases true b h = inl tt
-or_cases false b h = inr h
+pub T-or : (a b : Bool) → T (a || b) → T a ⊎ T b
+T-or true b h = inl tt
+T-or false b h = inr h
 
-or_left : (a b : Bool) → T a → T (a || b)
-or_left true b h = tt
-or_left false b h = elim h [ ]
+pub T-or-left : (a b : Bool) → T a → T (a || b)
+T-or-left true b h = tt
+T-or-left false b h = elim h [ ]
 
-or_right : (a b : Bool) → T b → T (a || b)
-or_right true b h = tt
-or_right false b h = h
+pub T-or-right : (a b : Bool) → T b → T (a || b)
+T-or-right true b h = tt
+T-or-right false b h = h
 
-and_left : (a b : Bool) → T (a && b) → T a
-and_left true b h = tt
-and_left false b h = elim h [ ]
+pub T-fst : (a b : Bool) → T (a && b) → T a
+T-fst true b h = tt
+T-fst false b h = elim h [ ]
 
-and_right : (a b : Bool) → T (a && b) → T b
-and_right true b h = h
-and_right false b h = elim h [ ]
+pub T-snd : (a b : Bool) → T (a && b) → T b
+T-snd true b h = h
+T-snd false b h = elim h [ ]
 
-and_both : (a b : Bool) → T a → T b → T (a && b)
-and_both true b h k = k
-and_both false b h k = elim h [ ]
+pub T_and : (a b : Bool) → T a → T b → T (a && b)
+T_and true b h k = k
+T_and false b h k = elim h [ ]
 
 and-implied : (a b : Bool) → (T a → T b) → (a && b) ≡ a
 and-implied true true h = refl
@@ -132,23 +132,23 @@ out-not false h = tt
 
 -- a member of the union is a member of one or the other
 pub union-cases : (s t i : ℕ) → T (member (union s t) i) → T (member s i) ⊎ T (member t i)
-union-cases s t i h = or_cases (member s i) (member t i) (rw member_union at h)
+union-cases s t i h = T-or (member s i) (member t i) (rw member_union at h)
 
 pub in-union-left : (s t i : ℕ) → T (member s i) → T (member (union s t) i)
-in-union-left s t i h = rw member_union (or_left (member s i) (member t i) h)
+in-union-left s t i h = rw member_union (T-or-left (member s i) (member t i) h)
 
 pub in-union-right : (s t i : ℕ) → T (member t i) → T (member (union s t) i)
-in-union-right s t i h = rw member_union (or_right (member s i) (member t i) h)
+in-union-right s t i h = rw member_union (T-or-right (member s i) (member t i) h)
 
 -- a member of the difference is one of the first set and not of the second
 pub difference-first : (s t i : ℕ) → T (member (difference s t) i) → T (member s i)
-difference-first s t i h = and_left (member s i) (not (member t i)) (rw member-difference at h)
+difference-first s t i h = T-fst (member s i) (not (member t i)) (rw member-difference at h)
 
 pub difference-second : (s t i : ℕ) → T (member (difference s t) i) → T (member t i) → ⊥
-difference-second s t i h = not-out (member t i) (and_right (member s i) (not (member t i)) (rw member-difference at h))
+difference-second s t i h = not-out (member t i) (T-snd (member s i) (not (member t i)) (rw member-difference at h))
 
 pub in-difference : (s t i : ℕ) → T (member s i) → (T (member t i) → ⊥) → T (member (difference s t) i)
-in-difference s t i h k = rw member-difference (and_both (member s i) (not (member t i)) h (out-not (member t i) k))
+in-difference s t i h k = rw member-difference (T_and (member s i) (not (member t i)) h (out-not (member t i) k))
 
 -- ---- sets with the same members are equal
 
@@ -201,7 +201,7 @@ and-within s t e = rw e (eqb_refl s)
 -- `within s t` exactly if every member of s is one of t
 pub within-member : (s t i : ℕ) → T (within s t) → T (member s i) → T (member t i)
 within-member s t i w h =
-    and_right (member s i) (member t i) (subst T (sym (ap (λ (x : ℕ). member x i) (within-and s t w)) ∙ member-and s t i) h)
+    T-snd (member s i) (member t i) (subst T (sym (ap (λ (x : ℕ). member x i) (within-and s t w)) ∙ member-and s t i) h)
 
 pub member-within-below : (n s t : ℕ) → s < 2 ^ n → ((i : ℕ) → i < n → T (member s i) → T (member t i)) → T (within s t)
 member-within-below n s t hs h =

@@ -4,7 +4,7 @@
 ghost use Rattle.std.specs.Prelude.{◌≡◌, ◌^◌, eqb, ltb};
 ghost use Rattle.permset.specs.Sets.{width, member, union, difference, within, lowest};
 
-#[derive(Clone, Copy)]
+#[derive(Clone, Copy, PartialEq, Eq)]
 pub struct PermSet {
     pub bits: u32,
 }
@@ -22,6 +22,7 @@ impl PermSet {
         PermSet { bits }
     }
 
+    #[tactic(auto, unfolding(crate::specs::Sets::union))]
     pub fn union(self, other: PermSet) -> PermSet
         ensures { result ≡ record { bits = union self.bits other.bits } }
     {
@@ -41,6 +42,7 @@ impl PermSet {
     }
 
     // Whether every member of self is in other.
+    #[tactic(auto, unfolding(crate::specs::Sets::within))]
     pub fn within(self, other: PermSet) -> bool
         ensures { result ≡ within self.bits other.bits }
     {
@@ -50,13 +52,10 @@ impl PermSet {
     pub fn has(self, i: u32) -> bool
         ensures { result ≡ member self.bits i }
     {
-        if 32 <= i {
-            return false;
-        }
-        (self.bits >> i) % 2 == 1
+        i < 32 && (self.bits >> i) % 2 == 1
     }
 
-    // The lowest member, and 32 where there is none.
+    // The lowest member, and 32 where there is none, as `trailing_zeros` has it. No Option: who asks has a member, and takes the number.
     pub fn lowest(self) -> u32
         ensures { result ≡ lowest self.bits }
     {
@@ -74,11 +73,5 @@ impl PermSet {
         ensures { result ≡ ltb self.bits (2 ^ width) }
     {
         self.bits < 16777216
-    }
-
-    pub fn same(self, other: PermSet) -> bool
-        ensures { result ≡ eqb self.bits other.bits }
-    {
-        self.bits == other.bits
     }
 }

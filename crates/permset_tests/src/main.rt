@@ -50,7 +50,7 @@ fn two(out: &mut impl Write, first: u32, second: u32) -> io::Result<()> {
     set(out, b" union ", s.union(t))?;
     set(out, b" difference ", s.difference(t))?;
     answer(out, b" within ", s.within(t))?;
-    answer(out, b" same ", s.same(t))?;
+    answer(out, b" same ", s == t)?;
     end(out)
 }
 

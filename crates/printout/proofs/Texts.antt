@@ -1,13 +1,13 @@
 -- The text of an answer and of an input, as the code writes it.
-use Prim.Native.Nat.{ℕ, zero, suc, ◌+◌, ◌≤◌, ◌<◌}
+use Prim.Native.Nat.{ℕ, ◌≤◌}
 use mathlib.Core.Path.{◌≡◌, refl, sym, ap, ◌∙◌, subst}
 use mathlib.Core.Bool.{Bool, true, false}
 use mathlib.Core.List.{List, [], ◌∷◌, ◌++◌}
 use native.Mathlib.Omega.{arith}
-use lib.Dec.{eqb, ltb}
+use lib.Dec.{eqb}
 use lib.ListN.{length, get_or, take, drop, length-append}
 use lib.Seq.{take_at}
-use borrow.Author.Tests.{lt-ltb, le-ltb, ltb-false, eqb-false}
+use borrow.Author.Tests.{ltb-false, eqb-false}
 use Rattle.little_endian.specs.LittleEndian.{words_of}
 use Rattle.table.specs.Words.{kind}
 use Rattle.table.specs.Scan.{accepted, reading, first_of}
@@ -16,6 +16,10 @@ use Rattle.table.proofs.Linked.{linked}
 use Rattle.table.proofs.Widths.{narrow-names}
 use Rattle.calculus.specs.Layout.{estimate_words}
 use Rattle.calculus.specs.Estimate.{estimate}
+use Rattle.std.specs.Prelude.{Ok}
+use Rattle.comparison.specs.declared.Verdict as comparisons
+use Rattle.comparison.specs.declared.Verdict.TheVariants.{Within, Over}
+use Rattle.comparison.specs.Values.{answer_of}
 use Rattle.calculus.specs.Answer.{Verdict, Answer, refused, verdict, answer, estimate_after}
 use Rattle.calculus.proofs.Firing.{whole_is}
 use Rattle.calculus.proofs.Least.{estimate-well}
@@ -24,9 +28,8 @@ use Rattle.calls.proofs.Answers.{after-solved}
 use Rattle.verdict.specs.Limits.{answer_under, estimate_under}
 use Rattle.verdict.proofs.Limits.{under-verdict}
 use Rattle.verdict.proofs.Room.{answer-exact}
-use Rattle.text.specs.Writing.{Wrote}
-use Rattle.report.specs.Lines.{refusal_line, verdict_line}
-use Rattle.printout.specs.Program.{feeder_tests, handler_lines, first_line, answer_text, unless_wide, system_text, printed, room, with_room, text_after, text_size}
+use Rattle.report.specs.Lines.{verdict_line}
+use Rattle.printout.specs.Program.{feeder_tests, handler_lines, first_line, answer_text, unless_wide, system_text, printed}
 use Rattle.printout.specs.Answers.{HeldFor}
 
 -- ---- the slice that a call leaves
@@ -47,30 +50,22 @@ held_after ws ρ bound est work est' f (verdict v) e u =
     }
 
 -- the same under the ceiling n
-pub held-under : (ws : List ℕ) (ρ bound n : ℕ) (est work est' : List ℕ) → eqb (kind (get_or ws 0 0)) 5 ≡ false → (a : Answer) → a ≡ answer_under ws ρ bound n (length est) (length work)
+pub held_under : (ws : List ℕ) (ρ bound n : ℕ) (est work est' : List ℕ) → eqb (kind (get_or ws 0 0)) 5 ≡ false → (a : Answer) → a ≡ answer_under ws ρ bound n (length est) (length work)
     → est' ≡ estimate_under ws ρ bound n est work → HeldFor ws ρ est' a
-held-under ws ρ bound n est work est' f (refused number place) e u = tt
-held-under ws ρ bound n est work est' f (verdict v) e u =
+held_under ws ρ bound n est work est' f (refused number place) e u = tt
+held_under ws ρ bound n est work est' f (verdict v) e u =
     let q = under-verdict ws ρ bound n est work v est' e u in
     held_after ws ρ bound est work est' f (verdict v) q.0 q.1
 
 -- ---- an answer's text
 
 -- a verdict's: its line and then those of the handlers
-pub verdict-text : (ws : List ℕ) (ρ : ℕ) (v : Verdict)
+verdict-text : (ws : List ℕ) (ρ : ℕ) (v : Verdict)
     → first_line (verdict v) ++ handler_lines (code ws) ρ (estimate (code ws) ρ) 0 (code ws).blocks ≡ answer_text ρ ws (verdict v)
 unfolding first_line answer_text
 verdict-text ws ρ v =
     ap (λ (l : List ℕ). verdict_line v ++ l)
     (sym (whole_is (estimate (code ws) ρ) (λ est. handler_lines (code ws) ρ est 0 (code ws).blocks)))
-
-pub refusal-text : (ws : List ℕ) (ρ number place : ℕ) → first_line (refused number place) ≡ answer_text ρ ws (refused number place)
-unfolding first_line answer_text
-refusal-text ws ρ number place = refl
-
--- by what the answer is
-pub told-refused : (ws : List ℕ) (ρ : ℕ) (a : Answer) (number place : ℕ) → a ≡ refused number place → first_line a ≡ answer_text ρ ws a
-told-refused ws ρ a number place e = subst (λ (b : Answer). first_line b ≡ answer_text ρ ws b) (sym e) (refusal-text ws ρ number place)
 
 pub told-verdict : (ws : List ℕ) (ρ : ℕ) (a : Answer) (v : Verdict) → a ≡ verdict v
     → first_line a ++ handler_lines (code ws) ρ (estimate (code ws) ρ) 0 (code ws).blocks ≡ answer_text ρ ws a
@@ -78,72 +73,17 @@ told-verdict ws ρ a v e =
     subst (λ (b : Answer). first_line b ++ handler_lines (code ws) ρ (estimate (code ws) ρ) 0 (code ws).blocks ≡ answer_text ρ ws b) (sym e)
     (verdict-text ws ρ v)
 
--- ---- a text at the start of a slice
-
-module _ {out text out' : List ℕ} {r : ℕ} where
-  -- in a slice with room
-  pub written : room ≤ length out → Wrote out 0 text out' r
-      → (r ≡ text_size text (length out)) × ((out' ≡ text_after text out) × (r ≤ length out))
-  unfolding with_room text_size text_after
-  written h w =
-      let t : ltb (length out) room ≡ false = le-ltb (length out) room h in
-      let n : r ≡ length text = omega (arith, w.ends) in (
-        n ∙ sym (ap (λ (b : Bool). elim b as (λ c. ℕ) [ true ↦ 0 | false ↦ length text ]) t),
-        (
-          w.bytes ∙ ap (λ (k : ℕ). text ++ drop k out) n
-              ∙ sym (ap (λ (b : Bool). elim b as (λ c. List ℕ) [ true ↦ out | false ↦ text ++ drop (length text) out ]) t),
-          w.fits,
-        ),
-      )
-
--- without room, what is left is what there was
-left-without : {A : Type 0} (size : ℕ) (before after : A) → size < room → before ≡ with_room size before after
-unfolding with_room
-left-without size before after h = sym (ap (λ (b : Bool). elim b [ true ↦ before | false ↦ after ]) (lt-ltb size room h))
-
--- in a slice without room
-pub unwritten : (text out : List ℕ) → length out < room → (0 ≡ text_size text (length out)) × ((out ≡ text_after text out) × (0 ≤ length out))
-unfolding text_size text_after
-unwritten text out h = (left-without (length out) 0 (length text) h, (left-without (length out) out (text ++ drop (length text) out) h, omega arith))
-
 -- ---- an input's text
 
-pub system-exact : (ws : List ℕ) (ρ bound : ℕ) → length ws ≤ 256 → answer_text ρ ws (unless_wide ws (refused 1 0) (answer ws ρ bound 5888 1024)) ≡ system_text ρ bound ws
+pub system_exact : (ws : List ℕ) (ρ bound : ℕ) → length ws ≤ 256 → answer_text ρ ws (unless_wide ws (refused 1 0) (answer ws ρ bound 5888 1024)) ≡ system_text ρ bound ws
 unfolding system_text
-system-exact ws ρ bound h = ap (λ (a : Answer). answer_text ρ ws (unless_wide ws (refused 1 0) a)) (answer-exact ws ρ bound h)
-
--- by whether the table is wide
-module _ {A : Type 0} (ws : List ℕ) (x y : A) where
-  pub if-wide : eqb (kind (get_or ws 0 0)) 5 ≡ true → x ≡ unless_wide ws x y
-  unfolding unless_wide
-  if-wide e = rw (e, unless_wide)
-
-  pub if-other : eqb (kind (get_or ws 0 0)) 5 ≡ false → y ≡ unless_wide ws x y
-  unfolding unless_wide
-  if-other e = rw (e, unless_wide)
-
--- a wide table's text
-pub wide-text : (ws : List ℕ) (ρ : ℕ) (a : Answer) → eqb (kind (get_or ws 0 0)) 5 ≡ true → refusal_line 1 0 ≡ answer_text ρ ws (unless_wide ws (refused 1 0) a)
-unfolding answer_text
-wide-text ws ρ a e = ap (answer_text ρ ws) (if-wide ws (refused 1 0) a e)
+system_exact ws ρ bound h = ap (λ (a : Answer). answer_text ρ ws (unless_wide ws (refused 1 0) a)) (answer-exact ws ρ bound h)
 
 module _ (input : List ℕ) where
   pub printed-system : first_of (feeder_tests (length input)) ≡ 0
       → system_text (get_or (words_of input) 0 0) (get_or (words_of input) 1 0) (drop 2 (words_of input)) ≡ printed input
   unfolding printed
   printed-system e = sym (rw (e, printed))
-
-  pub printed-refused : (f : ℕ) → f ≡ first_of (feeder_tests (length input)) → (f ≡ 0 → ⊥) → refusal_line f 0 ≡ printed input
-  unfolding printed
-  printed-refused f e h = go (first_of (feeder_tests (length input))) f e h
-    where
-      go : (n f : ℕ) → f ≡ n → (f ≡ 0 → ⊥)
-          → refusal_line f 0 ≡ (elim n as (λ k. List ℕ) [
-            | zero ↦ system_text (get_or (words_of input) 0 0) (get_or (words_of input) 1 0) (drop 2 (words_of input))
-            | suc k ↦ refusal_line (suc k) 0
-          ])
-      go zero f e h = absurd (h e)
-      go (suc n) f e h = ap (λ (m : ℕ). refusal_line m 0) e
 
 first-none : (a b d : Bool) → first_of ((a, 31) ∷ (b, 30) ∷ (d, 30) ∷ []) ≡ 0 → (a ≡ false) × (b ≡ false)
 unfolding first_of
@@ -155,3 +95,9 @@ first-none false false d h = (refl, refl)
 pub fed : (size : ℕ) → first_of (feeder_tests size) ≡ 0 → (size ≤ 1032) × (8 ≤ size)
 unfolding feeder_tests
 fed size h = let t = first-none _ _ _ h in (ltb-false 1032 size t.0, ltb-false size 8 t.1)
+
+-- what is no refusal is a verdict
+pub verdict_of : (v : comparisons.Verdict) → (u : Verdict) × (answer_of (Ok v) ≡ verdict u)
+unfolding answer_of
+verdict_of (Within r) = (_, refl)
+verdict_of (Over r first) = (_, refl)

@@ -76,10 +76,8 @@ pub fn handler_lines(words: &[u32], rho: u32, est: &[u32], out: &mut [u8], start
         at: start,
         position: 0,
     };
-    let mut p = 0;
-    while p < words.len() {
+    for p in 0..words.len() {
         c = handler_at(words, rho, est, out, p, c);
-        p += 1;
     }
     c.at
 }

@@ -5,11 +5,13 @@ ghost use Rattle.printout.specs.Program.{room};
 ghost use Rattle.printout.specs.Answers.{ToldUnder};
 
 use crate::system::answer_text;
+use calls::LimitFault;
 use report::refusal_line;
 use table::read::is_wide;
-use verdict::limit::{Limited, verdict_within};
+use verdict::limit::verdict_within;
 
 // The verdict under a ceiling on a system that is no wide table, told at the start of `out`.
+#[tactic(auto, using(crate::proofs::Texts::held_under), unfolding(crate::specs::Program::unless_wide, crate::specs::Program::answer_text, verdict::specs::Limits::limited_answer))]
 fn tell_narrow_within(
     words: &[u32],
     rho: u32,
@@ -24,12 +26,16 @@ fn tell_narrow_within(
         work.new out.new }
 {
     match verdict_within(words, rho, bound, ceiling, est, work) {
-        Limited::Judged(v) => answer_text(v, words, rho, est, out),
-        Limited::Exceeded(n) => refusal_line(out, 0, 23, n),
+        Ok(v) => answer_text(Ok(v), words, rho, est, out),
+        Err(fault) => match fault {
+            LimitFault::Call(f) => answer_text(Err(f), words, rho, est, out),
+            LimitFault::Facts(n) => refusal_line(out, 0, 23, n),
+        },
     }
 }
 
 // The verdict on a system under a ceiling, told at the start of `out`; a wide table is refused, and its slices are left alone.
+#[tactic(auto, unfolding(crate::specs::Program::unless_wide, crate::specs::Program::answer_text))]
 pub fn tell_within(
     words: &[u32],
     rho: u32,

@@ -9,6 +9,7 @@ use little_endian::words_of;
 use report::refusal_line;
 
 // The number that refuses an input of this many bytes, and 0 where none does.
+#[tactic(auto, unfolding(crate::specs::Program::feeder_tests, table::specs::Scan::first_of))]
 fn feeder_fault(size: usize) -> u32
     ensures { result ≡ first_of (feeder_tests size) }
 {
@@ -22,6 +23,7 @@ fn feeder_fault(size: usize) -> u32
 }
 
 // The text of a system of at most 256 words, over slices with room for it.
+#[tactic(auto, using(crate::proofs::Texts::system_exact))]
 fn sized_text(
     words: &[u32],
     rho: u32,
@@ -65,6 +67,7 @@ fn lent_text(input: &[u8], out: &mut [u8], words: &mut [u32]) -> usize
 }
 
 // The text of an input.
+#[tactic(auto, unfolding(crate::specs::Program::printed))]
 fn input_text(input: &[u8], out: &mut [u8]) -> usize
     requires { room ≤ length out.old }
     ensures { Wrote out.old 0 (printed input.now) out.new result }
@@ -79,6 +82,7 @@ fn input_text(input: &[u8], out: &mut [u8]) -> usize
 
 // What the program prints for the bytes of its standard input, at the start of `out`, and how long it is. A slice of less than 3,168 bytes gets
 // nothing.
+#[tactic(auto, unfolding(crate::specs::Program::text_after, crate::specs::Program::text_size, crate::specs::Program::with_room))]
 pub fn print(input: &[u8], out: &mut [u8]) -> usize
     ensures size { result ≡ text_size (printed input.now) (length out.old) }
     ensures text { out.new ≡ text_after (printed input.now) out.old }

@@ -10,6 +10,7 @@ ghost use Rattle.printout.specs.Program.{handler_lines, first_line, answer_text,
 ghost use Rattle.printout.specs.Answers.{Held, HeldFor, Told};
 
 use crate::handlers::handler_lines;
+use calls::Fault;
 use calls::checks::words_needed;
 use calls::numbers::{fault_number, fault_place};
 use comparison::{Report, Verdict};
@@ -34,15 +35,18 @@ fn report_line(r: Report, over: bool, first: u32, out: &mut [u8], at: usize) -> 
 }
 
 // The first line of an answer.
-pub fn answer_line(v: Verdict, out: &mut [u8], at: usize) -> usize
+#[tactic(auto, unfolding(crate::specs::Program::first_line, comparison::specs::Values::answer_of))]
+pub fn answer_line(answer: Result<Verdict, Fault>, out: &mut [u8], at: usize) -> usize
     requires { at + 96 ≤ length out.old }
-    ensures wrote { Wrote out.old at (first_line (answer_of v)) out.new result }
+    ensures wrote { Wrote out.old at (first_line (answer_of answer)) out.new result }
     ensures upper_bound { result ≤ at + 96 }
 {
-    match v {
-        Verdict::Refused(f) => refusal_line(out, at, fault_number(f), fault_place(f)),
-        Verdict::Within(r) => report_line(r, false, 32, out, at),
-        Verdict::Over(r, first) => report_line(r, true, first, out, at),
+    match answer {
+        Err(f) => refusal_line(out, at, fault_number(f), fault_place(f)),
+        Ok(v) => match v {
+            Verdict::Within(r) => report_line(r, false, 32, out, at),
+            Verdict::Over(r, first) => report_line(r, true, first, out, at),
+        },
     }
 }
 
@@ -57,19 +61,26 @@ fn handlers_of(words: &[u32], rho: u32, est: &[u32], out: &mut [u8], at: usize) 
 }
 
 // All lines of an answer.
-pub fn answer_text(v: Verdict, words: &[u32], rho: u32, est: &[u32], out: &mut [u8]) -> usize
-    requires { HeldFor words.now rho est.now (answer_of v) × (room ≤ length out.old) }
-    ensures { Wrote out.old 0 (answer_text rho words.now (answer_of v)) out.new result }
+#[tactic(auto, unfolding(crate::specs::Program::answer_text, crate::specs::Program::first_line, comparison::specs::Values::answer_of))]
+pub fn answer_text(
+    answer: Result<Verdict, Fault>,
+    words: &[u32],
+    rho: u32,
+    est: &[u32],
+    out: &mut [u8],
+) -> usize
+    requires { HeldFor words.now rho est.now (answer_of answer) × (room ≤ length out.old) }
+    ensures { Wrote out.old 0 (answer_text rho words.now (answer_of answer)) out.new result }
 {
-    let at = answer_line(v, out, 0);
-    match v {
-        Verdict::Refused(_) => at,
-        Verdict::Within(_) => handlers_of(words, rho, est, out, at),
-        Verdict::Over(_, _) => handlers_of(words, rho, est, out, at),
+    let at = answer_line(answer, out, 0);
+    match answer {
+        Err(_) => at,
+        Ok(_) => handlers_of(words, rho, est, out, at),
     }
 }
 
 // The verdict on a system that is no wide table, told at the start of `out`.
+#[tactic(auto, using(crate::proofs::Texts::held_after), unfolding(crate::specs::Program::unless_wide))]
 fn tell_narrow(
     words: &[u32],
     rho: u32,
@@ -82,11 +93,12 @@ fn tell_narrow(
     ensures { Told words.now rho bound est.old work.old out.old result est.new
         work.new out.new }
 {
-    let v = verdict(words, rho, bound, est, work);
-    answer_text(v, words, rho, est, out)
+    let answer = verdict(words, rho, bound, est, work);
+    answer_text(answer, words, rho, est, out)
 }
 
 // The verdict on a system, told at the start of `out`; a wide table is refused, and its slices are left alone.
+#[tactic(auto, unfolding(crate::specs::Program::unless_wide, crate::specs::Program::answer_text))]
 pub fn tell(
     words: &[u32],
     rho: u32,

@@ -20,7 +20,7 @@ use Rattle.rows.specs.declared.layout.Layout.{Layout}
 use Rattle.rows.specs.Laid.{LaidOut, Sized}
 use Rattle.rows.specs.Mask.{Mask}
 use Rattle.rows.specs.Rows.{meets}
-use Rattle.rows.proofs.Laws.{meets-nonzero}
+use Rattle.rows.proofs.Laws.{meets_nonzero}
 use Rattle.clauses.specs.Asks.{row_at}
 use Rattle.clauses.proofs.Sorts.{row-C}
 use Rattle.clauses.proofs.Numbered.{by_number, base-row, content-row, value_row, row_inside}
@@ -61,7 +61,7 @@ module _ (c : Code) (l : Layout) (o : LaidOut c l) (est : List ℕ) where
 
     pub some_is : (q : ℕ → Bool) (mask : List ℕ) → Mask c q mask → meets mask (take l.row (drop (r * l.row) est)) ≡ found c est (row_at r) q
     some_is q mask m =
-        rw (found-masked c est w q mask m.digits (row_at r) (value_row c r (omega arith)), content-row, o.row) (meets-nonzero mask _)
+        rw (found-masked c est w q mask m.digits (row_at r) (value_row c r (omega arith)), content-row, o.row) (meets_nonzero mask _)
 
 -- of two tests, the second made where the first holds
 pub both_true : {x y a b : Bool} → x ≡ true → x ≡ a → y ≡ b → y ≡ a && b

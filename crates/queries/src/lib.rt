@@ -22,13 +22,19 @@ use rows::row::{any, next_common};
 use table::argument_of;
 use table_links::handler_at;
 
+// The digit of a word of permissions and flags that says that it is live, behind those of the 24 permissions.
+const LIVE_DIGIT: u32 = 24;
+
+// The digits of a row's first word that are strings: all but the first 8.
+const STRINGS: u32 = 4294967040;
+
 // Whether p is live.
 pub fn is_live(est: &[u32], l: Layout, p: usize) -> bool
     requires { Sized l est.now × (p < l.size) }
     ensures { (c : Code) → LaidOut c l → result ≡ sets c est.now (L p) 0 }
 {
     let at = l.flags(p);
-    (est[at] >> 24) % 2 == 1
+    (est[at] >> LIVE_DIGIT) % 2 == 1
 }
 
 // Whether the row r has the element v.
@@ -46,7 +52,7 @@ pub fn has_text(est: &[u32], l: Layout, r: usize) -> bool
     ensures { (c : Code) → LaidOut c l → WellFormed c est.now → result ≡ found c est.now (row_at r) is_string }
 {
     let at = r * l.row;
-    est[at] & 4294967040 != 0
+    est[at] & STRINGS != 0
 }
 
 // Whether the row r has something of the mask m.
@@ -65,23 +71,14 @@ pub fn holds(est: &[u32], masks: &[u32], l: Layout, g: Guard) -> bool
     requires { Sized l est.now × Looks l g × (4 * l.row ≤ length masks.now) }
     ensures { PassedBy l est.now masks.now g result }
 {
-    let t = g.test;
-    match t {
+    match g.test {
         Test::Never => false,
         Test::Free => true,
         Test::Has => has(est, l, 2 * g.a, g.v),
         Test::Some => has_some(est, masks, l, 2 * g.a, g.v),
         Test::Text => has_text(est, l, 2 * g.d),
-        Test::TextHas => if has_text(est, l, 2 * g.d) {
-            has(est, l, 2 * g.a, g.v)
-        } else {
-            false
-        },
-        Test::TextSome => if has_text(est, l, 2 * g.d) {
-            has_some(est, masks, l, 2 * g.a, g.v)
-        } else {
-            false
-        },
+        Test::TextHas => has_text(est, l, 2 * g.d) && has(est, l, 2 * g.a, g.v),
+        Test::TextSome => has_text(est, l, 2 * g.d) && has_some(est, masks, l, 2 * g.a, g.v),
     }
 }
 
@@ -149,9 +146,6 @@ pub fn starts(
     ensures { (c : Code) → LaidOut c l → result ≡ starts_at c words.now est.now x required.bits sender.bits b }
 {
     let name = argument_of(words[b]);
-    if !has(est, l, 2 * (x + 1), 32 + name as usize) {
-        return false;
-    }
-    let receiver = handler_at(words, b);
-    judge(name, required, sender, receiver).delivered()
+    has(est, l, 2 * (x + 1), 32 + name as usize)
+        && judge(name, required, sender, handler_at(words, b)).delivered()
 }

@@ -58,9 +58,6 @@ module _ (c : Code) (ρ : ℕ) (est : List ℕ) where
       ap (λ (u : Bool). elim u [ true ↦ union (permissions_at c ρ est b) 0 | false ↦ 0 ]) g
       ∙ or_zero_r (permissions_at c ρ est b)
 
-pub guarded-of : (x y z : Item) (ρ : ℕ) → x ≡ z → x ≡ y → item_guarded y ρ ≡ item_guarded z ρ
-guarded-of x y z ρ f g = ap (λ (i : Item). item_guarded i ρ) (sym g ∙ f)
-
 -- a block's guard, as the item that stands there has it
 pub guarded-is : (ws : List ℕ) → reading ws ≡ accepted → (b ρ : ℕ) → b < length ws → task_at ws b ≡ name
     → item_guarded (item_at ws b) ρ ≡ guarded ((code ws).node b) ρ

@@ -12,17 +12,17 @@ use permset::PermSet;
 use rows::layout::Layout;
 use table::Item;
 
+// The permissions are the first 24 digits of a word of permissions and flags.
+const PERMISSIONS_END: u32 = 16777216;
+
 // Whether the opponent may enter what stands at b.
+#[tactic(auto, unfolding(crate::specs::Reading::item_guarded))]
 fn entered(words: &[u32], rho: PermSet, b: usize) -> bool
     ensures { result ≡ item_guarded (item_at words.now b) rho.bits }
 {
     match table_links::item_at(words, b) {
-        Item::Gap => false,
-        Item::Block(h) => {
-            let guard = h.guard;
-            guard.within(rho)
-        }
-        Item::Term(_) => false,
+        Item::Block(h) => h.guard.within(rho),
+        Item::Gap | Item::Term(_) => false,
     }
 }
 
@@ -34,9 +34,8 @@ fn leak_at(words: &[u32], links: &[u32], est: &[u32], l: Layout, rho: PermSet, b
     if !entered(words, rho, b) {
         return PermSet { bits: 0 };
     }
-    let at = l.flags(b);
     PermSet {
-        bits: est[at] % 16777216,
+        bits: est[l.flags(b)] % PERMISSIONS_END,
     }
 }
 
@@ -47,8 +46,9 @@ pub fn leak(words: &[u32], links: &[u32], est: &[u32], l: Layout, rho: PermSet) 
 {
     let mut bits = 0;
     let mut b = 1;
+    // a step goes from block to block, over the words within
     while b < words.len() {
-        bits = bits | leak_at(words, links, est, l, rho, b).bits;
+        bits |= leak_at(words, links, est, l, rho, b).bits;
         b = table_links::link_at(links, b + 3).end;
     }
     PermSet { bits }

@@ -2,6 +2,7 @@
 use Prim.Native.Nat.{ℕ, zero, suc, ◌+◌, ◌*◌, ◌≤◌, ◌<◌}
 use mathlib.Core.Path.{◌≡◌, refl, ap, ap₂, ◌∙◌, subst}
 use mathlib.Core.Bool.{Bool}
+use Rattle.std.specs.Prelude.{Option}
 use mathlib.Core.List.{List, [], ◌∷◌, map, Memᴰ}
 use native.Mathlib.Nat.{mul-le-mul}
 use native.Mathlib.Omega.{arith}
@@ -75,7 +76,7 @@ module _ (c : Code) (est bs : List ℕ) (q : bs ≡ c.blocks) where
   live-are = ap (live_among c est) q
 
 -- its answer, where it is handed the relation of an estimate
-pub arranged-by : (c : Code) (est old new rows : List ℕ) (live : ℕ) (r : Arrangement) → rows ≡ sender_rows c est → live ≡ live_blocks c est
+pub arranged-by : (c : Code) (est old new rows : List ℕ) (live : ℕ) (r : Option Arrangement) → rows ≡ sender_rows c est → live ≡ live_blocks c est
     → (r ≡ graph.answer rows live (length old)) × ((new ≡ starting_with (written rows live r) old) × Means rows live r new)
     → ArrangedBy c est old new r
 arranged-by c est old new rows live r e f t =

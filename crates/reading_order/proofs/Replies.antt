@@ -16,31 +16,41 @@ use Rattle.calculus.specs.Estimate.{estimate, facts}
 use Rattle.calculus.specs.Answer.{Answer, verdict, standing_bound, judge, answer, work_after}
 use Rattle.calculus.specs.Answer as answers
 use Rattle.calculus.proofs.Least.{estimate-well}
+use Rattle.std.specs.Prelude.{Option, Some, None, Result, Err}
+use Rattle.std.specs.Option.{ok_or}
 use Rattle.calls.specs.declared.Fault.{Fault}
+use Rattle.calls.specs.declared.LimitFault.{LimitFault}
 use Rattle.calls.specs.Faults.{fault_number, fault_place}
 use Rattle.calls.specs.Calls.{Fits}
 use Rattle.calls.proofs.Answers.{after-solved, after-refused}
 use Rattle.comparison.specs.declared.Findings.{Findings}
-use Rattle.solver.specs.Ceiling.{under, answer_within, estimate_within, SolvedIn}
+use Rattle.solver.specs.Ceiling.{under, answer_within, estimate_within, BoundedIn}
 use Rattle.solver.proofs.Least.{words-whole}
 use Rattle.solver.proofs.Bound.{words_are, words-kept}
 use Rattle.graph.specs.declared.Arrangement.{Arrangement}
-use Rattle.graph.specs.declared.Arrangement.TheVariants as arrangements
+use Rattle.graph.specs.declared.Arrangement.TheVariants.{Ordered, Looped}
 use Rattle.graph.specs.Answer.{places, written, starting_with, Means}
 use Rattle.graph.specs.Answer as graph
 use Rattle.graph.proofs.Answers.{answer-short}
-use Rattle.reading_order.specs.declared.Ordering.{Ordering}
-use Rattle.reading_order.specs.declared.Ordering.TheVariants as orderings
+use Rattle.reading_order.specs.declared.OrderFault.{OrderFault}
+use Rattle.reading_order.specs.declared.OrderFault.TheVariants.{Short}
 use Rattle.reading_order.specs.Relation.{senders_to, sender_rows}
-use Rattle.reading_order.specs.Reply.{Reply, reply_of, arranged, rows, live, reply_within, reply, estimate_after_order, work_after_order, positions_after, ReplyMeans}
+use Rattle.reading_order.specs.Reply.{Reply, refused, reply_of, arranged, rows, live, reply_within, reply, estimate_after_order, work_after_order, positions_after, ReplyMeans}
 use Rattle.reading_order.specs.Parts.{ArrangedBy, OrderedIn}
 
+-- no room is the refusal 51
+pub or-short : (a : Option Arrangement) → reply_of (ok_or a Short) ≡ arranged a
+unfolding reply_of arranged
+or-short None = refl
+or-short (Some (Ordered count)) = refl
+or-short (Some (Looped count)) = refl
+
 -- what an arrangement means, as a reply
-means-reply : (ws : List ℕ) (ρ : ℕ) (a : Arrangement) (new : List ℕ) → Means (rows ws ρ) (live ws ρ) a new → ReplyMeans ws ρ (arranged a) new
+means-reply : (ws : List ℕ) (ρ : ℕ) (a : Option Arrangement) (new : List ℕ) → Means (rows ws ρ) (live ws ρ) a new → ReplyMeans ws ρ (arranged a) new
 unfolding arranged
-means-reply ws ρ arrangements.Short new m = tt
-means-reply ws ρ (arrangements.Ordered count) new m = m
-means-reply ws ρ (arrangements.Looped count) new m = m
+means-reply ws ρ None new m = tt
+means-reply ws ρ (Some (Ordered count)) new m = m
+means-reply ws ρ (Some (Looped count)) new m = m
 
 module _ (ws : List ℕ) (ρ n : ℕ) (est work positions : List ℕ) (f : Fits ws ρ standing_bound (length est) (length work)) where
   abbrev v : answers.Verdict
@@ -73,7 +83,7 @@ module _ (ws : List ℕ) (ρ n : ℕ) (est work positions : List ℕ) (f : Fits 
   untouched few (answers.refused number place) = refl
   untouched few (verdict w) = rw (answer-short (rows ws ρ) (live ws ρ) (length positions) few, written)
 
-  pub short-in : length positions < length (code ws).blocks → OrderedIn ws ρ n est work positions est work positions orderings.Short
+  pub short-in : length positions < length (code ws).blocks → OrderedIn ws ρ n est work positions est work positions (Err Short)
   unfolding reply_of reply estimate_after_order work_after_order positions_after
   short-in h =
       let t : ltb (length positions) (length (code ws).blocks) ≡ true = lt-ltb (length positions) (length (code ws).blocks) h in
@@ -88,7 +98,7 @@ module _ (ws : List ℕ) (ρ n : ℕ) (est work positions : List ℕ) (f : Fits 
 
   -- ---- 23, and the order or loop
 
-  module _ (room : length (code ws).blocks ≤ length positions) (est' work' : List ℕ) (s : Findings) (d : SolvedIn ws ρ n est work est' work' s) where
+  module _ (room : length (code ws).blocks ≤ length positions) (est' work' : List ℕ) (s : Result Findings LimitFault) (d : BoundedIn ws ρ n est work est' work' s) where
     t : ltb (length positions) (length (code ws).blocks) ≡ false
     t = le-ltb (length positions) (length (code ws).blocks) room
 
@@ -107,21 +117,22 @@ module _ (ws : List ℕ) (ρ n : ℕ) (est work positions : List ℕ) (f : Fits 
     unfolding reply positions_after answer_within
     by-ceiling a q = (rw (e, t, reply) (ap (reply_within ws ρ (length positions)) q), ap (λ (x : Answer). written_by (under n x)) e ∙ ap written_by q)
 
-    pub over-in : n < s.facts → OrderedIn ws ρ n est work positions est' work' positions (orderings.Over n)
-    unfolding reply_of reply_within
-    over-in h =
-        let k = by-ceiling (answers.refused 23 n) (under-by true (lt-ltb n (facts (estimate (code ws) ρ)) (d.over h))) in
+    pub over-in : n < facts (estimate (code ws) ρ) → (r : Result Arrangement OrderFault) → reply_of r ≡ refused 23 n
+        → OrderedIn ws ρ n est work positions est' work' positions r
+    unfolding reply_within
+    over-in h r q =
+        let k = by-ceiling (answers.refused 23 n) (under-by true (lt-ltb n (facts (estimate (code ws) ρ)) h)) in
         record {
-          replies = sym k.0;
+          replies = q ∙ sym k.0;
           estimates = est-is;
           works = work-is;
           writes = sym k.1;
-          means = tt;
+          means = subst (λ (x : Reply). ReplyMeans ws ρ x positions) (sym q) tt;
         }
 
-    module _ (h : s.facts ≤ n) where
+    module _ (h : facts (estimate (code ws) ρ) ≤ n) where
       u : ltb n (facts (estimate (code ws) ρ)) ≡ false
-      u = let k = d.within h in le-ltb n (facts (estimate (code ws) ρ)) (omega arith)
+      u = le-ltb n (facts (estimate (code ws) ρ)) h
 
       pub estimate-there : take (estimate_words (code ws)) est' ≡ estimate (code ws) ρ
       estimate-there =
@@ -129,7 +140,7 @@ module _ (ws : List ℕ) (ρ n : ℕ) (est work positions : List ℕ) (f : Fits 
           ∙ take_at (estimate (code ws) ρ) (drop (estimate_words (code ws)) est) (estimate_words (code ws))
           (estimate-well (code ws) (linked ws f.fit.readable) ρ).long
 
-      pub arranged-in : (positions' : List ℕ) (a : Arrangement) (r : Ordering) → ArrangedBy (code ws) (take (estimate_words (code ws)) est') positions positions' a
+      pub arranged-in : (positions' : List ℕ) (a : Option Arrangement) (r : Result Arrangement OrderFault) → ArrangedBy (code ws) (take (estimate_words (code ws)) est') positions positions' a
           → reply_of r ≡ arranged a → OrderedIn ws ρ n est work positions est' work' positions' r
       unfolding reply_within
       arranged-in positions' a r k q =
@@ -139,7 +150,7 @@ module _ (ws : List ℕ) (ρ n : ℕ) (est work positions : List ℕ) (f : Fits 
             replies = q ∙ ap arranged b.says ∙ sym w.0;
             estimates = est-is;
             works = work-is;
-            writes = b.writes ∙ ap (λ (x : Arrangement). starting_with (written (rows ws ρ) (live ws ρ) x) positions) b.says ∙ sym w.1;
+            writes = b.writes ∙ ap (λ (x : Option Arrangement). starting_with (written (rows ws ρ) (live ws ρ) x) positions) b.says ∙ sym w.1;
             means = subst (λ (x : Reply). ReplyMeans ws ρ x positions') (sym q) (means-reply ws ρ a positions' b.means);
           }
 
@@ -151,16 +162,17 @@ same-either false x y q = q
 
 pub refused-in : (ws : List ℕ) (ρ n : ℕ) (est work positions : List ℕ) (f : Fault)
     → answer ws ρ standing_bound (length est) (length work) ≡ answers.refused (fault_number f) (fault_place f)
-    → OrderedIn ws ρ n est work positions est work positions (orderings.Refused f)
-unfolding reply_of reply estimate_after_order work_after_order positions_after answer_within under
-refused-in ws ρ n est work positions f e =
+    → (r : Result Arrangement OrderFault) → reply_of r ≡ refused (fault_number f) (fault_place f)
+    → OrderedIn ws ρ n est work positions est work positions r
+unfolding reply estimate_after_order work_after_order positions_after answer_within under
+refused-in ws ρ n est work positions f e r q =
     let short = ltb (length positions) (length (code ws).blocks) in
     record {
-      replies = sym (rw (e, reply));
+      replies = q ∙ sym (rw (e, reply));
       estimates = same-either short est (estimate_within ws ρ n est work) (words-kept ws ρ n est work (fault_number f) (fault_place f) e);
       works =
           same-either short work (work_after ws ρ standing_bound est work)
           (after-refused ws ρ standing_bound est work (fault_number f) (fault_place f) e).1;
       writes = sym (rw (e, positions_after));
-      means = tt;
+      means = subst (λ (x : Reply). ReplyMeans ws ρ x positions) (sym q) tt;
     }

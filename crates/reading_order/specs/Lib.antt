@@ -1,3 +1,4 @@
+pub mod Faults
 pub mod Relation
 pub mod Reply
 pub mod Parts

@@ -1,5 +1,5 @@
 -- What a call replies and leaves in its slices, for every input, and what that says of the system (document 02, wish 9).
-use Rattle.std.specs.Prelude.{ℕ, Bool, List, ltb, length, take}
+use Rattle.std.specs.Prelude.{ℕ, Option, Some, None, Result, Ok, Err, Bool, List, ltb, length, take}
 use Rattle.std.proofs.Math.Bool.{true, false}
 use Rattle.table.specs.Code.{code}
 use Rattle.calculus.specs.Estimate.{estimate}
@@ -8,13 +8,13 @@ use Rattle.calculus.specs.Answer as answers
 use Rattle.calls.specs.Faults.{fault_number, fault_place}
 use Rattle.solver.specs.Ceiling.{under, answer_within, estimate_within}
 use Rattle.graph.specs.declared.Arrangement.{Arrangement}
-use Rattle.graph.specs.declared.Arrangement.TheVariants as arrangements
+use Rattle.graph.specs.declared.Arrangement.TheVariants.{Ordered, Looped}
 use Rattle.graph.specs.Answer.{written, starting_with}
 use Rattle.graph.specs.Answer as graph
 use Rattle.graph.specs.Order.{Order}
 use Rattle.graph.specs.Loop.{Shortest}
-use Rattle.reading_order.specs.declared.Ordering.{Ordering}
-use Rattle.reading_order.specs.declared.Ordering.TheVariants as orderings
+use Rattle.reading_order.specs.declared.OrderFault.{OrderFault}
+use Rattle.reading_order.specs.declared.OrderFault.TheVariants.{Call, Short, Facts}
 use Rattle.reading_order.specs.Relation.{sender_rows, live_blocks}
 
 -- a refusal's number and place; or that there is an order, or else a loop, of so many positions
@@ -23,18 +23,18 @@ pub data Reply : Type 0 where
   ordered looped : (count : ℕ) → Reply
 
 -- the number and place of each refusal, and what the others say
-unfoldable pub reply_of : Ordering → Reply
+unfoldable pub reply_of : Result Arrangement OrderFault → Reply
 unfolding fault_number fault_place
-reply_of (orderings.Refused f) = refused (fault_number f) (fault_place f)
-reply_of orderings.Short = refused 51 0
-reply_of (orderings.Over n) = refused 23 n
-reply_of (orderings.Ordered count) = ordered count
-reply_of (orderings.Looped count) = looped count
+reply_of (Err (Call f)) = refused (fault_number f) (fault_place f)
+reply_of (Err Short) = refused 51 0
+reply_of (Err (Facts n)) = refused 23 n
+reply_of (Ok (Ordered count)) = ordered count
+reply_of (Ok (Looped count)) = looped count
 
-unfoldable pub arranged : Arrangement → Reply
-arranged arrangements.Short = refused 51 0
-arranged (arrangements.Ordered count) = ordered count
-arranged (arrangements.Looped count) = looped count
+unfoldable pub arranged : Option Arrangement → Reply
+arranged None = refused 51 0
+arranged (Some (Ordered count)) = ordered count
+arranged (Some (Looped count)) = looped count
 
 module _ (ws : List ℕ) (ρ : ℕ) where
   -- the relation of the least estimate, and the blocks that are live in it

@@ -7,7 +7,7 @@ ghost use Rattle.graph.specs.Answer.{starting_with};
 
 use table_links::{link, link_at};
 
-// By the links of the words.
+// By the links of the words: the next block stands where a link says, so no range counts b.
 fn list_linked(words: &[u32], links: &[u32], firsts: &mut [u32]) -> usize
     requires { (reading words.now ≡ accepted) × LinksOf words.now links.now × (length (code words.now).blocks ≤ length firsts.old) }
     ensures { (result ≡ length (code words.now).blocks)

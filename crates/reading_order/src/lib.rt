@@ -10,30 +10,54 @@ ghost use Rattle.table.specs.Code.{code};
 ghost use Rattle.calculus.specs.Layout.{estimate_words};
 ghost use Rattle.calculus.specs.Answer.{standing_bound};
 ghost use Rattle.calls.specs.Calls.{Fits};
-ghost use Rattle.reading_order.specs.Reply.{reply_of, arranged as Reply·arranged, reply, ReplyMeans};
+ghost use Rattle.reading_order.specs.Reply.{reply_of, reply, ReplyMeans};
 ghost use Rattle.reading_order.specs.Reply.{estimate_after_order, work_after_order, positions_after};
+ghost use Rattle.reading_order.specs.declared.OrderFault.TheVariants.{Call};
+ghost use Rattle.reading_order.specs.Faults.{order_fault};
 ghost use Rattle.reading_order.specs.Parts.{ArrangedBy, OrderedIn};
 
-use calls::Fault;
-use calls::checks::{Checked, check, words_needed};
-use graph::Arrangement;
+use calls::checks::{check, words_needed};
+use calls::{Fault, LimitFault};
+pub use graph::Arrangement;
 use permset::PermSet;
 use rows::layout::Layout;
-use solver::analyse::solve_in;
+use solver::analyse::find_within;
 
-// The answer to a call: refused, with too few positions, over the ceiling, or an order or else a loop of so many positions. `reply_of` of
-// specs/Reply.antt gives each its number and place.
+// Why a call is refused: by document 01, with too few positions, or since the least estimate has more facts than the ceiling, which stands beside.
+// `reply_of` of specs/Reply.antt gives each its number and place.
 #[derive(Clone, Copy)]
-pub enum Ordering {
-    Refused(Fault),
+pub enum OrderFault {
+    Call(Fault),
     Short,
-    Over(usize),
-    Ordered(usize),
-    Looped(usize),
+    Facts(usize),
+}
+
+impl From<Fault> for OrderFault {
+    ghost from_gives = { λ f o. o ≡ Call f };
+
+    fn from(f: Fault) -> OrderFault {
+        OrderFault::Call(f)
+    }
+}
+
+impl From<LimitFault> for OrderFault {
+    ghost from_gives = { λ l o. o ≡ order_fault l };
+
+    fn from(l: LimitFault) -> OrderFault {
+        match l {
+            LimitFault::Call(f) => OrderFault::Call(f),
+            LimitFault::Facts(n) => OrderFault::Facts(n),
+        }
+    }
 }
 
 // The order or loop of the blocks with these first words, by the words of an estimate.
-fn arranged(words: &[u32], est: &[u32], blocks: &[u32], positions: &mut [u32]) -> Arrangement
+fn arranged(
+    words: &[u32],
+    est: &[u32],
+    blocks: &[u32],
+    positions: &mut [u32],
+) -> Option<Arrangement>
     requires { (reading words.now ≡ accepted) × (length est.now ≡ estimate_words (code words.now)) × (blocks.now ≡ (code words.now).blocks) }
     ensures { ArrangedBy (code words.now) est.now positions.old positions.new result }
 {
@@ -45,19 +69,13 @@ fn arranged(words: &[u32], est: &[u32], blocks: &[u32], positions: &mut [u32]) -
     graph::arrange(&rows[..n], live, positions)
 }
 
-// The same as an answer to a call.
-fn answered(a: Arrangement) -> Ordering
-    ensures { reply_of result ≡ Reply·arranged a }
-{
-    match a {
-        Arrangement::Short => Ordering::Short,
-        Arrangement::Ordered(n) => Ordering::Ordered(n),
-        Arrangement::Looped(n) => Ordering::Looped(n),
-    }
-}
-
 // The order or loop by the estimate in the first words of a slice.
-fn arranged_in(words: &[u32], est: &[u32], blocks: &[u32], positions: &mut [u32]) -> Arrangement
+fn arranged_in(
+    words: &[u32],
+    est: &[u32],
+    blocks: &[u32],
+    positions: &mut [u32],
+) -> Option<Arrangement>
     requires { (reading words.now ≡ accepted) × (estimate_words (code words.now) ≤ length est.now) × (blocks.now ≡ (code words.now).blocks) }
     ensures { ArrangedBy (code words.now) (take (estimate_words (code words.now)) est.now)
         positions.old positions.new result }
@@ -75,17 +93,14 @@ fn solved(
     work: &mut [u32],
     blocks: &[u32],
     positions: &mut [u32],
-) -> Ordering
+) -> Result<Arrangement, OrderFault>
     requires fits { Fits words.now rho standing_bound (length est.old) (length work.old) }
     requires blocks_value { (blocks.now ≡ (code words.now).blocks) × (length blocks.now ≤ length positions.old) }
     ensures { OrderedIn words.now rho ceiling est.old work.old positions.old
         est.new work.new positions.new result }
 {
-    let found = solve_in(words, PermSet { bits: rho }, ceiling, est, work);
-    if ceiling < found.facts {
-        return Ordering::Over(ceiling);
-    }
-    answered(arranged_in(words, est, blocks, positions))
+    find_within(words, PermSet { bits: rho }, ceiling, est, work)?;
+    arranged_in(words, est, blocks, positions).ok_or(OrderFault::Short)
 }
 
 // The call where document 01 finds nothing wrong with it.
@@ -96,7 +111,7 @@ fn checked(
     est: &mut [u32],
     work: &mut [u32],
     positions: &mut [u32],
-) -> Ordering
+) -> Result<Arrangement, OrderFault>
     requires { Fits words.now rho standing_bound (length est.old) (length work.old) }
     ensures { OrderedIn words.now rho ceiling est.old work.old positions.old
         est.new work.new positions.new result }
@@ -104,7 +119,7 @@ fn checked(
     let mut blocks = [0u32; 64];
     let n = firsts::list_firsts(words, &mut blocks);
     if positions.len() < n {
-        return Ordering::Short;
+        return Err(OrderFault::Short);
     }
     solved(words, rho, ceiling, est, work, &blocks[..n], positions)
 }
@@ -118,7 +133,7 @@ pub fn order(
     est: &mut [u32],
     work: &mut [u32],
     positions: &mut [u32],
-) -> Ordering
+) -> Result<Arrangement, OrderFault>
     ensures answer { reply_of result
         ≡ reply words.now rho ceiling (length est.old) (length work.old) (length positions.old) }
     ensures estimate { est.new
@@ -129,8 +144,6 @@ pub fn order(
         ≡ positions_after words.now rho ceiling est.old work.old positions.old }
     ensures meaning { ReplyMeans words.now rho (reply_of result) positions.new }
 {
-    match check(words, rho, 0x80000000, est.len(), work.len()) {
-        Checked::Wrong(f) => Ordering::Refused(f),
-        Checked::Fine => checked(words, rho, ceiling, est, work, positions),
-    }
+    check(words, rho, 0x80000000, est.len(), work.len())?;
+    checked(words, rho, ceiling, est, work, positions)
 }

@@ -23,23 +23,19 @@ fn senders_to(est: &[u32], l: Layout, blocks: &[u32], b: usize) -> u64
     ensures { (c : Code) → LaidOut c l → result ≡ senders_to c est.now blocks.now b }
 {
     let mut set = 0;
-    let mut i = blocks.len();
-    while 0 < i {
-        i -= 1;
+    for i in (0..blocks.len()).rev() {
         set = shifted(set, has(est, l, 2 * b, 32 * l.lead + blocks[i] as usize));
     }
     set
 }
 
-// Those that are live.
+// Those that are live. Both loops stay: a closure for the test would bring what each query requires of its place into the clauses of one for both.
 pub fn live_among(est: &[u32], l: Layout, blocks: &[u32]) -> u64
     requires { Sized l est.now × Firsts l blocks.now }
     ensures { (c : Code) → LaidOut c l → result ≡ live_among c est.now blocks.now }
 {
     let mut set = 0;
-    let mut i = blocks.len();
-    while 0 < i {
-        i -= 1;
+    for i in (0..blocks.len()).rev() {
         set = shifted(set, is_live(est, l, blocks[i] as usize));
     }
     set
@@ -51,9 +47,7 @@ pub fn fill_rows(est: &[u32], l: Layout, blocks: &[u32], rows: &mut [u64])
     ensures { (c : Code) → LaidOut c l → rows.new
         ≡ starting_with (map (senders_to c est.now blocks.now) blocks.now) rows.old }
 {
-    let mut t = 0;
-    while t < blocks.len() {
-        rows[t] = senders_to(est, l, blocks, blocks[t] as usize);
-        t += 1;
+    for (t, &block) in blocks.iter().enumerate() {
+        rows[t] = senders_to(est, l, blocks, block as usize);
     }
 }

@@ -31,7 +31,7 @@ pub fn refusal_line(out: &mut [u8], at: usize, number: u32, place: usize) -> usi
     put(out, b, b"\n")
 }
 
-// The first line of a verdict.
+// The first line of a verdict. `over` and `first` stay two, as in the record `Verdict` of calculus, which the clause names.
 pub fn verdict_line(
     out: &mut [u8],
     at: usize,

@@ -3,38 +3,28 @@
 
 ghost use Rattle.std.specs.Prelude.{◌≡◌, ◌∷◌, ◌+◌, ◌^◌, ◌<◌, ◌≤◌, length, get_or, take, drop};
 ghost use Rattle.permset.specs.Sets.{member};
-ghost use Rattle.calculus.specs.Elements.{constant_element, sign};
-ghost use Rattle.calculus.specs.Estimate.{same, facts};
+ghost use Rattle.calculus.specs.Estimate.{facts};
 ghost use Rattle.calculus.specs.ResultWords.{sign_entry, signs_below, nonzero, same_mask, apart, apart_mask, equal_mask, operation_mask};
 ghost use Rattle.results.specs.Signs.{sign_table};
 
 use rows::row::{any, some};
-use table::{Constant, Operation};
+use table::Operation;
 
-fn constant_bit(k: Constant) -> u32
-    ensures { result ≡ 2 ^ constant_element k }
-{
-    match k {
-        Constant::Undefined => 1,
-        Constant::Unit => 2,
-        Constant::True => 4,
-        Constant::False => 8,
-    }
-}
+// Bits of a first word: the truths, the signs from the negative one on, the elements that stand for more than one value, and all but the opponent's record.
+const TRUE: u32 = 4;
 
-fn sign_bit(n: u32) -> u32
-    ensures { result ≡ 2 ^ sign n }
-{
-    if n == 0 {
-        32
-    } else if n < 8388608 {
-        64
-    } else {
-        16
-    }
-}
+const FALSE: u32 = 8;
+
+const NEGATIVE: u32 = 16;
+
+const SIGNS: u32 = 112;
+
+const SEVERAL: u32 = 336;
+
+const COMPARABLE: u32 = 4294967167;
 
 // Digit i of a word.
+#[tactic(auto, unfolding(permset::specs::Sets::member))]
 fn has_digit(x: u32, i: u32) -> bool
     requires { i < 32 }
     ensures { result ≡ member x i }
@@ -61,59 +51,42 @@ fn sign_result(sum: bool, i: usize) -> u32
     if sum {
         // equal signs stay, zero is neutral, opposite signs give all three
         if x == y {
-            return 16 << x;
+            return NEGATIVE << x;
         }
         if x == 1 {
-            return 16 << y;
+            return NEGATIVE << y;
         }
-        return if y == 1 { 16 << x } else { 112 };
+        return if y == 1 { NEGATIVE << x } else { SIGNS };
     }
     // negative, zero, positive in that order; equal non-zero signs give both truths, zero with zero false
     if x == y {
-        return if x == 1 { 8 } else { 12 };
+        return if x == 1 { FALSE } else { TRUE | FALSE };
     }
-    if x < y { 4 } else { 8 }
+    if x < y { TRUE } else { FALSE }
 }
 
 // The entry of pair i if both rows have its signs.
+#[tactic(auto, unfolding(calculus::specs::ResultWords::sign_entry))]
 fn sign_entry(sum: bool, x: u32, y: u32, i: usize) -> u32
     requires { i < 9 }
     ensures { result ≡ sign_entry (sign_table sum) x y i }
 {
-    if !has_digit(x, (4 + i / 3) as u32) {
-        return 0;
+    if has_digit(x, (4 + i / 3) as u32) && has_digit(y, (4 + i % 3) as u32) {
+        sign_result(sum, i)
+    } else {
+        0
     }
-    if !has_digit(y, (4 + i % 3) as u32) {
-        return 0;
-    }
-    sign_result(sum, i)
 }
 
+#[tactic(auto, unfolding(calculus::specs::ResultWords::signs_below))]
 fn signs(sum: bool, x: u32, y: u32) -> u32
     ensures { result ≡ signs_below (sign_table sum) x y 9 }
 {
     let mut r = 0u32;
-    let mut i = 0;
-    while i < 9 {
+    for i in 0..9 {
         r |= sign_entry(sum, x, y, i);
-        i += 1;
     }
     r
-}
-
-// Whether two lists of words of one length are the same.
-fn alike(a: &[u32], d: &[u32]) -> bool
-    requires { length a.now ≡ length d.now }
-    ensures { result ≡ same a.now d.now }
-{
-    let mut i = 0;
-    while i < a.len() {
-        if a[i] != d[i] {
-            return false;
-        }
-        i += 1;
-    }
-    true
 }
 
 // How many digits words have.
@@ -122,10 +95,8 @@ fn count(words: &[u32]) -> u32
     ensures { result ≡ facts words.now }
 {
     let mut n = 0u32;
-    let mut i = 0;
-    while i < words.len() {
-        n += u32::count_ones(words[i]);
-        i += 1;
+    for word in words {
+        n += u32::count_ones(*word);
     }
     n
 }
@@ -133,61 +104,52 @@ fn count(words: &[u32]) -> u32
 // A side of an operation is its first word, x or y, and the words of names after it, a or d.
 
 // Whether a side has an element.
+#[tactic(auto, unfolding(calculus::specs::ResultWords::nonzero))]
 fn any_element(x: u32, a: &[u32]) -> bool
     ensures { result ≡ nonzero (x ∷ a.now) }
 {
-    if x != 0 { true } else { some(a) }
+    x != 0 || some(a)
 }
 
+#[tactic(auto, using(rows::proofs::Laws::meets_nonzero), unfolding(calculus::specs::ResultWords::same_mask, calculus::specs::ResultWords::nonzero, calculus::specs::Layout::masked))]
 fn same_bits(x: u32, y: u32, a: &[u32], d: &[u32]) -> u32
     requires { length a.now ≡ length d.now }
     ensures { result ≡ same_mask (x ∷ a.now) (y ∷ d.now) }
 {
-    if x & y != 0 {
-        return 4;
-    }
-    if any(d, a) { 4 } else { 0 }
+    if x & y != 0 || any(d, a) { TRUE } else { 0 }
 }
 
-// Whether the sides give two different values: 4, 6 and 8 stand for more than one.
+// Whether the sides give two different values.
+#[tactic(auto, using(crate::proofs::Apart::apart_tests))]
 fn differ(x: u32, y: u32, a: &[u32], d: &[u32]) -> bool
     requires { (length a.now ≡ length d.now) × (length a.now ≤ 36) }
     ensures { result ≡ apart (x ∷ a.now) (y ∷ d.now) }
 {
-    if x & y & 336 != 0 {
-        return true;
-    }
-    if x != y {
-        return true;
-    }
-    if !alike(a, d) {
-        return true;
-    }
-    1 < u32::count_ones(x) + count(a)
+    x & y & SEVERAL != 0 || x != y || a != d || 1 < u32::count_ones(x) + count(a)
 }
 
+#[tactic(auto, unfolding(calculus::specs::ResultWords::apart_mask))]
 fn differ_bits(x: u32, y: u32, a: &[u32], d: &[u32]) -> u32
     requires { (length a.now ≡ length d.now) × (length a.now ≤ 36) }
     ensures { result ≡ apart_mask (x ∷ a.now) (y ∷ d.now) }
 {
-    if differ(x, y, a, d) { 8 } else { 0 }
+    if differ(x, y, a, d) { FALSE } else { 0 }
 }
 
 // Equal, where 7 is left out: same gives true, different gives false.
+#[tactic(auto, unfolding(calculus::specs::ResultWords::equal_mask))]
 fn compare(x: u32, y: u32, a: &[u32], d: &[u32]) -> u32
     requires { (length a.now ≡ length d.now) × (length a.now ≤ 36) }
     ensures { result ≡ equal_mask (x ∷ a.now) (y ∷ d.now) }
 {
-    if !any_element(x, a) {
-        return 0;
-    }
-    if !any_element(y, d) {
+    if !any_element(x, a) || !any_element(y, d) {
         return 0;
     }
     same_bits(x, y, a, d) | differ_bits(x, y, a, d)
 }
 
 // The results of an operation on two sides; 7 is not compared.
+#[tactic(auto, unfolding(calculus::specs::ResultWords::operation_mask, calculus::specs::ResultWords::comparables, crate::specs::Signs::sign_table))]
 fn operate(o: Operation, x: u32, y: u32, a: &[u32], d: &[u32]) -> u32
     requires { (length a.now ≡ length d.now) × (length a.now ≤ 36) }
     ensures { result ≡ operation_mask o (x ∷ a.now) (y ∷ d.now) }
@@ -195,7 +157,7 @@ fn operate(o: Operation, x: u32, y: u32, a: &[u32], d: &[u32]) -> u32
     match o {
         Operation::Add => signs(true, x, y),
         Operation::Less => signs(false, x, y),
-        Operation::Equal => compare(x & 4294967167, y & 4294967167, a, d),
+        Operation::Equal => compare(x & COMPARABLE, y & COMPARABLE, a, d),
     }
 }
 
@@ -204,9 +166,11 @@ pub fn operate_at(est: &[u32], lead: usize, o: Operation, x: usize, y: usize) ->
     requires { (x + lead ≤ length est.now) × (y + lead ≤ length est.now) × (1 ≤ lead) × (lead ≤ 36) }
     ensures { result ≡ operation_mask o (take lead (drop x est.now)) (take lead (drop y est.now)) }
 {
-    let a = x + 1;
-    let b = x + lead;
-    let d = y + 1;
-    let e = y + lead;
-    operate(o, est[x], est[y], &est[a..b], &est[d..e])
+    operate(
+        o,
+        est[x],
+        est[y],
+        &est[x + 1..x + lead],
+        &est[y + 1..y + lead],
+    )
 }

@@ -1,15 +1,15 @@
 -- So many full words: poured in one after the other, and their digits.
-use Prim.Native.Nat.{ℕ, zero, suc, ◌+◌, ◌*◌, ◌/◌, ◌%◌, ◌^◌, ◌<◌}
-use mathlib.Core.Path.{◌≡◌, refl, sym, ap, ◌∙◌, subst}
+use Prim.Native.Nat.{ℕ, zero, suc, ◌+◌, ◌*◌, ◌/◌, ◌%◌, ◌^◌, ◌<◌, ◌≤◌}
+use mathlib.Core.Path.{◌≡◌, refl, sym, ap, ap₂, ◌∙◌, subst}
 use mathlib.Core.Bool.{true}
-use mathlib.Core.List.{List, [], ◌∷◌}
+use mathlib.Core.List.{List, [], ◌∷◌, ◌++◌}
 use native.Mathlib.Decide.{dec_lt}
-use native.Mathlib.Nat.{suc-add}
+use native.Mathlib.Nat.{suc-add, mod-eq_of_lt}
 use native.Mathlib.Numerals.{add-one}
 use native.Mathlib.Omega.{arith}
-use lib.Bits.{bit_or}
+use lib.Bits.{bit_and, bit_or, or_add_and, and_mask}
 use lib.Dec.{T, lit<}
-use lib.ListN.{get_or, replicate, length-replicate, get_or-replicate, get_or-eq_default}
+use lib.ListN.{length, take, drop, get_or, replicate, length-replicate, get_or-replicate, get_or-eq_default}
 use Rattle.permset.specs.Sets.{member}
 use Rattle.calculus.specs.Layout.{bit, pour, Words}
 use Rattle.calculus.proofs.Facts.{pour-nil}
@@ -43,6 +43,22 @@ one_more ws xs ys at k m n p q =
           ∙ ap (λ (i : ℕ). pour ws at (replicate i full)) (sym (add-one k));
       count = omega (arith, p.count, q.count);
     }
+
+-- ---- words filled
+
+all-digits : (w : ℕ) → w < 2 ^ 32 → bit_or w full ≡ full
+all-digits w h = let e : bit_and w full ≡ w = and_mask w 32 ∙ mod-eq_of_lt h in omega (arith, or_add_and w full)
+
+-- n words from a place on
+pub filled : (ws : List ℕ) (at n : ℕ) → at + n ≤ length ws → Words ws → take at ws ++ (replicate n full ++ drop n (drop at ws)) ≡ pour ws at (replicate n full)
+unfolding pour
+filled [] zero zero h f = refl
+filled [] zero (suc n) h f = absurd (omega arith)
+filled [] (suc at) n h f = absurd (omega arith)
+filled (w ∷ ws) zero zero h f = refl
+filled (w ∷ ws) zero (suc n) h f =
+    ap₂ (λ (x : ℕ) (xs : List ℕ). x ∷ xs) (sym (all-digits w (f zero))) (filled ws zero n (omega arith) (λ k. f (suc k)))
+filled (w ∷ ws) (suc at) n h f = ap (λ (xs : List ℕ). w ∷ xs) (filled ws at n (omega arith) (λ k. f (suc k)))
 
 -- ---- the digits of full words
 

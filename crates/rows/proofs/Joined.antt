@@ -5,15 +5,16 @@ use mathlib.Core.List.{List, [], ◌∷◌, ◌++◌}
 use native.Mathlib.Decide.{dec_lt}
 use native.Mathlib.Nat.{mul-le-mul_right, suc-mul}
 use native.Mathlib.Omega.{arith}
-use lib.Bits.{bit_and, bit_or, bit_xor, and_le_l, and_le_r, or_lt, xor_lt, or_add_and, xor_add_and}
+use lib.Bits.{bit_or, bit_xor, and_le_l, and_le_r, or_lt, xor_lt, or_add_and, xor_add_and}
 use lib.Count.{ones, ones-le}
 use lib.ListN.{length, length-set, get_or, set, take, drop}
-use lib.Seq.{length-take-le, take_all, get_or-set_other}
-use Rattle.calculus.specs.Layout.{pour, masked}
-use Rattle.calculus.proofs.Masks.{get_or-masked}
+use lib.Seq.{length-take-le, get_or-set_other}
+use Rattle.calculus.specs.Layout.{pour}
+use Rattle.calculus.proofs.Facts.{pour-nil}
 use Rattle.calculus.proofs.Slices.{get_or-pour-before}
-use Rattle.rows.specs.Rows.{Poured}
-use Rattle.rows.proofs.Laws.{drop-next, pour-then, poured-next, nothing-new, different-bits, put_back, length-poured, poured-few, length_part, length-row, get_or-row, length-masked-row}
+use Rattle.rows.specs.Rows.{Poured, Sifted}
+use Rattle.rows.proofs.Laws.{pour-then, nothing-new, different-bits, put_back, length-poured, poured-few, length_part, length-row, get_or-row}
+use Rattle.rows.proofs.Sifting.{sifted-next, sifted-four}
 
 -- ---- four words
 
@@ -104,34 +105,6 @@ unread ws row a b xs k h l = go (dec_lt a b)
     go (yes m) = get_or-pour-before ws (b * row) xs (a * row + k) (omega (arith, suc-mul a row, mul-le-mul_right row m))
     go (no m) = let n : b ≤ a = omega arith in get_or-pour-after ws (b * row) xs (a * row + k) (omega (arith, mul-le-mul_right row n))
 
--- What is or-ed in, as a list that an estimate gives: its word k comes from the word k of the row a.
-pub record Source (row a : ℕ) (of : List ℕ → List ℕ) (f : ℕ → ℕ → ℕ) : Type 0 where
-  pub long : (ws : List ℕ) → a * row + row ≤ length ws → length (of ws) ≡ row
-  pub word : (ws : List ℕ) (k : ℕ) → k < row → get_or (of ws) k 0 ≡ f k (get_or ws (a * row + k) 0)
-
-pub whole_row : (row a : ℕ) → Source row a (λ ws. take row (drop (a * row) ws)) (λ k w. w)
-whole_row row a = record { long = λ ws h. length-row ws (a * row) row h; word = λ ws k h. get_or-row ws (a * row) row k h }
-
-pub masked_row : (row a : ℕ) (mask : List ℕ) → length mask ≡ row
-    → Source row a (λ ws. masked mask (take row (drop (a * row) ws))) (λ k w. bit_and (get_or mask k 0) w)
-masked_row row a mask e =
-    record {
-      long = λ ws h. length-masked-row mask ws (a * row) row e h;
-      word = λ ws k h. get_or-masked mask (take row (drop (a * row) ws)) k ∙ ap (bit_and (get_or mask k 0)) (get_or-row ws (a * row) row k h);
-    }
-
-take-one : (xs : List ℕ) (i : ℕ) → i < length xs → take 1 (drop i xs) ≡ get_or xs i 0 ∷ []
-take-one xs i h = ap (take 1) (drop-next xs i h)
-
-take-four : (xs : List ℕ) (i : ℕ) → i + 4 ≤ length xs → take 4 (drop i xs) ≡ get_or xs i 0 ∷ get_or xs (i + 1) 0 ∷ get_or xs (i + 2) 0 ∷ get_or xs (i + 3) 0 ∷ []
-take-four xs i h =
-    let e2 : i + 1 + 1 ≡ i + 2 = omega arith in let e3 : i + 2 + 1 ≡ i + 3 = omega arith in
-    let d1 = drop-next xs i (omega arith) in
-    let d2 = drop-next xs (i + 1) (omega arith) ∙ ap (λ (j : ℕ). get_or xs (i + 1) 0 ∷ drop j xs) e2 in
-    let d3 = drop-next xs (i + 2) (omega arith) ∙ ap (λ (j : ℕ). get_or xs (i + 2) 0 ∷ drop j xs) e3 in
-    let d4 = drop-next xs (i + 3) (omega arith) in
-    ap (take 4) (d1 ∙ ap (λ (ys : List ℕ). get_or xs i 0 ∷ ys) (d2 ∙ ap (λ (ys : List ℕ). get_or xs (i + 1) 0 ∷ ys) (d3 ∙ ap (λ (ys : List ℕ). get_or xs (i + 2) 0 ∷ ys) d4)))
-
 -- the row at a place as it is lent, and the estimate when it is back
 abbrev pub lent : ℕ → ℕ → List ℕ → List ℕ
 lent at row ws = take (at + row - at) (drop at ws)
@@ -139,64 +112,67 @@ lent at row ws = take (at + row - at) (drop at ws)
 abbrev pub returned : ℕ → ℕ → List ℕ → List ℕ → List ℕ
 returned at row ws last = take at ws ++ (last ++ drop (at + row - at) (drop at ws))
 
--- What a loop of `join` keeps: it began at the word `start` with so much added before, and is at the word i; whatever list the row b had got the first
--- words of the source of, up to `start`, it has now got up to i.
-pub record Running (row b : ℕ) (of : List ℕ → List ℕ) (old : List ℕ) (before start : ℕ) (new : List ℕ) (added i : ℕ) : Type 0 where
-  pub inside : i ≤ row
-  pub long : length new ≡ length old
+-- What the loops of `join_counting` keep, at the word i: what counts of the words of the row a before i is or-ed into the row b, and that added so many.
+pub record Running (counts : ℕ → ℕ → ℕ → Type 0) (row a b : ℕ) (old new : List ℕ) (added i : ℕ) : Type 0 where
+  pub words : List ℕ
+  pub sifted : Sifted counts (take i (take row (drop (a * row) old))) words
+  pub poured : Poured old new (b * row) words added
   pub few : added ≤ 131072 * i
-  pub joined : (ws : List ℕ) → Poured ws old (b * row) (take start (of ws)) before → Poured ws new (b * row) (take i (of ws)) added
 
-pub stands : (row b : ℕ) (of : List ℕ → List ℕ) (old : List ℕ) (added i : ℕ) → i ≤ row → added ≤ 131072 * i → Running row b of old added i old added i
-stands row b of old added i l k = record { inside = l; long = refl; few = k; joined = λ ws p. p }
+pub none_joined : (counts : ℕ → ℕ → ℕ → Type 0) (row a b : ℕ) (old : List ℕ) → Running counts row a b old old 0 0
+none_joined counts row a b old =
+    record {
+      words = [];
+      sifted = record { long = refl; word = λ k h. absurd (omega arith) };
+      poured = record { words = sym (pour-nil old (b * row)); count = omega arith };
+      few = omega arith;
+    }
 
-module _ {row a : ℕ} (b : ℕ) {of : List ℕ → List ℕ} {f : ℕ → ℕ → ℕ} (s : Source row a of f) where
-  -- a word of the source that is still to come, where the first i are or-ed in
-  read : (ws old : List ℕ) (i k place added : ℕ) → a * row + row ≤ length ws → Poured ws old (b * row) (take i (of ws)) added → i ≤ k → k < row
-      → place ≡ a * row + k → f k (get_or old place 0) ≡ get_or (of ws) k 0
-  read ws old i k place added h p l m e =
-      let n : length (take i (of ws)) ≤ k = omega (arith, length-take-le i (of ws) (omega (arith, s.long ws h))) in
-      ap₂ (λ (es : List ℕ) (j : ℕ). f k (get_or es j 0)) p.words e ∙ ap (f k) (unread ws row a b (take i (of ws)) k n m) ∙ sym (s.word ws k m)
+module _ {counts : ℕ → ℕ → ℕ → Type 0} {row a b : ℕ} {old new : List ℕ} {added i : ℕ} (r : Running counts row a b old new added i) (long : a * row + row ≤ length old) where
+  -- a word of the row a that is still to come
+  pub unjoined : (k place : ℕ) → i ≤ k → k < row → place ≡ a * row + k → get_or new place 0 ≡ get_or (take row (drop (a * row) old)) k 0
+  unjoined k place h l e =
+      let xs = take row (drop (a * row) old) in
+      let n : length r.words ≡ i = r.sifted.long ∙ length-take-le i xs (omega (arith, length-row old (a * row) row long)) in
+      ap₂ (λ (ws : List ℕ) (j : ℕ). get_or ws j 0) r.poured.words e ∙ unread old row a b r.words k (omega (arith, n)) l ∙ sym (get_or-row old (a * row) row k l)
 
-  module _ {old : List ℕ} {before start : ℕ} (long : a * row + row ≤ length old) (wide : b * row + row ≤ length old) (narrow : row < 64) (new last : List ℕ) (i added m : ℕ) (r : Running row b of old before start new added i) where
-    -- n words more, written into the row as it is lent
-    more : (n : ℕ) (xs : List ℕ) → i + n ≤ row → length xs ≡ n → 0 < n
-        → ((ws : List ℕ) → a * row + row ≤ length ws → Poured ws new (b * row) (take i (of ws)) added → xs ≡ take n (drop i (of ws)))
-        → Poured (lent (b * row) row new) last i xs m
-        → Running row b of old before start (returned (b * row) row new last) (added + m) (i + n)
-    more n xs l k z e q =
-        let back = put_back new (b * row) (b * row + row - b * row) last i xs m q (omega arith) in
+  module _ (wide : b * row + row ≤ length old) (narrow : row < 64) (last : List ℕ) (m : ℕ) where
+    -- words more, written into the row as it is lent
+    more : (xs : List ℕ) → i + length xs ≤ row → 0 < length xs → Sifted counts (take (i + length xs) (take row (drop (a * row) old))) (r.words ++ xs)
+        → Poured (lent (b * row) row new) last i xs m → Running counts row a b old (returned (b * row) row new last) (added + m) (i + length xs)
+    more xs h l s p =
+        let line = take row (drop (a * row) old) in
+        let n : length r.words ≡ i = r.sifted.long ∙ length-take-le i line (omega (arith, length-row old (a * row) row long)) in
+        let same = length-poured _ _ _ _ _ r.poured in
+        let back = put_back new (b * row) (b * row + row - b * row) last i xs m p (omega arith) in
         record {
-          inside = l;
-          long = length-poured _ _ _ _ _ back ∙ r.long;
-          few = omega (arith, r.few, poured-few _ _ _ _ _ q (omega (arith, length_part new (b * row) row (omega (arith, r.long)))));
-          joined = λ ws p.
-              let j = r.joined ws p in let h : a * row + row ≤ length ws = omega (arith, length-poured _ _ _ _ _ j, r.long) in
-              poured-next ws new _ (of ws) (b * row) i n added m (omega (arith, s.long ws h)) j (subst (λ (ys : List ℕ). Poured new (returned (b * row) row new last) (b * row + i) ys m) (e ws h j) back);
+          words = r.words ++ xs;
+          sifted = s;
+          poured = record {
+            words =
+                back.words ∙ ap (λ (ws : List ℕ). pour ws (b * row + i) xs) r.poured.words
+                ∙ ap (λ (j : ℕ). pour (pour old (b * row) r.words) (b * row + j) xs) (sym n) ∙ pour-then old (b * row) r.words xs;
+            count = omega (arith, r.poured.count, back.count);
+          };
+          few = omega (arith, r.few, poured-few _ _ _ _ _ p (omega (arith, length_part new (b * row) row (omega (arith, same)))));
         }
 
-    pub one_more : i < row → Poured (lent (b * row) row new) last i (f i (get_or new (a * row + i) 0) ∷ []) m
-        → Running row b of old before start (returned (b * row) row new last) (added + m) (i + 1)
-    one_more l =
-        more 1 _ (omega arith) refl (omega arith)
-        (λ ws h p. ap (λ (w : ℕ). w ∷ []) (read ws new i i (a * row + i) added h p (omega arith) l refl) ∙ sym (take-one (of ws) i (omega (arith, s.long ws h))))
+    pub one_more : (w : ℕ) → i < row → counts i (get_or new (a * row + i) 0) w → Poured (lent (b * row) row new) last i (w ∷ []) m
+        → Running counts row a b old (returned (b * row) row new last) (added + m) (i + 1)
+    one_more w h c p =
+        let line = take row (drop (a * row) old) in
+        more (w ∷ []) (omega arith) (omega arith)
+        (sifted-next counts line i r.words w (omega (arith, length-row old (a * row) row long)) r.sifted
+        (subst (λ (x : ℕ). counts i x w) (unjoined i _ (omega arith) h refl) c)) p
 
-    pub four-more : i + 4 ≤ row
-        → Poured (lent (b * row) row new) last i
-        (f i (get_or new (a * row + i) 0) ∷ f (i + 1) (get_or new (a * row + i + 1) 0) ∷ f (i + 2) (get_or new (a * row + i + 2) 0) ∷ f (i + 3) (get_or new (a * row + i + 3) 0) ∷ []) m
-        → Running row b of old before start (returned (b * row) row new last) (added + m) (i + 4)
-    four-more l =
-        let link : (w x : ℕ) (xs ys : List ℕ) → w ≡ x → xs ≡ ys → w ∷ xs ≡ x ∷ ys = (λ w x xs ys. ap₂ (λ (u : ℕ) (us : List ℕ). u ∷ us)) in
-        more 4 _ l refl (omega arith)
-        (λ ws h p. link _ _ _ _ (read ws new i i _ added h p (omega arith) (omega arith) refl)
-        (link _ _ _ _ (read ws new i (i + 1) _ added h p (omega arith) (omega arith) (omega arith))
-        (link _ _ _ _ (read ws new i (i + 2) _ added h p (omega arith) (omega arith) (omega arith))
-        (link _ _ _ _ (read ws new i (i + 3) _ added h p (omega arith) (omega arith) (omega arith)) refl)))
-        ∙ sym (take-four (of ws) i (omega (arith, s.long ws h))))
-
-  -- all words
-  pub all-joined : (ws old new : List ℕ) (before start added i : ℕ) → a * row + row ≤ length ws → Poured ws old (b * row) (take start (of ws)) before
-      → Running row b of old before start new added i → row ≤ i → Poured ws new (b * row) (of ws) added
-  all-joined ws old new before start added i h p r l =
-      let q = r.joined ws p in
-      record { words = q.words ∙ ap (pour ws (b * row)) (take_all i (of ws) (omega (arith, s.long ws h))); count = q.count }
+    pub four_more : (w x y z : ℕ) → i + 4 ≤ row → counts i (get_or new (a * row + i) 0) w → counts (i + 1) (get_or new (a * row + i + 1) 0) x
+        → counts (i + 2) (get_or new (a * row + i + 2) 0) y → counts (i + 3) (get_or new (a * row + i + 3) 0) z
+        → Poured (lent (b * row) row new) last i (w ∷ x ∷ y ∷ z ∷ []) m → Running counts row a b old (returned (b * row) row new last) (added + m) (i + 4)
+    four_more w x y z h c d e f p =
+        let line = take row (drop (a * row) old) in
+        more (w ∷ x ∷ y ∷ z ∷ []) h (omega arith)
+        (sifted-four counts line i r.words w x y z (omega (arith, length-row old (a * row) row long)) r.sifted
+        (subst (λ (u : ℕ). counts i u w) (unjoined i _ (omega arith) (omega arith) refl) c)
+        (subst (λ (u : ℕ). counts (i + 1) u x) (unjoined (i + 1) _ (omega arith) (omega arith) (omega arith)) d)
+        (subst (λ (u : ℕ). counts (i + 2) u y) (unjoined (i + 2) _ (omega arith) (omega arith) (omega arith)) e)
+        (subst (λ (u : ℕ). counts (i + 3) u z) (unjoined (i + 3) _ (omega arith) (omega arith) (omega arith)) f)) p

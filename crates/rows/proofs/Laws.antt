@@ -2,34 +2,28 @@
 use Prim.Native.Nat.{ℕ, zero, suc, ◌+◌, ◌-◌, ◌*◌, ◌/◌, ◌%◌, ◌^◌, ◌≤◌, ◌<◌}
 use mathlib.Core.Path.{◌≡◌, refl, sym, ap, ◌∙◌, subst}
 use mathlib.Core.Logic.{◌⊎◌, inl, inr, ⊎_elim}
-use mathlib.Core.Bool.{Bool, true, false, not, ◌&&◌, ◌||◌, true≢false}
+use mathlib.Core.Bool.{Bool, true, false, not, ◌&&◌, ◌||◌}
 use mathlib.Core.List.{List, [], ◌∷◌, ◌++◌}
 use native.Mathlib.Nat.{zero-add, suc-add, add-zero, zero-mul, one-mul, add-mul, mod-lt, pow-suc}
 use native.Mathlib.Decide.{ℕ_discrete, dec_lt}
 use native.Mathlib.Numerals.{add-one, one-add}
 use native.Mathlib.Omega.{arith}
 use borrow.Author.Tests.{eq-eqb, ne_eqb, lt-ltb, le-ltb}
-use lib.Arith.{lt-one}
 use lib.Dec.{eqb, ltb}
 use lib.Count.{ones_in, ones, ones_step, ones_cat}
 use lib.Pow.{pow_pos, pow-lt, split}
 use lib.Bits.{bit_and, bit_or, bit_xor, and_le_l, and_le_r, or_lt, xor_lt, or_add_and, xor_add_and, xor_self, or_mod, xor_mod, or_shr, xor_shr, and_zero_l, and_zero_r, or_disjoint, and_high}
 use lib.ListN.{length, get_or, set, take, drop, take-append-drop, length-drop, drop_of_length-le}
-use lib.Seq.{take-add, drop-cons, length-take-le, take-nil, drop-nil, set-get_or, get_or-take, get_or-drop}
+use lib.Seq.{drop-cons, length-take-le, take-nil, drop-nil, set-get_or, get_or-take, get_or-drop}
 use Rattle.calculus.specs.Layout.{pour}
 use Rattle.calculus.specs.Estimate.{facts}
 use Rattle.calculus.proofs.Slices.{length-pour, pour-adds}
-use Rattle.calculus.proofs.Facts.{facts-le, facts-set, facts-append, pour-one}
+use Rattle.calculus.proofs.Facts.{ones-word, facts-le, facts-set, facts-append, pour-one}
 use Rattle.calculus.specs.Layout.{masked}
 use Rattle.calculus.proofs.Masks.{nonzero}
-use Rattle.rows.specs.Rows.{NextCommon, meets, lacking, Poured}
+use Rattle.rows.specs.Rows.{NextCommon, meets, Poured}
 
 -- ---- the digits of one word
-
-pub ones-in : (k n : ℕ) → n < 2 ^ k → ones_in k n ≡ ones n
-unfolding ones_in ones
-ones-in zero n h = ap ones (sym (lt-one h))
-ones-in (suc k) n h = ap (λ (x : ℕ). n % 2 + x) (ones-in k (n / 2) (omega (arith, pow-suc 2 k))) ∙ sym (ones_step n)
 
 ones_in-le : (k n : ℕ) → ones_in k n ≤ k
 unfolding ones_in
@@ -68,23 +62,15 @@ eqb_same a b c d f g = go (ℕ_discrete a b)
     go (yes e) = eq-eqb a b e ∙ sym (eq-eqb c d (f e))
     go (no e) = ne_eqb a b e ∙ sym (ne_eqb c d (λ x. e (g x)))
 
-or_left_false : (a b : Bool) → (a || b) ≡ false → a ≡ false
-or_left_false true b h = h
-or_left_false false b h = refl
-
-or_right_false : (a b : Bool) → (a || b) ≡ false → b ≡ false
-or_right_false true b h = absurd (true≢false h)
-or_right_false false b h = h
-
-or-false : (b : Bool) → (b || false) ≡ b
+pub or-false : (b : Bool) → (b || false) ≡ b
 or-false true = refl
 or-false false = refl
 
-or-true : (b : Bool) → (b || true) ≡ true
+pub or-true : (b : Bool) → (b || true) ≡ true
 or-true true = refl
 or-true false = refl
 
-or_assoc : (a b c : Bool) → (a || (b || c)) ≡ ((a || b) || c)
+pub or_assoc : (a b c : Bool) → (a || (b || c)) ≡ ((a || b) || c)
 or_assoc true b c = refl
 or_assoc false b c = refl
 
@@ -109,7 +95,7 @@ not-and true b = refl
 not-and false b = refl
 
 -- what is missing so far, and in one word more
-missing-more : (m x y : ℕ) → not (eqb (bit_or m (bit_xor x (bit_and x y))) 0) ≡ (not (eqb m 0) || not (eqb (bit_and x y) x))
+pub missing-more : (m x y : ℕ) → not (eqb (bit_or m (bit_xor x (bit_and x y))) 0) ≡ (not (eqb m 0) || not (eqb (bit_and x y) x))
 missing-more m x y =
     ap not (or-none m (bit_xor x (bit_and x y)) ∙ ap (λ (b : Bool). eqb m 0 && b) (xor-none x (bit_and x y)))
     ∙ not-and (eqb m 0) (eqb (bit_and x y) x)
@@ -128,18 +114,6 @@ pour-then (w ∷ ws) zero (x ∷ xs) ys =
     let e : zero + suc (length xs) ≡ suc (zero + length xs) = omega arith in
     rw e (ap (λ (zs : List ℕ). bit_or w x ∷ zs) (pour-then ws zero xs ys))
 pour-then (w ∷ ws) (suc at) xs ys = rw (suc-add at (length xs)) (ap (λ (zs : List ℕ). w ∷ zs) (pour-then ws at xs ys))
-
--- the first i words, and the next n
-pub poured-next : (ws old new xs : List ℕ) (at i n added more : ℕ) → i ≤ length xs → Poured ws old at (take i xs) added
-    → Poured old new (at + i) (take n (drop i xs)) more → Poured ws new at (take (i + n) xs) (added + more)
-poured-next ws old new xs at i n added more h p q =
-    record {
-      words =
-          q.words ∙ ap (λ (ys : List ℕ). pour ys (at + i) (take n (drop i xs))) p.words
-          ∙ ap (λ (k : ℕ). pour (pour ws at (take i xs)) (at + k) (take n (drop i xs))) (sym (length-take-le i xs h))
-          ∙ pour-then ws at (take i xs) (take n (drop i xs)) ∙ ap (pour ws at) (sym (take-add i n xs));
-      count = omega (arith, p.count, q.count);
-    }
 
 pub length-poured : (ws new : List ℕ) (at : ℕ) (xs : List ℕ) (added : ℕ) → Poured ws new at xs added → length new ≡ length ws
 length-poured ws new at xs added p = ap length p.words ∙ length-pour ws at xs
@@ -163,7 +137,7 @@ module _ (ws : List ℕ) (k x : ℕ) where
     counted =
         let e : facts (pour ws k (x ∷ [])) ≡ facts (set ws k (bit_or (get_or ws k 0) x)) = ap facts (pour-one ws k x) in
         omega
-        (arith, facts-set ws k (bit_or (get_or ws k 0) x) inside, ones-in 32 (get_or ws k 0) old, ones-in 32 (bit_or (get_or ws k 0) x) (or_lt 32 (get_or ws k 0) x old new))
+        (arith, facts-set ws k (bit_or (get_or ws k 0) x) inside, ones-word (get_or ws k 0) old, ones-word (bit_or (get_or ws k 0) x) (or_lt 32 (get_or ws k 0) x old new))
 
     pub ones-grow : ones (get_or ws k 0) ≤ ones (bit_or (get_or ws k 0) x)
     ones-grow = omega (arith, counted, pour-grows ws k (x ∷ []))
@@ -184,7 +158,7 @@ module _ (ws : List ℕ) (k x : ℕ) where
           words = new-bits.words;
           count =
               omega
-              (arith, new-bits.count, ones-grow, differences 32 a x, ones-in 32 a old, ones-in 32 (bit_or a x) o, ones-in 32 (bit_xor (bit_or a x) a) (xor_lt 32 (bit_or a x) a o old));
+              (arith, new-bits.count, ones-grow, differences 32 a x, ones-word a old, ones-word (bit_or a x) o, ones-word (bit_xor (bit_or a x) a) (xor_lt 32 (bit_or a x) a o old));
         }
 
 -- as many facts at most as there are digits
@@ -297,31 +271,6 @@ module _ (ws : List ℕ) (at row : ℕ) where
   pub length_part : at + row ≤ length ws → length (take (at + row - at) (drop at ws)) ≡ row
   length_part h = ap length same-part ∙ length-row h
 
--- ---- a row that lacks nothing of another
-
-module _ (xs ys : List ℕ) (i : ℕ) where
-  lacking-at : i < length xs → i < length ys
-      → lacking (drop i xs) (drop i ys) ≡ (not (eqb (bit_and (get_or xs i 0) (get_or ys i 0)) (get_or xs i 0)) || lacking (drop (i + 1) xs) (drop (i + 1) ys))
-  unfolding lacking
-  lacking-at h l = rw (add-one, drop-cons xs i 0, drop-cons ys i 0)
-
-  lacking-done : length xs ≤ i → lacking (drop i xs) (drop i ys) ≡ false
-  unfolding lacking
-  lacking-done h = rw (drop_of_length-le xs h)
-
-  -- what is missing before i, or from i on
-  pub missing_at : (m : ℕ) → i < length xs → i < length ys
-      → (not (eqb m 0) || lacking (drop i xs) (drop i ys))
-      ≡ (not (eqb (bit_or m (bit_xor (get_or xs i 0) (bit_and (get_or xs i 0) (get_or ys i 0)))) 0) || lacking (drop (i + 1) xs) (drop (i + 1) ys))
-  missing_at m h l =
-      let more = not (eqb (bit_and (get_or xs i 0) (get_or ys i 0)) (get_or xs i 0)) in
-      let rest = lacking (drop (i + 1) xs) (drop (i + 1) ys) in
-      ap (λ (b : Bool). not (eqb m 0) || b) (lacking-at h l) ∙ or_assoc (not (eqb m 0)) more rest
-      ∙ ap (λ (b : Bool). b || rest) (sym (missing-more m (get_or xs i 0) (get_or ys i 0)))
-
-  pub missing-done : (m : ℕ) → length xs ≤ i → (not (eqb m 0) || lacking (drop i xs) (drop i ys)) ≡ not (eqb m 0)
-  missing-done m h = ap (λ (b : Bool). not (eqb m 0) || b) (lacking-done h) ∙ or-false (not (eqb m 0))
-
 -- ---- masks
 
 pub length-masked : (ms xs : List ℕ) → length ms ≡ length xs → length (masked ms xs) ≡ length xs
@@ -335,11 +284,11 @@ pub length-masked-row : (ms ws : List ℕ) (at row : ℕ) → length ms ≡ row 
 length-masked-row ms ws at row e h =
     let n = length-row ws at row h in length-masked ms (take row (drop at ws)) (e ∙ sym n) ∙ n
 
-pub meets-nonzero : (ms xs : List ℕ) → meets ms xs ≡ nonzero (masked ms xs)
+pub meets_nonzero : (ms xs : List ℕ) → meets ms xs ≡ nonzero (masked ms xs)
 unfolding meets nonzero masked
-meets-nonzero [] xs = refl
-meets-nonzero (m ∷ ms) [] = refl
-meets-nonzero (m ∷ ms) (x ∷ xs) = go (eqb (bit_and m x) 0) (meets-nonzero ms xs)
+meets_nonzero [] xs = refl
+meets_nonzero (m ∷ ms) [] = refl
+meets_nonzero (m ∷ ms) (x ∷ xs) = go (eqb (bit_and m x) 0) (meets_nonzero ms xs)
   where
     go : (b : Bool) → meets ms xs ≡ nonzero (masked ms xs) → (not b || meets ms xs) ≡ elim b [ true ↦ nonzero (masked ms xs) | false ↦ true ]
     go true e = e

@@ -1,5 +1,6 @@
 pub mod Full
 pub mod Laws
 pub mod Joined
+pub mod Sifting
 pub mod Sizes
 pub mod Samples

@@ -27,3 +27,8 @@ lacking (x ∷ xs) (y ∷ ys) = not (eqb (bit_and x y) x) || lacking xs ys
 pub record Poured (old new : List ℕ) (at : ℕ) (xs : List ℕ) (added : ℕ) : Type 0 where
   pub words : new ≡ pour old at xs
   pub count : facts new ≡ facts old + added
+
+-- ws is what counts of each word of xs, by the word's place
+pub record Sifted (counts : ℕ → ℕ → ℕ → Type 0) (xs ws : List ℕ) : Type 0 where
+  pub long : length ws ≡ length xs
+  pub word : (k : ℕ) → k < length xs → counts k (get_or xs k 0) (get_or ws k 0)

@@ -1,8 +1,8 @@
 // A row by itself, lent from its own start, and a row of an estimate that is or-ed into another.
-ghost use Rattle.std.specs.Prelude.{◌≡◌, [], ◌∷◌, ◌+◌, ◌*◌, ◌/◌, ◌%◌, ◌^◌, ◌<◌, ◌≤◌, length, drop, take};
+ghost use Rattle.std.specs.Prelude.{◌≡◌, ℕ, List, [], ◌∷◌, ◌+◌, ◌*◌, ◌/◌, ◌%◌, ◌^◌, ◌<◌, ◌≤◌, length, drop, take};
 ghost use Rattle.calculus.specs.Layout.{masked};
 ghost use Rattle.calculus.specs.ResultWords.{nonzero};
-ghost use Rattle.rows.specs.Rows.{Poured, NextCommon, meets, lacking};
+ghost use Rattle.rows.specs.Rows.{Poured, NextCommon, Sifted, meets, lacking};
 
 // Sets bits of the word k, and answers how many that added.
 pub fn set(row: &mut [u32], k: usize, bits: u32) -> usize
@@ -58,29 +58,44 @@ fn set_four(row: &mut [u32], k: usize, a: u32, b: u32, c: u32, d: u32) -> usize
     (low + high) as usize
 }
 
+// Or-s into the row b of an estimate what counts of each word of its row a, by the word's place, and answers how many bits that added.
+// Four words are read before one is written: the compiler then takes them at once, as in set_four.
+fn join_counting<F: Fn(usize, u32) -> u32>(
+    est: &mut [u32],
+    row: usize,
+    a: usize,
+    b: usize,
+    counts: F,
+) -> usize
+    requires rows { (a * row + row ≤ length est.old) × (b * row + row ≤ length est.old) × (row < 64) }
+    requires callable { (k w : ℕ) → k < row → w < 2 ^ 32 → F.pre counts k w }
+    ensures { (ws : List ℕ) × Sifted (F.post counts) (take row (drop (a * row) est.old)) ws × Poured est.old est.new (b * row) ws result }
+{
+    let from = a * row;
+    let to = b * row;
+    let fours = row / 4;
+    let mut added = 0;
+    for k in 0..fours {
+        let i = 4 * k;
+        let w = counts(i, est[from + i]);
+        let x = counts(i + 1, est[from + i + 1]);
+        let y = counts(i + 2, est[from + i + 2]);
+        let z = counts(i + 3, est[from + i + 3]);
+        added += set_four(&mut est[to..to + row], i, w, x, y, z);
+    }
+    for i in 4 * fours..row {
+        let bits = counts(i, est[from + i]);
+        added += set(&mut est[to..to + row], i, bits);
+    }
+    added
+}
+
 // Or-s the row a of an estimate into its row b, and answers how many bits that added.
 pub fn join(est: &mut [u32], row: usize, a: usize, b: usize) -> usize
     requires { (a * row + row ≤ length est.old) × (b * row + row ≤ length est.old) × (row < 64) }
     ensures { Poured est.old est.new (b * row) (take row (drop (a * row) est.old)) result }
 {
-    let from = a * row;
-    let to = b * row;
-    let mut added = 0;
-    let mut i = 0;
-    while i + 4 <= row {
-        let w = est[from + i];
-        let x = est[from + i + 1];
-        let y = est[from + i + 2];
-        let z = est[from + i + 3];
-        added += set_four(&mut est[to..to + row], i, w, x, y, z);
-        i += 4;
-    }
-    while i < row {
-        let bits = est[from + i];
-        added += set(&mut est[to..to + row], i, bits);
-        i += 1;
-    }
-    added
+    join_counting(est, row, a, b, |_, word| word)
 }
 
 // The same for what the row a has in common with a mask.
@@ -88,24 +103,7 @@ pub fn join_masked(est: &mut [u32], mask: &[u32], row: usize, a: usize, b: usize
     requires { (a * row + row ≤ length est.old) × (b * row + row ≤ length est.old) × (row < 64) × (length mask.now ≡ row) }
     ensures { Poured est.old est.new (b * row) (masked mask.now (take row (drop (a * row) est.old))) result }
 {
-    let from = a * row;
-    let to = b * row;
-    let mut added = 0;
-    let mut i = 0;
-    while i + 4 <= row {
-        let w = mask[i] & est[from + i];
-        let x = mask[i + 1] & est[from + i + 1];
-        let y = mask[i + 2] & est[from + i + 2];
-        let z = mask[i + 3] & est[from + i + 3];
-        added += set_four(&mut est[to..to + row], i, w, x, y, z);
-        i += 4;
-    }
-    while i < row {
-        let bits = mask[i] & est[from + i];
-        added += set(&mut est[to..to + row], i, bits);
-        i += 1;
-    }
-    added
+    join_counting(est, row, a, b, |i, word| mask[i] & word)
 }
 
 // Whether some word is not 0. No branch: the compiler takes several words at a time.
@@ -113,10 +111,8 @@ pub fn some(words: &[u32]) -> bool
     ensures { result ≡ nonzero words.now }
 {
     let mut bits = 0u32;
-    let mut i = 0;
-    while i < words.len() {
-        bits |= words[i];
-        i += 1;
+    for word in words {
+        bits |= *word;
     }
     bits != 0
 }
@@ -126,14 +122,12 @@ pub fn next_common(row: &[u32], other: &[u32], from: usize) -> usize
     requires { length other.now ≡ length row.now }
     ensures { NextCommon row.now other.now from result }
 {
-    let mut i = from;
-    while i < row.len() {
+    for i in from..row.len() {
         if row[i] & other[i] != 0 {
             return i;
         }
-        i += 1;
     }
-    i
+    usize::max(from, row.len())
 }
 
 // Whether a row has something in common with a mask.
@@ -144,19 +138,32 @@ pub fn any(row: &[u32], mask: &[u32]) -> bool
     next_common(mask, row, 0) < mask.len()
 }
 
+// Whether the row of so many words at `to` lacks something of what counts of each word of the one at `from`, by the word's place.
+fn lacks_counting<F: Fn(usize, u32) -> u32>(
+    est: &[u32],
+    row: usize,
+    from: usize,
+    to: usize,
+    counts: F,
+) -> bool
+    requires rows { (from + row ≤ length est.now) × (to + row ≤ length est.now) }
+    requires callable { (k w : ℕ) → k < row → w < 2 ^ 32 → F.pre counts k w }
+    ensures { (ws : List ℕ) × Sifted (F.post counts) (take row (drop from est.now)) ws × (result ≡ lacking ws (take row (drop to est.now))) }
+{
+    let mut missing = 0u32;
+    for i in 0..row {
+        let x = counts(i, est[from + i]);
+        missing |= x ^ (x & est[to + i]);
+    }
+    missing != 0
+}
+
 // Whether the row of so many words at `to` lacks something of the one at `from`.
 pub fn lacks(est: &[u32], row: usize, from: usize, to: usize) -> bool
     requires { (from + row ≤ length est.now) × (to + row ≤ length est.now) }
     ensures { result ≡ lacking (take row (drop from est.now)) (take row (drop to est.now)) }
 {
-    let mut missing = 0u32;
-    let mut i = 0;
-    while i < row {
-        let x = est[from + i];
-        missing |= x ^ (x & est[to + i]);
-        i += 1;
-    }
-    missing != 0
+    lacks_counting(est, row, from, to, |_, word| word)
 }
 
 // Whether the row of so many words at `to` lacks something of what the one at `from` has in common with a mask.
@@ -164,12 +171,5 @@ pub fn lacks_masked(est: &[u32], mask: &[u32], row: usize, from: usize, to: usiz
     requires { (from + row ≤ length est.now) × (to + row ≤ length est.now) × (length mask.now ≡ row) }
     ensures { result ≡ lacking (masked mask.now (take row (drop from est.now))) (take row (drop to est.now)) }
 {
-    let mut missing = 0u32;
-    let mut i = 0;
-    while i < row {
-        let x = mask[i] & est[from + i];
-        missing |= x ^ (x & est[to + i]);
-        i += 1;
-    }
-    missing != 0
+    lacks_counting(est, row, from, to, |i, word| mask[i] & word)
 }

@@ -15,9 +15,11 @@ ghost use Rattle.senders.specs.Text.{text as Text·text};
 
 use crate::lines::add_number;
 use deliveries::{counted, word_at};
-use listing::{Answer, Refusal};
+use listing::Refusal;
 use rows::layout::Layout;
-use table::{Reading, argument_of, kind_of};
+use table::kinds::BLOCK;
+use table::read::read;
+use table::{argument_of, kind_of};
 use text::room::put_room;
 
 // Whether the element v is in C(b).
@@ -44,7 +46,7 @@ fn put_sender(
     ensures added { Added out.old at (sender_at words.now est.now b s position) out.new result }
     ensures upper_bound { result ≤ at + 64 }
 {
-    if kind_of(words[s]) != 2 {
+    if kind_of(words[s]) != BLOCK {
         return at;
     }
     let first = 32 * Layout::of(words).lead;
@@ -63,11 +65,9 @@ fn put_senders(words: &[u32], est: &[u32], b: usize, out: &mut [u8], at: usize) 
 {
     let mut next = at;
     let mut position = 0;
-    let mut s = 0;
-    while s < words.len() {
+    for (s, &w) in words.iter().enumerate() {
         next = put_sender(words, est, b, s, position, out, next);
-        position = counted(words[s], position);
-        s += 1;
+        position = counted(w, position);
     }
     next
 }
@@ -134,7 +134,7 @@ fn put_block(
     ensures added { Added out.old at (line_at words.now est.now b position) out.new result }
     ensures upper_bound { result ≤ at + 66000 }
 {
-    if kind_of(words[b]) == 2 {
+    if kind_of(words[b]) == BLOCK {
         put_line(words, est, b, position, out, at)
     } else {
         at
@@ -148,37 +148,33 @@ fn put_blocks(words: &[u32], est: &[u32], out: &mut [u8]) -> usize
 {
     let mut next = 0;
     let mut position = 0;
-    let mut b = 0;
-    while b < words.len() {
+    for (b, &w) in words.iter().enumerate() {
         next = put_block(words, est, b, position, out, next);
-        position = counted(words[b], position);
-        b += 1;
+        position = counted(w, position);
     }
     next
 }
 
 // The text, at the start of out, and its length: measured first, since a text without room changes nothing.
-fn write_accepted(words: &[u32], est: &[u32], out: &mut [u8]) -> Answer
+fn write_accepted(words: &[u32], est: &[u32], out: &mut [u8]) -> Result<usize, Refusal>
     requires { reading words.now ≡ accepted }
     ensures answer { answered result ≡ written words.now est.now (length out.old) }
     ensures text { out.new ≡ text_after words.now est.now out.old }
 {
     let n = put_blocks(words, est, &mut out[..0]);
     if out.len() < n {
-        return Answer::Refused(Refusal::NoRoom);
+        return Err(Refusal::NoRoom);
     }
     put_blocks(words, est, out);
-    Answer::Done(n)
+    Ok(n)
 }
 
 // Who may have sent to each block of a system, by the words of an estimate of it, as text at the start of out, and its length. Words of the
 // estimate that are missing count as zero.
-pub fn write(words: &[u32], est: &[u32], out: &mut [u8]) -> Answer
+pub fn write(words: &[u32], est: &[u32], out: &mut [u8]) -> Result<usize, Refusal>
     ensures answer { answered result ≡ written words.now est.now (length out.old) }
     ensures text { out.new ≡ text_after words.now est.now out.old }
 {
-    if let Reading::Refused(r) = table::read::read(words) {
-        return Answer::Refused(Refusal::Table(r));
-    }
+    read(words)?;
     write_accepted(words, est, out)
 }

@@ -1,7 +1,7 @@
 -- How a solver begins, with a cleared estimate and the links made, and what it has when every rule is obeyed.
 use Prim.Native.Nat.{ℕ, zero, suc, ◌*◌, ◌≤◌, ◌<◌}
 use mathlib.Core.Path.{◌≡◌, sym, ap, ◌∙◌, subst}
-use mathlib.Core.List.{List, ◌++◌}
+use mathlib.Core.List.{List}
 use native.Mathlib.Omega.{arith}
 use lib.ListN.{length, take, drop, replicate}
 use Rattle.table.specs.Scan.{accepted, reading}
@@ -21,7 +21,6 @@ use Rattle.readers.specs.Reading.{Readable}
 use Rattle.fixpoint.specs.Grown.{Closed}
 use Rattle.solver.specs.Ceiling.{cleared_over, Counted}
 use Rattle.solver.proofs.Least.{zeros-well, counted-least}
-use Rattle.solver.proofs.Zeros.{clear-all}
 
 -- the masks by their numbers
 by_number : (ws masks : List ℕ) (l : Layout) → Masked (code ws) masks l.row → (m : ℕ) → m < 4 → Mask (code ws) (sort_at m (code ws)) (mask_at l masks m)
@@ -47,9 +46,9 @@ ready_of ws links masks est l h n m =
     }
 
 module _ (ws old est : List ℕ) (l : Layout) (e : reading ws ≡ accepted) (o : LaidOut (code ws) l)
-    (long : length old ≡ estimate_words (code ws)) (z : est ≡ replicate (length old) 0 ++ drop (length old) old) where
+    (long : length old ≡ estimate_words (code ws)) (z : est ≡ replicate (length old) 0) where
   cleared : est ≡ replicate (estimate_words (code ws)) 0
-  cleared = z ∙ clear-all old ∙ ap (λ (n : ℕ). replicate n 0) long
+  cleared = z ∙ ap (λ (n : ℕ). replicate n 0) long
 
   -- a cleared estimate, and the links made
   pub begun : (links slice : List ℕ) → links ≡ Links.linked ws slice → length ws ≤ length slice → Readable ws links est l × WellFormed (code ws) est

@@ -2,6 +2,7 @@
 -- figure that calls without a ceiling use refuses nothing.
 use Prim.Native.Nat.{ℕ, ◌≤◌, ◌<◌}
 use mathlib.Core.Path.{◌≡◌, refl, sym, ap, ap₂, ◌∙◌, subst}
+use Rattle.std.specs.Prelude.{Result, Ok, Err}
 use mathlib.Core.Bool.{Bool, true, false}
 use mathlib.Core.List.{List, ◌++◌}
 use native.Mathlib.Omega.{arith}
@@ -20,39 +21,40 @@ use Rattle.calculus.proofs.Correct.{call-correct}
 use Rattle.calculus.proofs.Least.{estimate-well, facts-bound}
 use Rattle.calls.proofs.Answers.{after-solved}
 use Rattle.comparison.specs.declared.Findings.{Findings}
-use Rattle.solver.specs.declared.Bounded.TheVariants as bounded
+use Rattle.calls.specs.declared.LimitFault.{LimitFault}
+use Rattle.calls.specs.declared.LimitFault.TheVariants.{Facts}
 use Rattle.solver.specs.Analysis.{summary}
 use Rattle.solver.specs.Analysis as analysis
-use Rattle.solver.specs.Ceiling.{under, answer_within, words_within, estimate_within, Outcome, refused, solved, outcome, outcome_of, SoundWithin, SolvedIn, BoundedIn}
+use Rattle.solver.specs.Ceiling.{under, answer_within, words_within, estimate_within, Outcome, refused, solved, outcome, outcome_of, SoundWithin, SolvedIn, BoundedAs, BoundedIn}
 use Rattle.solver.proofs.Least.{words-whole}
 use Rattle.solver.proofs.Sound.{sound}
 
--- ---- what `bounded` says
+-- ---- what `find_within` says
 
 -- refused, or the leak and the facts, by a test
 abbrev saying : List ℕ → (ρ n : ℕ) → Bool → Outcome
 saying ws ρ n b = elim b [ true ↦ refused 23 n | false ↦ solved (leak (code ws) ρ (estimate (code ws) ρ)) (facts (estimate (code ws) ρ)) ]
 
 module _ (ws : List ℕ) (ρ n : ℕ) (est work est' work' : List ℕ) (s : Findings) (d : SolvedIn ws ρ n est work est' work' s) where
-  pub is-over : n < s.facts → BoundedIn ws ρ n est work est' work' (bounded.Over n)
-  unfolding outcome_of
-  is-over h =
-      record {
-        estimates = d.estimates;
-        works = d.works;
-        says = sym (ap (saying ws ρ n) (lt-ltb n (facts (estimate (code ws) ρ)) (d.over h)));
-      }
+  pub is-over : n < s.facts → BoundedIn ws ρ n est work est' work' (Err (Facts n))
+  is-over h = record { estimates = d.estimates; works = d.works; says = (refl, d.over h) }
 
-  pub is_within : s.facts ≤ n → BoundedIn ws ρ n est work est' work' (bounded.Solved s)
-  unfolding outcome_of
+  pub is_within : s.facts ≤ n → BoundedIn ws ρ n est work est' work' (Ok s)
   is_within h =
       let k : s.facts ≡ facts (estimate (code ws) ρ) = d.within h in
       let t : ltb n (facts (estimate (code ws) ρ)) ≡ false = le-ltb n (facts (estimate (code ws) ρ)) (omega arith) in
       record {
         estimates = d.estimates;
         works = d.works;
-        says = ap₂ solved (d.leaks ∙ ap (leak (code ws) ρ) (words-whole (code ws) ρ n t)) k ∙ sym (ap (saying ws ρ n) t);
+        says = (h, k, d.leaks ∙ ap (leak (code ws) ρ) (words-whole (code ws) ρ n t));
       }
+
+pub bounded-says : (ws : List ℕ) (ρ n : ℕ) (r : Result Findings LimitFault) → BoundedAs (code ws) ρ n r
+    → outcome_of r ≡ saying ws ρ n (ltb n (facts (estimate (code ws) ρ)))
+unfolding outcome_of
+bounded-says ws ρ n (Ok s) h = ap₂ solved h.2 h.1 ∙ sym (ap (saying ws ρ n) (le-ltb n (facts (estimate (code ws) ρ)) (omega arith)))
+bounded-says ws ρ n (Err e) h =
+    ap (λ (f : LimitFault). outcome_of (Err f)) h.0 ∙ sym (ap (saying ws ρ n) (lt-ltb n (facts (estimate (code ws) ρ)) h.1))
 
 -- ---- a call that passes its checks
 

@@ -1,5 +1,5 @@
 -- What an analysis says beside the answer for all inputs, and what it leaves in the slices.
-use Rattle.std.specs.Prelude.{ℕ, ◌≡◌, List, ◌++◌, length, take, drop, replicate}
+use Rattle.std.specs.Prelude.{ℕ, ◌≡◌, Result, Ok, Err, List, ◌++◌, length, take, drop, replicate}
 use Rattle.table.specs.Code.{code}
 use Rattle.calculus.specs.Layout.{estimate_words}
 use Rattle.calculus.specs.Estimate.{estimate, leak, facts}
@@ -7,10 +7,10 @@ use Rattle.calculus.specs.Answer.{Answer, verdict, work_words}
 use Rattle.calculus.specs.Answer as answers
 use Rattle.calculus.specs.Guarantee.{Covers}
 use Rattle.calculus.specs.Correct.{Least}
+use Rattle.permset.specs.declared.PermSet.{PermSet}
+use Rattle.calls.specs.declared.Fault.{Fault}
 use Rattle.calls.specs.Faults.{fault_number, fault_place}
 use Rattle.comparison.specs.declared.Findings.{Findings}
-use Rattle.solver.specs.declared.Analysis.{Analysis}
-use Rattle.solver.specs.declared.Analysis.TheVariants as analyses
 
 -- an answer without what depends on a bound or is read from the estimate later: a refusal's number and place, or the leak
 pub data Summary : Type 0 where
@@ -21,10 +21,10 @@ unfoldable pub summary : Answer → Summary
 summary (answers.refused n at) = refused n at
 summary (verdict v) = solved v.leak
 
-unfoldable pub said : Analysis → Summary
+unfoldable pub said : Result PermSet Fault → Summary
 unfolding fault_number fault_place
-said (analyses.Refused f) = refused (fault_number f) (fault_place f)
-said (analyses.Solved s) = solved s.bits
+said (Err f) = refused (fault_number f) (fault_place f)
+said (Ok s) = solved s.bits
 
 -- Demands 2 and 3 of an analysis of the table ws, where est is the estimate slice after the call: its first words are the least estimate, the leak
 -- is that of this estimate, and it covers every run.

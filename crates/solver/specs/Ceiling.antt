@@ -1,14 +1,14 @@
 -- An analysis under a ceiling n on facts (document 02, wish 7): it is refused with 23, at n, exactly where the least estimate has more than n facts.
-use Rattle.std.specs.Prelude.{ℕ, ◌<◌, ◌≤◌, ◌≡◌, true, false, List, ◌++◌, ltb, length, take, drop, replicate}
+use Rattle.std.specs.Prelude.{ℕ, ◌<◌, ◌≤◌, ◌≡◌, Result, Ok, Err, true, false, List, ◌++◌, ltb, length, take, drop, replicate}
 use Rattle.table.specs.Code.{Code, code}
 use Rattle.calculus.specs.Layout.{estimate_words}
 use Rattle.calculus.specs.Estimate.{estimate, leak, facts}
 use Rattle.calculus.specs.Answer.{Answer, verdict, standing_bound, work_words, answer}
 use Rattle.calculus.specs.Answer as answers
+use Rattle.calls.specs.declared.LimitFault.{LimitFault}
+use Rattle.calls.specs.declared.LimitFault.TheVariants.{Call, Facts}
 use Rattle.calls.specs.Faults.{fault_number, fault_place}
 use Rattle.comparison.specs.declared.Findings.{Findings}
-use Rattle.solver.specs.declared.Bounded.{Bounded}
-use Rattle.solver.specs.declared.Bounded.TheVariants as bounded
 use Rattle.solver.specs.Analysis.{Sound}
 use Rattle.solver.specs.Analysis as analysis
 
@@ -45,11 +45,11 @@ unfoldable pub outcome : Answer → Outcome
 outcome (answers.refused k at) = refused k at
 outcome (verdict v) = solved v.leak v.facts
 
-unfoldable pub outcome_of : Bounded → Outcome
+unfoldable pub outcome_of : Result Findings LimitFault → Outcome
 unfolding fault_number fault_place
-outcome_of (bounded.Refused f) = refused (fault_number f) (fault_place f)
-outcome_of (bounded.Over n) = refused 23 n
-outcome_of (bounded.Solved s) = solved s.leak.bits s.facts
+outcome_of (Err (Call f)) = refused (fault_number f) (fault_place f)
+outcome_of (Err (Facts n)) = refused 23 n
+outcome_of (Ok s) = solved s.leak.bits s.facts
 
 -- demands 2 and 3, and that the count is the number of set bits
 unfoldable pub SoundWithin : List ℕ → ℕ → (est : List ℕ) → Outcome → Type 0
@@ -75,7 +75,12 @@ pub record SolvedIn (ws : List ℕ) (ρ n : ℕ) (est work est' work' : List ℕ
   pub within : r.facts ≤ n → r.facts ≡ facts (estimate (code ws) ρ)
   pub over : n < r.facts → n < facts (estimate (code ws) ρ)
 
-pub record BoundedIn (ws : List ℕ) (ρ n : ℕ) (est work est' work' : List ℕ) (r : Bounded) : Type 0 where
+-- the leak and the facts of the least estimate, or that it has more facts than the ceiling n
+abbrev pub BoundedAs : Code → (ρ n : ℕ) → Result Findings LimitFault → Type 0
+BoundedAs c ρ n (Ok s) = (s.facts ≤ n) × (s.facts ≡ facts (estimate c ρ)) × (s.leak.bits ≡ leak c ρ (estimate c ρ))
+BoundedAs c ρ n (Err e) = (e ≡ Facts n) × (n < facts (estimate c ρ))
+
+pub record BoundedIn (ws : List ℕ) (ρ n : ℕ) (est work est' work' : List ℕ) (r : Result Findings LimitFault) : Type 0 where
   pub estimates : est' ≡ words_within (code ws) ρ n ++ drop (estimate_words (code ws)) est
   pub works : work' ≡ replicate (work_words (length ws)) 0 ++ drop (work_words (length ws)) work
-  pub says : outcome_of r ≡ elim (ltb n (facts (estimate (code ws) ρ))) [ true ↦ refused 23 n | false ↦ solved (leak (code ws) ρ (estimate (code ws) ρ)) (facts (estimate (code ws) ρ)) ]
+  pub says : BoundedAs (code ws) ρ n r

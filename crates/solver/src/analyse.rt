@@ -6,15 +6,15 @@ ghost use Rattle.solver.specs.Ceiling.{SolvedIn, outcome_of, outcome, answer_wit
 ghost use Rattle.calls.specs.Calls.{Fit};
 
 use crate::solve::solve;
-use crate::{Analysis, Bounded};
-use calls::checks::{Checked, check, words_needed};
+use calls::checks::{check, words_needed};
+use calls::{Fault, LimitFault};
 use comparison::Findings;
 use permset::PermSet;
 use rows::layout::Layout;
 
 // The least estimate in the first words of its slice, or zeros where it has more than `ceiling` facts, and zeros in those of the work slice,
 // where both are long enough.
-pub fn solve_in(
+fn solve_in(
     words: &[u32],
     rho: PermSet,
     ceiling: usize,
@@ -37,7 +37,7 @@ fn most_facts(l: Layout) -> usize
     l.size * (2 * (32 * l.lead + l.size) + 25)
 }
 
-// The same without a ceiling.
+// The same without a ceiling: the least estimate, in slices that are both long enough.
 pub fn find(words: &[u32], rho: PermSet, est: &mut [u32], work: &mut [u32]) -> Findings
     requires { Fit words.now (length est.old) (length work.old) }
     ensures { FoundIn words.now rho.bits est.old work.old est.new work.new result }
@@ -48,38 +48,33 @@ pub fn find(words: &[u32], rho: PermSet, est: &mut [u32], work: &mut [u32]) -> F
 
 // The least estimate of a table where the opponent holds rho. Of the slices, est gets the estimate in its first words, and the first words
 // of work are zeroed; a refusal leaves both as they were.
-pub fn analyse(words: &[u32], rho: u32, est: &mut [u32], work: &mut [u32]) -> Analysis
+pub fn analyse(words: &[u32], rho: u32, est: &mut [u32], work: &mut [u32]) -> Result<PermSet, Fault>
     ensures answer { said result ≡ summary (Answer·answer words.now rho standing_bound (length est.old) (length work.old)) }
     ensures estimate { est.new ≡ estimate_after words.now rho standing_bound est.old work.old }
     ensures work { work.new ≡ work_after words.now rho standing_bound est.old work.old }
     ensures sound { Sound words.now rho est.new (said result) }
 {
-    match check(words, rho, 0x80000000, est.len(), work.len()) {
-        Checked::Wrong(f) => Analysis::Refused(f),
-        Checked::Fine => {
-            let found = find(words, PermSet { bits: rho }, est, work);
-            let leak = found.leak;
-            Analysis::Solved(leak)
-        }
-    }
+    check(words, rho, 0x80000000, est.len(), work.len())?;
+    let found = find(words, PermSet { bits: rho }, est, work);
+    Ok(found.leak)
 }
 
-// The analysis where nothing is wrong with the call.
-fn bounded(
+// The same as `find`, refused where there are more facts than `ceiling`; zeros stand then in the place of the estimate.
+pub fn find_within(
     words: &[u32],
     rho: PermSet,
     ceiling: usize,
     est: &mut [u32],
     work: &mut [u32],
-) -> Bounded
+) -> Result<Findings, LimitFault>
     requires { Fit words.now (length est.old) (length work.old) }
     ensures { BoundedIn words.now rho.bits ceiling est.old work.old est.new work.new result }
 {
     let found = solve_in(words, rho, ceiling, est, work);
     if ceiling < found.facts {
-        return Bounded::Over(ceiling);
+        return Err(LimitFault::Facts(ceiling));
     }
-    Bounded::Solved(found)
+    Ok(found)
 }
 
 // The same as `analyse` with a ceiling on facts: refused with 23, at the ceiling, exactly where the least estimate has more. Then the words
@@ -90,14 +85,12 @@ pub fn analyse_within(
     ceiling: usize,
     est: &mut [u32],
     work: &mut [u32],
-) -> Bounded
+) -> Result<Findings, LimitFault>
     ensures answer { outcome_of result ≡ outcome (answer_within words.now rho ceiling (length est.old) (length work.old)) }
     ensures estimate { est.new ≡ estimate_within words.now rho ceiling est.old work.old }
     ensures work { work.new ≡ work_after words.now rho standing_bound est.old work.old }
     ensures sound { SoundWithin words.now rho est.new (outcome_of result) }
 {
-    match check(words, rho, 0x80000000, est.len(), work.len()) {
-        Checked::Wrong(f) => Bounded::Refused(f),
-        Checked::Fine => bounded(words, PermSet { bits: rho }, ceiling, est, work),
-    }
+    check(words, rho, 0x80000000, est.len(), work.len())?;
+    find_within(words, PermSet { bits: rho }, ceiling, est, work)
 }

@@ -10,7 +10,6 @@ ghost use Rattle.readers.specs.Reading.{Readable};
 ghost use Rattle.fixpoint.specs.Grown.{Closed};
 ghost use Rattle.solver.specs.Ceiling.{cleared_over, Counted};
 
-use crate::memory::clear;
 use comparison::Findings;
 use fixpoint::room::run;
 use masks::fill_masks;
@@ -36,12 +35,11 @@ fn fill(
 }
 
 // Zeros, where there are more facts than the ceiling.
-fn clear_over(est: &mut [u32], facts: usize, ceiling: usize)
-    ensures { est.new ≡ cleared_over facts ceiling est.old }
+fn clear_over(area: &mut [u32], facts: usize, ceiling: usize)
+    ensures { area.new ≡ cleared_over facts ceiling area.old }
 {
     if ceiling < facts {
-        let all = est.len();
-        clear(est, all);
+        area.fill(0);
     }
 }
 
@@ -58,8 +56,7 @@ fn least(
     requires est_len { (length est.old ≡ estimate_words (code words.now)) × (length words.now ≤ length links.old) }
     ensures { Counted (code words.now) rho.bits ceiling est.new result × LinksOf words.now links.new }
 {
-    let n = est.len();
-    clear(est, n);
+    est.fill(0);
     link(words, links);
     let added = fill(words, links, est, l, rho, ceiling);
     clear_over(est, added, ceiling);
@@ -85,7 +82,6 @@ pub fn solve(
     let l = Layout::of(words);
     let facts = least(words, work, est, l, rho, ceiling);
     let leak = readers::leak(words, work, est, l, rho);
-    let n = work.len();
-    clear(work, n);
+    work.fill(0);
     Findings { leak, facts }
 }

@@ -9,7 +9,7 @@ ghost use Rattle.stray.specs.Allowed.{word_named, Leading, Allowed};
 use crate::Holding;
 use masks::{set_if, word_makes};
 use rows::layout::Layout;
-use table::kind_of;
+use table::{kind_of, kinds};
 
 // Whether the element of a word may stand in a row.
 fn named(h: Holding, w: u32) -> bool
@@ -17,7 +17,7 @@ fn named(h: Holding, w: u32) -> bool
 {
     match h {
         Holding::Things => word_makes(w) != 0,
-        Holding::Blocks => kind_of(w) == 2,
+        Holding::Blocks => kind_of(w) == kinds::BLOCK,
     }
 }
 
@@ -27,11 +27,7 @@ fn set_plain(row: &mut [u32], lead: usize)
     requires lead_in_bounds { lead ≤ length row.old }
     ensures { Leading lead row.new }
 {
-    let mut k = 0;
-    while k < lead {
-        row[k] = 4294967295;
-        k += 1;
-    }
+    row[..lead].fill(u32::MAX);
 }
 
 // The elements of the words that may stand in the row, besides the plain ones.
@@ -41,10 +37,8 @@ fn set_words(words: &[u32], row: &mut [u32], h: Holding, l: Layout)
     ensures { Allowed (code words.now) h (elements (code words.now)) row.new }
 {
     let first = 32 * l.lead;
-    let mut p = 0;
-    while p < words.len() {
-        set_if(row, first + p, named(h, words[p]));
-        p += 1;
+    for (p, word) in words.iter().enumerate() {
+        set_if(row, first + p, named(h, *word));
     }
 }
 

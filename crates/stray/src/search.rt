@@ -9,20 +9,21 @@ ghost use Rattle.stray.specs.Allowed.{inside, clean, Slice, Rows};
 use crate::Holding;
 use crate::allowed::allow;
 use rows::layout::Layout;
-use table::kind_of;
+use table::{kind_of, kinds};
+
+// The words of permissions and flags have 25 digits: 24 permissions, and the live flag.
+const FLAGS_END: u32 = 33554432;
 
 // The first of so many words from `at` on that has a digit outside a row; the place after them where there is none.
 fn outside(est: &[u32], row: &[u32], at: usize, count: usize) -> usize
     requires { (at + count ≤ length est.now) × (count ≤ length row.now) }
     ensures { First (inside est.now row.now at) at (at + count) result }
 {
-    let mut i = 0;
-    while i < count {
+    for i in 0..count {
         let x = est[at + i];
         if x & row[i] != x {
             return at + i;
         }
-        i += 1;
     }
     at + count
 }
@@ -32,7 +33,7 @@ fn of_block(words: &[u32], r: usize) -> bool
     requires { (reading words.now ≡ accepted) × (r < 2 * length words.now) }
     ensures { result ≡ of_block (code words.now) r }
 {
-    r % 2 == 0 && kind_of(words[r / 2]) == 2
+    r % 2 == 0 && kind_of(words[r / 2]) == kinds::BLOCK
 }
 
 // The first word of row r with a stray digit.
@@ -53,14 +54,12 @@ fn in_rows(words: &[u32], est: &[u32], things: &[u32], blocks: &[u32], l: Layout
     ensures { First (clean (code words.now) est.now) 0 (2 * l.size * l.row) result }
 {
     let mut end = 0;
-    let mut r = 0;
-    while r < 2 * l.size {
+    for r in 0..2 * l.size {
         let k = in_row(words, est, things, blocks, l, r);
         end += l.row;
         if k < end {
             return k;
         }
-        r += 1;
     }
     end
 }
@@ -70,14 +69,12 @@ fn in_flags(words: &[u32], est: &[u32], l: Layout) -> usize
     requires { Slice words.now est.now l }
     ensures { First (clean (code words.now) est.now) (2 * l.size * l.row) (length est.now) result }
 {
-    let mut k = l.flags(0);
-    while k < est.len() {
-        if 33554432 <= est[k] {
+    for k in l.flags(0)..est.len() {
+        if FLAGS_END <= est[k] {
             return k;
         }
-        k += 1;
     }
-    k
+    est.len()
 }
 
 // The first word of the slice with a stray digit, with the rows that are lent.

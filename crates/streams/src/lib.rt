@@ -19,6 +19,7 @@ pub fn read_full<R: Read>(input: &mut R, buffer: &mut [u8]) -> io::Result<usize>
     ensures end { IfOk result (λ n. n < length buffer.new → IsAtEnd (R.remaining input.new)) }
     ensures broken { OnErr result (LosesTo (R.remaining input.old) (R.remaining input.new) buffer.new) }
 {
+    // No `for`: a read may give any number of bytes.
     let mut done = 0;
     while done < buffer.len() {
         let n = input.read(&mut buffer[done..])?;
@@ -35,12 +36,10 @@ fn read_rest<R: Read>(input: &mut R, buffer: &mut [u8]) -> io::Result<()>
     ensures end { OnOk result (IfSome (R.remaining input.old) (λ xs. length xs < 2 ^ 32 * length buffer.old → IsAtEnd (R.remaining input.new))) }
     ensures broken { OnErr result (Loses (R.remaining input.old) (R.remaining input.new)) }
 {
-    let mut turns: u64 = 4294967296;
-    while 0 < turns {
+    for _ in 0..4294967296u64 {
         if read_full(input, buffer)? == 0 {
             return Ok(());
         }
-        turns -= 1;
     }
     Ok(())
 }

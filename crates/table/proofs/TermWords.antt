@@ -16,19 +16,15 @@ use Rattle.table.specs.Words.{operation_number, word, constant_of, operation_of,
 -- ---- kind and argument
 
 pub kind-word_of : (k a : ℕ) → a < 2 ^ 24 → kind (word_of k a) ≡ k
-unfolding kind
 kind-word_of k a h = omega arith
 
 pub argument-word_of : (k a : ℕ) → a < 2 ^ 24 → argument (word_of k a) ≡ a
-unfolding argument
 argument-word_of k a h = omega arith
 
 pub word_of-parts : (w : ℕ) → word_of (kind w) (argument w) ≡ w
-unfolding kind argument
 word_of-parts w = omega arith
 
 pub argument-lt : (w : ℕ) → argument w < 2 ^ 24
-unfolding argument
 argument-lt w = omega arith
 
 -- two words are equal only where kind and argument are
@@ -142,7 +138,7 @@ Fits (terms.Send s) = s.bits < 2 ^ 24
 Fits (terms.Exercise s) = s.bits < 2 ^ 24
 
 pub term_of-word : (t : Term) → Fits t → term_of (word t) ≡ t
-unfolding word term_of kind argument terms_by_kind constant_number constant_of operation_number operation_of
+unfolding word term_of terms_by_kind constant_number constant_of operation_number operation_of
 term_of-word (terms.Constant constants.Undefined) h = refl
 term_of-word (terms.Constant constants.Unit) h = refl
 term_of-word (terms.Constant constants.True) h = refl

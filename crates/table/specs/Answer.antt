@@ -1,9 +1,7 @@
 -- Document 01's number and place for each refusal of a table, and what an answer of the reading says.
-use Rattle.std.specs.Prelude.{ℕ}
+use Rattle.std.specs.Prelude.{ℕ, Result, Ok, Err}
 use Rattle.table.specs.declared.Refusal.{Refusal}
 use Rattle.table.specs.declared.Refusal.TheVariants.{NotTable, TooManyWords, TooManyHandlers, NotBlock, NameRange, KeyUsed, NotTerm, NoTerm, ArgumentRange, NoBinder, TooDeep, Trailing}
-use Rattle.table.specs.declared.Reading.{Reading}
-use Rattle.table.specs.declared.Reading.TheVariants.{Accepted, Refused}
 use Rattle.table.specs.Scan.{Outcome, accepted, refused}
 
 unfoldable pub number : Refusal → ℕ
@@ -34,7 +32,7 @@ place (NoBinder p) = p
 place (TooDeep p) = p
 place (Trailing p) = p
 
-unfoldable pub outcome : Reading → Outcome
+unfoldable pub outcome : Result (Unit {0}) Refusal → Outcome
 unfolding number place
-outcome Accepted = accepted
-outcome (Refused r) = refused (number r) (place r)
+outcome (Ok u) = accepted
+outcome (Err r) = refused (number r) (place r)

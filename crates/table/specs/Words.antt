@@ -104,11 +104,6 @@ parts w = get_or parts_by_kind (kind w - first_kind) []
 unfoldable pub arity : ℕ → ℕ
 arity w = length (parts w)
 
--- 1 for a part that has the term itself as its innermost binder
-abbrev pub mark : Bool → ℕ
-mark true = 1
-mark false = 0
-
 -- the first argument out of range, by the word
 unfoldable pub limit : ℕ → ℕ
 limit w = get_or limits_by_kind (kind w - first_kind) 0

@@ -1,6 +1,7 @@
 // The reading of a system table: the terms and the refusals. What the layers above see of an accepted table is in table_links.
 #![tactic(auto)]
 
+pub mod kinds;
 pub mod numbers;
 mod packing;
 pub mod read;
@@ -52,7 +53,7 @@ pub enum Term {
 
 // Why a table is refused, and at which word: a case for each of numbers 1 to 12, in their order. `number` and `place` of
 // specs/Answer.antt give each its number and place.
-#[derive(Clone, Copy)]
+#[derive(Clone, Copy, PartialEq, Eq)]
 pub enum Refusal {
     NotTable,
     TooManyWords,
@@ -66,12 +67,6 @@ pub enum Refusal {
     NoBinder(usize),
     TooDeep(usize),
     Trailing(usize),
-}
-
-#[derive(Clone, Copy)]
-pub enum Reading {
-    Accepted,
-    Refused(Refusal),
 }
 
 // A block's name, permissions and guard.

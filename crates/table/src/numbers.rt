@@ -1,9 +1,10 @@
-// Document 01's number of a refusal, and its place.
+// Document 01's number of a refusal, and its place. A refusal has two numbers and not one, so no `From` stands for either.
 ghost use Rattle.std.specs.Prelude.{◌≡◌};
 ghost use Rattle.table.specs.Answer.{number, place};
 
 use crate::Refusal;
 
+#[tactic(auto, unfolding(crate::specs::Answer::number))]
 pub fn refusal_number(r: Refusal) -> u32
     ensures { result ≡ number r }
 {
@@ -23,21 +24,20 @@ pub fn refusal_number(r: Refusal) -> u32
     }
 }
 
+#[tactic(auto, unfolding(crate::specs::Answer::place))]
 pub fn refusal_place(r: Refusal) -> usize
     ensures { result ≡ place r }
 {
     match r {
-        Refusal::NotTable => 0,
-        Refusal::TooManyWords => 0,
-        Refusal::TooManyHandlers => 0,
-        Refusal::NotBlock(p) => p,
-        Refusal::NameRange(p) => p,
-        Refusal::KeyUsed(p) => p,
-        Refusal::NotTerm(p) => p,
-        Refusal::NoTerm(p) => p,
-        Refusal::ArgumentRange(p) => p,
-        Refusal::NoBinder(p) => p,
-        Refusal::TooDeep(p) => p,
-        Refusal::Trailing(p) => p,
+        Refusal::NotTable | Refusal::TooManyWords | Refusal::TooManyHandlers => 0,
+        Refusal::NotBlock(p)
+        | Refusal::NameRange(p)
+        | Refusal::KeyUsed(p)
+        | Refusal::NotTerm(p)
+        | Refusal::NoTerm(p)
+        | Refusal::ArgumentRange(p)
+        | Refusal::NoBinder(p)
+        | Refusal::TooDeep(p)
+        | Refusal::Trailing(p) => p,
     }
 }

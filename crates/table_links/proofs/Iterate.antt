@@ -1,17 +1,14 @@
--- Laws of `iterate`, for a loop that counts down.
+-- Laws of `iterate`, for a loop whose counter goes up to n.
 -- Assumes nothing.
-use mathlib.Core.Path.{◌≡◌, refl}
-use Prim.Native.Nat.{ℕ, zero, suc, ◌-◌, ◌<◌, ◌≤◌}
-use native.Mathlib.Nat.{not-suc-le-zero}
-use native.Mathlib.Numerals.{sub-one}
+use mathlib.Core.Path.{◌≡◌}
+use Prim.Native.Nat.{ℕ, suc, ◌+◌, ◌-◌, ◌<◌, ◌≤◌}
+use native.Mathlib.Omega.{arith}
 use Rattle.table.specs.Links.{iterate}
 
-pub iterate-more : (f : ℕ → ℕ) (n p : ℕ) → 0 < n → iterate f n p ≡ iterate f (n - 1) (f p)
+pub iterate_more : (f : ℕ → ℕ) (n k p : ℕ) → k < n → iterate f (n - k) p ≡ iterate f (n - (k + 1)) (f p)
 unfolding iterate
-iterate-more f zero p h = absurd (not-suc-le-zero h)
-iterate-more f (suc n) p h = rw sub-one
+iterate_more f n k p h = let e : n - k ≡ suc (n - (k + 1)) = omega arith in rw e
 
-pub iterate-done : (f : ℕ → ℕ) (n p : ℕ) → n ≤ 0 → iterate f n p ≡ p
+pub iterate_done : (f : ℕ → ℕ) (n k p : ℕ) → n ≤ k → iterate f (n - k) p ≡ p
 unfolding iterate
-iterate-done f zero p h = refl
-iterate-done f (suc n) p h = absurd (not-suc-le-zero h)
+iterate_done f n k p h = let e : n - k ≡ 0 = omega arith in rw e

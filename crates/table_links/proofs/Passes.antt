@@ -6,7 +6,8 @@ use mathlib.Core.List.{List}
 use Prim.Native.Nat.{ℕ, zero, suc, ◌+◌, ◌-◌, ◌<◌, ◌≤◌}
 use native.Mathlib.Nat.{not-suc-le-zero}
 use native.Mathlib.Numerals.{add-one, sub-one}
-use lib.ListN.{length, get_or, set, drop, length-set, drop_of_length-le}
+use native.Mathlib.Omega.{arith}
+use lib.ListN.{length, get_or, set, drop, drop_of_length-le}
 use lib.Seq.{drop-cons}
 use Rattle.table.specs.Words.{parts, arity}
 use Rattle.table.specs.Links.{pack, link_at, hops, ends, with_binder, with_home, innermost, bind_parts, block_at, bind_word, binders}
@@ -17,14 +18,10 @@ unfolding ends
 ends_more ws l zero h = absurd (not-suc-le-zero h)
 ends_more ws l (suc n) h = rw sub-one
 
-pub ends-done : (ws l : List ℕ) (n : ℕ) → n ≤ 0 → ends ws n l ≡ l
+pub ends_done : (ws l : List ℕ) (n : ℕ) → n ≤ 0 → ends ws n l ≡ l
 unfolding ends
-ends-done ws l zero h = refl
-ends-done ws l (suc n) h = absurd (not-suc-le-zero h)
-
-pub length-with_binder : (l : List ℕ) (p b : ℕ) → length (with_binder l p b) ≡ length l
-unfolding with_binder
-length-with_binder l p b = simp length-set
+ends_done ws l zero h = refl
+ends_done ws l (suc n) h = absurd (not-suc-le-zero h)
 
 module _ (l : List ℕ) (p b w i q : ℕ) where
   pub parts_more : i < arity w
@@ -33,17 +30,17 @@ module _ (l : List ℕ) (p b w i q : ℕ) where
   unfolding arity bind_parts
   parts_more h = rw (add-one, drop-cons (parts w) i false)
 
-  pub parts-done : arity w ≤ i → bind_parts l p b (drop i (parts w)) q ≡ l
+  pub parts_done : arity w ≤ i → bind_parts l p b (drop i (parts w)) q ≡ l
   unfolding arity bind_parts
-  parts-done h = rw (drop_of_length-le (parts w) h)
+  parts_done h = rw (drop_of_length-le (parts w) h)
 
-module _ (ws l : List ℕ) (n p h : ℕ) where
-  pub binders-more : (m : ℕ) → n ≡ suc m
-      → binders ws n p h l
-      ≡ binders ws m (p + 1) (block_at (get_or ws p 0) p h) (with_home (bind_word (get_or ws p 0) p l) p (block_at (get_or ws p 0) p h))
+module _ (ws l : List ℕ) (p h : ℕ) where
+  pub binders_more : p < length ws
+      → binders ws (length ws - p) p h l
+      ≡ binders ws (length ws - (p + 1)) (p + 1) (block_at (get_or ws p 0) p h) (with_home (bind_word (get_or ws p 0) p l) p (block_at (get_or ws p 0) p h))
   unfolding binders
-  binders-more m e = rw (e, add-one)
+  binders_more i = let e : length ws - p ≡ suc (length ws - (p + 1)) = omega arith in rw (e, add-one)
 
-  pub binders-done : n ≡ 0 → binders ws n p h l ≡ l
+  pub binders_done : length ws ≤ p → binders ws (length ws - p) p h l ≡ l
   unfolding binders
-  binders-done e = rw e
+  binders_done i = let e : length ws - p ≡ 0 = omega arith in rw e

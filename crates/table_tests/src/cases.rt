@@ -6,20 +6,16 @@ use std::io::Write;
 use test_tables::tables::{copy, first, head, put};
 use test_tables::{end, hex, text};
 
+// The value of a hex digit, 0 for another byte.
 fn digit(b: u8) -> u32
     ensures { result ≤ 15 }
 {
-    let low = (b % 16) as u32;
-    if b <= b'9' { low } else { low % 7 + 9 }
+    char::from(b).to_digit(16).unwrap_or(0)
 }
 
 // The value of the digits so far, after one more byte.
 fn value_after(value: u32, b: u8) -> u32 {
-    if b < b'0' {
-        0
-    } else {
-        value % 268435456 * 16 + digit(b)
-    }
+    if b < b'0' { 0 } else { (value << 4) | digit(b) }
 }
 
 // How many words there are before the one that is being read, after one more byte. The first `start` stay.
@@ -27,20 +23,11 @@ fn count_after(count: usize, start: usize, b: u8) -> usize
     requires { (count ≤ 64) × (start ≤ 64) }
     ensures { result ≤ 64 }
 {
-    if b == b' ' {
-        if count < 64 { count + 1 } else { 64 }
-    } else if b == b'.' {
-        start
-    } else {
-        count
+    match b {
+        b' ' => 64.min(count + 1),
+        b'.' => start,
+        _ => count,
     }
-}
-
-fn word_at(out: &mut impl Write, words: &[u32], i: usize) -> io::Result<()> {
-    if i < words.len() {
-        hex(out, b" ", words[i])?;
-    }
-    Ok(())
 }
 
 // The words from a place on, and what the reading of all of them answers.
@@ -52,8 +39,8 @@ fn line(
     n: usize,
 ) -> io::Result<()> {
     text(out, label)?;
-    for i in start..n {
-        word_at(out, words, i)?;
+    for w in words.iter().take(n).skip(start) {
+        hex(out, b" ", *w)?;
     }
     first(out, b": ", words, n)?;
     end(out)
@@ -92,13 +79,10 @@ fn each(
 {
     let mut value = 0;
     let mut count = start;
-    let mut i = 0;
-    while i < tables.len() {
-        let b = tables[i];
+    for &b in tables {
         finish(out, label, words, start, count, value, b)?;
         value = value_after(value, b);
         count = count_after(count, start, b);
-        i += 1;
     }
     Ok(())
 }

@@ -1,4 +1,5 @@
-// Every kind of term: its arguments at and past their limit, and its parts, one less and one more.
+// Every kind of term: its arguments at and past their limit, and its parts, one less and one more. The kinds stand as numbers here, as
+// document 01 has them: the names of `table::kinds` are what is tested.
 use std::io;
 use std::io::Write;
 use table_links::item_at;

@@ -10,11 +10,11 @@ use Rattle.test_tables.specs.Tables.{numbered}
 
 -- ---- words by their numbers
 
-pub numbered-done : (f : ℕ → ℕ) (n : ℕ) (ws : List ℕ) (i : ℕ) → length ws ≤ i → numbered f n ws i ≡ ws
+pub numbered_done : (f : ℕ → ℕ) (n : ℕ) (ws : List ℕ) (i : ℕ) → length ws ≤ i → numbered f n ws i ≡ ws
 unfolding numbered
-numbered-done f n [] i h = refl
-numbered-done f n (w ∷ ws) zero h = absurd (omega arith)
-numbered-done f n (w ∷ ws) (suc i) h = ap (λ (xs : List ℕ). w ∷ xs) (numbered-done f n ws i (omega arith))
+numbered_done f n [] i h = refl
+numbered_done f n (w ∷ ws) zero h = absurd (omega arith)
+numbered_done f n (w ∷ ws) (suc i) h = ap (λ (xs : List ℕ). w ∷ xs) (numbered_done f n ws i (omega arith))
 
 one_more : (f : ℕ → ℕ) (n : ℕ) (ws : List ℕ) (i : ℕ) → numbered f (suc n) (set ws i (f n)) (suc i) ≡ numbered f n ws i
 unfolding numbered
@@ -30,16 +30,16 @@ numbered_more f ws at i w h e =
 
 -- ---- words of another list
 
-pub sets-done : (ws : List ℕ) (i : ℕ) (xs : List ℕ) → length ws ≤ i → sets ws i xs ≡ ws
-sets-done ws i [] h = refl
-sets-done ws i (x ∷ xs) h = rw (set_out ws i x h) (sets-done ws (suc i) xs (omega arith))
+pub sets_done : (ws : List ℕ) (i : ℕ) (xs : List ℕ) → length ws ≤ i → sets ws i xs ≡ ws
+sets_done ws i [] h = refl
+sets_done ws i (x ∷ xs) h = rw (set_out ws i x h) (sets_done ws (suc i) xs (omega arith))
 
 module _ (ws : List ℕ) (i : ℕ) (xs : List ℕ) (k : ℕ) where
-  pub one-stored : k < length xs → set ws i (get_or xs k 0) ≡ sets ws i (take 1 (drop k xs))
-  one-stored h = rw (drop-cons xs k 0)
+  pub one_stored : k < length xs → set ws i (get_or xs k 0) ≡ sets ws i (take 1 (drop k xs))
+  one_stored h = rw (drop-cons xs k 0)
 
-  pub none-stored : length xs ≤ k → ws ≡ sets ws i (take 1 (drop k xs))
-  none-stored h = rw (drop_of_length-le xs {i = k})
+  pub none_stored : length xs ≤ k → ws ≡ sets ws i (take 1 (drop k xs))
+  none_stored h = rw (drop_of_length-le xs {i = k})
 
 first-and-rest : (ws : List ℕ) (i : ℕ) (xs : List ℕ) → sets (sets ws i (take 1 xs)) (suc i) (drop 1 xs) ≡ sets ws i xs
 first-and-rest ws i [] = refl

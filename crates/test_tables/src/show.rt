@@ -2,8 +2,9 @@
 use permset::PermSet;
 use std::io;
 use std::io::Write;
+use table::numbers::{refusal_number, refusal_place};
 use table::read::read;
-use table::{Constant, Handler, Item, Link, Operation, Reading, Refusal, Term};
+use table::{Handler, Item, Link, Refusal, Term, kinds};
 
 pub fn text(out: &mut impl Write, s: &[u8]) -> io::Result<()> {
     out.write_all(s)
@@ -29,35 +30,18 @@ pub fn end(out: &mut impl Write) -> io::Result<()> {
     text(out, b"\n")
 }
 
-fn refused(out: &mut impl Write, n: usize, place: usize) -> io::Result<()> {
-    number(out, b"refused ", n)?;
-    number(out, b" at ", place)
-}
-
 // A refusal, with document 01's number for its case.
 fn refusal(out: &mut impl Write, r: Refusal) -> io::Result<()> {
-    match r {
-        Refusal::NotTable => refused(out, 1, 0),
-        Refusal::TooManyWords => refused(out, 2, 0),
-        Refusal::TooManyHandlers => refused(out, 3, 0),
-        Refusal::NotBlock(p) => refused(out, 4, p),
-        Refusal::NameRange(p) => refused(out, 5, p),
-        Refusal::KeyUsed(p) => refused(out, 6, p),
-        Refusal::NotTerm(p) => refused(out, 7, p),
-        Refusal::NoTerm(p) => refused(out, 8, p),
-        Refusal::ArgumentRange(p) => refused(out, 9, p),
-        Refusal::NoBinder(p) => refused(out, 10, p),
-        Refusal::TooDeep(p) => refused(out, 11, p),
-        Refusal::Trailing(p) => refused(out, 12, p),
-    }
+    number(out, b"refused ", refusal_number(r) as usize)?;
+    number(out, b" at ", refusal_place(r))
 }
 
 // What the reading of a table answers.
 pub fn reading(out: &mut impl Write, label: &[u8], words: &[u32]) -> io::Result<()> {
     text(out, label)?;
     match read(words) {
-        Reading::Accepted => text(out, b"accepted"),
-        Reading::Refused(r) => refusal(out, r),
+        Ok(()) => text(out, b"accepted"),
+        Err(r) => refusal(out, r),
     }
 }
 
@@ -68,76 +52,53 @@ pub fn answer(out: &mut impl Write, label: &[u8], words: &[u32]) -> io::Result<(
     end(out)
 }
 
-fn constant(c: Constant) -> u32 {
-    match c {
-        Constant::Undefined => 0,
-        Constant::Unit => 1,
-        Constant::True => 2,
-        Constant::False => 3,
-    }
-}
-
-fn operation(o: Operation) -> u32 {
-    match o {
-        Operation::Add => 0,
-        Operation::Less => 1,
-        Operation::Equal => 2,
-    }
-}
-
-// Document 01's kind of a term.
-fn kind(t: Term) -> usize {
+// Document 01's kind of a term. A term has a kind and an argument, so no `From` stands for either.
+fn kind(t: Term) -> u32 {
     match t {
-        Term::Constant(_) => 16,
-        Term::Number(_) => 17,
-        Term::Literal(_) => 18,
-        Term::Name(_) => 19,
-        Term::Variable(_) => 20,
-        Term::Function => 21,
-        Term::Apply => 22,
-        Term::Let => 23,
-        Term::Sequence => 24,
-        Term::If => 25,
-        Term::While => 26,
-        Term::Operation(_) => 27,
-        Term::Record => 28,
-        Term::Get => 29,
-        Term::Set => 30,
-        Term::Delete => 31,
-        Term::Cell => 32,
-        Term::Read => 33,
-        Term::Assign => 34,
-        Term::Send(_) => 35,
-        Term::Exercise(_) => 36,
+        Term::Constant(_) => kinds::CONSTANT,
+        Term::Number(_) => kinds::NUMBER,
+        Term::Literal(_) => kinds::LITERAL,
+        Term::Name(_) => kinds::NAME,
+        Term::Variable(_) => kinds::VARIABLE,
+        Term::Function => kinds::FUNCTION,
+        Term::Apply => kinds::APPLY,
+        Term::Let => kinds::LET,
+        Term::Sequence => kinds::SEQUENCE,
+        Term::If => kinds::IF,
+        Term::While => kinds::WHILE,
+        Term::Operation(_) => kinds::OPERATION,
+        Term::Record => kinds::RECORD,
+        Term::Get => kinds::GET,
+        Term::Set => kinds::SET,
+        Term::Delete => kinds::DELETE,
+        Term::Cell => kinds::CELL,
+        Term::Read => kinds::READ,
+        Term::Assign => kinds::ASSIGN,
+        Term::Send(_) => kinds::SEND,
+        Term::Exercise(_) => kinds::EXERCISE,
     }
 }
 
 // Its argument, 0 where the term has none.
 fn argument(t: Term) -> u32 {
     match t {
-        Term::Constant(c) => constant(c),
-        Term::Number(n) => n,
-        Term::Literal(n) => n,
-        Term::Name(n) => n,
-        Term::Variable(n) => n,
-        Term::Operation(o) => operation(o),
-        Term::Send(s) => s.bits,
-        Term::Exercise(s) => s.bits,
+        Term::Constant(c) => c as u32,
+        Term::Number(n) | Term::Literal(n) | Term::Name(n) | Term::Variable(n) => n,
+        Term::Operation(o) => o as u32,
+        Term::Send(s) | Term::Exercise(s) => s.bits,
         _ => 0,
     }
 }
 
 fn term(out: &mut impl Write, t: Term) -> io::Result<()> {
-    number(out, b"term ", kind(t))?;
+    number(out, b"term ", kind(t) as usize)?;
     set(out, b" ", PermSet::of(argument(t)))
 }
 
 fn handler(out: &mut impl Write, h: Handler) -> io::Result<()> {
     number(out, b"block name ", h.name as usize)?;
-    let perms = h.perms;
-    set(out, b" permissions ", perms)?;
-    let guard = h.guard;
-    set(out, b" guard ", guard)
+    set(out, b" permissions ", h.perms)?;
+    set(out, b" guard ", h.guard)
 }
 
 pub fn item(out: &mut impl Write, i: Item) -> io::Result<()> {

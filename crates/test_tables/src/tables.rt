@@ -7,6 +7,7 @@ ghost use Rattle.test_tables.specs.Tables.{block_word, head_words, in_turn, numb
 use crate::show::{end, reading, text};
 use std::io;
 use std::io::Write;
+use table::kinds;
 
 // Document 01's sample relay.
 pub const RELAY: [u32; 11] = [
@@ -18,7 +19,8 @@ pub const RELAY: [u32; 11] = [
 pub fn word(kind: usize, argument: usize) -> u32
     ensures { result ≡ word_of (kind % 256) (argument % 2 ^ 24) }
 {
-    (kind % 256 * 16777216 + argument % 16777216) as u32
+    let arguments = kinds::ARGUMENTS as usize;
+    (kind % 256 * arguments + argument % arguments) as u32
 }
 
 // Stores a word, where there is a place for it.
@@ -31,6 +33,7 @@ pub fn put(words: &mut [u32], at: usize, w: u32)
 }
 
 // Stores word k of a slice, if it has one.
+#[tactic(auto, using(crate::proofs::Laws::one_stored, crate::proofs::Laws::none_stored))]
 fn put_from(words: &mut [u32], at: usize, from: &[u32], k: usize)
     ensures { words.new ≡ sets words.old at (take 1 (drop k from.now)) }
 {
@@ -40,30 +43,30 @@ fn put_from(words: &mut [u32], at: usize, from: &[u32], k: usize)
 }
 
 // Copies words to a place, as far as there is room.
+#[tactic(auto, using(crate::proofs::Laws::sets_more, crate::proofs::Laws::sets_done))]
 pub fn copy(words: &mut [u32], at: usize, from: &[u32])
     ensures { words.new ≡ sets words.old at from.now }
 {
-    let mut i = at;
-    while i < words.len() {
+    for i in at..words.len() {
         put_from(words, i, from, i - at);
-        i += 1;
     }
 }
 
+#[tactic(auto, unfolding(crate::specs::Tables::in_turn))]
 fn in_turn(even: u32, odd: u32, n: usize) -> u32
     ensures { result ≡ in_turn even odd n }
 {
     if n % 2 == 0 { even } else { odd }
 }
 
-// Fills a slice from a place on with two words in turn.
+// Fills a slice from a place on with two words in turn. `blocks` is the same loop with another word: one function for both would take a
+// closure and its contract, and be no shorter.
+#[tactic(auto, using(crate::proofs::Laws::numbered_more, crate::proofs::Laws::numbered_done))]
 pub fn fill(words: &mut [u32], at: usize, even: u32, odd: u32)
     ensures { words.new ≡ numbered (in_turn even odd) 0 words.old at }
 {
-    let mut i = at;
-    while i < words.len() {
+    for i in at..words.len() {
         words[i] = in_turn(even, odd, i - at);
-        i += 1;
     }
 }
 
@@ -75,17 +78,14 @@ pub fn head(words: &mut [u32])
 }
 
 // Word n of blocks of so many words, all of one name: their permissions count from 0, and new cells stand around the handler's message.
+#[tactic(auto, unfolding(crate::specs::Tables::block_word))]
 fn block_word(span: usize, name: usize, n: usize) -> u32
     ensures { result ≡ block_word span name n }
 {
-    if span == 0 {
+    if span == 0 || span - 1 <= n % span {
         return 0x14000000;
     }
-    let k = n % span;
-    if span - 1 <= k {
-        return 0x14000000;
-    }
-    match k {
+    match n % span {
         0 => word(2, name),
         1 => word(3, n / span),
         2 => 0x04000000,
@@ -94,13 +94,12 @@ fn block_word(span: usize, name: usize, n: usize) -> u32
 }
 
 // Fills a slice from word 1 on with blocks of so many words, all of one name.
+#[tactic(auto, using(crate::proofs::Laws::numbered_more, crate::proofs::Laws::numbered_done))]
 pub fn blocks(words: &mut [u32], span: usize, name: usize)
     ensures { words.new ≡ numbered (block_word span name) 0 words.old 1 }
 {
-    let mut i = 1;
-    while i < words.len() {
+    for i in 1..words.len() {
         words[i] = block_word(span, name, i - 1);
-        i += 1;
     }
 }
 

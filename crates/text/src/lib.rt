@@ -14,12 +14,9 @@ pub fn put(out: &mut [u8], at: usize, s: &[u8]) -> usize
     requires { at + length s.now ≤ length out.old }
     ensures { Wrote out.old at s.now out.new result }
 {
-    let mut i = 0;
-    while i < s.len() {
-        out[at + i] = s[i];
-        i += 1;
-    }
-    at + i
+    let next = at + s.len();
+    out[at..next].copy_from_slice(s);
+    next
 }
 
 // The byte of a digit.
@@ -95,7 +92,7 @@ pub fn set_field(out: &mut [u8], at: usize, label: &[u8], s: u32) -> usize
     numeral(out, next, 16, 0, 6, s as u64)
 }
 
-// A label and a word in eight hexadecimal digits.
+// A label and a word in eight hexadecimal digits. Not one function with `set_field`: two lines each, and each definition says its own width.
 pub fn hex_field(out: &mut [u8], at: usize, label: &[u8], w: u32) -> usize
     requires { at + length label.now + 8 ≤ length out.old }
     ensures wrote { Wrote out.old at (label.now ++ hex_word w) out.new result }

@@ -1,5 +1,6 @@
 -- What a verdict says is the answer to its call, and what the call leaves.
 use Prim.Native.Nat.{ℕ}
+use Rattle.std.specs.Prelude.{Result}
 use mathlib.Core.Path.{◌≡◌, refl, sym, ◌∙◌}
 use mathlib.Core.List.{List}
 use lib.ListN.{length}
@@ -10,6 +11,7 @@ use Rattle.calculus.specs.Correct.{Correct, Guaranteed}
 use Rattle.calculus.proofs.Covers.{answer-guaranteed}
 use Rattle.calculus.proofs.Correct.{call-correct}
 use Rattle.comparison.specs.declared.Findings.{Findings}
+use Rattle.calls.specs.declared.Fault.{Fault}
 use Rattle.calls.specs.Calls.{Fits}
 use Rattle.calls.proofs.Answers.{after-refused, after-solved}
 use Rattle.comparison.specs.declared.Verdict.{Verdict as Declared-as-Verdict}
@@ -26,7 +28,7 @@ compare-judge ws ρ bound us = refl
 
 -- ---- the whole of a call
 
-module _ (ws : List ℕ) (ρ bound : ℕ) (est work : List ℕ) (r : Declared-as-Verdict) where
+module _ (ws : List ℕ) (ρ bound : ℕ) (est work : List ℕ) (r : Result Declared-as-Verdict Fault) where
   -- it passes its checks, s was found, and it is compared with b
   pub judged : (est' work' : List ℕ) (s : Findings) (b : ℕ) → Fits ws ρ bound (length est) (length work)
       → FoundIn ws ρ est work est' work' s → answer_of r ≡ compare s.leak.bits b s.facts → b ≡ bound_used bound
@@ -48,25 +50,21 @@ module _ (ws : List ℕ) (ρ bound : ℕ) (est work : List ℕ) (r : Declared-as
       let after = after-refused ws ρ bound est work n at e in
       record { answers = a ∙ sym e; estimates = after.0; works = after.1 }
 
+-- demands 2 and 3 of what a call answers and leaves
+pub demands : (ws : List ℕ) (ρ bound : ℕ) (est work : List ℕ) (r : Result Declared-as-Verdict Fault) (est' work' : List ℕ)
+    → Judged ws ρ bound est work r est' work' → Correct ws ρ bound est' (answer_of r) × Guaranteed ws ρ (answer_of r)
+demands ws ρ bound est work r est' work' j = (
+  call-correct ws ρ bound est work est' (answer_of r) j.answers j.estimates,
+  answer-guaranteed ws ρ bound (length est) (length work) (answer_of r) j.answers,
+)
+
 -- what a call promises, from what it answers and leaves
-abbrev pub Promised : List ℕ → ℕ → ℕ → List ℕ → List ℕ → Declared-as-Verdict → List ℕ → List ℕ → Type 0
+abbrev pub Promised : List ℕ → ℕ → ℕ → List ℕ → List ℕ → Result Declared-as-Verdict Fault → List ℕ → List ℕ → Type 0
 Promised ws ρ bound est work r est' work' =
     (answer_of r ≡ answer ws ρ bound (length est) (length work))
     × ((est' ≡ estimate_after ws ρ bound est work)
     × ((work' ≡ work_after ws ρ bound est work) × (Correct ws ρ bound est' (answer_of r) × Guaranteed ws ρ (answer_of r))))
 
-pub promised : (ws : List ℕ) (ρ bound : ℕ) (est work : List ℕ) (r : Declared-as-Verdict) (est' work' : List ℕ)
+pub promised : (ws : List ℕ) (ρ bound : ℕ) (est work : List ℕ) (r : Result Declared-as-Verdict Fault) (est' work' : List ℕ)
     → Judged ws ρ bound est work r est' work' → Promised ws ρ bound est work r est' work'
-promised ws ρ bound est work r est' work' j = (
-  j.answers,
-  (
-    j.estimates,
-    (
-      j.works,
-      (
-        call-correct ws ρ bound est work est' (answer_of r) j.answers j.estimates,
-        answer-guaranteed ws ρ bound (length est) (length work) (answer_of r) j.answers,
-      ),
-    ),
-  ),
-)
+promised ws ρ bound est work r est' work' j = (j.answers, (j.estimates, (j.works, demands ws ρ bound est work r est' work' j)))

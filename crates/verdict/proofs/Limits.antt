@@ -1,5 +1,6 @@
 -- What a verdict under a ceiling says is the answer to its call, and what the call leaves.
 use Prim.Native.Nat.{ℕ, ◌<◌, ◌≤◌}
+use Rattle.std.specs.Prelude.{Result, Ok, Err}
 use mathlib.Core.Path.{◌≡◌, refl, sym, ap, ◌∙◌}
 use mathlib.Core.Bool.{false}
 use mathlib.Core.List.{List, ◌++◌}
@@ -15,15 +16,14 @@ use Rattle.calculus.specs.Answer.{Answer, Verdict, refused, verdict, bound_used,
 use Rattle.calculus.specs.Correct.{Correct, Guaranteed}
 use Rattle.calculus.proofs.Correct.{call-correct}
 use Rattle.calculus.proofs.Covers.{answer-judged, answer-guaranteed}
+use Rattle.calls.specs.declared.LimitFault.{LimitFault}
 use Rattle.calls.specs.Calls.{Fits}
 use Rattle.calls.proofs.Answers.{after-refused, after-solved}
 use Rattle.comparison.specs.declared.Findings.{Findings}
 use Rattle.comparison.specs.declared.Verdict.{Verdict as Declared-as-Verdict}
 use Rattle.comparison.specs.Values.{answer_of, compare}
-use Rattle.solver.specs.Ceiling.{under, words_within, SolvedIn}
+use Rattle.solver.specs.Ceiling.{under, words_within, BoundedIn}
 use Rattle.solver.proofs.Least.{words-whole}
-use Rattle.verdict.specs.declared.limit.Limited.{Limited}
-use Rattle.verdict.specs.declared.limit.Limited.TheVariants.{Judged, Exceeded}
 use Rattle.verdict.specs.Limits.{limited_answer, answer_under, estimate_under, Limits}
 use Rattle.verdict.proofs.Answers.{compare-judge}
 
@@ -58,48 +58,47 @@ module _ (ws : List ℕ) (ρ bound n : ℕ) (est work : List ℕ) where
   words-kept k at e = sym (rw (e, estimate_under))
 
   -- it is refused by its checks
-  pub turned-away : (f : Declared-as-Verdict) (k at : ℕ) → answer ws ρ bound (length est) (length work) ≡ refused k at → answer_of f ≡ refused k at
-      → Limits ws ρ bound n est work (Judged f) est work
-  unfolding limited_answer
-  turned-away f k at e a =
+  pub turned-away : (r : Result Declared-as-Verdict LimitFault) (k at : ℕ) → answer ws ρ bound (length est) (length work) ≡ refused k at
+      → limited_answer r ≡ refused k at → Limits ws ρ bound n est work r est work
+  turned-away r k at e a =
       record {
         answers = a ∙ sym (under-refused n k at) ∙ ap (under n) (sym e);
         estimates = words-kept k at e;
         works = (after-refused ws ρ bound est work k at e).1;
       }
 
-  module _ (est' work' : List ℕ) (s : Findings) (f : Fits ws ρ bound (length est) (length work)) (d : SolvedIn ws ρ n est work est' work' s) where
+  module _ (est' work' : List ℕ) (f : Fits ws ρ bound (length est) (length work)) where
     abbrev found : Verdict
     found = judge (code ws) ρ bound (estimate (code ws) ρ)
 
-    works-left : work' ≡ work_after ws ρ bound est work
-    works-left = d.works ∙ (after-solved ws ρ bound est work found f.judged).1
-
     -- more facts than the ceiling
-    pub exceeded : n < s.facts → Limits ws ρ bound n est work (Exceeded n) est' work'
+    pub exceeded : (r : Result Declared-as-Verdict LimitFault) (e : LimitFault) → BoundedIn ws ρ n est work est' work' (Err e) → r ≡ Err e
+        → Limits ws ρ bound n est work r est' work'
     unfolding limited_answer
-    exceeded h =
+    exceeded r e d q =
         record {
-          answers = sym (ap (under n) f.judged ∙ under-over n found (omega (arith, d.over h, judge-facts ws ρ bound)));
+          answers =
+              ap limited_answer q ∙ ap (λ (x : LimitFault). limited_answer (Err x)) d.says.0
+              ∙ sym (ap (under n) f.judged ∙ under-over n found (omega (arith, d.says.1, judge-facts ws ρ bound)));
           estimates = d.estimates ∙ words_left found f.judged;
-          works = works-left;
+          works = d.works ∙ (after-solved ws ρ bound est work found f.judged).1;
         }
 
     -- no more, and s was compared with b
-    pub allowed : (r : Declared-as-Verdict) (b : ℕ) → s.facts ≤ n → answer_of r ≡ compare s.leak.bits b s.facts → b ≡ bound_used bound
-        → Limits ws ρ bound n est work (Judged r) est' work'
+    pub allowed : (s : Findings) → BoundedIn ws ρ n est work est' work' (Ok s) → (v : Declared-as-Verdict) (b : ℕ)
+        → answer_of (Ok v) ≡ compare s.leak.bits b s.facts → b ≡ bound_used bound → Limits ws ρ bound n est work (Ok v) est' work'
     unfolding limited_answer
-    allowed r b h a e =
+    allowed s d v b a e =
         let us = estimate (code ws) ρ in
-        let k : s.facts ≡ facts us = d.within h in
-        let l : s.leak.bits ≡ leak (code ws) ρ us = d.leaks ∙ ap (leak (code ws) ρ) (words-whole (code ws) ρ n (le-ltb n (facts us) (omega arith))) in
+        let k : s.facts ≡ facts us = d.says.1 in
+        let l : s.leak.bits ≡ leak (code ws) ρ us = d.says.2 in
         let same : compare s.leak.bits b s.facts ≡ compare (leak (code ws) ρ us) (bound_used bound) (facts us) = cc (k, l, e) in
         record {
           answers =
               a ∙ same ∙ compare-judge ws ρ bound us
-              ∙ sym (ap (under n) f.judged ∙ under-within n found (omega (arith, k, judge-facts ws ρ bound)));
+              ∙ sym (ap (under n) f.judged ∙ under-within n found (omega (arith, d.says.0, k, judge-facts ws ρ bound)));
           estimates = d.estimates ∙ words_left found f.judged;
-          works = works-left;
+          works = d.works ∙ (after-solved ws ρ bound est work found f.judged).1;
         }
 
   -- a verdict under the ceiling is the verdict, and its estimate is left
@@ -135,14 +134,19 @@ module _ (ws : List ℕ) (ρ bound n : ℕ) (est work : List ℕ) where
       let q = under-verdict v us e u in
       (call-correct ws ρ bound est work us (verdict v) q.0 q.1, answer-guaranteed ws ρ bound (length est) (length work) (verdict v) q.0)
 
+-- demands 2 and 3 of what a call under a ceiling answers and leaves
+pub demands-under : (ws : List ℕ) (ρ bound n : ℕ) (est work : List ℕ) (r : Result Declared-as-Verdict LimitFault) (est' work' : List ℕ)
+    → Limits ws ρ bound n est work r est' work' → Correct ws ρ bound est' (limited_answer r) × Guaranteed ws ρ (limited_answer r)
+demands-under ws ρ bound n est work r est' work' l =
+    under-correct ws ρ bound n est work est' (limited_answer r) l.answers l.estimates
+
 -- what a call promises, from what it answers and leaves
-abbrev pub PromisedUnder : List ℕ → (ρ bound n : ℕ) → (est work : List ℕ) → Limited → (est' work' : List ℕ) → Type 0
+abbrev pub PromisedUnder : List ℕ → (ρ bound n : ℕ) → (est work : List ℕ) → Result Declared-as-Verdict LimitFault → (est' work' : List ℕ) → Type 0
 PromisedUnder ws ρ bound n est work r est' work' =
     (limited_answer r ≡ answer_under ws ρ bound n (length est) (length work))
     × ((est' ≡ estimate_under ws ρ bound n est work)
     × ((work' ≡ work_after ws ρ bound est work) × (Correct ws ρ bound est' (limited_answer r) × Guaranteed ws ρ (limited_answer r))))
 
-pub promised-under : (ws : List ℕ) (ρ bound n : ℕ) (est work : List ℕ) (r : Limited) (est' work' : List ℕ)
+pub promised-under : (ws : List ℕ) (ρ bound n : ℕ) (est work : List ℕ) (r : Result Declared-as-Verdict LimitFault) (est' work' : List ℕ)
     → Limits ws ρ bound n est work r est' work' → PromisedUnder ws ρ bound n est work r est' work'
-promised-under ws ρ bound n est work r est' work' l =
-    (l.answers, (l.estimates, (l.works, under-correct ws ρ bound n est work est' (limited_answer r) l.answers l.estimates)))
+promised-under ws ρ bound n est work r est' work' l = (l.answers, (l.estimates, (l.works, demands-under ws ρ bound n est work r est' work' l)))

@@ -2,18 +2,33 @@
 use mathlib.Core.Path.{◌≡◌, refl, ap, ◌∙◌}
 use mathlib.Core.Bool.{Bool, true, false, ◌||◌}
 use mathlib.Core.List.{List, [], ◌∷◌, ◌++◌}
-use Prim.Native.Nat.{ℕ, ◌+◌, ◌<◌, ◌≤◌}
+use Prim.Native.Nat.{ℕ, ◌+◌, ◌<◌, ◌≤◌, suc}
 use native.Mathlib.Numerals.{add-one}
 use native.Mathlib.Omega.{arith}
 use borrow.Author.Tests.{eqb-true, eq-eqb, ne_eqb, lt-ltb, le-ltb, lt-leb, le-leb}
 use lib.Dec.{eqb}
-use lib.ListN.{length, get_or, drop, drop_of_length-le}
-use lib.Seq.{drop-cons}
+use lib.ListN.{length, get_or, drop}
+use Rattle.std.specs.Prelude.{Option, Some, None, Result, Ok, Err, cond}
+use Rattle.std.specs.Result.{MatchResult, IsErrAnd}
+use Rattle.std.specs.List.{position_from}
 use Rattle.table.specs.Words.{kind, argument, narrow}
 use Rattle.table.specs.Scan.{Outcome, accepted, refused, reading, missing, scan}
+use Rattle.table.specs.declared.Refusal.{Refusal}
+use Rattle.table.specs.Answer.{outcome}
 use Rattle.table.proofs.Stack.{refused-not-accepted}
 use Rattle.widths.specs.Converters.{read_as, wide_name, names_fit, fits_narrow, narrowable, Answer, written, refusal}
-use Rattle.widths.specs.Converters.{answer, out_after}
+use Rattle.widths.specs.Converters.{converted, convertible, answer, out_after, convert_answer, convert_out}
+use Rattle.widths.specs.declared.Fault.{Fault}
+use Rattle.widths.specs.declared.Fault.TheVariants as faults
+use Rattle.widths.specs.Answers.{fault_number, fault_place, checked_as}
+
+-- what `map_err` makes of the reading of a table
+pub checked-reading : (r : Result (Unit {0}) Refusal) (m : Result (Unit {0}) Fault)
+    → MatchResult r (λ x. m ≡ Ok x) (λ e. IsErrAnd m (λ f. f ≡ faults.Table e)) → checked_as m ≡ outcome r
+unfolding outcome checked_as fault_number fault_place
+checked-reading (Ok x) m h = ap checked_as h
+checked-reading (Err e) (Ok x) h = absurd h
+checked-reading (Err e) (Err f) h = ap (λ (g : Fault). checked_as (Err g)) h
 
 module _ (k : ℕ) (ws : List ℕ) where
   pub of-kind : kind (get_or ws 0 0) ≡ k → read_as k ws ≡ reading ws
@@ -54,18 +69,20 @@ module _ (w : ℕ) where
   unfolding wide_name
   high-name h = rw (le-leb narrow (argument w) h)
 
-module _ (ws : List ℕ) (i : ℕ) where
-  pub wide-here : i < length ws → wide_name (get_or ws i 0) ≡ true → names_fit (drop i ws) i ≡ refused 56 i
-  unfolding names_fit
-  wide-here h e = rw (drop-cons ws i 0, e, names_fit)
+-- the first such word decides
+unfoldable pub fit_at : Option ℕ → Outcome
+fit_at (Some i) = refused 56 i
+fit_at None = accepted
 
-  pub wide-later : i < length ws → wide_name (get_or ws i 0) ≡ false → names_fit (drop i ws) i ≡ names_fit (drop (i + 1) ws) (i + 1)
-  unfolding names_fit
-  wide-later h e = rw (add-one, drop-cons ws i 0, e, names_fit)
-
-  pub wide-none : length ws ≤ i → names_fit (drop i ws) i ≡ accepted
-  unfolding names_fit
-  wide-none h = rw (drop_of_length-le ws h)
+pub fit-position : (ws : List ℕ) (at : ℕ) → fit_at (position_from wide_name at ws) ≡ names_fit ws at
+unfolding names_fit fit_at
+fit-position [] at = refl
+fit-position (w ∷ ws) at = go (wide_name w) (fit-position ws (suc at))
+  where
+    go : (b : Bool) → fit_at (position_from wide_name (suc at) ws) ≡ names_fit ws (suc at)
+        → fit_at (cond b (Some at) (position_from wide_name (at + 1) ws)) ≡ elim b [ true ↦ refused 56 at | false ↦ names_fit ws (suc at) ]
+    go true e = refl
+    go false e = rw add-one e
 
 -- ---- a wide table that can be made narrow
 
@@ -104,3 +121,14 @@ module _ (o : Outcome) (n : ℕ) (ws out : List ℕ) where
   pub all-written : o ≡ accepted → n ≤ length out → Given (written n) (ws ++ drop n out)
   unfolding answer out_after
   all-written e h = given (written n) (ap (λ (x : Outcome). answer x n (length out)) e ∙ rw (le-ltb (length out) n h, answer))
+
+module _ (wide : Bool) (ws out : List ℕ) where
+  pub halted : (k p : ℕ) → convertible wide ws ≡ refused k p → (convert_answer wide ws (length out) ≡ refusal k p) × (convert_out wide ws out ≡ out)
+  unfolding convert_answer convert_out
+  halted k p e = stopped (convertible wide ws) (length ws) (converted wide ws) out k p e
+
+  pub goes-on : convertible wide ws ≡ accepted
+      → (convert_answer wide ws (length out) ≡ answer accepted (length ws) (length out))
+      × (convert_out wide ws out ≡ out_after (answer accepted (length ws) (length out)) (converted wide ws) out)
+  unfolding convert_answer convert_out
+  goes-on e = rw e (refl, refl)

@@ -102,7 +102,7 @@ fits ws = go (read_as 5 ws) (ltb narrow (argument (get_or ws 0 0))) refl (ltb-fa
     go accepted false r f e = record { read = r; few = f refl; named = e }
 
 module _ (ws : List ℕ) (e : narrowable ws ≡ accepted) where
-  wide-table : (kind (get_or ws 0 0) ≡ 5) × (reading ws ≡ accepted)
+  pub wide-table : (kind (get_or ws 0 0) ≡ 5) × (reading ws ≡ accepted)
   wide-table = accepted-kind 5 ws (fits ws e).read
 
   -- what `narrow` writes is a narrow table

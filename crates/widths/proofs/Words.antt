@@ -1,9 +1,9 @@
 -- The words with word 0 of a kind: their length, word 0 and the others.
 use mathlib.Core.Path.{◌≡◌, refl}
-use mathlib.Core.List.{List, [], ◌∷◌}
+use mathlib.Core.List.{List, [], ◌∷◌, ◌++◌}
 use Prim.Native.Nat.{ℕ, zero, suc, ◌<◌}
 use native.Mathlib.Omega.{arith}
-use lib.ListN.{length, get_or}
+use lib.ListN.{length, get_or, set}
 use Rattle.table.specs.Words.{kind, argument, word_of}
 use Rattle.table.proofs.TermWords.{argument-lt, argument-word_of, kind-word_of}
 use Rattle.widths.specs.Converters.{rekinded}
@@ -20,11 +20,11 @@ module _ (k : ℕ) where
   first_word (w ∷ ws) zero h e = refl
   first_word (w ∷ ws) (suc p) h e = let n : ⊥ = omega arith in absurd n
 
-  pub later-word : (ws : List ℕ) (p : ℕ) → 0 < p → get_or (rekinded k ws) p 0 ≡ get_or ws p 0
+  -- copied, and then word 0 given its kind
+  pub rekinded-copied : (ws rest : List ℕ) → 0 < length ws → set (ws ++ rest) 0 (word_of k (argument (get_or ws 0 0))) ≡ rekinded k ws ++ rest
   unfolding rekinded
-  later-word [] p h = refl
-  later-word (w ∷ ws) zero h = let n : ⊥ = omega arith in absurd n
-  later-word (w ∷ ws) (suc p) h = refl
+  rekinded-copied [] rest h = let n : ⊥ = omega arith in absurd n
+  rekinded-copied (w ∷ ws) rest h = refl
 
   pub kind-given : (w : ℕ) → kind (word_of k (argument w)) ≡ k
   kind-given w = kind-word_of k (argument w) (argument-lt w)

@@ -1,7 +1,7 @@
 // The arguments: the command, and sets in hexadecimal digits.
 ghost use Rattle.std.specs.Prelude.{◌≤◌, length};
 
-use commands::arguments::{Value, value_of};
+use commands::arguments::value_of;
 use std::env::Env;
 
 // The commands that stand in this program, and those of `commands`: with an input to read, or without.
@@ -17,78 +17,43 @@ pub enum Command {
     WithoutInput,
 }
 
-// Whether a command of `commands` has an input.
-fn has_input(word: &[u8]) -> bool {
-    if check::same(word, b"text") {
-        return true;
-    }
-    if check::same(word, b"words") {
-        return true;
-    }
-    if check::same(word, b"join") {
-        return true;
-    }
-    if check::same(word, b"block") {
-        return true;
-    }
-    if check::same(word, b"manifest") {
-        return true;
-    }
-    if check::same(word, b"check") {
-        return true;
-    }
-    if check::same(word, b"pack") {
-        return true;
-    }
-    if check::same(word, b"widen") {
-        return true;
-    }
-    check::same(word, b"narrow")
-}
-
 // The command that a word names.
 fn command_of(word: &[u8]) -> Command {
-    if check::same(word, b"leak") {
-        return Command::Leak;
-    }
-    if check::same(word, b"deliveries") {
-        return Command::Deliveries;
-    }
-    if check::same(word, b"senders") {
-        return Command::Senders;
-    }
-    if check::same(word, b"order") {
-        return Command::Order;
-    }
-    if check::same(word, b"estimate") {
-        return Command::Estimate;
-    }
-    if check::same(word, b"audit") {
-        return Command::Audit;
-    }
-    if has_input(word) {
-        Command::WithInput
-    } else {
-        Command::WithoutInput
+    match word {
+        b"leak" => Command::Leak,
+        b"deliveries" => Command::Deliveries,
+        b"senders" => Command::Senders,
+        b"order" => Command::Order,
+        b"estimate" => Command::Estimate,
+        b"audit" => Command::Audit,
+        b"text"
+        | b"words"
+        | b"join"
+        | b"block"
+        | b"manifest"
+        | b"check"
+        | b"pack"
+        | b"widen"
+        | b"narrow" => Command::WithInput,
+        _ => Command::WithoutInput,
     }
 }
 
-// Puts the argument at a place at the start of a buffer, and answers its length, 0 where it is absent or longer than the buffer.
-pub fn argument(rt: &impl Env, i: usize, buffer: &mut [u8]) -> usize
-    ensures { result ≤ length buffer.new }
+// The argument at a place, in a buffer; empty where it is absent or longer than the buffer.
+pub fn argument<'a>(rt: &impl Env, i: usize, buffer: &'a mut [u8]) -> &'a [u8]
+    ensures { length result.now ≤ length buffer.old }
 {
-    rt.arg(i, buffer).unwrap_or(0)
+    let n = rt.arg(i, buffer).unwrap_or(0);
+    &buffer[..n]
 }
 
 pub fn read_command(rt: &impl Env) -> Command {
     let mut word = [0u8; 16];
-    let n = argument(rt, 1, &mut word);
-    command_of(&word[..n])
+    command_of(argument(rt, 1, &mut word))
 }
 
 // The set at a place, in hexadecimal digits.
-pub fn set(rt: &impl Env, i: usize) -> Value {
+pub fn set(rt: &impl Env, i: usize) -> Option<u32> {
     let mut digits = [0u8; 16];
-    let n = argument(rt, i, &mut digits);
-    value_of(&digits[..n], 16)
+    value_of(argument(rt, i, &mut digits), 16)
 }

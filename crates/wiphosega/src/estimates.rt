@@ -1,14 +1,13 @@
 // The commands `estimate`, the words of a system's least estimate, and `audit`, the check of an estimate from elsewhere.
 use crate::arguments::set;
 use crate::explain::help;
-use crate::systems::{Request, run};
-use audit::Audit;
+use crate::systems::run;
+use audit::AuditFault;
 use audit::numbers::{audit_number, audit_place};
 use calls::numbers::{fault_number, fault_place};
-use commands::arguments::Value;
 use little_endian::{bytes_of, words_of};
+use permset::PermSet;
 use rows::layout::Layout;
-use solver::Analysis;
 use solver::analyse::analyse;
 use std::env::Env;
 use std::io;
@@ -42,20 +41,20 @@ fn print_estimate(out: &mut impl Write, est: &[u32], words: &[u32]) -> io::Resul
     print_words(out, &est[..n])
 }
 
-pub fn estimate_of(out: &mut impl Write, words: &[u32], rho: u32) -> io::Result<()> {
+fn estimate_of(out: &mut impl Write, words: &[u32], rho: u32) -> io::Result<()> {
     let mut est = [0u32; 72704];
     let mut work = [0u32; 4096];
     match analyse(words, rho, &mut est, &mut work) {
-        Analysis::Refused(f) => streams::refusal(out, fault_number(f), fault_place(f)),
-        Analysis::Solved(_) => print_estimate(out, &est, words),
+        Err(f) => streams::refusal(out, fault_number(f), fault_place(f)),
+        Ok(_) => print_estimate(out, &est, words),
     }
 }
 
 pub fn estimate(rt: &impl Env, input: &mut impl Read, out: &mut impl Write) -> io::Result<()> {
-    match set(rt, 2) {
-        Value::Number(rho) => run(input, out, Request::Estimate(rho)),
-        Value::Other => help(out),
-    }
+    let Some(rho) = set(rt, 2) else {
+        return help(out);
+    };
+    run(input, out, |out, words| estimate_of(out, words, rho))
 }
 
 fn obeys(out: &mut impl Write, leak: u32) -> io::Result<()> {
@@ -65,15 +64,11 @@ fn obeys(out: &mut impl Write, leak: u32) -> io::Result<()> {
     streams::first(out, &line, n)
 }
 
-fn said(out: &mut impl Write, a: Audit) -> io::Result<()> {
-    if let Audit::Obeys(s) = a {
-        return obeys(out, s.bits);
+fn said(out: &mut impl Write, checked: Result<PermSet, AuditFault>) -> io::Result<()> {
+    match checked {
+        Ok(leak) => obeys(out, leak.bits),
+        Err(f) => streams::refusal(out, audit_number(f), audit_place(f)),
     }
-    streams::refusal(out, audit_number(a), audit_place(a))
-}
-
-fn size_of(w: u32) -> usize {
-    w as usize
 }
 
 // The first word says how many the system has; the others are the system and the estimate.
@@ -81,7 +76,7 @@ fn audit_words(out: &mut impl Write, words: &[u32], rho: u32) -> io::Result<()> 
     if words.len() == 0 {
         return streams::refusal(out, 30, 0);
     }
-    let size = size_of(words[0]);
+    let size = words[0] as usize;
     if words.len() <= size {
         return streams::refusal(out, 30, 0);
     }
@@ -112,7 +107,7 @@ fn audit_with(input: &mut impl Read, out: &mut impl Write, rho: u32) -> io::Resu
 
 pub fn audited(rt: &impl Env, input: &mut impl Read, out: &mut impl Write) -> io::Result<()> {
     match set(rt, 2) {
-        Value::Number(rho) => audit_with(input, out, rho),
-        Value::Other => help(out),
+        Some(rho) => audit_with(input, out, rho),
+        None => help(out),
     }
 }

@@ -1,8 +1,7 @@
 // The command `order`: an order of a system's live handlers in which each follows all that may send to it, or else a loop.
 use crate::arguments::set;
 use crate::explain::help;
-use crate::systems::{Request, run};
-use commands::arguments::Value;
+use crate::systems::run;
 use std::env::Env;
 use std::io;
 use std::io::{Read, Write};
@@ -11,7 +10,7 @@ use std::io::{Read, Write};
 const NO_CEILING: usize = 4294967296;
 
 // Enough for every system: 96 bytes, and 21 for each position.
-pub fn order_of(out: &mut impl Write, words: &[u32], rho: u32) -> io::Result<()> {
+fn order_of(out: &mut impl Write, words: &[u32], rho: u32) -> io::Result<()> {
     let mut est = [0u32; 72704];
     let mut work = [0u32; 4096];
     let mut positions = [0u32; 64];
@@ -22,8 +21,8 @@ pub fn order_of(out: &mut impl Write, words: &[u32], rho: u32) -> io::Result<()>
 }
 
 pub fn order(rt: &impl Env, input: &mut impl Read, out: &mut impl Write) -> io::Result<()> {
-    match set(rt, 2) {
-        Value::Number(rho) => run(input, out, Request::Order(rho)),
-        Value::Other => help(out),
-    }
+    let Some(rho) = set(rt, 2) else {
+        return help(out);
+    };
+    run(input, out, |out, words| order_of(out, words, rho))
 }

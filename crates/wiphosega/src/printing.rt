@@ -8,13 +8,16 @@ use streams::read_input;
 
 fn print(rt: &impl Env, out: &mut impl Write, input: &[u8]) -> io::Result<()> {
     let mut command = [0u8; 16];
-    let c = argument(rt, 1, &mut command);
     let mut first = [0u8; 16];
-    let f = argument(rt, 2, &mut first);
     let mut second = [0u8; 16];
-    let s = argument(rt, 3, &mut second);
     let mut text = [0u8; 212996];
-    let n = commands::run(&command[..c], &first[..f], &second[..s], input, &mut text);
+    let n = commands::run(
+        argument(rt, 1, &mut command),
+        argument(rt, 2, &mut first),
+        argument(rt, 3, &mut second),
+        input,
+        &mut text,
+    );
     streams::first(out, &text, n)
 }
 
@@ -26,17 +29,20 @@ pub fn with_input(rt: &impl Env, input: &mut impl Read, out: &mut impl Write) ->
 }
 
 pub fn without_input(rt: &impl Env, out: &mut impl Write) -> io::Result<()> {
-    let input = [0u8; 1];
-    print(rt, out, &input[..0])
+    print(rt, out, b"")
 }
 
 fn print_leak(rt: &impl Env, out: &mut impl Write, rho: &[u8], input: &[u8]) -> io::Result<()> {
     let mut bound = [0u8; 16];
-    let b = argument(rt, 3, &mut bound);
     let mut ceiling = [0u8; 16];
-    let c = argument(rt, 4, &mut ceiling);
     let mut text = [0u8; 147457];
-    let n = leaks::run(rho, &bound[..b], &ceiling[..c], input, &mut text);
+    let n = leaks::run(
+        rho,
+        argument(rt, 3, &mut bound),
+        argument(rt, 4, &mut ceiling),
+        input,
+        &mut text,
+    );
     streams::first(out, &text, n)
 }
 
@@ -54,10 +60,8 @@ fn leak_of(
 // The command `leak`; without its first argument the help is printed, and no input is read.
 pub fn leak(rt: &impl Env, input: &mut impl Read, out: &mut impl Write) -> io::Result<()> {
     let mut rho = [0u8; 16];
-    let p = argument(rt, 2, &mut rho);
-    if p == 0 {
-        without_input(rt, out)
-    } else {
-        leak_of(rt, input, out, &rho[..p])
+    match argument(rt, 2, &mut rho) {
+        [] => without_input(rt, out),
+        rho => leak_of(rt, input, out, rho),
     }
 }

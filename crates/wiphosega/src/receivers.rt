@@ -1,11 +1,8 @@
 // The command `senders`: for each handler of a system who may have sent to it, by the least estimate.
 use crate::arguments::set;
 use crate::explain::help;
-use crate::systems::{Request, refusal, run};
+use crate::systems::{refusal, run};
 use calls::numbers::{fault_number, fault_place};
-use commands::arguments::Value;
-use listing::Answer;
-use solver::Analysis;
 use solver::analyse::analyse;
 use std::env::Env;
 use std::io;
@@ -15,23 +12,23 @@ use std::io::{Read, Write};
 fn senders_by(out: &mut impl Write, words: &[u32], est: &[u32]) -> io::Result<()> {
     let mut text = [0u8; 4096];
     match senders::write(words, est, &mut text) {
-        Answer::Done(n) => streams::first(out, &text, n),
-        Answer::Refused(r) => refusal(out, r),
+        Ok(n) => streams::first(out, &text, n),
+        Err(r) => refusal(out, r),
     }
 }
 
-pub fn senders_of(out: &mut impl Write, words: &[u32], rho: u32) -> io::Result<()> {
+fn senders_of(out: &mut impl Write, words: &[u32], rho: u32) -> io::Result<()> {
     let mut est = [0u32; 72704];
     let mut work = [0u32; 4096];
     match analyse(words, rho, &mut est, &mut work) {
-        Analysis::Refused(f) => streams::refusal(out, fault_number(f), fault_place(f)),
-        Analysis::Solved(_) => senders_by(out, words, &est),
+        Err(f) => streams::refusal(out, fault_number(f), fault_place(f)),
+        Ok(_) => senders_by(out, words, &est),
     }
 }
 
 pub fn senders(rt: &impl Env, input: &mut impl Read, out: &mut impl Write) -> io::Result<()> {
-    match set(rt, 2) {
-        Value::Number(rho) => run(input, out, Request::Senders(rho)),
-        Value::Other => help(out),
-    }
+    let Some(rho) = set(rt, 2) else {
+        return help(out);
+    };
+    run(input, out, |out, words| senders_of(out, words, rho))
 }

@@ -15,10 +15,8 @@ pub fn choose(out: &mut [u32], k: usize, p: usize, f: usize) {
 
 // The clauses of p from k on, before e, for all targets.
 pub fn choose_some(out: &mut [u32], k: usize, e: usize, p: usize) {
-    let mut i = k;
-    while i < e {
+    for i in k..e {
         choose(out, i, p, 0);
-        i += 1;
     }
 }
 

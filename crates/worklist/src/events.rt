@@ -2,13 +2,14 @@
 ghost use Rattle.std.specs.Prelude.{◌<◌, ◌≤◌, length};
 
 use crate::chosen::{choose, choose_some, choose_unless};
-use crate::kinds;
+use crate::clause;
 use crate::memory::{MOST, PARENT, PER_WORD, RECEIVER, USE, get, planned};
 use crate::sets::waits;
 use crate::things::{follow_names, meet_new, notify, tell};
-use crate::view::{close, kind_at, kind_within, link, past, row_at};
+use crate::view::{close, has_rows, kind_at, kind_within, link, past, row_at};
 use choices::word;
 use rows::layout::Layout;
+use table::kinds;
 
 // The strings among the elements of the first word of a row.
 const STRINGS: u32 = 4294967040;
@@ -21,12 +22,19 @@ fn start(words: &[u32], links: &[u32], h: &[u32], out: &mut [u32], p: usize)
 {
     let kind = kind_within(words, p);
     match kind {
-        kinds::VARIABLE => choose_unless(h, out, 2 * link(links, p).binder + 1, kinds::VALUE, p, 0),
+        kinds::VARIABLE => choose_unless(
+            h,
+            out,
+            2 * link(links, p).binder + 1,
+            clause::VALUE,
+            p,
+            0,
+        ),
         kinds::CELL | kinds::SEND | kinds::EXERCISE => {
-            choose_some(out, kinds::PARTS, kinds::OWN_END, p);
+            choose_some(out, clause::PARTS, clause::OWN_END, p);
         }
-        _ => if kinds::has_rows(kind) {
-            choose(out, kinds::PARTS, p, 0);
+        _ => if has_rows(kind) {
+            choose(out, clause::PARTS, p, 0);
         },
     }
 }
@@ -57,13 +65,6 @@ fn visit(words: &[u32], links: &[u32], h: &[u32], out: &mut [u32], p: usize) -> 
     after(words, links, p)
 }
 
-// The lower of two numbers.
-fn lower(a: usize, b: usize) -> usize
-    ensures { (result ≤ a) × (result ≤ b) }
-{
-    if a < b { a } else { b }
-}
-
 // The block or the term at q is live, and what is live with it.
 pub fn woke(words: &[u32], links: &[u32], h: &[u32], out: &mut [u32], q: usize)
     requires { q < 2048 }
@@ -71,9 +72,10 @@ pub fn woke(words: &[u32], links: &[u32], h: &[u32], out: &mut [u32], q: usize)
     if words.len() <= q {
         return;
     }
-    let e = lower(close(words, links, q), words.len());
+    let e = close(words, links, q).min(words.len());
     start(words, links, h, out, q);
     let mut p = after(words, links, q);
+    // Each word says which one is next: no range.
     while p < e {
         p = visit(words, links, h, out, p);
     }
@@ -98,11 +100,11 @@ fn record_part(
         return;
     }
     let take = if kind == kinds::SET {
-        kinds::SET_TAKE
+        clause::SET_TAKE
     } else {
-        kinds::GET_TAKE
+        clause::GET_TAKE
     };
-    choose_some(out, kinds::RECORDS_FIRST, take, p);
+    choose_some(out, clause::RECORDS_FIRST, take, p);
     meet_new(masks, est, h, out, l, kind, d, p);
 }
 
@@ -113,26 +115,26 @@ fn plain_part(out: &mut [u32], kind: u32, d: usize, p: usize, i: usize)
     let first = i == p + 1;
     match kind {
         kinds::LET => if first {
-            choose(out, kinds::LET_BIND, p, 0);
+            choose(out, clause::LET_BIND, p, 0);
         } else {
-            choose(out, kinds::LET_RESULT, p, 0);
+            choose(out, clause::LET_RESULT, p, 0);
         },
         kinds::SEQUENCE => if !first {
-            choose(out, kinds::SEQUENCE_RESULT, p, 0);
+            choose(out, clause::SEQUENCE_RESULT, p, 0);
         },
         kinds::IF => if first {
-            choose_some(out, kinds::TESTS, kinds::TESTS_END, p);
+            choose_some(out, clause::TESTS, clause::TESTS_END, p);
         } else if i == d {
-            choose(out, kinds::IF_THEN, p, 0);
+            choose(out, clause::IF_THEN, p, 0);
         } else {
-            choose(out, kinds::IF_ELSE, p, 0);
+            choose(out, clause::IF_ELSE, p, 0);
         },
         kinds::WHILE => if first {
-            choose_some(out, kinds::TESTS, kinds::TESTS_END, p);
+            choose_some(out, clause::TESTS, clause::TESTS_END, p);
         },
-        kinds::OPERATION => choose(out, kinds::OPERATION_RESULT, p, 0),
-        kinds::DELETE => choose(out, kinds::DELETE_RESULT, p, 0),
-        kinds::CELL => choose(out, kinds::CELL_HOLD, p, 0),
+        kinds::OPERATION => choose(out, clause::OPERATION_RESULT, p, 0),
+        kinds::DELETE => choose(out, clause::DELETE_RESULT, p, 0),
+        kinds::CELL => choose(out, clause::CELL_HOLD, p, 0),
         _ => {}
     }
 }
@@ -143,7 +145,7 @@ fn send_part(h: &[u32], out: &mut [u32], d: usize, p: usize)
 {
     let b = get(h, RECEIVER + PER_WORD * p);
     if b < MOST && !waits(h, 2 * (p + 1)) {
-        choose_unless(h, out, 2 * d, kinds::SEND_SEND, p, b);
+        choose_unless(h, out, 2 * d, clause::SEND_SEND, p, b);
     }
 }
 
@@ -169,16 +171,16 @@ fn part_grew(
         kinds::APPLY => if first {
             meet_new(masks, est, h, out, l, kind, d, p);
         } else {
-            choose(out, kinds::APPLY_HAND, p, 0);
+            choose(out, clause::APPLY_HAND, p, 0);
         },
         kinds::GET | kinds::SET => record_part(masks, est, h, out, l, kind, d, p),
         kinds::READ => meet_new(masks, est, h, out, l, kind, d, p),
         kinds::ASSIGN => {
-            choose(out, kinds::ASSIGN_RESULT, p, 0);
+            choose(out, clause::ASSIGN_RESULT, p, 0);
             if first {
                 meet_new(masks, est, h, out, l, kind, d, p);
             } else {
-                choose(out, kinds::ASSIGN_HAND, p, 0);
+                choose(out, clause::ASSIGN_HAND, p, 0);
             }
         }
         kinds::SEND => if first {
@@ -196,8 +198,9 @@ fn uses(h: &[u32], out: &mut [u32], i: usize)
     requires { i < 1024 }
 {
     let mut v = planned(h, USE, i);
+    // 0 is no use: the memory begins with zeros.
     while 0 < v {
-        choose(out, kinds::VALUE, v, 0);
+        choose(out, clause::VALUE, v, 0);
         let before = planned(h, USE, v);
         v = if before < v { before } else { 0 };
     }
@@ -233,13 +236,13 @@ pub fn permissions_grew(words: &[u32], est: &[u32], h: &[u32], out: &mut [u32], 
     requires { i < 2048 }
 {
     if kind_at(words, i) == kinds::BLOCK {
-        tell(est, h, out, l, kinds::SEND_SEND, i, i);
+        tell(est, h, out, l, clause::SEND_SEND, i, i);
         return;
     }
     let q = planned(h, PARENT, i);
     if kind_at(words, q) == kinds::FUNCTION {
-        tell(est, h, out, l, kinds::APPLY_LOWER, q, i);
+        tell(est, h, out, l, clause::APPLY_LOWER, q, i);
     } else {
-        choose(out, kinds::PARTS, q, 0);
+        choose(out, clause::PARTS, q, 0);
     }
 }

@@ -5,8 +5,8 @@
 #![tactic(auto)]
 
 mod chosen;
+mod clause;
 mod events;
-mod kinds;
 mod memory;
 pub mod next;
 pub mod notes;

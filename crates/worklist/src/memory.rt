@@ -1,5 +1,7 @@
-// Where the parts of a memory stand, which `memory_words` of specs/Memory.antt lists, and how they are read and written.
-ghost use Rattle.std.specs.Prelude.{◌≡◌, ◌+◌, ◌/◌, ◌<◌, ◌≤◌, length, get_or};
+// Where the parts of a memory stand, which `memory_words` of specs/Memory.antt lists, and how they are read and written. One slice holds them all,
+// at offsets: there is no heap, and their lengths go by the table.
+ghost use Rattle.std.specs.Prelude.{◌≡◌, ◌+◌, ◌/◌, ◌<◌, ◌≤◌, IfSome, length, get_or};
+ghost use Rattle.std.specs.Int.{bit_at};
 
 use choices::word;
 
@@ -55,7 +57,7 @@ pub fn at_followers(n: usize, f: usize) -> usize
     TURN + PER_WORD * size + f % MOST * (size / BITS + 1 + TOPS)
 }
 
-// The word at a place as a number, 0 past the end.
+// The word at a place as a number, 0 past the end, as `choices::word` has it.
 pub fn get(h: &[u32], i: usize) -> usize
     ensures { (result ≡ get_or h.now i 0) × (result < 4294967296) }
 {
@@ -83,17 +85,34 @@ pub fn has_bit(h: &[u32], at: usize, i: usize) -> bool
     (word(h, at + i / BITS) >> (i % BITS) as u32) % 2 == 1
 }
 
-// The lowest bit of a word, and the highest; 32 and 0 if there is none.
-pub fn lowest(w: u32) -> usize
-    ensures { result ≤ 32 }
+// The lowest bit of a word, and the highest.
+pub fn lowest(w: u32) -> Option<usize>
+    ensures { IfSome result (λ i. (i < 32) × (bit_at w i ≡ 1) × (0 < w)) }
 {
-    u32::trailing_zeros(w) as usize
+    if w == 0 {
+        None
+    } else {
+        Some(w.trailing_zeros() as usize)
+    }
 }
 
-pub fn highest(w: u32) -> usize
-    ensures { result < 32 }
+pub fn highest(w: u32) -> Option<usize>
+    ensures { IfSome result (λ i. i < 32) }
 {
-    (31 - u32::leading_zeros(w) % 32) as usize
+    if w == 0 {
+        None
+    } else {
+        Some((31 - w.leading_zeros()) as usize)
+    }
+}
+
+// The lowest bit from i on.
+pub fn lowest_from(w: u32, i: usize) -> Option<usize>
+    requires { i < 32 }
+    ensures { IfSome result (λ k. (i ≤ k) × (k < 32)) }
+{
+    let above = lowest(w >> i as u32)?;
+    Some(i + above)
 }
 
 // The word at PARENT or USE of p.

@@ -3,11 +3,11 @@
 ghost use Rattle.std.specs.Prelude.{◌<◌, ◌≤◌, length};
 ghost use Rattle.worklist.specs.Memory.{Kept};
 
-use crate::kinds;
 use crate::memory::{MOST, PARENT, PER_ROW, PER_WORD, ROW, TURN, TURNS, USE, planned, put};
-use crate::view::{close, kind_within, link};
+use crate::view::{close, has_rows, kind_within, link};
+use table::kinds;
 
-// The next turn, and the innermost word that is not done, 0 if there is none.
+// The next turn, and the innermost word that is not done: word 0, the head of the table, round all others.
 #[derive(Clone, Copy)]
 struct Place {
     turn: usize,
@@ -48,6 +48,7 @@ fn leave_all(words: &[u32], links: &[u32], h: &mut [u32], place: Place, p: usize
 {
     let mut turn = place.turn;
     let mut q = place.word;
+    // From each word to the one round it: no range.
     while 0 < q {
         if p < close(words, links, q) {
             return Place { turn, word: q };
@@ -88,7 +89,7 @@ fn prepare_word(words: &[u32], links: &[u32], h: &mut [u32], place: Place, p: us
     requires { (place.word < length words.now) × (p < length words.now) × (length words.now ≤ 1024) }
     ensures { result.word < length words.now }
 {
-    if kinds::has_rows(kind_within(words, p)) {
+    if has_rows(kind_within(words, p)) {
         let at = leave_all(words, links, h, place, p);
         let turn = enter(words, links, h, at.turn, at.word, p);
         return Place { turn, word: p };
@@ -105,10 +106,8 @@ pub fn prepare(words: &[u32], links: &[u32], h: &mut [u32])
         return;
     }
     let mut place = Place { turn: 0, word: 0 };
-    let mut p = 1;
-    while p < n {
+    for p in 1..n {
         place = prepare_word(words, links, h, place, p);
-        p += 1;
     }
     leave_all(words, links, h, place, n);
 }

@@ -1,14 +1,11 @@
 // Sets in the memory: s summary words, then a bit for each member.
-ghost use Rattle.std.specs.Prelude.{◌+◌, ◌/◌, ◌<◌, ◌≤◌, length};
+ghost use Rattle.std.specs.Prelude.{◌+◌, ◌/◌, ◌<◌, ◌≤◌, IfSome, length};
 
 use crate::memory::{
     BITS, MOST, PER_ROW, ROWS, TOPS, TURN, TURN_TOPS, TURN_WORDS, TURNS, WORDS, at_followers, get,
-    has_bit, highest, lowest, set_bit,
+    has_bit, highest, lowest, lowest_from, set_bit,
 };
 use choices::word;
-
-// Where nothing is to be taken.
-pub const NONE: usize = 4096;
 
 pub fn add(h: &mut [u32], base: usize, s: usize, i: usize)
     requires { (s ≤ 2) × (i < 2048) × (i / 1024 < s) × (base + s + i / 32 < length h.old) }
@@ -28,84 +25,71 @@ fn flip(h: &mut [u32], at: usize, bit: usize) -> u32
 
 // Takes bit d of word k out of a set, and that of the summary where nothing is left of the word.
 fn take(h: &mut [u32], base: usize, s: usize, k: usize, d: usize) -> usize
-    requires { (k < 64) × (base + s + k < length h.old) }
+    requires { (k < 64) × (d < 32) × (base + s + k < length h.old) }
     ensures { result < 2048 }
 {
-    let bit = d % BITS;
-    let member = BITS * k + bit;
-    if flip(h, base + s + k, bit) == 0 {
+    if flip(h, base + s + k, d) == 0 {
         flip(h, base + k / BITS, k % BITS);
     }
-    member
+    BITS * k + d
 }
 
-// The lowest member of a set with one summary word, and the highest; NONE if it is empty.
-pub fn take_low(h: &mut [u32], base: usize) -> usize
+// The lowest member of a set with one summary word, and the highest. Not one function over `lowest` or `highest`: what is asked and promised of a
+// function that is handed on is longer than both bodies.
+pub fn take_low(h: &mut [u32], base: usize) -> Option<usize>
     requires { base + 33 ≤ length h.old }
-    ensures { result ≤ 4096 }
+    ensures { IfSome result (λ i. i < 2048) }
 {
-    let top = h[base];
-    if top == 0 {
-        return NONE;
-    }
-    let k = lowest(top) % WORDS;
-    let bits = h[base + TOPS + k];
-    take(h, base, TOPS, k, lowest(bits))
+    let k = lowest(h[base])?;
+    let bit = lowest(h[base + TOPS + k])?;
+    Some(take(h, base, TOPS, k, bit))
 }
 
-pub fn take_high(h: &mut [u32], base: usize) -> usize
+pub fn take_high(h: &mut [u32], base: usize) -> Option<usize>
     requires { base + 33 ≤ length h.old }
-    ensures { result ≤ 4096 }
+    ensures { IfSome result (λ i. i < 2048) }
 {
-    let top = h[base];
-    if top == 0 {
-        return NONE;
-    }
-    let k = highest(top);
-    let bits = h[base + TOPS + k];
-    take(h, base, TOPS, k, highest(bits))
+    let k = highest(h[base])?;
+    let bit = highest(h[base + TOPS + k])?;
+    Some(take(h, base, TOPS, k, bit))
 }
 
-// The first word from k on of the set of turns that has one; TURN_WORDS or more if there is none.
-fn word_from(h: &[u32], k: usize) -> usize
+// The first word from k on of the set of turns that has one.
+fn word_from(h: &[u32], k: usize) -> Option<usize>
     requires { 2 ≤ length h.now }
-    ensures { result ≤ 96 }
+    ensures { IfSome result (λ i. i < 64) }
 {
     if k < BITS {
-        let low = lowest(h[ROWS] >> k as u32);
-        if low < BITS {
-            return k + low;
+        let low = lowest_from(h[ROWS], k);
+        if low.is_some() {
+            return low;
         }
-        return BITS + lowest(h[ROWS + 1]);
     }
-    if k < TURN_WORDS {
-        return k + lowest(h[ROWS + 1] >> (k - BITS) as u32);
+    if TURN_WORDS <= k {
+        return None;
     }
-    TURN_WORDS
+    let high = lowest_from(h[ROWS + 1], k.saturating_sub(BITS))?;
+    Some(BITS + high)
 }
 
-// Takes the next turn that waits from t on, going round; NONE if nothing waits.
-pub fn take_turn(h: &mut [u32], t: usize) -> usize
+// Takes the next turn that waits from t on, going round.
+pub fn take_turn(h: &mut [u32], t: usize) -> Option<usize>
     requires { (t < 2048) × (66 ≤ length h.old) }
-    ensures { result ≤ 4096 }
+    ensures { IfSome result (λ i. i < 2048) }
 {
     let k = t / BITS;
-    let ahead = h[ROWS + TURN_TOPS + k] >> (t % BITS) as u32;
-    if ahead != 0 {
-        return take(h, ROWS, TURN_TOPS, k, t % BITS + lowest(ahead));
+    if let Some(bit) = lowest_from(h[ROWS + TURN_TOPS + k], t % BITS) {
+        return Some(take(h, ROWS, TURN_TOPS, k, bit));
     }
-    let mut next = word_from(h, k + 1);
-    if TURN_WORDS <= next {
-        next = word_from(h, 0);
-    }
-    if next < TURN_WORDS {
-        let bits = h[ROWS + TURN_TOPS + next];
-        return take(h, ROWS, TURN_TOPS, next, lowest(bits));
-    }
-    NONE
+    let next = match word_from(h, k + 1) {
+        Some(ahead) => ahead,
+        None => word_from(h, 0)?,
+    };
+    let bit = lowest(h[ROWS + TURN_TOPS + next])?;
+    Some(take(h, ROWS, TURN_TOPS, next, bit))
 }
 
-// Whether the row r waits, or has not grown yet.
+// Whether the row r waits, or has not grown yet. One word holds its turn and whether it has had it, by TURNS added.
 pub fn waits(h: &[u32], r: usize) -> bool
     requires { r < 65536 }
 {
@@ -127,23 +111,22 @@ pub fn follow(h: &mut [u32], n: usize, f: usize, p: usize) -> bool {
     true
 }
 
-// The next follower from `from` on, of those at `base`; MOST or more where there is none.
-pub fn next_follower(h: &[u32], base: usize, from: usize) -> usize
-    requires { (base < 131072) × (from ≤ 1024) }
-    ensures { from ≤ result }
+// The next follower from `from` on, of those at `base`.
+pub fn next_follower(h: &[u32], base: usize, from: usize) -> Option<usize>
+    requires { base < 131072 }
+    ensures { IfSome result (λ p. (from ≤ p) × (p < 1024)) }
 {
+    if MOST <= from {
+        return None;
+    }
     let k = from / BITS;
-    let bits = word(h, base + TOPS + k) >> (from % BITS) as u32;
-    if bits != 0 {
-        return from + lowest(bits);
+    if let Some(bit) = lowest_from(word(h, base + TOPS + k), from % BITS) {
+        return Some(BITS * k + bit);
     }
     if WORDS <= k + 1 {
-        return MOST;
+        return None;
     }
-    let later = word(h, base) >> (k + 1) as u32;
-    if later == 0 {
-        return MOST;
-    }
-    let next = k + 1 + lowest(later);
-    BITS * next + lowest(word(h, base + TOPS + next))
+    let next = lowest_from(word(h, base), k + 1)?;
+    let bit = lowest(word(h, base + TOPS + next))?;
+    Some(BITS * next + bit)
 }

@@ -2,16 +2,15 @@
 ghost use Rattle.std.specs.Prelude.{◌≡◌, ◌+◌, ◌<◌, max, length};
 ghost use Rattle.table.specs.Links.{link_at};
 
-use crate::kinds;
 use crate::memory::{MOST, TURNS};
 use choices::word;
 use rows::layout::Layout;
-use table::{Link, kind_of};
+use table::{Link, kind_of, kinds};
 use table_links::link_at;
 
 const WIDEST: usize = 64;
 
-// The kind of the word p, 0 past the end.
+// The kind of the word p, 0, which is none, past the end: it is compared with kinds alone.
 pub fn kind_at(words: &[u32], p: usize) -> u32 {
     kind_of(word(words, p))
 }
@@ -21,6 +20,15 @@ pub fn kind_within(words: &[u32], p: usize) -> u32
     requires { p < length words.now }
 {
     kind_of(words[p])
+}
+
+// Whether a word of a kind is a term or a block, and not a word of a block's head.
+pub fn has_rows(kind: u32) -> bool {
+    if kind < kinds::FIRST_TERM {
+        kind == kinds::BLOCK
+    } else {
+        true
+    }
 }
 
 // The binder of the word p and the word after the term at p are small, whatever the links say.
@@ -35,8 +43,7 @@ pub fn past(links: &[u32], p: usize) -> usize
     requires { p < 4096 }
     ensures { result ≡ max (p + 1) (link_at links.now p).end }
 {
-    let e = link(links, p).end;
-    if p < e { e } else { p + 1 }
+    link(links, p).end.max(p + 1)
 }
 
 // The word after the block or the term at p.

@@ -8,7 +8,6 @@ use Rattle.calculus.specs.Answer.{answer}
 use Rattle.capi.specs.Interface.{Answered}
 use Rattle.capi.proofs.Written.{read_length}
 use Rattle.capi.proofs.Systems.{system-read}
-use borrow.Author.Rules.{rules}
 use Rattle.capi.proofs.of_system.Goals as goal
 
 pub slice_bounds-of_words-end-2 : goal.slice_bounds-of_words-end-2

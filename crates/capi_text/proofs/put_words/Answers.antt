@@ -8,7 +8,6 @@ use mathlib.Core.Path.{◌≡◌}
 use lib.Seq.{length-take-le, take_all}
 use Rattle.little_endian.specs.LittleEndian.{bytes_of}
 use Rattle.capi_text.proofs.Bytes.{put-short, put_whole}
-use borrow.Author.Rules.{rules}
 use Rattle.capi_text.proofs.put_words.Goals as goal
 
 pub returns-then-bytes-count : goal.returns-then-bytes-count

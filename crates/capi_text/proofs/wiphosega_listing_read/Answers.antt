@@ -1,5 +1,5 @@
 -- `capi_text::wiphosega_listing_read` meets its contract. Assumes nothing.
-use Prim.Native.Nat.{ℕ}
+use Prim.Native.Nat.{ℕ, ◌+◌, ◌*◌, ◌^◌}
 use mathlib.Core.Path.{sym, ap, ◌∙◌}
 use mathlib.Core.List.{List}
 use native.Mathlib.Omega.{arith}
@@ -12,27 +12,26 @@ use Rattle.listing.specs.Answer.{answered}
 use Rattle.listing.proofs.Places.{read-within, read-few, read-words}
 use Rattle.capi_text.specs.Interface.{answer_number}
 use Rattle.capi_text.proofs.Bytes.{refused-within, read_done, read-refused}
-use borrow.Author.Rules.{rules}
 use Rattle.capi_text.proofs.wiphosega_listing_read.Goals as goal
 
 pub put_words-requires : goal.put_words-requires
 unfolding answered
 put_words-requires c =
     let r = c.read in
-    let e = sym r.ensures.answer ∙ ap answered c.in-Done.is in
+    let e = sym r.ensures.answer ∙ ap answered c.in-Ok.is in
     (omega (arith, read-few c.args.text.now _ e, r.auto.out), read-few c.args.text.now _ e)
 
-pub refusal_answer-requires : goal.refusal_answer-requires
-refusal_answer-requires c =
+pub refusal-requires : goal.refusal-requires
+refusal-requires c =
     let r = c.read in
-    refused-within _ _ _ 65536 c.in-Refused.is r.ensures.answer (read-within c.args.text.now 1024)
+    omega (arith, c.refusal_place.ensures, refused-within _ _ _ 65536 c.in-Err.is r.ensures.answer (read-within c.args.text.now 1024))
 
-pub returns-in-Done : goal.returns-in-Done
+pub returns-in-Ok : goal.returns-in-Ok
 unfolding answered
-returns-in-Done c =
+returns-in-Ok c =
     let text = c.args.text.now in
     let r = c.read in
-    let e = sym r.ensures.answer ∙ ap answered c.in-Done.is in
+    let e = sym r.ensures.answer ∙ ap answered c.in-Ok.is in
     let p = c.put_words.ensures in
     let a = read_done text _ (length c.args.system.now) e in
     let ws = read-words text r.new.out _ _ e r.ensures.words in record {
@@ -40,14 +39,14 @@ returns-in-Done c =
       system = p.bytes ∙ ap₂ (λ (q : Answered) (l : List ℕ). left q (bytes_of l) c.args.system.now) a ws;
     }
 
-pub returns-in-Refused : goal.returns-in-Refused
+pub returns-in-Err : goal.returns-in-Err
 unfolding answered answer_number left
-returns-in-Refused c =
+returns-in-Err c =
     let text = c.args.text.now in
     let r = c.read in
-    let e = sym r.ensures.answer ∙ ap answered c.in-Refused.is in
+    let e = sym r.ensures.answer ∙ ap answered c.in-Err.is in
     let a = read-refused text _ _ (length c.args.system.now) e in
     record {
-      answer = c.refusal_answer.ensures ∙ ap answer_number a;
+      answer = c.refusal.ensures ∙ ap₂ (λ (n p : ℕ). 2 ^ 32 + n * 65536 + p) c.refusal_number.ensures c.refusal_place.ensures ∙ ap answer_number a;
       system = ap (λ (q : Answered). left q (bytes_of (Listing·words_of text)) c.args.system.now) a;
     }

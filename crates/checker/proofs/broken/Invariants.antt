@@ -1,5 +1,4 @@
 -- `checker::broken` meets its contract. The loop's invariant: what the words passed ask has been looked at. Assumes nothing.
-use Prim.Native.Nat.{◌-◌, ◌≤◌}
 use Rattle.table.specs.Code.{code}
 use Rattle.calculus.specs.Layout.{sets}
 use Rattle.checker.specs.Lowered.{Lowered}
@@ -7,8 +6,4 @@ use Rattle.checker.proofs.Asked.{AskedBelow}
 use Rattle.checker.proofs.broken.Given as goal
 
 abbrev pub invariant-loop-p : goal.invariant-loop-p
-invariant-loop-p l =
-    (l.p ≤ l.l.size) × Lowered (AskedBelow (code l.words) (sets (code l.words) l.est) l.rho.bits l.p) l.l.size l.lowest
-
-abbrev pub decreases-loop-p : goal.decreases-loop-p
-decreases-loop-p l = l.l.size - l.p
+invariant-loop-p l = Lowered (AskedBelow (code l.words) (sets (code l.words) l.est) l.rho.bits l.p) l.p-end l.lowest

@@ -2,10 +2,6 @@
 use mathlib.Core.Path.{sym, ap, ◌∙◌}
 use Rattle.closeness.specs.Closeness.{close_from, close}
 use Rattle.closeness.proofs.Laws.{close-changed, close-added, close-left, close-exchanged}
-use borrow.Author.Rules.{rules}
-use Rattle.closeness.proofs.agree.Reads as agree-reads
-use Rattle.closeness.proofs.exchanged.Reads as exchanged-reads
-use Rattle.closeness.proofs.shared.Reads as shared-reads
 use Rattle.closeness.proofs.close.Goals as goal
 
 pub returns-then-agree : goal.returns-then-agree

@@ -1,9 +1,6 @@
 -- `closeness::exchanged` meets its contract. Assumes nothing.
 use mathlib.Core.Path.{sym, ◌∙◌}
 use Rattle.closeness.proofs.Laws.{exchanged-first, exchanged-second, exchanged-rest}
-use borrow.Author.Rules.{rules}
-use Rattle.closeness.proofs.agree.Reads as agree-reads
-use Rattle.closeness.proofs.byte_at.Reads as byte-at-reads
 use Rattle.closeness.proofs.exchanged.Goals as goal
 
 pub returns-then-byte_at : goal.returns-then-byte_at

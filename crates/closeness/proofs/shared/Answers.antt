@@ -1,23 +1,32 @@
-use Prim.Native.Nat.{◌+◌, ◌-◌, ◌≤◌}
+use Prim.Native.Nat.{◌+◌}
 use mathlib.Core.Path.{◌≡◌}
 use native.Mathlib.Omega.{arith}
-use lib.ListN.{length, drop}
+use lib.ListN.{drop}
 use Rattle.closeness.specs.Closeness.{shared}
 use Rattle.closeness.proofs.Laws.{shared-none, shared-short, shared-other, shared-more}
-use borrow.Author.Rules.{rules}
 use Rattle.closeness.proofs.shared.Goals as goal
-
-pub loop-i-init : goal.loop-i-init
-loop-i-init c = (omega arith, omega arith)
+use Rattle.closeness.proofs.shared.Goals.{then-y-i-via-then-y-i, then-y-i-via-else-y-i+then-a-y}
 
 pub returns-then-y-i : goal.returns-then-y-i
-returns-then-y-i c = let l = c.loop-i in let a = c.args in (omega (arith, l.invariant.0, shared-short a.x.now a.y.now l.i (omega arith) c.if-y-i.true), omega arith)
-
-pub returns-then-x-i : goal.returns-then-x-i
-returns-then-x-i c = let l = c.loop-i in let a = c.args in (omega (arith, l.invariant.0, shared-other a.x.now a.y.now l.i (omega arith) (omega arith) c.if-x-i.true), omega arith)
+returns-then-y-i c =
+    let i = c.loop-i.i in
+    let a = c.args in
+    let is : shared a.x.now a.y.now ≡ i + shared (drop i a.x.now) (drop i a.y.now) = c.loop-i.invariant in
+    elim c.then-y-i.branch [
+      | then-y-i-via-then-y-i w ↦ (omega (arith, shared-short a.x.now a.y.now i (omega arith) w.if-y-i.true), omega arith)
+      | then-y-i-via-else-y-i+then-a-y w ↦ (omega (arith, shared-other a.x.now a.y.now i (omega arith) (omega arith) w.if-a-y.true), omega arith)
+    ]
 
 pub loop-i-preserved : goal.loop-i-preserved
-loop-i-preserved c = let l = c.loop-i in let a = c.args in (omega (arith, l.invariant.0, shared-more a.x.now a.y.now l.i (omega arith) (omega arith) c.if-x-i.false), omega arith)
+loop-i-preserved c =
+    let i = c.loop-i.i in
+    let a = c.args in
+    let is : shared a.x.now a.y.now ≡ i + shared (drop i a.x.now) (drop i a.y.now) = c.loop-i.invariant in
+    omega (arith, shared-more a.x.now a.y.now i (omega arith) (omega arith) c.if-a-y.false)
 
 pub returns : goal.returns
-returns c = let l = c.loop-i in let a = c.args in (omega (arith, l.invariant.0, shared-none a.x.now a.y.now l.i c.loop-i-test.false), omega arith)
+returns c =
+    let i = c.loop-i.i in
+    let a = c.args in
+    let is : shared a.x.now a.y.now ≡ i + shared (drop i a.x.now) (drop i a.y.now) = c.loop-i.invariant in
+    (omega (arith, shared-none a.x.now a.y.now i c.loop-i-test.false), omega arith)

@@ -4,10 +4,10 @@ use Rattle.text.proofs.Writing.{reworded}
 use Rattle.commands.specs.Printed.{value_text}
 use Rattle.commands.proofs.explain_text.Goals as goal
 
-pub returns-in-Number : goal.returns-in-Number
+pub returns-in-Some : goal.returns-in-Some
 unfolding value_text
-returns-in-Number c = reworded (ap value_text (sym c.in-Number.is ∙ c.value_of.ensures)) c.sentence.ensures
+returns-in-Some c = reworded (ap value_text (sym c.in-Some.is ∙ c.value_of.ensures)) c.sentence.ensures
 
-pub returns-in-Other : goal.returns-in-Other
+pub returns-in-None : goal.returns-in-None
 unfolding value_text
-returns-in-Other c = reworded (ap value_text (sym c.in-Other.is ∙ c.value_of.ensures)) c.help.ensures
+returns-in-None c = reworded (ap value_text (sym c.in-None.is ∙ c.value_of.ensures)) c.help.ensures

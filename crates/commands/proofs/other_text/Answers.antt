@@ -1,7 +1,7 @@
 -- `commands::other_text` meets its contract. Assumes nothing.
 use mathlib.Core.Path.{ap, ◌∙◌}
 use Rattle.text.proofs.Writing.{reworded}
-use Rattle.commands.specs.declared.arguments.Value.{Value}
+use Rattle.std.specs.Prelude.{ℕ, Option}
 use Rattle.commands.specs.Printed.{packed_for}
 use Rattle.commands.proofs.Runs.{decided}
 use Rattle.commands.proofs.Others.{other-pack, other-widen, other-narrow, other_none}
@@ -10,7 +10,7 @@ use Rattle.commands.proofs.other_text.Goals as goal
 pub returns-then-same : goal.returns-then-same
 returns-then-same c =
     let a = c.args in
-    reworded (ap (λ (v : Value). packed_for v a.input.now) c.value_of.ensures ∙ other-pack a.command.now a.first.now a.input.now (decided _ _ _ c.same.ensures ∙ c.if-same.true)) c.packed_for.ensures
+    reworded (ap (λ (v : Option ℕ). packed_for v a.input.now) c.value_of.ensures ∙ other-pack a.command.now a.first.now a.input.now (decided _ _ _ c.same.ensures ∙ c.if-same.true)) c.packed_for.ensures
 
 pub returns-then-same-2 : goal.returns-then-same-2
 returns-then-same-2 c =

@@ -17,6 +17,6 @@ shape_of-out c = c.loop-q.invariant.added.same
 pub returns : goal.returns
 unfolding receivers
 returns c = let i = c.loop-q.invariant in record {
-  added = filled-end _ _ i c.loop-q-test.false;
+  added = filled-end _ _ i (omega arith);
   upper_bound = omega (arith, i.near, i.inside);
 }

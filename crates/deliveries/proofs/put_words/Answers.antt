@@ -11,38 +11,37 @@ use Rattle.deliveries.proofs.put_words.Goals as goal
 
 pub loop-p-init : goal.loop-p-init
 unfolding text
-loop-p-init c = (omega arith, omega arith, omega arith, omega arith, ([], added-nothing _ _, refl))
+loop-p-init c = (omega arith, omega arith, omega arith, ([], added-nothing _ _, refl))
 
 pub put_word-next-requires : goal.put_word-next-requires
-put_word-next-requires c = let i = c.loop-p in (omega arith, omega (arith, i.invariant.2), c.requires, omega (arith, i.invariant.1, c.requires))
+put_word-next-requires c = let i = c.loop-p in (omega arith, omega (arith, i.invariant.1), c.requires, omega (arith, i.invariant.0, c.requires))
 
 pub counted-count-requires : goal.counted-count-requires
-counted-count-requires c = omega (arith, c.loop-p.invariant.3, c.requires)
+counted-count-requires c = omega (arith, c.loop-p.invariant.2, c.requires)
 
 pub loop-p-preserved : goal.loop-p-preserved
 loop-p-preserved c =
     let a = c.args in let i = c.loop-p in let w = a.words.now in let f = c.put_word-next.ensures in
-    let d = i.invariant.4.0 in let r = lines_of w i.p i.home (i.count - 1) (get_or w i.p 0) in (
-      omega arith,
-      omega (arith, f.upper_bound, i.invariant.1),
-      omega (arith, c.block_of-home.ensures, block_in (get_or w i.p 0) i.p i.home (i.p + 1) (omega arith) (omega (arith, i.invariant.2))),
-      omega (arith, c.counted-count.ensures, counted-most (get_or w i.p 0) i.count, i.invariant.3),
+    let d = i.invariant.3.0 in let r = lines_of w i.p i.home (i.count - 1) (get_or w i.p 0) in (
+      omega (arith, f.upper_bound, i.invariant.0),
+      omega (arith, c.block_of-home.ensures, block_in (get_or w i.p 0) i.p i.home (i.p + 1) (omega arith) (omega (arith, i.invariant.1))),
+      omega (arith, c.counted-count.ensures, counted-most (get_or w i.p 0) i.count, i.invariant.2),
       (
         d ++ r,
-        added_then i.invariant.4.1 (added-as (ap (λ (n : ℕ). lines_of w i.p i.home n (get_or w i.p 0)) c.last.ensures) f.added),
+        added_then i.invariant.3.1 (added-as (ap (λ (n : ℕ). lines_of w i.p i.home n (get_or w i.p 0)) c.saturating_sub.ensures) f.added),
         ap₂ (λ (h t : ℕ). (d ++ r) ++ sent w (i.p + 1) h t) c.block_of-home.ensures c.counted-count.ensures
             ∙ append_assoc d r _
             ∙ ap (λ (l : List ℕ). d ++ l) (sym (sent-here w i.p i.home i.count (omega arith)))
-            ∙ i.invariant.4.2,
+            ∙ i.invariant.3.2,
       ),
     )
 
 pub shape_of-out : goal.shape_of-out
-shape_of-out c = c.loop-p.invariant.4.1.same
+shape_of-out c = c.loop-p.invariant.3.1.same
 
 pub returns : goal.returns
 returns c =
-    let a = c.args in let i = c.loop-p in let w = a.words.now in let d = i.invariant.4.0 in
+    let a = c.args in let i = c.loop-p in let w = a.words.now in let d = i.invariant.3.0 in
     let whole : d ≡ text w =
-    sym (append-nil d) ∙ ap (λ (l : List ℕ). d ++ l) (sym (sent-end w i.p i.home i.count c.loop-p-test.false)) ∙ i.invariant.4.2 in
-    added-as whole i.invariant.4.1
+    sym (append-nil d) ∙ ap (λ (l : List ℕ). d ++ l) (sym (sent-end w i.p i.home i.count (omega arith))) ∙ i.invariant.3.2 in
+    added-as whole i.invariant.3.1

@@ -1,8 +1,7 @@
 -- `deliveries::put_words` meets its contract. The loop's invariant: what is written and what is left make the whole. Assumes nothing.
-use Prim.Native.Nat.{ℕ, ◌-◌, ◌*◌, ◌≤◌}
+use Prim.Native.Nat.{ℕ, ◌*◌, ◌≤◌}
 use mathlib.Core.Path.{◌≡◌}
 use mathlib.Core.List.{List, ◌++◌}
-use lib.ListN.{length}
 use Rattle.text.specs.Added.{Added}
 use Rattle.deliveries.specs.Text.{text}
 use Rattle.deliveries.proofs.SendLines.{sent}
@@ -10,8 +9,5 @@ use Rattle.deliveries.proofs.put_words.Given as goal
 
 abbrev pub invariant-loop-p : goal.invariant-loop-p
 invariant-loop-p l =
-    (l.p ≤ length l.words) × (l.next ≤ 98304 * l.p) × (l.home ≤ l.p) × (l.count ≤ l.p)
+    (l.next ≤ 98304 * l.p) × (l.home ≤ l.p) × (l.count ≤ l.p)
     × ((done : List ℕ) × Added l.initial.out 0 done l.out l.next × (done ++ sent l.words l.p l.home l.count ≡ text l.words))
-
-abbrev pub decreases-loop-p : goal.decreases-loop-p
-decreases-loop-p l = length l.words - l.p

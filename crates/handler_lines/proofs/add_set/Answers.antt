@@ -2,7 +2,6 @@
 use native.Mathlib.Omega.{arith}
 use Rattle.text.proofs.Writing.{line_taken}
 use Rattle.text.proofs.Adding.{added-as}
-use borrow.Author.Rules.{rules}
 use Rattle.handler_lines.proofs.add_set.Goals as goal
 
 pub returns : goal.returns

@@ -1,7 +1,6 @@
 -- `handler_lines::number_line` meets its contract. Assumes nothing.
 use native.Mathlib.Omega.{arith}
 use Rattle.text.proofs.Writing.{line}
-use borrow.Author.Rules.{rules}
 use Rattle.handler_lines.proofs.number_line.Goals as goal
 
 pub returns : goal.returns

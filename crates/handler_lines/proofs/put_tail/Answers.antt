@@ -7,7 +7,6 @@ use Rattle.table.specs.Words.{argument}
 use Rattle.text.specs.Text.{bytes, set}
 use Rattle.text.proofs.Adding.{added_then, added-as}
 use Rattle.handler_lines.specs.Parts.{tail}
-use borrow.Author.Rules.{rules}
 use Rattle.handler_lines.proofs.put_tail.Goals as goal
 
 pub returns : goal.returns

@@ -3,7 +3,6 @@ use native.Mathlib.Omega.{arith}
 use lib.ListN.{length}
 use Rattle.commands.proofs.Runs.{run-written, run_short}
 use Rattle.leaks.specs.Leak.{leak_text}
-use borrow.Author.Rules.{rules}
 use Rattle.leaks.proofs.run.Goals as goal
 
 pub returns-then-out-lt81920 : goal.returns-then-out-lt81920

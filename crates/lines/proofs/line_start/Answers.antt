@@ -1,25 +1,33 @@
-use Prim.Native.Nat.{ℕ, ◌-◌, ◌≤◌}
-use mathlib.Core.Path.{◌≡◌, refl, sym, ap, ◌∙◌}
+use Prim.Native.Nat.{ℕ, ◌+◌, ◌-◌}
+use mathlib.Core.Path.{◌≡◌, sym, ap, ◌∙◌}
 use native.Mathlib.Omega.{arith}
-use lib.ListN.{length, drop}
+use lib.ListN.{drop}
 use Rattle.lines.specs.Lines.{from_line}
 use Rattle.lines.proofs.Laws.{from_next}
-use borrow.Author.Rules.{rules}
 use Rattle.lines.proofs.line_start.Goals as goal
 
-pub loop-left-init : goal.loop-left-init
-loop-left-init c = (omega arith, refl)
+pub loop-init : goal.loop-init
+loop-init c =
+    let all : c.args.k - 0 ≡ c.args.k = omega arith in
+    (omega arith, ap (λ (k : ℕ). from_line k c.args.text.now) all)
 
-pub loop-left-preserved : goal.loop-left-preserved
-loop-left-preserved c =
-    let l = c.loop-left in
+pub loop-preserved : goal.loop-preserved
+loop-preserved c =
+    let l = c.loop in
     let text = c.args.text.now in
+    let left = c.args.k - l.counter in
     let e = c.line_end-at.ensures in
-    (e.1, ap (λ (k : ℕ). from_line (l.left - 1) (drop k text)) e.0 ∙ sym (from_next text l.at l.left (omega arith)) ∙ l.invariant.1)
+    let less : c.args.k - (l.counter + 1) ≡ left - 1 = omega arith in (
+      e.1,
+      ap (λ (k : ℕ). from_line k (drop c.line_end-at.result text)) less
+          ∙ ap (λ (n : ℕ). from_line (left - 1) (drop n text)) e.0
+          ∙ sym (from_next text l.at left (omega arith))
+          ∙ l.invariant.1,
+    )
 
 pub returns : goal.returns
 unfolding from_line
 returns c =
-    let l = c.loop-left in
-    let z : l.left ≡ 0 = omega arith in
-    record { rest = ap (λ (k : ℕ). from_line k (drop l.at c.args.text.now)) (sym z) ∙ l.invariant.1; inside = l.invariant.0 }
+    let l = c.loop in
+    let none : c.args.k - l.counter ≡ 0 = omega arith in
+    record { rest = ap (λ (k : ℕ). from_line k (drop l.at c.args.text.now)) (sym none) ∙ l.invariant.1; inside = l.invariant.0 }

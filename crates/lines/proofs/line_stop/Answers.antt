@@ -1,31 +1,21 @@
-use Prim.Native.Nat.{◌+◌, ◌-◌, ◌≤◌}
-use mathlib.Core.Path.{◌≡◌, ap}
+-- `lines::line_stop` meets its contract. Assumes nothing.
+use mathlib.Core.Path.{sym, ap, ◌∙◌}
 use native.Mathlib.Omega.{arith}
-use lib.ListN.{length, drop}
-use Rattle.lines.specs.Lines.{bare}
-use Rattle.lines.proofs.Laws.{bare-end, bare-feed, bare-more}
-use borrow.Author.Rules.{rules}
-use Rattle.lines.proofs.line_stop.Reads as reads
-use Rattle.lines.proofs.line_stop.Lts as lts
+use lib.Dec.{eqb}
+use lib.ListN.{drop, length-drop}
+use Rattle.std.specs.List.{position}
+use Rattle.listing.proofs.Cutting.{behind}
+use Rattle.lines.proofs.Laws.{bare-found, bare-none}
 use Rattle.lines.proofs.line_stop.Goals as goal
 
-pub loop-i-init : goal.loop-i-init
-loop-i-init c = (omega arith, c.requires, omega arith)
+pub returns-in-Some : goal.returns-in-Some
+returns-in-Some c =
+    let a = c.args in
+    let e = bare-found (drop a.start a.text.now) c.in-Some.i (ap (position (λ b. eqb b 10)) (sym (behind a.text.now a.start)) ∙ sym c.first_feed.ensures ∙ c.in-Some.is) in
+    record { size = omega (arith, e.0); after = omega arith; inside = omega (arith, e.1, length-drop a.start a.text.now) }
 
-pub returns-then-text-i-eq10 : goal.returns-then-text-i-eq10
-returns-then-text-i-eq10 c =
-    let l = c.loop-i in
-    let e = ap length (bare-feed c.args.text.now l.i (omega arith) c.if-text-i-eq10.true) in
-    record { size = omega (arith, e, l.invariant.2); after = l.invariant.0; inside = l.invariant.1 }
-
-pub loop-i-preserved : goal.loop-i-preserved
-loop-i-preserved c =
-    let l = c.loop-i in
-    let e = ap length (bare-more c.args.text.now l.i (omega arith) c.if-text-i-eq10.false) in
-    (omega (arith, l.invariant.0), omega arith, omega (arith, e, l.invariant.0, l.invariant.2))
-
-pub returns : goal.returns
-returns c =
-    let l = c.loop-i in
-    let e = ap length (bare-end c.args.text.now l.i c.loop-i-test.false) in
-    record { size = omega (arith, e, l.invariant.2); after = l.invariant.0; inside = l.invariant.1 }
+pub returns-in-None : goal.returns-in-None
+returns-in-None c =
+    let a = c.args in
+    let e = bare-none (drop a.start a.text.now) (ap (position (λ b. eqb b 10)) (sym (behind a.text.now a.start)) ∙ sym c.first_feed.ensures ∙ c.in-None.is) in
+    record { size = omega (arith, e, length-drop a.start a.text.now); after = omega arith; inside = omega arith }

@@ -1,42 +1,20 @@
-use mathlib.Core.Path.{◌≡◌, sym, ap, ◌∙◌}
-use mathlib.Core.List.{List, [], ◌∷◌}
-use Prim.Native.Nat.{ℕ, ◌+◌}
-use native.Mathlib.Numerals.{add-one}
+use mathlib.Core.Path.{◌≡◌, ap, ◌∙◌}
+use mathlib.Core.List.{List, ◌++◌}
+use Prim.Native.Nat.{ℕ, ◌+◌, ◌-◌, ◌≤◌}
 use native.Mathlib.Omega.{arith}
-use lib.ListN.{length, replicate}
-use Rattle.calculus.specs.Layout.{pour}
-use Rattle.calculus.proofs.Facts.{pour-nil}
-use Rattle.calculus.proofs.Slices.{length-pour}
-use Rattle.rows.proofs.Full.{full, pour-more}
+use lib.ListN.{length, take, drop, replicate}
+use Rattle.calculus.specs.Layout.{pour, Words}
+use Rattle.rows.proofs.Full.{full, filled}
+use Rattle.rows.proofs.Laws.{length_part}
 use Rattle.masks.proofs.set_words.Goals as goal
 
-kept : (old new : List ℕ) (at k : ℕ) → new ≡ pour old at (replicate k full) → length new ≡ length old
-kept old new at k e = ap length e ∙ length-pour old at (replicate k full)
-
-more : (old mid new : List ℕ) (at k : ℕ) → mid ≡ pour old at (replicate k full) → new ≡ pour mid (at + k) (full ∷ [])
-    → new ≡ pour old at (replicate (k + 1) full)
-more old mid new at k e f =
-    f ∙ ap (λ (ws : List ℕ). pour ws (at + k) (full ∷ [])) e ∙ pour-more old at k full ∙ ap (λ (i : ℕ). pour old at (replicate i full)) (sym (add-one k))
-
-pub loop-k-init : goal.loop-k-init
-loop-k-init c = (omega arith, sym (pour-nil _ _))
-
-pub set-requires : goal.set-requires
-set-requires c =
-    let l = c.loop-k in
-    omega (arith, c.requires, kept c.args.masks.now l.masks c.args.at l.k l.invariant.1, c.loop-k-test.true)
-
-pub loop-k-preserved : goal.loop-k-preserved
-loop-k-preserved c =
-    let l = c.loop-k in
-    (omega (arith, c.loop-k-test.true), more c.args.masks.now l.masks _ c.args.at l.k l.invariant.1 c.set.ensures.words)
-
-pub shape_of-masks : goal.shape_of-masks
-shape_of-masks c = kept _ _ c.args.at c.loop-k.k c.loop-k.invariant.1
+all_set : (ws last : List ℕ) (at n : ℕ) → at + n ≤ length ws → Words ws → last ≡ replicate (length (take (at + n - at) (drop at ws))) full
+    → take at ws ++ (last ++ drop (at + n - at) (drop at ws)) ≡ pour ws at (replicate n full)
+all_set ws last at n h f e =
+    let z : at + n - at ≡ n = omega arith in
+    ap (λ (xs : List ℕ). take at ws ++ (xs ++ drop (at + n - at) (drop at ws))) (e ∙ ap (λ (k : ℕ). replicate k full) (length_part ws at n h))
+    ∙ ap (λ (k : ℕ). take at ws ++ (replicate n full ++ drop k (drop at ws))) z ∙ filled ws at n h f
 
 pub returns : goal.returns
 returns c =
-    let l = c.loop-k in
-    let a = c.args in
-    let e : l.k ≡ a.n = omega arith in
-    l.invariant.1 ∙ ap (λ (i : ℕ). pour a.masks.now a.at (replicate i full)) e
+    let a = c.args in all_set a.masks.now _ a.at a.n c.requires.0 (λ k. (c.slice_known-1.given k).fits) (c.fill.ensures.after (λ y e. e))

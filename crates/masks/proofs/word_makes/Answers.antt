@@ -26,11 +26,11 @@ entry w k e h =
     eqb→eq _ (get_or makes_by_kind (k - first_kind) 2) (at makes_right (replicate 21 0) tt (k - first_kind) h)
     ∙ ap (λ (i : ℕ). get_or makes_by_kind (i - first_kind) 2) e
 
-pub returns-then-kind-lt16 : goal.returns-then-kind-lt16
-returns-then-kind-lt16 c = sym (other_word c.args.w (omega (arith, c.kind_of-kind.ensures, c.if-kind-lt16.true)))
+pub returns-then-kind-lt-FIRST_TERM : goal.returns-then-kind-lt-FIRST_TERM
+returns-then-kind-lt-FIRST_TERM c = sym (other_word c.args.w (omega (arith, c.kind_of-kind.ensures, c.if-kind-lt-FIRST_TERM.true)))
 
-pub returns-then-kind-gt36 : goal.returns-then-kind-gt36
-returns-then-kind-gt36 c = past c.args.w (omega (arith, c.kind_of-kind.ensures, c.if-kind-gt36.true))
+pub returns-then-kind-gt-LAST_TERM : goal.returns-then-kind-gt-LAST_TERM
+returns-then-kind-gt-LAST_TERM c = past c.args.w (omega (arith, c.kind_of-kind.ensures, c.if-kind-gt-LAST_TERM.true))
 
 pub returns : goal.returns
-returns c = entry c.args.w c.kind_of-kind.result c.kind_of-kind.ensures (omega (arith, c.if-kind-gt36.false))
+returns c = entry c.args.w c.kind_of-kind.result c.kind_of-kind.ensures (omega (arith, c.if-kind-gt-LAST_TERM.false))

@@ -1,6 +1,5 @@
 -- `order_text::write` meets its contract. Assumes nothing.
 use mathlib.Core.Path.{sym, ◌∙◌}
-use borrow.Author.Tests.{ltb-false}
 use Rattle.order_text.proofs.Laws.{unwritten, written}
 use Rattle.order_text.proofs.write.Goals as goal
 
@@ -12,9 +11,6 @@ returns-then-lacks_room c =
       text = all.1.0;
       fits = all.1.1;
     }
-
-pub put_reply-requires : goal.put_reply-requires
-put_reply-requires c = ltb-false _ _ (sym c.lacks_room.ensures ∙ c.if-lacks_room.false)
 
 pub returns : goal.returns
 returns c =

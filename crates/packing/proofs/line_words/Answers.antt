@@ -1,38 +1,34 @@
-use borrow.Author.Rules.{rules}
-use Prim.Native.Nat.{◌-◌}
-use mathlib.Core.Path.{refl}
-use mathlib.Core.Logic.{inl, inr}
+use Prim.Native.Nat.{ℕ}
+use mathlib.Core.Path.{◌≡◌, refl, sym, ap, ◌∙◌}
 use native.Mathlib.Omega.{arith}
-use lib.ListN.{length}
-use Rattle.listing.proofs.Cutting.{end_after}
-use Rattle.packing.proofs.Laws.{Taken, taken_start, taken-end, taken_more, taken_step}
+use lib.ListN.{take}
+use Rattle.std.proofs.lemmas.List.{set-get_or}
+use Rattle.listing.proofs.Zeros.{or_zero}
+use Rattle.packing.proofs.Laws.{taken_start, taken-end, taken_more, taken_step}
 use Rattle.packing.proofs.line_words.Goals as goal
 
-pub loop-at-init : goal.loop-at-init
-loop-at-init c = taken_start c.args.text.now c.args.words.now c.requires
+pub loop-n-init : goal.loop-n-init
+loop-n-init c = taken_start c.args.text.now c.args.words.now c.requires
 
-pub shape_of-words-then-n-eq256 : goal.shape_of-words-then-n-eq256
-shape_of-words-then-n-eq256 c = omega (arith, c.loop-at.invariant.1, c.requires)
+pub returns-then-text-at : goal.returns-then-text-at
+returns-then-text-at c =
+    let l = c.loop-n in let text = c.args.text.now in
+    let here = taken-end text l.words l.n l.at l.invariant c.if-text-at.true in
+    (l.invariant.0, ap (take l.n) (set-get_or l.words l.n 0) ∙ here)
 
-pub returns-then-n-eq256 : goal.returns-then-n-eq256
-returns-then-n-eq256 c =
-    let l = c.loop-at in let text = c.args.text.now in
-    inr (omega arith, taken_more text l.words l.n l.at l.invariant (omega arith) _ refl c.if-n-eq256.true)
+pub loop-n-preserved : goal.loop-n-preserved
+loop-n-preserved c =
+    let l = c.loop-n in let text = c.args.text.now in let e = c.line_end-end.ensures in
+    let is = c.unwrap_or.ensures ∙ or_zero _ c.word_of_line.result c.word_of_line.ensures in
+    taken_step text l.words l.n l.at l.invariant (omega arith) _ e.0 (omega (arith, l.invariant.1)) e.1 _ is
 
-pub loop-at-smaller : goal.loop-at-smaller
-loop-at-smaller c =
-    let l = c.loop-at in let text = c.args.text.now in
-    omega (arith, end_after text l.at _ (omega arith) c.line_end-end.ensures.0)
+pub returns-then-text-at-2 : goal.returns-then-text-at-2
+returns-then-text-at-2 c =
+    let l = c.loop-n in let text = c.args.text.now in
+    let all : l.n ≡ 256 = omega (arith, l.invariant.0, c.requires) in
+    (omega arith, ap (λ (k : ℕ). take k l.words) (sym all) ∙ taken-end text l.words l.n l.at l.invariant c.if-text-at-2.true)
 
-pub loop-at-preserved : goal.loop-at-preserved
-loop-at-preserved c =
-    let l = c.loop-at in let text = c.args.text.now in let e = c.line_end-end.ensures in
-    taken_step text l.words l.n l.at l.invariant (omega arith) _ e.0 c.if-n-eq256.false e.1 _ c.word_of_line.ensures
-
-pub shape_of-words : goal.shape_of-words
-shape_of-words c = omega (arith, c.loop-at.invariant.1, c.requires)
-
-pub returns : goal.returns
-returns c =
-    let l = c.loop-at in let text = c.args.text.now in
-    inl (l.invariant.0, taken-end text l.words l.n l.at l.invariant (omega arith))
+pub returns-else-text-at-2 : goal.returns-else-text-at-2
+returns-else-text-at-2 c =
+    let l = c.loop-n in
+    taken_more c.args.text.now l.words l.n l.at l.invariant c.if-text-at-2.false _ refl (omega (arith, l.invariant.0, c.requires))

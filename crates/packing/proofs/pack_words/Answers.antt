@@ -1,5 +1,6 @@
 -- `packing::pack_words` meets its contract. Assumes nothing.
 use borrow.Author.Rules.{rules}
+use Rattle.packing.proofs.Laws.{held-some}
 use Rattle.packing.proofs.pack_words.Goals as goal
 
 pub returns : goal.returns
@@ -8,3 +9,6 @@ returns c =
       wrote = all.0;
       result_value = all.1;
     }
+
+pub put_held-requires : goal.put_held-requires
+put_held-requires c = (search rules, c.requires, held-some _ _ _ c.table_words-n.ensures)

@@ -1,6 +1,5 @@
 -- `packing::put_packed` meets its contract. Assumes nothing.
 use Rattle.packing.proofs.Bytes.{packed-put}
-use borrow.Author.Rules.{rules}
 use Rattle.packing.proofs.put_packed.Goals as goal
 
 pub returns : goal.returns

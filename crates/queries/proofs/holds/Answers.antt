@@ -1,5 +1,5 @@
 -- `queries::holds` meets its contract: an arm for each test. Assumes nothing.
-use mathlib.Core.Path.{ap}
+use mathlib.Core.Path.{ap, ◌∙◌}
 use Rattle.queries.specs.Passes.{passes, by_mask}
 use Rattle.clauses.proofs.Sorts.{row-C}
 use Rattle.queries.proofs.Laws.{both_true, first-false}
@@ -40,7 +40,7 @@ returns-then-has_text c k o w m = rw c.in-TextHas.is (both_true c.if-has_text.tr
 
 pub returns-else-has_text : goal.returns-else-has_text
 unfolding passes by_mask
-returns-else-has_text c k o w m = rw c.in-TextHas.is (first-false _ c.if-has_text.false (simp row-C at (c.has_text-in-TextHas.ensures k o w)))
+returns-else-has_text c k o w m = rw c.in-TextHas.is (c.if-has_text.false ∙ first-false _ c.if-has_text.false (simp row-C at (c.has_text-in-TextHas.ensures k o w)))
 
 pub returns-then-has_text-2 : goal.returns-then-has_text-2
 unfolding passes by_mask
@@ -48,4 +48,4 @@ returns-then-has_text-2 c k o w m = let t = c.in-TextSome.is in rw t (both_true 
 
 pub returns-else-has_text-2 : goal.returns-else-has_text-2
 unfolding passes by_mask
-returns-else-has_text-2 c k o w m = rw c.in-TextSome.is (first-false _ c.if-has_text-2.false (simp row-C at (c.has_text-in-TextSome.ensures k o w)))
+returns-else-has_text-2 c k o w m = rw c.in-TextSome.is (c.if-has_text-2.false ∙ first-false _ c.if-has_text-2.false (simp row-C at (c.has_text-in-TextSome.ensures k o w)))

@@ -1,22 +1,9 @@
 -- `queries::next_thing` meets its contract: the lowest digit of the word of `from`, or else of a later one. Assumes nothing.
 use mathlib.Core.Path.{sym}
 use native.Mathlib.Omega.{arith}
-use lib.Count.{trailing_le}
 use Rattle.permset.specs.Sets.{lowest}
 use Rattle.queries.proofs.Nexts.{next-found}
 use Rattle.queries.proofs.next_thing.Goals as goal
-
-pub returns-then-l-from : goal.returns-then-l-from
-unfolding lowest
-returns-then-l-from c = record { later = omega arith; none = λ g l m. absurd (omega arith); found = λ h. absurd (omega arith) }
-
-pub overflow_cast-result : goal.overflow_cast-result
-unfolding lowest
-overflow_cast-result c = omega (arith, trailing_le 32 c.common_from-bits.result)
-
-pub overflow_add-result : goal.overflow_add-result
-unfolding lowest
-overflow_add-result c = omega (arith, trailing_le 32 c.common_from-bits.result)
 
 pub returns-then-bits-ne0 : goal.returns-then-bits-ne0
 unfolding lowest

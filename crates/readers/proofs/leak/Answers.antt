@@ -1,4 +1,3 @@
-use Rattle.table.proofs.Limits.{size-le}
 use mathlib.Core.Path.{◌≡◌, sym, ap, ◌∙◌, subst}
 use Prim.Native.Nat.{ℕ, ◌+◌, ◌<◌}
 use native.Mathlib.Omega.{arith}
@@ -17,21 +16,6 @@ loop-b-init c =
     let a = c.args in
     let h = c.requires in
     (follows-first a.words.now h.readable, leak-start a.words.now h.readable a.rho.bits a.est.now)
-
-pub leak_at-bits-requires : goal.leak_at-bits-requires
-leak_at-bits-requires c =
-    let a = c.args in
-    let h = c.requires in
-    let i = c.loop-b in
-    (h, c.loop-b-test.true, named-there a.words.now h.readable i.b i.invariant.0 c.loop-b-test.true)
-
-pub overflow_add-b : goal.overflow_add-b
-overflow_add-b c =
-    let a = c.args in
-    let h = c.requires in
-    let i = c.loop-b in
-    let g : i.b < length a.words.now = c.loop-b-test.true in
-    omega (arith, g, size-le a.words.now h.readable)
 
 pub loop-b-smaller : goal.loop-b-smaller
 loop-b-smaller c =

@@ -16,4 +16,4 @@ shape_of-out c = c.loop-b.invariant.added.same
 
 pub returns : goal.returns
 unfolding text
-returns c = filled-end _ _ c.loop-b.invariant c.loop-b-test.false
+returns c = filled-end _ _ c.loop-b.invariant (omega arith)

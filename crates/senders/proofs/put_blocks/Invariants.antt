@@ -1,12 +1,7 @@
 -- `senders::put_blocks` meets its contract. Assumes nothing.
-use Prim.Native.Nat.{◌-◌}
-use lib.ListN.{length}
 use Rattle.deliveries.proofs.Positions.{Filled}
 use Rattle.senders.specs.Text.{block_line}
 use Rattle.senders.proofs.put_blocks.Given as goal
 
 abbrev pub invariant-loop-b : goal.invariant-loop-b
 invariant-loop-b l = Filled (block_line l.words l.est) l.words 66000 l.initial.out 0 l.b l.position l.out l.next
-
-abbrev pub decreases-loop-b : goal.decreases-loop-b
-decreases-loop-b l = length l.words - l.b

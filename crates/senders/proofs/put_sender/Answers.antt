@@ -6,11 +6,11 @@ use Rattle.text.proofs.Adding.{added-nothing, added-as}
 use Rattle.senders.proofs.Laws.{lead-few, sender-none, sender-absent, sender-here}
 use Rattle.senders.proofs.put_sender.Goals as goal
 
-pub returns-then-kind_of-ne2 : goal.returns-then-kind_of-ne2
-returns-then-kind_of-ne2 c =
+pub returns-then-kind_of-ne-BLOCK : goal.returns-then-kind_of-ne-BLOCK
+returns-then-kind_of-ne-BLOCK c =
     let a = c.args in
     record {
-      added = added-as (sym (sender-none a.words.now a.est.now a.b a.s a.position (λ z. c.if-kind_of-ne2.true (c.kind_of.ensures ∙ z)))) (added-nothing _ _);
+      added = added-as (sym (sender-none a.words.now a.est.now a.b a.s a.position (λ z. c.if-kind_of-ne-BLOCK.true (c.kind_of.ensures ∙ z)))) (added-nothing _ _);
       upper_bound = omega arith;
     }
 
@@ -32,7 +32,7 @@ pub returns-then-holds : goal.returns-then-holds
 returns-then-holds c =
     let a = c.args in
     let r = c.add_number.ensures in
-    let k = sym c.kind_of.ensures ∙ c.if-kind_of-ne2.false in
+    let k = sym c.kind_of.ensures ∙ c.if-kind_of-ne-BLOCK.false in
     record {
       added = added-as (sym (sender-here a.words.now a.est.now a.b a.s a.position c.of-first.result c.of-first.ensures k _ c.holds.ensures c.if-holds.true)) r.added;
       upper_bound = r.upper_bound;
@@ -41,7 +41,7 @@ returns-then-holds c =
 pub returns-else-holds : goal.returns-else-holds
 returns-else-holds c =
     let a = c.args in
-    let k = sym c.kind_of.ensures ∙ c.if-kind_of-ne2.false in
+    let k = sym c.kind_of.ensures ∙ c.if-kind_of-ne-BLOCK.false in
     record {
       added = added-as (sym (sender-absent a.words.now a.est.now a.b a.s a.position c.of-first.result c.of-first.ensures k _ c.holds.ensures c.if-holds.false)) (added-nothing _ _);
       upper_bound = omega arith;

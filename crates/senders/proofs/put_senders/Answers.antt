@@ -15,6 +15,6 @@ shape_of-out c = c.loop-s.invariant.added.same
 
 pub returns : goal.returns
 returns c = let i = c.loop-s.invariant in record {
-  added = filled-end _ _ i c.loop-s-test.false;
+  added = filled-end _ _ i (omega arith);
   upper_bound = omega (arith, i.near, i.inside);
 }

@@ -1,5 +1,6 @@
 -- `senders::write` meets its contract. Assumes nothing.
-use mathlib.Core.Path.{sym, ap, ◌∙◌}
+use mathlib.Core.Path.{sym}
+use Rattle.std.proofs.lemmas.Result.{err_from_is_err_and}
 use Rattle.table.specs.Answer.{outcome}
 use Rattle.table.specs.Scan.{reading}
 use Rattle.listing.specs.Answer.{number, place, answered}
@@ -7,15 +8,14 @@ use Rattle.deliveries.proofs.Answers.{refused-table}
 use Rattle.senders.specs.Text.{text, written}
 use Rattle.senders.proofs.write.Goals as goal
 
-pub returns-in-Refused : goal.returns-in-Refused
+pub returns-in_err-read : goal.returns-in_err-read
 unfolding answered number place outcome written
-returns-in-Refused c =
+returns-in_err-read c =
     let a = c.args in
-    let all = refused-table (reading a.words.now) (text a.words.now a.est.now) a.out.now _ _ (sym c.read.ensures ∙ ap outcome c.in-Refused.is) in record {
-      answer = all.0;
-      text = all.1;
-    }
+    let all = refused-table (reading a.words.now) (text a.words.now a.est.now) a.out.now _ _ (sym c.in_err-read.ensures) in
+    let p = err_from_is_err_and c.from_residual.result c.from_residual.ensures.1 in
+    rw (p.1, p.2) (record { answer = all.0; text = all.1 })
 
 pub write_accepted-requires : goal.write_accepted-requires
 unfolding outcome
-write_accepted-requires c = sym c.read.ensures ∙ ap outcome c.in_default.is
+write_accepted-requires c = sym c.in_ok-read.ensures

@@ -4,13 +4,12 @@ use Rattle.std.proofs.lemmas.Grind.{common_steps}
 use Rattle.streams.proofs.Reading.{Loses-then, Loses-trans, LosesTo-loses}
 use Rattle.streams.proofs.read_rest.Goals as goal
 
-pub loop-turns-preserved : goal.loop-turns-preserved
-loop-turns-preserved g c =
+pub loop-preserved : goal.loop-preserved
+loop-preserved g c =
     record {
-      turns = search rules;
       read = grind (arith, common_steps);
-      lost = Loses-then _ c.loop-turns.invariant.lost c.in_ok-read_full.ensures.bytes;
+      lost = Loses-then _ c.loop.invariant.lost c.in_ok-read_full.ensures.bytes;
     }
 
 pub returns-in_err-read_full-clause-broken : goal.returns-in_err-read_full-clause-broken
-returns-in_err-read_full-clause-broken g c = search (rules, Loses-trans c.loop-turns.invariant.lost (LosesTo-loses c.in_err-read_full.ensures.broken))
+returns-in_err-read_full-clause-broken g c = search (rules, Loses-trans c.loop.invariant.lost (LosesTo-loses c.in_err-read_full.ensures.broken))

@@ -6,10 +6,10 @@ use mathlib.Core.List.{List, ◌∷◌, ◌++◌, map}
 use Prim.Native.Nat.{ℕ, suc, ◌+◌, ◌<◌, ◌≤◌}
 use native.Mathlib.Nat.{add-zero}
 use native.Mathlib.Numerals.{add-one}
-use native.Mathlib.Omega.{arith}
 use lib.ListN.{length, get_or, drop, drop_of_length-le}
 use lib.Seq.{drop-cons}
-use Rattle.table.specs.Words.{parts, mark, arity}
+use mir.Val.{bool_byte}
+use Rattle.table.specs.Words.{parts, arity}
 use Rattle.table.specs.Scan.{Task, term, Outcome, under, fault, keep, next, scan}
 use Rattle.table.proofs.read.Steps.{goes_on}
 
@@ -24,14 +24,10 @@ Left names ws at d n w p i =
     → scan names (drop at ws) keys at (term d h s ∷ ts) ≡ scan names (drop p ws) keys p (part_tasks at d h s (drop i (parts w)) ++ ts)
 
 -- the binders of a part
-pub under-length : (b : Bool) (at : ℕ) (s : List ℕ) → length (under b at s) ≡ length s + mark b
+pub under-length : (b : Bool) (at : ℕ) (s : List ℕ) → length (under b at s) ≡ length s + bool_byte b
 unfolding under
 under-length true at s = sym (add-one (length s))
 under-length false at s = sym (add-zero (length s))
-
-pub mark-small : (b : Bool) → mark b ≤ 1
-mark-small true = omega arith
-mark-small false = omega arith
 
 module _ (names : ℕ) (ws : List ℕ) (at d n : ℕ) where
   pub left-none : at < length ws → ((keys : List ℕ) (h : ℕ) (s : List ℕ) → length s ≡ n → fault names keys (get_or ws at 0) (term d h s) ≡ 0)
@@ -41,7 +37,7 @@ module _ (names : ℕ) (ws : List ℕ) (at d n : ℕ) where
 
   module _ (w p i : ℕ) (left : Left names ws at d n w p i) where
     -- the next part is read under m binders, and `after` says what is left then
-    pub left-part : i < arity w → (m : ℕ) → m ≡ mark (get_or (parts w) i false) → (after : List ℕ → List Task → Outcome)
+    pub left-part : i < arity w → (m : ℕ) → m ≡ bool_byte (get_or (parts w) i false) → (after : List ℕ → List Task → Outcome)
         → ((keys : List ℕ) (h : ℕ) (s : List ℕ) (ts : List Task) → length s ≡ n + m
         → scan names (drop p ws) keys p (term (d + 1) h s ∷ ts) ≡ after keys ts)
         → (keys : List ℕ) (h : ℕ) (s : List ℕ) (ts : List Task) → length s ≡ n

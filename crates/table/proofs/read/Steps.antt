@@ -8,10 +8,8 @@ use native.Mathlib.Numerals.{add-one}
 use native.Mathlib.Omega.{arith}
 use lib.ListN.{length, get_or, drop, drop_of_length-le}
 use lib.Seq.{drop-cons}
-use Rattle.table.specs.Words.{depths}
-use Rattle.table.specs.Scan.{Task, term, accepted, refused, first_of, fault, missing, keep, next, scan}
+use Rattle.table.specs.Scan.{Task, accepted, refused, first_of, fault, missing, keep, next, scan}
 use Rattle.table.specs.Rest.{judged}
-use Rattle.table.proofs.Faults.{stands}
 use Rattle.table.proofs.Stack.{scan-go, scan-stop}
 
 -- the first test of a list holds, or does not
@@ -55,7 +53,3 @@ module _ (names : ℕ) (ws : List ℕ) (keys : List ℕ) (at : ℕ) (t : Task) (
     stops n p e =
         let j = judged-stop (fault names keys (get_or ws at 0) t) at n p e in
         rw (drop-cons ws at 0) (scan-stop names (drop (suc at) ws) keys (get_or ws at 0) at t ts j.0 j.1 ∙ sym j.2)
-
--- a term's word that may stand is not too deep
-pub shallow : (names : ℕ) (keys : List ℕ) (w d h : ℕ) (s : List ℕ) → fault names keys w (term d h s) ≡ 0 → d ≤ depths
-shallow names keys w d h s e = (stands names keys w (term d h s) e).4

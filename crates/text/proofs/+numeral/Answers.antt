@@ -1,7 +1,6 @@
 use mathlib.Core.Path.{sym, ap, ◌∙◌}
 use mathlib.Core.List.{[], ◌∷◌, ◌++◌}
 use Prim.Native.Nat.{ℕ, ◌-◌, ◌/◌}
-use native.Mathlib.Nat.{mod-lt}
 use native.Mathlib.Omega.{arith}
 use Rattle.text.specs.Text.{numeral as Text·numeral}
 use Rattle.text.proofs.Digits.{numeral-none, numeral-stop, numeral-more}
@@ -25,11 +24,6 @@ returns-then-left_out t c =
           (wrote_nothing _ _ (omega arith));
       upper_bound = omega arith;
     }
-
-pub glyph-requires : goal.glyph-requires
-glyph-requires t c =
-    let a = c.args in
-    omega (arith, mod-lt a.n c.requires.base_nonzero)
 
 pub returns : goal.returns
 returns t c =

@@ -4,7 +4,6 @@ use mathlib.Core.Path.{◌∙◌}
 use Rattle.table.specs.Code.{code}
 use Rattle.audit.specs.Audited.{said}
 use Rattle.audit.proofs.Steps.{high-rho, low-rho}
-use borrow.Author.Rules.{rules}
 use Rattle.audit.proofs.judge.judged.Goals as goal
 
 pub returns-then-rho-ge16777216 : goal.returns-then-rho-ge16777216

@@ -4,7 +4,6 @@ use native.Mathlib.Omega.{arith}
 use Rattle.table.specs.Code.{code}
 use Rattle.audit.specs.Audited.{said}
 use Rattle.audit.proofs.Steps.{rule-broken, rules-obeyed}
-use borrow.Author.Rules.{rules}
 use Rattle.audit.proofs.judge.ruled.Goals as goal
 
 pub returns-then-p-l : goal.returns-then-p-l

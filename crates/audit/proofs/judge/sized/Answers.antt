@@ -5,7 +5,6 @@ use Rattle.table.specs.Code.{code}
 use Rattle.calls.proofs.Bounds.{size_small, row_small, words_are}
 use Rattle.audit.specs.Audited.{said}
 use Rattle.audit.proofs.Steps.{other_length, same_length}
-use borrow.Author.Rules.{rules}
 use Rattle.audit.proofs.judge.sized.Goals as goal
 
 pub words-requires : goal.words-requires

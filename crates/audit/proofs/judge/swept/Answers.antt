@@ -6,7 +6,6 @@ use Rattle.stray.proofs.Clean.{stray-most}
 use Rattle.audit.specs.Audited.{said}
 use Rattle.audit.proofs.Exact.{well-formed}
 use Rattle.audit.proofs.Steps.{bit-stray, none-stray}
-use borrow.Author.Rules.{rules}
 use Rattle.audit.proofs.judge.swept.Goals as goal
 
 pub returns-then-k-est : goal.returns-then-k-est

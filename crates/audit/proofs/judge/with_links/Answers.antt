@@ -3,7 +3,6 @@ use Prim.Native.Nat.{ℕ}
 use native.Mathlib.Omega.{arith}
 use lib.ListN.{replicate, length-replicate}
 use Rattle.table.proofs.Limits.{size-le}
-use borrow.Author.Rules.{rules}
 use Rattle.audit.proofs.judge.with_links.Goals as goal
 
 pub with_masks-requires : goal.with_masks-requires

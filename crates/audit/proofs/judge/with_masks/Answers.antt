@@ -3,7 +3,6 @@ use native.Mathlib.Omega.{arith}
 use Rattle.calls.proofs.Bounds.{row-bound}
 use Rattle.solver.proofs.Zeros.{zeros-at}
 use Rattle.solver.proofs.Begun.{ready_of}
-use borrow.Author.Rules.{rules}
 use Rattle.audit.proofs.judge.with_masks.Goals as goal
 
 pub fill_masks-requires : goal.fill_masks-requires

@@ -6,7 +6,6 @@ use Rattle.audit.specs.Audited.{audited}
 use Rattle.capi.specs.Check.{check_number}
 use Rattle.capi.proofs.Audits.{place-fits}
 use Rattle.capi.proofs.Taken.{taken-audited}
-use borrow.Author.Rules.{rules}
 use Rattle.capi.proofs.check.of_room.Goals as goal
 
 pub slice_bounds-audit-end-2 : goal.slice_bounds-audit-end-2

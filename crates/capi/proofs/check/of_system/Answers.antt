@@ -7,7 +7,6 @@ use Rattle.audit.specs.Audited.{audited}
 use Rattle.capi.specs.Check.{check_number, estimate_from}
 use Rattle.capi.proofs.Written.{read_length}
 use Rattle.capi.proofs.Systems.{system-read}
-use borrow.Author.Rules.{rules}
 use Rattle.capi.proofs.check.of_system.Goals as goal
 
 pub slice_bounds-of_words-end-2 : goal.slice_bounds-of_words-end-2

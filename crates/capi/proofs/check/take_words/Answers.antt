@@ -5,7 +5,6 @@ use native.Mathlib.Omega.{arith}
 use lib.ListN.{length}
 use Rattle.little_endian.proofs.Laws.{words-read}
 use Rattle.capi.proofs.Taken.{too_many, odd-bytes, all-taken}
-use borrow.Author.Rules.{rules}
 use Rattle.capi.proofs.check.take_words.Goals as goal
 
 pub returns-then-bytes-gt23552 : goal.returns-then-bytes-gt23552

@@ -4,13 +4,13 @@ use native.Mathlib.Omega.{arith}
 use Rattle.capi.specs.Check.{check_number, ExactNumber}
 use Rattle.capi.proofs.Systems.{system-size}
 use Rattle.capi.proofs.Taken.{exact-number, refused-before, answered-after}
-use borrow.Author.Rules.{rules}
 use Rattle.capi.proofs.check.wiphosega_check.Goals as goal
 
-pub returns-then-fault-ne0 : goal.returns-then-fault-ne0
-returns-then-fault-ne0 c =
+pub returns-in-Some : goal.returns-in-Some
+returns-in-Some c =
     let a = c.args in
-    let e = sym (refused-before a.system.now a.rho a.estimate.now c.system_fault-fault.result c.system_fault-fault.ensures c.if-fault-ne0.true) in record {
+    let n = c.in-Some.ensures in
+    let e = c.refusal.ensures ∙ sym (refused-before a.system.now a.rho a.estimate.now _ n.0 n.1) in record {
       answer = e;
       exact = subst (ExactNumber a.system.now a.rho a.estimate.now) (sym e)
           (exact-number a.system.now a.rho a.estimate.now (λ k. omega (arith, c.type_inv.estimate k)));
@@ -18,13 +18,12 @@ returns-then-fault-ne0 c =
 
 pub of_system-requires : goal.of_system-requires
 of_system-requires c =
-    (system-size _ (sym c.system_fault-fault.ensures ∙ c.if-fault-ne0.false), refl)
+    (system-size _ c.in_default.ensures, refl)
 
 pub returns : goal.returns
 returns c =
     let a = c.args in
-    let f = c.system_fault-fault in
-    let e = c.of_system.ensures ∙ ap check_number (answered-after a.system.now a.rho a.estimate.now f.result f.ensures c.if-fault-ne0.false) in record {
+    let e = c.of_system.ensures ∙ ap check_number (answered-after a.system.now a.rho a.estimate.now c.in_default.ensures) in record {
       answer = e;
       exact = subst (ExactNumber a.system.now a.rho a.estimate.now) (sym e)
           (exact-number a.system.now a.rho a.estimate.now (λ k. omega (arith, c.type_inv.estimate k)));

@@ -4,7 +4,6 @@ use native.Mathlib.Omega.{arith}
 use lib.ListN.{length, drop}
 use lib.Seq.{take_at}
 use Rattle.capi.proofs.Written.{read_length, work-answer, work-estimate, work-bytes}
-use borrow.Author.Rules.{rules}
 use Rattle.capi.proofs.slices.with_own.Goals as goal
 
 pub slice_bounds-verdict-end-2 : goal.slice_bounds-verdict-end-2

@@ -5,7 +5,6 @@ use native.Mathlib.Omega.{arith}
 use lib.ListN.{length, drop}
 use lib.Seq.{take_at}
 use Rattle.capi.proofs.Written.{read_length, estimate-answer, estimate-bytes}
-use borrow.Author.Rules.{rules}
 use Rattle.capi.proofs.slices.with_room.Goals as goal
 
 pub slice_bounds-with_work-end-2 : goal.slice_bounds-with_work-end-2

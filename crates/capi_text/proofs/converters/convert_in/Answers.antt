@@ -6,7 +6,6 @@ use lib.ListN.{replicate, length}
 use Rattle.little_endian.proofs.First.{words_size, words-first}
 use Rattle.widths.specs.Converters.{convert_answer, convert_out}
 use Rattle.widths.proofs.Lengths.{answer-first, out_first}
-use borrow.Author.Rules.{rules}
 use Rattle.capi_text.proofs.converters.convert_in.Goals as goal
 
 pub slice_bounds-convert-end : goal.slice_bounds-convert-end

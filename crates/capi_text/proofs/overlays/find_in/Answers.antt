@@ -6,7 +6,6 @@ use lib.ListN.{replicate}
 use Rattle.little_endian.proofs.First.{words_size, words-first}
 use Rattle.overlay.specs.Lookup.{place_of}
 use Rattle.capi_text.proofs.TwoTables.{place-first}
-use borrow.Author.Rules.{rules}
 use Rattle.capi_text.proofs.overlays.find_in.Goals as goal
 
 pub slice_bounds-find-end : goal.slice_bounds-find-end

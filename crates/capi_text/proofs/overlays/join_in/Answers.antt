@@ -6,7 +6,6 @@ use lib.ListN.{replicate, length}
 use Rattle.little_endian.proofs.First.{words_size, words-first}
 use Rattle.overlay.specs.Join.{join_answer, out_after}
 use Rattle.capi_text.proofs.TwoTables.{join_first, out_first}
-use borrow.Author.Rules.{rules}
 use Rattle.capi_text.proofs.overlays.join_in.Goals as goal
 
 pub slice_bounds-join-end : goal.slice_bounds-join-end

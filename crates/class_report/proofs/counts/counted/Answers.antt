@@ -5,11 +5,6 @@ use Rattle.class_report.proofs.Counting.{counted-all}
 use mathlib.Core.Path.{ap, ◌∙◌}
 use native.Mathlib.Omega.{arith}
 use Rattle.class_report.proofs.Counting.{counted-more}
-use Prim.Native.Nat.{◌-◌, ◌≤◌}
-use mathlib.Core.Path.{◌≡◌}
-use mathlib.Core.List.{◌++◌}
-use lib.ListN.{length, take, drop}
-use Rattle.class_report.specs.Tally.{counted}
 use borrow.Author.Rules.{rules}
 use Rattle.class_report.proofs.counts.counted.Goals as goal
 

@@ -1,17 +1,9 @@
 -- `class_report::counts::counted` meets its contract. Assumes nothing.
-use mathlib.Core.Bool.{Bool}
-use lib.ListN.{get_or}
-use Rattle.class_report.specs.Tally.{raised}
-use Rattle.class_report.proofs.Counting.{counted-all}
-use mathlib.Core.Path.{ap, ◌∙◌}
-use native.Mathlib.Omega.{arith}
-use Rattle.class_report.proofs.Counting.{counted-more}
 use Prim.Native.Nat.{◌-◌, ◌≤◌}
 use mathlib.Core.Path.{◌≡◌}
 use mathlib.Core.List.{◌++◌}
 use lib.ListN.{length, take, drop}
 use Rattle.class_report.specs.Tally.{counted}
-use borrow.Author.Rules.{rules}
 use Rattle.class_report.proofs.counts.counted.Given as goal
 
 abbrev pub invariant-loop-i : goal.invariant-loop-i

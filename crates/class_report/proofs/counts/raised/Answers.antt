@@ -3,7 +3,6 @@ use mathlib.Core.Path.{sym, ap, ◌∙◌}
 use mathlib.Core.Bool.{Bool}
 use Rattle.class_report.specs.Tally.{raised}
 use Rattle.class_report.proofs.Counting.{raised-more, raised-full}
-use borrow.Author.Rules.{rules}
 use Rattle.class_report.proofs.counts.raised.Goals as goal
 
 pub returns-then-n-lt10000 : goal.returns-then-n-lt10000

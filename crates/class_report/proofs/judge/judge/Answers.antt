@@ -7,7 +7,6 @@ use native.Mathlib.Omega.{arith}
 use lib.ListN.{replicate}
 use Rattle.little_endian.proofs.Laws.{words-read}
 use Rattle.class_report.specs.Report.{outcome_of, answer_on, outcome}
-use borrow.Author.Rules.{rules}
 use Rattle.class_report.proofs.judge.judge.Goals as goal
 
 pub slice_bounds-judge_words-end : goal.slice_bounds-judge_words-end

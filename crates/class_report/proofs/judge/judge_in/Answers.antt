@@ -2,7 +2,6 @@
 use mathlib.Core.Path.{ap, ◌∙◌}
 use Rattle.class_report.specs.Report.{outcome_of}
 use Rattle.class_report.proofs.Judged.{outcome-exact}
-use borrow.Author.Rules.{rules}
 use Rattle.class_report.proofs.judge.judge_in.Goals as goal
 
 pub returns : goal.returns

@@ -2,7 +2,6 @@
 use native.Mathlib.Omega.{arith}
 use Rattle.text.proofs.Writing.{then}
 use Rattle.class_report.specs.Report.{permission_line}
-use borrow.Author.Rules.{rules}
 use Rattle.class_report.proofs.lines.permission_line.Goals as goal
 
 pub returns : goal.returns

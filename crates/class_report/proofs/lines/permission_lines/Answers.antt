@@ -1,9 +1,6 @@
-use Prim.Native.Nat.{◌-◌, ◌≤◌}
-use mathlib.Core.Path.{◌≡◌, refl, ◌∙◌}
+use mathlib.Core.Path.{refl, ◌∙◌}
 use native.Mathlib.Omega.{arith}
-use lib.ListN.{length}
 use Rattle.text.proofs.Writing.{wrote-length}
-use Rattle.class_report.specs.Writing.{Listed}
 use Rattle.class_report.proofs.Permissions.{listed-none, listed_next, listed-all}
 use borrow.Author.Rules.{rules}
 use Rattle.class_report.proofs.lines.permission_lines.Goals as goal

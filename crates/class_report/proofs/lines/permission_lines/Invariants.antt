@@ -1,12 +1,8 @@
 -- `class_report::lines::permission_lines` meets its contract. Assumes nothing.
 use Prim.Native.Nat.{◌-◌, ◌≤◌}
-use mathlib.Core.Path.{◌≡◌, refl, ◌∙◌}
-use native.Mathlib.Omega.{arith}
+use mathlib.Core.Path.{◌≡◌}
 use lib.ListN.{length}
-use Rattle.text.proofs.Writing.{wrote-length}
 use Rattle.class_report.specs.Writing.{Listed}
-use Rattle.class_report.proofs.Permissions.{listed-none, listed_next, listed-all}
-use borrow.Author.Rules.{rules}
 use Rattle.class_report.proofs.lines.permission_lines.Given as goal
 
 abbrev pub invariant-loop-i : goal.invariant-loop-i

@@ -1,7 +1,6 @@
 -- `class_report::lines::put_leak` meets its contract. Assumes nothing.
 use Rattle.text.proofs.Writing.{then}
 use Rattle.class_report.specs.Report.{outcome_text}
-use borrow.Author.Rules.{rules}
 use Rattle.class_report.proofs.lines.put_leak.Goals as goal
 
 pub returns : goal.returns

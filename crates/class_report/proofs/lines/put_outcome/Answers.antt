@@ -2,12 +2,11 @@
 use mathlib.Core.Path.{sym, ap}
 use Rattle.text.proofs.Writing.{reworded}
 use Rattle.class_report.specs.Report.{outcome_text}
-use borrow.Author.Rules.{rules}
 use Rattle.class_report.proofs.lines.put_outcome.Goals as goal
 
-pub returns-in-Leak : goal.returns-in-Leak
-returns-in-Leak c = reworded (sym (ap outcome_text c.in-Leak.is)) c.put_leak.ensures
+pub returns-in-Ok : goal.returns-in-Ok
+returns-in-Ok c = reworded (sym (ap outcome_text c.in-Ok.is)) c.put_leak.ensures
 
-pub returns-in-Refused : goal.returns-in-Refused
+pub returns-in-Err : goal.returns-in-Err
 unfolding outcome_text
-returns-in-Refused c = reworded (sym (ap outcome_text c.in-Refused.is)) c.refusal_line.ensures.wrote
+returns-in-Err c = reworded (sym (ap outcome_text c.in-Err.is)) c.refusal_line.ensures.wrote

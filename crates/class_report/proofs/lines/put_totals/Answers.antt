@@ -1,7 +1,6 @@
 -- `class_report::lines::put_totals` meets its contract. Assumes nothing.
 use Rattle.text.proofs.Writing.{then}
 use Rattle.class_report.specs.Report.{totals}
-use borrow.Author.Rules.{rules}
 use Rattle.class_report.proofs.lines.put_totals.Goals as goal
 
 pub returns : goal.returns

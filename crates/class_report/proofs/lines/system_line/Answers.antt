@@ -1,7 +1,6 @@
 -- `class_report::lines::system_line` meets its contract. Assumes nothing.
 use Rattle.text.proofs.Writing.{then}
 use Rattle.class_report.specs.Report.{line}
-use borrow.Author.Rules.{rules}
 use Rattle.class_report.proofs.lines.system_line.Goals as goal
 
 pub returns : goal.returns

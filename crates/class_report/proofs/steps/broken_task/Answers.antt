@@ -1,7 +1,6 @@
 -- `class_report::steps::broken_task` meets its contract. Assumes nothing.
 use mathlib.Core.Path.{sym, ap, ◌∙◌}
 use Rattle.class_report.specs.Steps.{broken_task}
-use borrow.Author.Rules.{rules}
 use Rattle.class_report.proofs.steps.broken_task.Goals as goal
 
 pub returns-in-TooMany : goal.returns-in-TooMany

@@ -1,7 +1,6 @@
 -- `class_report::steps::fault_number` meets its contract. Assumes nothing.
 use mathlib.Core.Path.{sym, ap}
 use Rattle.class_report.specs.Stream.{number}
-use borrow.Author.Rules.{rules}
 use Rattle.class_report.proofs.steps.fault_number.Goals as goal
 
 pub returns-in-TooMany : goal.returns-in-TooMany

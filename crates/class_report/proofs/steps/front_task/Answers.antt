@@ -1,17 +1,17 @@
 -- `class_report::steps::front_task` meets its contract. Assumes nothing.
 use mathlib.Core.Path.{sym, ap, ◌∙◌}
+use Rattle.std.specs.Prelude.{Ok}
 use Rattle.class_report.specs.Steps.{front_task}
-use borrow.Author.Rules.{rules}
 use Rattle.class_report.proofs.steps.front_task.Goals as goal
 
-pub returns-in-Nothing : goal.returns-in-Nothing
+pub returns-in-Err : goal.returns-in-Err
 unfolding front_task
-returns-in-Nothing c = c.at_end.ensures ∙ sym (ap (front_task c.args.ended) c.in-Nothing.is)
+returns-in-Err c = c.broken_task.ensures ∙ sym (ap (front_task c.args.ended) c.in-Err.is)
 
-pub returns-in-Broken : goal.returns-in-Broken
+pub returns-in-None : goal.returns-in-None
 unfolding front_task
-returns-in-Broken c = c.broken_task.ensures ∙ sym (ap (front_task c.args.ended) c.in-Broken.is)
+returns-in-None c = c.at_end.ensures ∙ sym (ap (front_task c.args.ended) (c.in-Ok.is ∙ ap Ok c.in-None.is))
 
-pub returns-in-Whole : goal.returns-in-Whole
+pub returns-in-Some : goal.returns-in-Some
 unfolding front_task
-returns-in-Whole c = sym (ap (front_task c.args.ended) c.in-Whole.is)
+returns-in-Some c = sym (ap (front_task c.args.ended) (c.in-Ok.is ∙ ap Ok c.in-Some.is))

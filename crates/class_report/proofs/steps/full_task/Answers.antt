@@ -1,7 +1,6 @@
 -- `class_report::steps::full_task` meets its contract. Assumes nothing.
 use mathlib.Core.Path.{sym, ◌∙◌}
 use Rattle.class_report.proofs.Tasks.{full-nothing, full-more}
-use borrow.Author.Rules.{rules}
 use Rattle.class_report.proofs.steps.full_task.Goals as goal
 
 pub returns-then-piece-eq0 : goal.returns-then-piece-eq0

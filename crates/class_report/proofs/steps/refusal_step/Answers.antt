@@ -1,7 +1,6 @@
 -- `class_report::steps::refusal_step` meets its contract. Assumes nothing.
 use native.Mathlib.Omega.{arith}
 use Rattle.class_report.proofs.Stepped.{refusal-done}
-use borrow.Author.Rules.{rules}
 use Rattle.class_report.proofs.steps.refusal_step.Goals as goal
 
 pub returns : goal.returns

@@ -4,10 +4,8 @@ use mathlib.Core.Bool.{Bool}
 use mathlib.Core.List.{List}
 use Rattle.class_report.specs.declared.Task.{Task}
 use mathlib.Core.Path.{◌≡◌, sym, ap, ◌∙◌}
-use Rattle.class_report.specs.Tally.{position}
 use Rattle.class_report.specs.Steps.{task_for}
 use Rattle.class_report.proofs.Stepped.{more-done, stepped, system-there}
-use borrow.Author.Rules.{rules}
 use Rattle.class_report.proofs.steps.step.Goals as goal
 
 -- the task that is done

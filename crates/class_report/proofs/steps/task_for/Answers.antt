@@ -2,7 +2,6 @@
 use mathlib.Core.Path.{sym, ap, ◌∙◌}
 use Rattle.class_report.specs.Steps.{front_task}
 use Rattle.class_report.proofs.Tasks.{task-front, task-full}
-use borrow.Author.Rules.{rules}
 use Rattle.class_report.proofs.steps.task_for.Goals as goal
 
 pub returns-then-position-lt10000 : goal.returns-then-position-lt10000

@@ -1,7 +1,6 @@
 -- `class_report::steps::totals_step` meets its contract. Assumes nothing.
 use native.Mathlib.Omega.{arith}
 use Rattle.class_report.proofs.Stepped.{totals-done}
-use borrow.Author.Rules.{rules}
 use Rattle.class_report.proofs.steps.totals_step.Goals as goal
 
 pub returns : goal.returns

@@ -2,7 +2,6 @@
 use mathlib.Core.Path.{sym, ap, ◌∙◌}
 use Rattle.class_report.specs.Stream.{sized}
 use Rattle.class_report.proofs.Fronts.{front-nothing, front-short, front-sized}
-use borrow.Author.Rules.{rules}
 use Rattle.class_report.proofs.stream.front_of.Goals as goal
 
 pub returns-then-stream-eq0 : goal.returns-then-stream-eq0

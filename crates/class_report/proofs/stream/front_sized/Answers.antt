@@ -1,7 +1,6 @@
 -- `class_report::stream::front_sized` meets its contract. Assumes nothing.
 use mathlib.Core.Path.{sym}
 use Rattle.class_report.proofs.Fronts.{sized-long, sized-short, sized-whole}
-use borrow.Author.Rules.{rules}
 use Rattle.class_report.proofs.stream.front_sized.Goals as goal
 
 pub returns-then-size-gt256 : goal.returns-then-size-gt256

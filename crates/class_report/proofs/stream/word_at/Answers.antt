@@ -1,7 +1,6 @@
 -- `class_report::stream::word_at` meets its contract. Assumes nothing.
 use mathlib.Core.Path.{◌∙◌}
 use Rattle.class_report.proofs.Fronts.{four_bytes}
-use borrow.Author.Rules.{rules}
 use Rattle.class_report.proofs.stream.word_at.Goals as goal
 
 pub returns : goal.returns

@@ -17,30 +17,30 @@ pub slice_bounds-listed-end : goal.slice_bounds-listed-end
 unfolding answered
 slice_bounds-listed-end c =
     let w = c.write in
-    omega (arith, write-fits c.args.words.now _ _ (sym w.ensures.answer ∙ ap answered c.in-Done.is), w.auto.out)
+    omega (arith, write-fits c.args.words.now _ _ (sym w.ensures.answer ∙ ap answered c.in-Ok.is), w.auto.out)
 
-pub slice_bounds-shown_line-end-in-Done : goal.slice_bounds-shown_line-end-in-Done
+pub slice_bounds-shown_line-end-in-Ok : goal.slice_bounds-shown_line-end-in-Ok
 unfolding answered
-slice_bounds-shown_line-end-in-Done c =
+slice_bounds-shown_line-end-in-Ok c =
     let w = c.write in
-    sym (length-take-le _ _ (omega (arith, write-fits c.args.words.now _ _ (sym w.ensures.answer ∙ ap answered c.in-Done.is), w.auto.out)))
+    sym (length-take-le _ _ (omega (arith, write-fits c.args.words.now _ _ (sym w.ensures.answer ∙ ap answered c.in-Ok.is), w.auto.out)))
 
 pub shown_line-requires : goal.shown_line-requires
 unfolding answered
 shown_line-requires c =
     let w = c.write in
-    let n = c.in-Done.n in
-    let h = write-fits c.args.words.now (length (replicate {A = ℕ} 65536 0)) n (sym w.ensures.answer ∙ ap answered c.in-Done.is) in
+    let n = c.in-Ok.n in
+    let h = write-fits c.args.words.now (length (replicate {A = ℕ} 65536 0)) n (sym w.ensures.answer ∙ ap answered c.in-Ok.is) in
     (omega arith, c.requires.0, omega (arith, h, length-replicate {A = ℕ} 65536 0, length-take-le n w.new.out (omega (arith, h, w.auto.out))))
 
-pub returns-in-Done : goal.returns-in-Done
+pub returns-in-Ok : goal.returns-in-Ok
 unfolding answered
-returns-in-Done c =
+returns-in-Ok c =
     let w = c.write in
-    let n = c.in-Done.n in
+    let n = c.in-Ok.n in
     let z = length-replicate {A = ℕ} 65536 0 in
     let ws = c.args.words.now in
-    let f = sym w.ensures.answer ∙ ap answered c.in-Done.is in
+    let f = sym w.ensures.answer ∙ ap answered c.in-Ok.is in
     let e = ap (written ws) (sym z) ∙ f in
     let q = w.ensures.text ∙ ap (λ (k : ℕ). left (written ws k) (listing ws) (replicate 65536 0)) z in
     let v = c.shown_line.ensures in
@@ -50,12 +50,12 @@ returns-in-Done c =
       upper_bound = omega (arith, v.upper_bound, h, z, length-take-le n w.new.out (omega (arith, h, w.auto.out)));
     }
 
-pub returns-in-Refused : goal.returns-in-Refused
+pub returns-in-Err : goal.returns-in-Err
 unfolding answered
-returns-in-Refused c =
+returns-in-Err c =
     let w = c.write in
     let ws = c.args.words.now in
-    let e = ap (written ws) (sym (length-replicate {A = ℕ} 65536 0)) ∙ sym w.ensures.answer ∙ ap answered c.in-Refused.is in
+    let e = ap (written ws) (sym (length-replicate {A = ℕ} 65536 0)) ∙ sym w.ensures.answer ∙ ap answered c.in-Err.is in
     record {
       wrote = reworded (right-none c.args.k ws _ _ e) (wrote_nothing _ _ (omega arith));
       upper_bound = omega arith;

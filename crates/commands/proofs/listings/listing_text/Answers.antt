@@ -10,17 +10,17 @@ use Rattle.commands.proofs.listings.listing_text.Goals as goal
 pub refusal_line-requires : goal.refusal_line-requires
 refusal_line-requires c = let k = c.write.auto.out in omega arith
 
-pub returns-in-Done : goal.returns-in-Done
+pub returns-in-Ok : goal.returns-in-Ok
 unfolding answered
-returns-in-Done c =
+returns-in-Ok c =
     let w = c.write.ensures in
-    listing-done c.args.words.now c.args.out.now _ c.requires w.text _ (sym w.answer ∙ ap answered c.in-Done.is)
+    listing-done c.args.words.now c.args.out.now _ c.requires w.text _ (sym w.answer ∙ ap answered c.in-Ok.is)
 
-pub returns-in-Refused : goal.returns-in-Refused
+pub returns-in-Err : goal.returns-in-Err
 unfolding answered
-returns-in-Refused c =
+returns-in-Err c =
     let w = c.write.ensures in
-    let e = sym w.answer ∙ ap answered c.in-Refused.is in
+    let e = sym w.answer ∙ ap answered c.in-Err.is in
     let line = ap₂ refusal_line c.refusal_number.ensures c.refusal_place.ensures in
     reworded (line ∙ listing-refused c.args.words.now c.args.out.now _ c.requires w.text _ _ e)
     (unchanged (listing-left c.args.words.now c.args.out.now _ c.requires w.text _ _ e) c.refusal_line.ensures.wrote)

@@ -7,13 +7,13 @@ use Rattle.manifest.specs.Answer.{outcome}
 use Rattle.commands.specs.Printed.{outcome_text}
 use Rattle.commands.proofs.manifests.manifest_text.Goals as goal
 
-pub returns-in-Accepted : goal.returns-in-Accepted
-returns-in-Accepted c =
+pub returns-in-Ok : goal.returns-in-Ok
+returns-in-Ok c =
     let r = c.read.ensures.says in
-    reworded (ap outcome_text (sym (ap outcome c.in-Accepted.is) ∙ r)) c.accepted_line.ensures
+    reworded (ap outcome_text (sym (ap outcome c.in-Ok.is) ∙ r)) c.accepted_line.ensures
 
-pub returns-in-Refused : goal.returns-in-Refused
+pub returns-in-Err : goal.returns-in-Err
 unfolding outcome_text
-returns-in-Refused c =
+returns-in-Err c =
     let r = c.read.ensures.says in
-    reworded (ap (λ (n : ℕ). refusal_line n 0) c.refusal_number.ensures ∙ ap outcome_text (sym (ap outcome c.in-Refused.is) ∙ r)) c.refusal_line.ensures.wrote
+    reworded (ap (λ (n : ℕ). refusal_line n 0) c.refusal_number.ensures ∙ ap outcome_text (sym (ap outcome c.in-Err.is) ∙ r)) c.refusal_line.ensures.wrote

@@ -18,22 +18,22 @@ slice_bounds-first-end c = sym (length-take-le _ _ c.second_start-k.ensures.1)
 
 pub slice_bounds-under-end : goal.slice_bounds-under-end
 slice_bounds-under-end c =
-    let b = subst (PairAs _ _ _ _) c.in-Words.is c.read_pair.ensures in
+    let b = subst (PairAs _ _ _ _) c.in-Ok.is c.read_pair.ensures in
     omega (arith, b.few, c.read_pair.auto.under)
 
 pub slice_bounds-place_text-end : goal.slice_bounds-place_text-end
 slice_bounds-place_text-end c =
-    let b = subst (PairAs _ _ _ _) c.in-Words.is c.read_pair.ensures in
+    let b = subst (PairAs _ _ _ _) c.in-Ok.is c.read_pair.ensures in
     sym (length-take-le _ _ (omega (arith, b.few, c.read_pair.auto.under)))
 
 pub slice_bounds-over-end : goal.slice_bounds-over-end
 slice_bounds-over-end c =
-    let b = subst (PairAs _ _ _ _) c.in-Words.is c.read_pair.ensures in
+    let b = subst (PairAs _ _ _ _) c.in-Ok.is c.read_pair.ensures in
     omega (arith, b.fit, c.read_pair.auto.over)
 
-pub slice_bounds-place_text-end-in-Words : goal.slice_bounds-place_text-end-in-Words
-slice_bounds-place_text-end-in-Words c =
-    let b = subst (PairAs _ _ _ _) c.in-Words.is c.read_pair.ensures in
+pub slice_bounds-place_text-end-in-Ok : goal.slice_bounds-place_text-end-in-Ok
+slice_bounds-place_text-end-in-Ok c =
+    let b = subst (PairAs _ _ _ _) c.in-Ok.is c.read_pair.ensures in
     sym (length-take-le _ _ (omega (arith, b.fit, c.read_pair.auto.over)))
 
 pub place_text-requires : goal.place_text-requires
@@ -42,16 +42,16 @@ place_text-requires c =
     let input = c.args.input.now in
     (omega (arith, length-take k input), omega (arith, length-take (length input - k) (drop k input), length-drop k input), omega arith)
 
-pub returns-in-Words : goal.returns-in-Words
+pub returns-in-Ok : goal.returns-in-Ok
 unfolding found_text
-returns-in-Words c =
+returns-in-Ok c =
     let input = c.args.input.now in
     let k = c.second_start-k.result in
-    let b = subst (PairAs _ _ _ _) c.in-Words.is c.read_pair.ensures in
+    let b = subst (PairAs _ _ _ _) c.in-Ok.is c.read_pair.ensures in
     reworded (ap₂ (λ (u v : List ℕ). place_text (take k input) (take (length input - k) (drop k input)) (place_of u v c.args.name c.args.perms)) b.base b.overlay ∙ both-text input k c.second_start-k.ensures.0 (λ (x y : List ℕ). place_text x y (place_of (words_of x) (words_of y) c.args.name c.args.perms)) b) c.place_text.ensures
 
-pub returns-in-Refused : goal.returns-in-Refused
+pub returns-in-Err : goal.returns-in-Err
 unfolding found_text
-returns-in-Refused c =
-    let h = subst (PairAs _ _ _ _) c.in-Refused.is c.read_pair.ensures in
+returns-in-Err c =
+    let h = subst (PairAs _ _ _ _) c.in-Err.is c.read_pair.ensures in
     reworded (refused-text c.args.input.now _ c.second_start-k.ensures.0 (λ (x y : List ℕ). place_text x y (place_of (words_of x) (words_of y) c.args.name c.args.perms)) _ _ h) c.refusal_line.ensures.wrote

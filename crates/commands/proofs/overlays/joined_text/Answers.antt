@@ -15,24 +15,24 @@ pub slice_bounds-words-end : goal.slice_bounds-words-end
 unfolding joined_as
 slice_bounds-words-end c =
     let j = c.join in
-    omega (arith, joined-few c.args.base.now c.args.overlay.now (replicate 1024 0) _ (sym j.ensures.answer ∙ ap joined_as c.in-Words.is), j.auto.out)
+    omega (arith, joined-few c.args.base.now c.args.overlay.now (replicate 1024 0) _ (sym j.ensures.answer ∙ ap joined_as c.in-Ok.is), j.auto.out)
 
 pub slice_bounds-listing_text-end : goal.slice_bounds-listing_text-end
 unfolding joined_as
 slice_bounds-listing_text-end c =
     let j = c.join in
-    sym (length-take-le _ _ (omega (arith, joined-few c.args.base.now c.args.overlay.now (replicate 1024 0) _ (sym j.ensures.answer ∙ ap joined_as c.in-Words.is), j.auto.out)))
+    sym (length-take-le _ _ (omega (arith, joined-few c.args.base.now c.args.overlay.now (replicate 1024 0) _ (sym j.ensures.answer ∙ ap joined_as c.in-Ok.is), j.auto.out)))
 
-pub returns-in-Words : goal.returns-in-Words
+pub returns-in-Ok : goal.returns-in-Ok
 unfolding joined_as
-returns-in-Words c =
+returns-in-Ok c =
     let j = c.join in
-    let e = sym j.ensures.answer ∙ ap joined_as c.in-Words.is in
+    let e = sym j.ensures.answer ∙ ap joined_as c.in-Ok.is in
     reworded (ap listing_text (joined_words c.args.base.now c.args.overlay.now (replicate 1024 0) _ e _ j.ensures.out) ∙ joined-listed c.args.base.now c.args.overlay.now _ e) c.listing_text.ensures
 
-pub returns-in-Refused : goal.returns-in-Refused
+pub returns-in-Err : goal.returns-in-Err
 unfolding joined_as
-returns-in-Refused c =
+returns-in-Err c =
     let j = c.join in
-    let e = sym j.ensures.answer ∙ ap joined_as c.in-Refused.is in
+    let e = sym j.ensures.answer ∙ ap joined_as c.in-Err.is in
     reworded (ap₂ refusal_line c.fault_number.ensures c.fault_place.ensures ∙ joined-refused c.args.base.now c.args.overlay.now _ _ e) c.refusal_line.ensures.wrote

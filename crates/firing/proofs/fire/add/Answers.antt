@@ -29,10 +29,6 @@ pub pass-requires : goal.pass-requires
 unfolding effect two_rule code
 pass-requires c = let e = c.args.e in let z = sized c.requires.0 c.requires.1 in let p = rw c.in-Pass.is at c.requires.2 in (z, p.0, p.1, p.2, c.requires.0.masked.long)
 
-pub overflow_cast-y : goal.overflow_cast-y
-unfolding effect two_rule code
-overflow_cast-y c = let p = rw c.in-Permit.is at c.requires.2 in omega (arith, p.1)
-
 pub permit-requires : goal.permit-requires
 unfolding effect two_rule code
 permit-requires c = let z = sized c.requires.0 c.requires.1 in let p = rw c.in-Permit.is at c.requires.2 in (z, p.0, p.1)
@@ -53,13 +49,9 @@ pub branches-requires : goal.branches-requires
 unfolding effect two_rule code
 branches-requires c = let z = sized c.requires.0 c.requires.1 in let p = rw c.in-Branches.is at c.requires.2 in (z, p.0, p.1, p.2)
 
-pub send-requires : goal.send-requires
-unfolding effect two_rule code
-send-requires c = let e = c.args.e in let p = rw c.in-Send.is at c.requires.2 in (c.requires.0, c.requires.1, p)
-
 pub fire_things-requires : goal.fire_things-requires
 unfolding effect two_rule code
-fire_things-requires c = let e = c.args.e in (sized c.requires.0 c.requires.1, (is-thing e.what c.in_default.in_default-own.keys12).1 _ _ _ e.x e.y e.z c.requires.2)
+fire_things-requires c = let e = c.args.e in (sized c.requires.0 c.requires.1, (is-thing e.what c.in-Enter.is).1 _ _ _ e.x e.y e.z c.requires.2)
 
 pub returns-in-Live : goal.returns-in-Live
 unfolding effect two_rule code
@@ -105,6 +97,6 @@ pub returns-in-Send : goal.returns-in-Send
 unfolding effect two_rule code
 returns-in-Send c = rw c.in-Send.is c.send.ensures
 
-pub returns-in_default : goal.returns-in_default
+pub returns-in-Enter : goal.returns-in-Enter
 unfolding effect two_rule code
-returns-in_default c = rw (is-thing c.args.e.what c.in_default.in_default-own.keys12).0 (for-code c.fire_things.ensures c.requires.0.laid (linked-code c.requires.0, c.requires.0.masked))
+returns-in-Enter c = rw (is-thing c.args.e.what c.in-Enter.is).0 (for-code c.fire_things.ensures c.requires.0.laid (linked-code c.requires.0, c.requires.0.masked))

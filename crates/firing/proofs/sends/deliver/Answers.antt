@@ -1,21 +1,17 @@
 -- `firing::sends::deliver` meets its contract. Assumes nothing.
 use native.Mathlib.Omega.{arith}
-use Rattle.queries.proofs.Laws.{value_in}
 use Rattle.rows.proofs.Laws.{facts-most}
-use Rattle.firing.proofs.Fires.{and_then}
+use Rattle.firing.proofs.Fires.{and_then, three_fit}
 use Rattle.firing.proofs.Deliver.{live-well}
 use Rattle.firing.proofs.sends.deliver.Goals as goal
 
-pub overflow_add-delivered : goal.overflow_add-delivered
-overflow_add-delivered c =
-    omega (arith, c.wake-started.ensures.fired_in.count, c.pass-passed.ensures.count, c.lift.ensures.count, facts-most c.lift.new.est, c.lift.auto.est, c.pass-passed.auto.est, c.wake-started.auto.est, c.requires.0.short)
-
 pub overflow_add-delivered-2 : goal.overflow_add-delivered-2
 overflow_add-delivered-2 c =
-    omega (arith, c.wake-started.ensures.fired_in.count, c.pass-passed.ensures.count, c.lift.ensures.count, facts-most c.lift.new.est, c.lift.auto.est, c.pass-passed.auto.est, c.wake-started.auto.est, c.requires.0.short)
+    let w = c.wake-started in let p = c.pass-passed in let t = c.lift in
+    omega (arith, three_fit c.requires.0 w.ensures.fired_in p.ensures t.ensures w.auto.est p.auto.est t.auto.est)
 
-pub mark-requires : goal.mark-requires
-mark-requires c = (omega (arith, value_in c.requires.0 c.args.b c.requires.3, c.lift.auto.est, c.pass-passed.auto.est, c.wake-started.auto.est), omega (arith, c.requires.0.wide, c.requires.5))
+pub overflow_add-delivered : goal.overflow_add-delivered
+overflow_add-delivered c = omega (arith, overflow_add-delivered-2 c)
 
 pub overflow_add-result : goal.overflow_add-result
 overflow_add-result c =

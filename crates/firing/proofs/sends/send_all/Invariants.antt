@@ -13,7 +13,7 @@ use Rattle.firing.proofs.sends.send_all.Given as goal
 
 abbrev pub invariant-loop-b : goal.invariant-loop-b
 invariant-loop-b l =
-    (length l.est ≡ length l.initial.est) × (length l.h ≡ length l.initial.h) × WellFormed (code l.words) l.est × Follows l.words l.b
+    WellFormed (code l.words) l.est × Follows l.words l.b
     × (fire (code l.words) (each (blocks_on l.words l.b) (at_block (code l.words) l.e.x l.e.y l.e.z)) l.est ≡ fire (code l.words) (each (code l.words).blocks (at_block (code l.words) l.e.x l.e.y l.e.z)) l.initial.est)
     × (facts l.est ≡ facts l.initial.est + l.added)
 

@@ -6,9 +6,6 @@ use Rattle.queries.proofs.Given.{sized}
 use Rattle.firing.proofs.Deliver.{home-inside, block_inside, name-small, block-started, block-absent}
 use Rattle.firing.proofs.sends.send_to.Goals as goal
 
-pub overflow_cast-required : goal.overflow_cast-required
-overflow_cast-required c = omega (arith, c.requires.0.sending.required)
-
 pub starts-requires : goal.starts-requires
 unfolding code
 starts-requires c =

@@ -1,5 +1,5 @@
 -- `firing::step::step` meets its contract: the clause is fired where its word is live. Assumes nothing.
-use mathlib.Core.Path.{refl, sym, ◌∙◌}
+use mathlib.Core.Path.{sym, ◌∙◌}
 use native.Mathlib.Omega.{arith}
 use Rattle.table.specs.Code.{code}
 use Rattle.table.proofs.Blocks.{head-word}
@@ -12,13 +12,10 @@ use Rattle.firing.proofs.step.step.Goals as goal
 pub is_live-requires : goal.is_live-requires
 is_live-requires c = (sized c.requires.0 c.requires.1, omega (arith, c.requires.2))
 
-pub returns-then-not-is_live : goal.returns-then-not-is_live
-returns-then-not-is_live c =
+pub returns-then-not-is_live-clause-fired : goal.returns-then-not-is_live-clause-fired
+returns-then-not-is_live-clause-fired c =
     let a = c.args in let d = code a.words.now in
-    record {
-      fired = record { words = sym (fire-given-not d (L a.p) 0 _ a.est.now (sym (c.is_live.ensures d c.requires.0.laid) ∙ c.if-not-is_live.true)); count = omega arith };
-      kept = refl;
-    }
+    record { words = sym (fire-given-not d (L a.p) 0 _ a.est.now (sym (c.is_live.ensures d c.requires.0.laid) ∙ c.if-not-is_live.true)); count = omega arith }
 
 pub overflow_mul-l : goal.overflow_mul-l
 overflow_mul-l c = omega (arith, plain-small c.requires.0)
@@ -31,12 +28,9 @@ fire-requires c =
     let a = c.args in
     (c.requires.0, c.requires.1, rw (c.clause-asked.ensures ∙ clause-is c.requires.0 a.p a.k) (clause-suits c.requires.0 a.p c.requires.2 a.k))
 
-pub returns : goal.returns
-returns c =
+pub returns-clause-fired : goal.returns-clause-fired
+returns-clause-fired c =
     let f = c.fire in let a = c.args in let d = code a.words.now in
     let made = c.clause-asked.ensures ∙ clause-is c.requires.0 a.p a.k in
     let live = sym (c.is_live.ensures d c.requires.0.laid) ∙ c.if-not-is_live.false in
-    record {
-      fired = record { words = rw made at f.ensures.words ∙ sym (fire-given d (L a.p) 0 _ a.est.now live); count = f.ensures.count };
-      kept = f.auto.h;
-    }
+    record { words = rw made at f.ensures.words ∙ sym (fire-given d (L a.p) 0 _ a.est.now live); count = f.ensures.count }

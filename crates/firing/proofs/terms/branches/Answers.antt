@@ -1,16 +1,15 @@
 -- `firing::terms::branches` meets its contract. Assumes nothing.
 use native.Mathlib.Omega.{arith}
-use Rattle.rows.proofs.Laws.{facts-most}
-use Rattle.firing.proofs.Fires.{and_in}
+use Rattle.firing.proofs.Fires.{and_in, three_fit}
 use Rattle.firing.proofs.terms.branches.Goals as goal
-
-pub overflow_add-result : goal.overflow_add-result
-overflow_add-result c =
-    omega (arith, c.part-first.ensures.count, c.lift-second.ensures.count, c.lift_if.ensures.count, facts-most c.lift_if.new.est, c.lift_if.auto.est, c.lift-second.auto.est, c.part-first.auto.est, c.requires.0.short)
 
 pub overflow_add-result-2 : goal.overflow_add-result-2
 overflow_add-result-2 c =
-    omega (arith, c.part-first.ensures.count, c.lift-second.ensures.count, c.lift_if.ensures.count, facts-most c.lift_if.new.est, c.lift_if.auto.est, c.lift-second.auto.est, c.part-first.auto.est, c.requires.0.short)
+    let a = c.part-first in let b = c.lift-second in let d = c.lift_if in
+    omega (arith, three_fit c.requires.0 a.ensures b.ensures d.ensures a.auto.est b.auto.est d.auto.est)
+
+pub overflow_add-result : goal.overflow_add-result
+overflow_add-result c = omega (arith, overflow_add-result-2 c)
 
 pub returns : goal.returns
 returns c = and_in c.part-first.ensures (and_in c.lift-second.ensures c.lift_if.ensures)

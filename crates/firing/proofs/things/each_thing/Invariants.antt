@@ -2,7 +2,6 @@
 use Prim.Native.Nat.{◌+◌, ◌-◌, ◌*◌, ◌<◌}
 use mathlib.Core.Path.{◌≡◌}
 use mathlib.Core.Bool.{true}
-use lib.ListN.{length}
 use Rattle.calculus.specs.Estimate.{facts}
 use Rattle.queries.specs.Things.{both}
 use Rattle.firing.proofs.EachThing.{Left}
@@ -10,7 +9,7 @@ use Rattle.firing.proofs.things.each_thing.Given as goal
 
 abbrev pub invariant-loop-f : goal.invariant-loop-f
 invariant-loop-f l =
-    (length l.est ≡ length l.initial.est) × (length l.h ≡ length l.initial.h) × (l.f < l.l.size → both l.est l.masks l.l.lead (2 * (l.x + 1) * l.l.row) (l.z * l.l.row) l.f ≡ true)
+    (l.f < l.l.size → both l.est l.masks l.l.lead (2 * (l.x + 1) * l.l.row) (l.z * l.l.row) l.f ≡ true)
     × Left l.l l.masks l.what l.x l.y l.z l.initial.est l.est l.f × (facts l.est ≡ facts l.initial.est + l.added)
 
 abbrev pub decreases-loop-f : goal.decreases-loop-f

@@ -1,5 +1,4 @@
 -- `firing::things::for_thing` meets its contract: an arm for each effect. Assumes nothing.
-use borrow.Enum.Refused.{opened}
 use Prim.Native.Nat.{◌+◌, ◌*◌}
 use mathlib.Core.Path.{sym, ap}
 use native.Mathlib.Numerals.{add-one}
@@ -54,4 +53,6 @@ returns-in-Back c = rw c.in-Back.is (rw (row-C, add-one) at c.flow-in-Back.ensur
 
 pub returns-in_default : goal.returns-in_default
 unfolding entering for_thing
-returns-in_default c = rw (is-other _ (opened c.in_default.in_default-own.keys6)) (record { words = λ k o u. sym (fire-none k _); count = omega arith })
+returns-in_default c =
+    let d = c.in_default in
+    rw (is-other _ d.not-Enter d.not-Lower d.not-Hand d.not-Take d.not-Back) (record { words = λ k o u. sym (fire-none k _); count = omega arith })

@@ -2,17 +2,11 @@
 use mathlib.Core.Bool.{not}
 use mathlib.Core.Path.{ap}
 use native.Mathlib.Omega.{arith}
-use Rattle.queries.proofs.Laws.{value_in}
 use Rattle.fixpoint.proofs.Grows.{few, not_entered, was-entered}
-use borrow.Author.Rules.{rules}
 use Rattle.fixpoint.proofs.entry.enter.Goals as goal
 
 pub returns-then-not-opens : goal.returns-then-not-opens
 returns-then-not-opens c = not_entered c.requires.0 c.args.rho.bits c.args.p c.requires.3 c.opens.ensures (ap not c.if-not-opens.true)
-
-pub mark-requires : goal.mark-requires
-mark-requires c =
-    (omega (arith, value_in c.requires.1 c.args.p c.requires.3, c.fill-filled.auto.est, c.wake-started.auto.est), omega (arith, c.requires.1.wide, c.requires.1.lead))
 
 pub returns : goal.returns
 returns c =

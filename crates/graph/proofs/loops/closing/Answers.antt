@@ -20,13 +20,13 @@ tested rows alive t m set found r l e f g = g ∙ ap (λ (s : ℕ). member s t) 
 
 pub loop-m-init : goal.loop-m-init
 unfolding reaching
-loop-m-init c = (search rules, search rules, c.only-set.ensures, refl)
+loop-m-init c = (c.only-set.ensures, refl)
 
 pub senders-requires : goal.senders-requires
 senders-requires c =
     let l = c.loop-m in
     let a = c.args in
-    subst (λ (s : ℕ). s < 2 ^ length a.rows.now) (sym l.invariant.2)
+    subst (λ (s : ℕ). s < 2 ^ length a.rows.now) (sym l.invariant.0)
     (reaching-below a.rows.now a.alive a.t (length a.rows.now) (search rules) (l.m - 1))
 
 pub returns-then-has : goal.returns-then-has
@@ -34,26 +34,25 @@ returns-then-has c =
     let l = c.loop-m in
     let a = c.args in
     sym (scan-here (λ k. closes a.rows.now a.alive k a.t) a.limit l.m (search rules)
-    (sym (tested a.rows.now a.alive a.t l.m l.set _ _ (search rules) l.invariant.2 c.senders.ensures
+    (sym (tested a.rows.now a.alive a.t l.m l.set _ _ (search rules) l.invariant.0 c.senders.ensures
     c.has.ensures) ∙ c.if-has.true))
-    ∙ l.invariant.3
+    ∙ l.invariant.1
 
 pub loop-m-preserved : goal.loop-m-preserved
 loop-m-preserved c =
     let l = c.loop-m in
     let a = c.args in (
-      search rules,
-      search rules,
-      reaching-at a.rows.now a.alive a.t l.m l.set _ (search rules) l.invariant.2 c.senders.ensures
+      reaching-at a.rows.now a.alive a.t l.m l.set _ (search rules) l.invariant.0 c.senders.ensures
           ∙ ap (reaching a.rows.now a.alive a.t) (omega arith),
       sym (scan-on (λ k. closes a.rows.now a.alive k a.t) a.limit l.m (search rules)
-          (sym (tested a.rows.now a.alive a.t l.m l.set _ _ (search rules) l.invariant.2 c.senders.ensures
+          (sym (tested a.rows.now a.alive a.t l.m l.set _ _ (search rules) l.invariant.0 c.senders.ensures
           c.has.ensures) ∙ c.if-has.false))
-          ∙ l.invariant.3,
+          ∙ l.invariant.1,
     )
 
 pub returns : goal.returns
 returns c =
     let l = c.loop-m in
     let a = c.args in
-    sym (scan-end (λ k. closes a.rows.now a.alive k a.t) a.limit l.m c.loop-m-test.false) ∙ l.invariant.3
+    let last : a.limit ≡ l.m = omega arith in
+    last ∙ sym (scan-end (λ k. closes a.rows.now a.alive k a.t) a.limit l.m c.loop-m-test.false) ∙ l.invariant.1

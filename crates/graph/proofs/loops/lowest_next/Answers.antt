@@ -1,34 +1,19 @@
-use mathlib.Core.Path.{sym, ◌∙◌}
-use native.Mathlib.Nat.{le_antisymm}
-use borrow.Author.Rules.{rules}
+-- The search through 0..n finds the lowest that passes.
+use Rattle.std.proofs.Common.{◌≡◌, ◌∙◌, false, true, rules, tests, arith}
+use Rattle.std.proofs.lemmas.Iterator.{first_from_Range}
 use Rattle.graph.specs.Search.{is_next, lowest_next}
-use Rattle.graph.proofs.Lowest.{scan-start, scan-here, scan-on, scan-end}
+use Rattle.graph.proofs.Lowest.{found-below, or-end, lowest-most}
 use Rattle.graph.proofs.loops.lowest_next.Goals as goal
-
-pub loop-z-init : goal.loop-z-init
-loop-z-init c =
-    let a = c.args in
-    (search rules, scan-start (is_next a.rows.now a.set a.x) a.n)
-
-pub returns-then-is_next : goal.returns-then-is_next
-unfolding lowest_next
-returns-then-is_next c =
-    let l = c.loop-z in
-    let a = c.args in
-    sym (scan-here (is_next a.rows.now a.set a.x) a.n l.z (search rules) (sym c.is_next.ensures ∙ c.if-is_next.true))
-    ∙ l.invariant.1
-
-pub loop-z-preserved : goal.loop-z-preserved
-loop-z-preserved c =
-    let l = c.loop-z in
-    let a = c.args in (
-      search rules,
-      sym (scan-on (is_next a.rows.now a.set a.x) a.n l.z (search rules) (sym c.is_next.ensures ∙ c.if-is_next.false)) ∙ l.invariant.1,
-    )
 
 pub returns : goal.returns
 unfolding lowest_next
 returns c =
-    let l = c.loop-z in
     let a = c.args in
-    le_antisymm c.loop-z-test.false l.invariant.0 ∙ sym (scan-end (is_next a.rows.now a.set a.x) a.n l.z c.loop-z-test.false) ∙ l.invariant.1
+    let test = is_next a.rows.now a.set a.x in
+    c.unwrap_or.ensures
+    ∙ or-end a.n _ c.find.result
+    (found-below test a.n c.find.result
+    (first_from_Range _ _ _ c.find.result (λ z. test z ≡ true) (λ z. test z ≡ false) c.find.ensures.ran
+    (λ z q k. search (rules, tests))
+    (λ z q k. search (rules, tests))))
+    (omega (arith, lowest-most test a.n 0))

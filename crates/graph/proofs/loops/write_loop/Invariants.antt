@@ -1,5 +1,4 @@
 -- `graph::loops::write_loop` meets its contract. The loop's invariant: the rest of the walk, put behind what is written, gives the whole.
--- Assumes nothing.
 use Prim.Native.Nat.{◌-◌, ◌≤◌}
 use Rattle.graph.specs.Search.{follow}
 use Rattle.graph.proofs.Writing.{Partly}
@@ -7,7 +6,4 @@ use Rattle.graph.proofs.loops.write_loop.Given as goal
 
 abbrev pub invariant-loop-i : goal.invariant-loop-i
 invariant-loop-i l =
-    (l.i ≤ l.m) × (l.x ≤ l.n) × Partly l.initial.positions (follow l.rows l.alive l.n l.t l.m l.t) l.positions l.i (follow l.rows l.alive l.n l.t (l.m - l.i) l.x)
-
-abbrev pub decreases-loop-i : goal.decreases-loop-i
-decreases-loop-i l = l.m - l.i
+    (l.x ≤ l.n) × Partly l.initial.positions (follow l.rows l.alive l.n l.t l.m l.t) l.positions l.i (follow l.rows l.alive l.n l.t (l.m - l.i) l.x)

@@ -1,5 +1,5 @@
 use Prim.Native.Nat.{ℕ, ◌+◌, ◌-◌, ◌≤◌}
-use mathlib.Core.Path.{◌≡◌, ap, subst}
+use mathlib.Core.Path.{◌≡◌, ap, ◌∙◌}
 use mathlib.Core.List.{List, []}
 use native.Mathlib.Nat.{zero-add}
 use native.Mathlib.Omega.{arith}
@@ -25,46 +25,41 @@ pub loop-count-init : goal.loop-count-init
 loop-count-init c =
     let a = c.args in
     let e : a.n - 0 ≡ a.n = omega arith in
-    (search rules, rw e (partly-start _ _), rw e (zero-add _))
+    (rw e (partly-start _ _), rw e (zero-add _))
 
-pub shape_of-positions-then-n-p : goal.shape_of-positions-then-n-p
-shape_of-positions-then-n-p c = c.loop-count.invariant.1.size
-
-pub returns-then-n-p : goal.returns-then-n-p
-returns-then-n-p c =
+pub returns-in_default : goal.returns-in_default
+returns-in_default c =
     let l = c.loop-count in
     let a = c.args in
     let r = a.rows.now in
-    let e = order-stop r a.n (a.n - l.count) l.left (subst (λ (p : ℕ). a.n ≤ p) c.lowest_free-p.ensures c.if-n-p.true) in
-    let all = finished r a.n a.alive a.positions.now l.positions l.left l.count e (search rules) l.invariant.1 l.invariant.2 in record {
+    let e = order-stop r a.n (a.n - l.count) l.left c.in_default.ensures in
+    let all = finished r a.n a.alive a.positions.now l.positions l.left l.count e (search rules) l.invariant.0 l.invariant.1 in record {
       value = all.0;
       positions_after = all.1;
     }
 
 pub bounds-positions-count : goal.bounds-positions-count
-bounds-positions-count c = omega (arith, c.loop-count.invariant.1.size)
+bounds-positions-count c = omega (arith, c.loop-count.invariant.0.size)
 
 pub loop-count-preserved : goal.loop-count-preserved
 loop-count-preserved c =
     let l = c.loop-count in
     let a = c.args in
     let e =
-    order-on a.rows.now a.n l.count l.left c.lowest_free-p.result c.without-left.result (search rules)
-    c.lowest_free-p.ensures c.if-n-p.false c.without-left.ensures in (
-      search rules,
-      partly-on a.positions.now (order_from a.rows.now a.n a.n a.alive) l.positions l.count _ _ _ e l.invariant.1,
-      omega (arith, ap length e, l.invariant.2),
+    order-on a.rows.now a.n l.count l.left c.in-Some.p c.without-left.result (search rules)
+    c.in-Some.ensures.1 c.in-Some.ensures.0 c.without-left.ensures in (
+      partly-on a.positions.now (order_from a.rows.now a.n a.n a.alive) l.positions l.count _ _ _ e l.invariant.0,
+      omega (arith, ap length e, l.invariant.1),
     )
-
-pub shape_of-positions : goal.shape_of-positions
-shape_of-positions c = c.loop-count.invariant.1.size
 
 pub returns : goal.returns
 returns c =
     let l = c.loop-count in
     let a = c.args in
     let e = order-none a.rows.now a.n l.count l.left c.loop-count-test.false in
-    let all = finished a.rows.now a.n a.alive a.positions.now l.positions l.left l.count e (search rules) l.invariant.1 l.invariant.2 in record {
-      value = all.0;
+    let all = finished a.rows.now a.n a.alive a.positions.now l.positions l.left l.count e (search rules) l.invariant.0 l.invariant.1 in
+    let last : a.n ≡ l.count = omega arith in
+    record {
+      value = last ∙ all.0;
       positions_after = all.1;
     }

@@ -1,13 +1,9 @@
 -- `json_text::bytes::byte` meets its contract.
 -- Assumes nothing.
 use mathlib.Core.Path.{sym}
-use native.Mathlib.Omega.{arith}
 use Rattle.json_text.proofs.Places.{head_in, head-over}
 use borrow.Author.Rules.{rules}
 use Rattle.json_text.proofs.bytes.byte.Goals as goal
-
-pub overflow_cast-result : goal.overflow_cast-result
-overflow_cast-result c = omega (arith, c.type_inv.text c.args.at)
 
 pub returns-then-at-text : goal.returns-then-at-text
 returns-then-at-text c = sym (head_in c.args.text.now c.args.at (search rules))

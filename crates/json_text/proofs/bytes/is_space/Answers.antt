@@ -4,7 +4,7 @@ use mathlib.Core.Path.{sym, ◌∙◌}
 use Rattle.json_text.proofs.bytes.is_space.Goals as goal
 
 pub returns-then-is_either : goal.returns-then-is_either
-returns-then-is_either c = rw (sym c.is_either.ensures ∙ c.if-is_either.true)
+returns-then-is_either c = rw (sym c.is_either.ensures ∙ c.if-is_either.true) c.if-is_either.true
 
-pub returns : goal.returns
-returns c = rw (sym c.is_either.ensures ∙ c.if-is_either.false) c.is_either-2.ensures
+pub returns-else-is_either : goal.returns-else-is_either
+returns-else-is_either c = rw (sym c.is_either.ensures ∙ c.if-is_either.false) c.is_either-else-is_either.ensures

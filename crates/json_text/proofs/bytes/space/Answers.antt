@@ -1,13 +1,10 @@
-use mathlib.Core.Path.{refl, sym, ap, ◌∙◌}
+use mathlib.Core.Path.{sym, ap, ◌∙◌}
 use Prim.Native.Nat.{◌<◌}
 use native.Mathlib.Omega.{arith}
 use lib.ListN.{length}
 use Rattle.json_text.specs.Bytes.{is_space, space}
 use Rattle.json_text.proofs.Places.{there, tail-drop, space-small, space-more, space-end}
 use Rattle.json_text.proofs.bytes.space.Goals as goal
-
-pub loop-p-init : goal.loop-p-init
-loop-p-init c = refl
 
 pub overflow_add-p : goal.overflow_add-p
 overflow_add-p c = let h : c.loop-p.p < length c.args.text.now = there c.args.text.now c.loop-p.p c.byte.ensures (space-small _ (sym c.is_space.ensures ∙ c.loop-p-test.true)) in omega arith

@@ -1,13 +1,10 @@
-use mathlib.Core.Path.{refl, sym, ap, ◌∙◌}
+use mathlib.Core.Path.{sym, ap, ◌∙◌}
 use Prim.Native.Nat.{◌<◌}
 use native.Mathlib.Omega.{arith}
 use lib.ListN.{length}
 use Rattle.json_text.specs.Numbers.{is_digit, digits}
 use Rattle.json_text.proofs.Places.{there, tail-drop, digit-small, digits_more, digits-end}
 use Rattle.json_text.proofs.numbers.digits.Goals as goal
-
-pub loop-p-init : goal.loop-p-init
-loop-p-init c = refl
 
 pub overflow_add-p : goal.overflow_add-p
 overflow_add-p c = let h : c.loop-p.p < length c.args.text.now = there c.args.text.now c.loop-p.p c.byte.ensures (digit-small _ (sym c.is_within.ensures ∙ c.loop-p-test.true)) in omega arith

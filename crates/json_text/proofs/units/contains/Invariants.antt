@@ -3,11 +3,11 @@
 use mathlib.Core.Path.{◌≡◌}
 use lib.ListN.{length, drop}
 use Rattle.json_text.specs.Strings.{units}
-use Rattle.json_text.specs.Units.{contains, held}
+use Rattle.json_text.specs.Units.{contains, left}
 use Rattle.json_text.proofs.units.contains.Given as goal
 
-abbrev pub invariant-loop-at : goal.invariant-loop-at
-invariant-loop-at l = contains l.word (units (drop l.at l.text)) ≡ contains l.word (held l.h l.l (drop l.p l.text))
+abbrev pub invariant-loop-cursor : goal.invariant-loop-cursor
+invariant-loop-cursor l = contains l.word (units (drop l.at l.text)) ≡ contains l.word (left l.text l.cursor)
 
-abbrev pub decreases-loop-at : goal.decreases-loop-at
-decreases-loop-at l = length (held l.h l.l (drop l.p l.text))
+abbrev pub decreases-loop-cursor : goal.decreases-loop-cursor
+decreases-loop-cursor l = length (left l.text l.cursor)

@@ -4,12 +4,12 @@ use mathlib.Core.Path.{◌≡◌}
 use Prim.Native.Nat.{◌<◌, ◌^◌}
 use lib.ListN.{length, drop}
 use Rattle.json_text.specs.Strings.{units}
-use Rattle.json_text.specs.Units.{spread, held}
+use Rattle.json_text.specs.Units.{spread, left}
 use Rattle.json_text.proofs.units.hash.Given as goal
 
-abbrev pub invariant-loop-u : goal.invariant-loop-u
-invariant-loop-u l =
-    (spread 0 (units (drop l.at l.text)) ≡ spread l.n (held l.h l.l (drop l.p l.text))) × (l.n < 2 ^ 18)
+abbrev pub invariant-loop-next : goal.invariant-loop-next
+invariant-loop-next l =
+    (spread 0 (units (drop l.at l.text)) ≡ spread l.number (left l.text l.cursor)) × (l.number < 2 ^ 18)
 
-abbrev pub decreases-loop-u : goal.decreases-loop-u
-decreases-loop-u l = length (held l.h l.l (drop l.p l.text))
+abbrev pub decreases-loop-next : goal.decreases-loop-next
+decreases-loop-next l = length (left l.text l.cursor)

@@ -1,14 +1,15 @@
 -- The cycle of calls {item, items, value} meets its contracts.
 -- Assumes nothing.
-use Prim.Native.Nat.{◌<◌}
 use native.Mathlib.Omega.{arith}
 use mathlib.Core.Path.{sym, ap, ◌∙◌}
-use lib.ListN.{length, drop}
+use lib.ListN.{drop}
+use Rattle.std.specs.Prelude.{Some}
+use Rattle.json_text.specs.declared.Item.{Item}
 use Rattle.json_text.specs.Bytes.{head, tail, rest, after}
 use Rattle.json_text.specs.Values.{separated, item, value}
-use Rattle.json_text.specs.Answers.{ended, started, stepped}
+use Rattle.json_text.specs.Answers.{started, stepped}
 use Rattle.json_text.proofs.Choice.{is, is-not}
-use Rattle.json_text.proofs.Places.{there, tail-drop}
+use Rattle.json_text.proofs.Places.{tail-drop}
 use Rattle.json_text.proofs.Repetition.{after-fails, after-goes, after-ends}
 use Rattle.json_text.proofs.Shorter.{item-narrow, value_in}
 use Rattle.json_text.proofs.Texts.{item-none, item-half, item-whole, items-none, items-some, value-plain, value-deep, value-opens}
@@ -16,35 +17,25 @@ use Rattle.json_text.proofs.values.+item_items_value.Goals as goal
 
 -- an item
 
-pub item-returns-in_default : goal.item-returns-in_default
-item-returns-in_default t c =
-    let a = c.args in
-    sym (item-none _ _ (value a.nest) (sym c.name.ensures ∙ ap (ended a.text.now) c.in_default.is))
+pub item-returns-in_err-p : goal.item-returns-in_err-p
+item-returns-in_err-p t c = rw c.from_residual.ensures (sym (item-none _ _ (value c.args.nest) (sym c.in_err-p.ensures)))
 
 pub item-value-requires : goal.item-value-requires
 item-value-requires t c = (omega (arith, c.decreases), tt)
 
-pub item-returns-in_default-value : goal.item-returns-in_default-value
-item-returns-in_default-value t c =
-    let a = c.args in
-    sym
-    (item-half _ _ (value a.nest) _ (sym c.name.ensures ∙ ap (ended a.text.now) c.in-At.is) (sym c.value.ensures ∙ ap (ended a.text.now) c.in_default-value.is))
+pub item-returns-in_err-q : goal.item-returns-in_err-q
+item-returns-in_err-q t c =
+    rw c.from_residual-in_err-q.ensures (sym (item-half _ _ (value c.args.nest) _ (sym c.in_ok-p.ensures) (sym c.in_err-q.ensures)))
 
 pub item-returns : goal.item-returns
 item-returns t c =
     let a = c.args in
     sym
-    (item-whole _ _ (value a.nest) _ _ (sym c.name.ensures ∙ ap (ended a.text.now) c.in-At.is) (sym c.value.ensures ∙ ap (ended a.text.now) c.in-At-value.is)
+    (item-whole _ _ (value a.nest) _ _ (sym c.in_ok-p.ensures) (sym c.in_ok-q.ensures)
     ∙ ap (separated a.keyed) (sym c.space.ensures)
     ∙ sym c.separated.ensures)
 
 -- the items behind a bracket
-
-pub items-overflow_add-result : goal.items-overflow_add-result
-items-overflow_add-result t c =
-    let a = c.args in
-    let h : c.space-p.result < length a.text.now = there a.text.now c.space-p.result c.byte.ensures (omega (arith, c.closing.ensures.1)) in
-    omega arith
 
 pub items-returns-then-byte-closing : goal.items-returns-then-byte-closing
 items-returns-then-byte-closing t c =
@@ -62,25 +53,26 @@ items-loop-q-init t c =
 pub items-item-requires : goal.items-item-requires
 items-item-requires t c = (omega (arith, c.decreases), tt)
 
-pub items-returns-in-Fails : goal.items-returns-in-Fails
-items-returns-in-Fails t c =
+pub items-returns-in_err-q : goal.items-returns-in_err-q
+items-returns-in_err-q t c =
     let a = c.args in
     let f = value a.nest in
-    sym
+    rw c.from_residual.ensures
+    (sym
     (c.loop-q.invariant
-    ∙ after-fails (item f a.keyed) (item-narrow f (value_in a.nest) a.keyed) (drop c.loop-q.p a.text.now) (sym c.item.ensures ∙ ap (stepped a.text.now) c.in-Fails.is))
+    ∙ after-fails (item f a.keyed) (item-narrow f (value_in a.nest) a.keyed) (drop c.loop-q.p a.text.now) (sym c.in_err-q.ensures)))
 
 pub items-loop-q-smaller : goal.items-loop-q-smaller
 items-loop-q-smaller t c =
     let a = c.args in
-    item-narrow (value a.nest) (value_in a.nest) a.keyed (drop c.loop-q.p a.text.now) _ _ (sym c.item.ensures ∙ ap (stepped a.text.now) c.in-Goes.is)
+    item-narrow (value a.nest) (value_in a.nest) a.keyed (drop c.loop-q.p a.text.now) _ _ (sym c.in_ok-q.ensures ∙ ap (λ (x : Item). stepped a.text.now (Some x)) c.in-Goes.is)
 
 pub items-loop-q-preserved : goal.items-loop-q-preserved
 items-loop-q-preserved t c =
     let a = c.args in
     let f = value a.nest in
     c.loop-q.invariant
-    ∙ after-goes (item f a.keyed) (item-narrow f (value_in a.nest) a.keyed) (drop c.loop-q.p a.text.now) _ _ (sym c.item.ensures ∙ ap (stepped a.text.now) c.in-Goes.is)
+    ∙ after-goes (item f a.keyed) (item-narrow f (value_in a.nest) a.keyed) (drop c.loop-q.p a.text.now) _ _ (sym c.in_ok-q.ensures ∙ ap (λ (x : Item). stepped a.text.now (Some x)) c.in-Goes.is)
 
 pub items-returns-in-Ends : goal.items-returns-in-Ends
 items-returns-in-Ends t c =
@@ -88,7 +80,7 @@ items-returns-in-Ends t c =
     let f = value a.nest in
     sym
     (c.loop-q.invariant
-    ∙ after-ends (item f a.keyed) (item-narrow f (value_in a.nest) a.keyed) (drop c.loop-q.p a.text.now) _ (sym c.item.ensures ∙ ap (stepped a.text.now) c.in-Ends.is))
+    ∙ after-ends (item f a.keyed) (item-narrow f (value_in a.nest) a.keyed) (drop c.loop-q.p a.text.now) _ (sym c.in_ok-q.ensures ∙ ap (λ (x : Item). stepped a.text.now (Some x)) c.in-Ends.is))
 
 -- a value
 

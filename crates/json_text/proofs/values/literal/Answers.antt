@@ -1,4 +1,4 @@
-use mathlib.Core.Path.{refl, sym, ◌∙◌}
+use mathlib.Core.Path.{sym, ◌∙◌}
 use Prim.Native.Nat.{◌<◌}
 use native.Mathlib.Omega.{arith}
 use lib.ListN.{length}
@@ -6,33 +6,18 @@ use Rattle.json_text.proofs.Places.{there}
 use Rattle.json_text.proofs.Texts.{literal-over, literal-goes, literal-stops}
 use Rattle.json_text.proofs.values.literal.Goals as goal
 
-pub loop-i-init : goal.loop-i-init
-loop-i-init c = refl
-
-pub bounds-word-i : goal.bounds-word-i
-bounds-word-i c = omega arith
-
-pub overflow_cast-word : goal.overflow_cast-word
-overflow_cast-word c = omega (arith, c.type_inv.word c.loop-i.i)
-
-pub returns-then-byte-word : goal.returns-then-byte-word
-returns-then-byte-word c =
-    sym (c.loop-i.invariant ∙ literal-stops c.args.word.now c.args.text.now c.loop-i.i c.loop-i.p (omega (arith, c.loop-i-test.true)) _ c.byte.ensures c.if-byte-word.true)
+pub returns-then-byte-b : goal.returns-then-byte-b
+returns-then-byte-b c =
+    sym (c.loop-b.invariant ∙ literal-stops c.args.word.now c.args.text.now c.loop-b.b-index c.loop-b.p (omega (arith, c.loop-b-test.true)) _ c.byte.ensures c.if-byte-b.true)
 
 pub overflow_add-p : goal.overflow_add-p
 overflow_add-p c =
-    let h : c.loop-i.p < length c.args.text.now = there c.args.text.now c.loop-i.p c.byte.ensures (omega (arith, c.type_inv.word c.loop-i.i)) in omega arith
+    let h : c.loop-b.p < length c.args.text.now = there c.args.text.now c.loop-b.p c.byte.ensures (omega (arith, c.type_inv.word c.loop-b.b-index)) in omega arith
 
-pub overflow_add-i : goal.overflow_add-i
-overflow_add-i c = omega arith
-
-pub loop-i-smaller : goal.loop-i-smaller
-loop-i-smaller c = omega arith
-
-pub loop-i-preserved : goal.loop-i-preserved
-loop-i-preserved c =
-    c.loop-i.invariant ∙ literal-goes c.args.word.now c.args.text.now c.loop-i.i c.loop-i.p (omega (arith, c.loop-i-test.true)) _ c.byte.ensures c.if-byte-word.false
+pub loop-b-preserved : goal.loop-b-preserved
+loop-b-preserved c =
+    c.loop-b.invariant ∙ literal-goes c.args.word.now c.args.text.now c.loop-b.b-index c.loop-b.p (omega (arith, c.loop-b-test.true)) _ c.byte.ensures c.if-byte-b.false
 
 pub returns : goal.returns
 returns c =
-    sym (c.loop-i.invariant ∙ literal-over c.args.word.now c.args.text.now c.loop-i.i c.loop-i.p c.loop-i-test.false)
+    sym (c.loop-b.invariant ∙ literal-over c.args.word.now c.args.text.now c.loop-b.b-index c.loop-b.p c.loop-b-test.false)

@@ -6,7 +6,6 @@ use Rattle.verdict.specs.Limits.{answer_under}
 use Rattle.text.proofs.Writing.{reworded}
 use Rattle.printout.specs.Program.{answer_text, unless_wide}
 use Rattle.leaks.proofs.Laws.{leak-largest}
-use borrow.Author.Rules.{rules}
 use Rattle.leaks.proofs.systems.sized_leak.Goals as goal
 
 pub returns : goal.returns

@@ -1,27 +1,25 @@
 use mathlib.Core.Path.{sym, ◌∙◌}
 use native.Mathlib.Omega.{arith}
-use borrow.Author.Rules.{rules}
-use Rattle.listing.proofs.Guessing.{kind-start, kind-found, kind-next, kind-none}
+use Rattle.listing.proofs.Guessing.{kind-start, kind-found, kind-next, kind-none, unused-first}
 use Rattle.listing.proofs.guess.guessed_kind.Goals as goal
 
 pub loop-k-init : goal.loop-k-init
 loop-k-init c =
-    (search rules, kind-start _)
+    kind-start _
 
-pub returns-then-has_keyword : goal.returns-then-has_keyword
-returns-then-has_keyword c =
+pub returns-then-has_keyword-clause-kind : goal.returns-then-has_keyword-clause-kind
+returns-then-has_keyword-clause-kind c =
     let l = c.loop-k in
     let a = c.args in
-    (sym (l.invariant.1 ∙ kind-found l.k a.l.now (omega arith) (sym c.has_keyword.ensures ∙ c.if-has_keyword.true)), omega arith)
+    let here = sym c.has_keyword.ensures ∙ c.if-has_keyword.true in
+    (sym (l.invariant ∙ kind-found l.k a.l.now (omega arith) here), unused-first l.k a.l.now here)
 
 pub loop-k-preserved : goal.loop-k-preserved
 loop-k-preserved c =
     let l = c.loop-k in
-    let a = c.args in
-    (omega arith, l.invariant.1 ∙ kind-next l.k a.l.now (omega arith) (sym c.has_keyword.ensures ∙ c.if-has_keyword.false))
+    l.invariant ∙ kind-next l.k c.args.l.now (omega arith) (sym c.has_keyword.ensures ∙ c.if-has_keyword.false)
 
-pub returns : goal.returns
-returns c =
+pub returns-clause-kind : goal.returns-clause-kind
+returns-clause-kind c =
     let l = c.loop-k in
-    let a = c.args in
-    (sym (l.invariant.1 ∙ kind-none l.k a.l.now c.loop-k-test.false), omega arith)
+    l.invariant ∙ kind-none l.k c.args.l.now (omega arith)

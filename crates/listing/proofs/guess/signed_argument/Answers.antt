@@ -6,7 +6,7 @@ use native.Mathlib.Nat.{mod-lt}
 use native.Mathlib.Omega.{arith}
 use lib.ListN.{get_or}
 use Rattle.listing.proofs.guess.signed_argument.Goals as goal
-use Rattle.listing.proofs.guess.signed_argument.Goals.{then-first-l+else-l-first-eq45, else-first-l}
+use Rattle.listing.proofs.guess.signed_argument.Goals.{else-first-l-via-then-first-l+else-l-first-eq45, else-first-l-via-else-first-l}
 
 pub returns-then-l-first-eq45 : goal.returns-then-l-first-eq45
 returns-then-l-first-eq45 c =
@@ -17,5 +17,8 @@ pub returns : goal.returns
 returns c =
     let a = c.args in
     let no : get_or a.l.now (a.at + 1) 0 ≡ 45 → ⊥ =
-    elim c.if-first-l.branch [ then-first-l+else-l-first-eq45 w ↦ w.if-l-first-eq45.false | else-first-l w ↦ no_minus a.l.now (a.at + 1) w.if-first-l.false ] in
+    elim c.else-first-l.branch [
+      | else-first-l-via-then-first-l+else-l-first-eq45 w ↦ w.if-l-first-eq45.false
+      | else-first-l-via-else-first-l w ↦ no_minus a.l.now (a.at + 1) w.if-first-l.false
+    ] in
     (c.folded-2.ensures.0 ∙ argument-plus a.l.now a.at no, c.folded-2.ensures.1)

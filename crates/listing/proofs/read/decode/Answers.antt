@@ -1,42 +1,37 @@
-use lib.ListN.{length-set}
-use mathlib.Core.Path.{refl, sym, ◌∙◌}
-use mathlib.Core.Logic.{inl, inr}
+use Prim.Native.Nat.{ℕ, ◌+◌}
+use mathlib.Core.Path.{◌≡◌, refl, ◌∙◌, subst}
+use Rattle.listing.specs.Decoding.{Taken}
+use mathlib.Core.Logic.{inr}
 use native.Mathlib.Omega.{arith}
-use borrow.Author.Rules.{rules}
-use Rattle.listing.proofs.Cutting.{taken_start, line-bad, line_taken}
+use Rattle.listing.proofs.Cutting.{taken_start, line-bad, line_taken, indent-spaces}
 use Rattle.listing.proofs.read.decode.Goals as goal
 
 pub loop-n-init : goal.loop-n-init
 loop-n-init c =
-    (search rules, refl, refl, taken_start _ _ _)
+    taken_start _ _ _
 
-pub returns-then-text-at : goal.returns-then-text-at
-returns-then-text-at c =
-    let l = c.loop-n in
-    (l.invariant.3, l.invariant.0, inl c.if-text-at.true)
+pub word_in-requires : goal.word_in-requires
+word_in-requires c =
+    (c.requires.0, c.indent-s.ensures.spaces ∙ indent-spaces _, c.indent-s.ensures.upper_bound)
 
-pub returns-then-w-eq0 : goal.returns-then-w-eq0
-returns-then-w-eq0 c =
+pub returns-in_default : goal.returns-in_default
+returns-in_default c =
     let l = c.loop-n in
     let text = c.args.text.now in
     let e = c.line_end-end in
-    (line-bad text l.n l.at e.result l.words l.spaces l.invariant.3 c.if-text-at.false e.ensures.0 (sym c.word_in-w.ensures ∙ c.if-w-eq0.true), omega arith)
+    (l.n + 1, refl, line-bad text l.n l.at e.result l.words l.spaces l.invariant (omega arith) e.ensures.0 c.in_default.ensures, omega arith)
 
 pub loop-n-preserved : goal.loop-n-preserved
 loop-n-preserved c =
     let l = c.loop-n in
     let text = c.args.text.now in
     let e = c.line_end-end in
-    let w = c.word_in-w in
-    let i = c.indent-s in (
-      omega arith,
-      simp length-set l.invariant.1,
-      simp length-set l.invariant.2,
-      line_taken text l.n l.at e.result l.words l.spaces l.invariant.3 c.if-text-at.false e.ensures.0 w.result i.result
-          w.ensures i.ensures.0 c.if-w-eq0.false e.ensures.1 (omega (arith, c.requires.1)) (omega (arith, c.requires.2)),
-    )
+    let w = c.in-Some in
+    line_taken text l.n l.at e.result l.words l.spaces l.invariant (omega arith) e.ensures.0 w.w c.indent-s.result
+    w.ensures.0 (c.indent-s.ensures.spaces ∙ indent-spaces _) w.ensures.1 e.ensures.1 (omega (arith, c.requires.1)) (omega (arith, c.requires.2))
 
 pub returns : goal.returns
 returns c =
     let l = c.loop-n in
-    (l.invariant.3, l.invariant.0, inr (omega arith))
+    let all : l.n ≡ 1024 = omega arith in
+    (subst (λ (n : ℕ). Taken c.args.text.now n l.at l.words l.spaces) all l.invariant, omega arith, inr refl)

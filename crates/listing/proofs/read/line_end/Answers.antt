@@ -1,24 +1,20 @@
-use mathlib.Core.Path.{refl}
+-- `listing::read::line_end` meets its contract. Assumes nothing.
+use mathlib.Core.Path.{sym, ap, ◌∙◌}
 use native.Mathlib.Omega.{arith}
-use borrow.Author.Rules.{rules}
-use Rattle.listing.proofs.Cutting.{size-end, size-feed, size-more}
+use lib.Dec.{eqb}
+use lib.ListN.{drop, length-drop}
+use Rattle.std.specs.List.{position}
+use Rattle.listing.proofs.Cutting.{behind, size-found, size-none}
 use Rattle.listing.proofs.read.line_end.Goals as goal
 
-pub loop-i-init : goal.loop-i-init
-loop-i-init c =
-    (search rules, refl)
+pub returns-in-Some : goal.returns-in-Some
+returns-in-Some c =
+    let a = c.args in
+    let e = size-found (drop a.at a.text.now) c.in-Some.i (ap (position (λ b. eqb b 10)) (sym (behind a.text.now a.at)) ∙ sym c.first_feed.ensures ∙ c.in-Some.is) in
+    (omega (arith, e.0), omega (arith, e.1, length-drop a.at a.text.now))
 
-pub returns-then-text-i-eq10 : goal.returns-then-text-i-eq10
-returns-then-text-i-eq10 c =
-    let l = c.loop-i in
-    (omega (arith, l.invariant.1, size-feed c.args.text.now l.i (omega arith) c.if-text-i-eq10.true), omega arith)
-
-pub loop-i-preserved : goal.loop-i-preserved
-loop-i-preserved c =
-    let l = c.loop-i in
-    (omega arith, omega (arith, l.invariant.1, size-more c.args.text.now l.i (omega arith) c.if-text-i-eq10.false))
-
-pub returns : goal.returns
-returns c =
-    let l = c.loop-i in
-    (omega (arith, l.invariant.1, size-end c.args.text.now l.i (omega arith)), omega arith)
+pub returns-in-None : goal.returns-in-None
+returns-in-None c =
+    let a = c.args in
+    let e = size-none (drop a.at a.text.now) (ap (position (λ b. eqb b 10)) (sym (behind a.text.now a.at)) ∙ sym c.first_feed.ensures ∙ c.in-None.is) in
+    (omega (arith, e, length-drop a.at a.text.now), omega arith)

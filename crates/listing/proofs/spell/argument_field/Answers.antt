@@ -1,43 +1,38 @@
 -- `listing::spell::argument_field` meets its contract. Assumes nothing.
-use mathlib.Core.Path.{sym, ap, ◌∙◌}
+use mathlib.Core.Path.{sym, ap}
 use native.Mathlib.Omega.{arith}
 use Rattle.text.proofs.Writing.{reworded, wrote_nothing}
-use Rattle.listing.specs.Keywords.{Style, omitted, hex, whole, style_letter}
+use Rattle.listing.specs.declared.keywords.Style.{Style}
 use Rattle.listing.specs.Spelling.{spelled_argument}
-use Rattle.listing.proofs.Styles.{letter-injective, letter-rest}
 use Rattle.listing.proofs.spell.argument_field.Goals as goal
 
-pub returns-in-111 : goal.returns-in-111
-unfolding spelled_argument style_letter
-returns-in-111 c =
-    let a = c.args in
+pub returns-in-Omitted : goal.returns-in-Omitted
+unfolding spelled_argument
+returns-in-Omitted c =
     record {
-      wrote = λ s e. reworded (ap (λ (t : Style). spelled_argument t a.a) (letter-injective omitted s (sym c.in-111.is ∙ e))) (wrote_nothing _ _ (omega arith));
+      wrote = reworded (ap (λ (t : Style). spelled_argument t c.args.a) (sym c.in-Omitted.is)) (wrote_nothing _ _ (omega arith));
       upper_bound = omega arith;
     }
 
-pub returns-in-104 : goal.returns-in-104
-unfolding spelled_argument style_letter
-returns-in-104 c =
-    let a = c.args in
+pub returns-in-Hex : goal.returns-in-Hex
+unfolding spelled_argument
+returns-in-Hex c =
     record {
-      wrote = λ s e. reworded (ap (λ (t : Style). spelled_argument t a.a) (letter-injective hex s (sym c.in-104.is ∙ e))) c.set_field.ensures.wrote;
+      wrote = reworded (ap (λ (t : Style). spelled_argument t c.args.a) (sym c.in-Hex.is)) c.set_field.ensures.wrote;
       upper_bound = omega arith;
     }
 
-pub returns-in-119 : goal.returns-in-119
-unfolding spelled_argument style_letter
-returns-in-119 c =
-    let a = c.args in
+pub returns-in-Whole : goal.returns-in-Whole
+unfolding spelled_argument
+returns-in-Whole c =
     record {
-      wrote = λ s e. reworded (ap (λ (t : Style). spelled_argument t a.a) (letter-injective whole s (sym c.in-119.is ∙ e))) c.number_field.ensures.wrote;
+      wrote = reworded (ap (λ (t : Style). spelled_argument t c.args.a) (sym c.in-Whole.is)) c.number_field.ensures.wrote;
       upper_bound = omega arith;
     }
 
-pub returns-in_default : goal.returns-in_default
-returns-in_default c =
-    let a = c.args in
+pub returns-in-Signed : goal.returns-in-Signed
+returns-in-Signed c =
     record {
-      wrote = λ s e. reworded (ap (λ (t : Style). spelled_argument t a.a) (letter-rest s (omega arith) (omega arith) (omega arith))) c.signed_field.ensures.wrote;
+      wrote = reworded (ap (λ (t : Style). spelled_argument t c.args.a) (sym c.in-Signed.is)) c.signed_field.ensures.wrote;
       upper_bound = omega arith;
     }

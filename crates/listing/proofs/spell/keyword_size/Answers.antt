@@ -11,10 +11,6 @@ pub bounds-letters-k : goal.bounds-letters-k
 bounds-letters-k c =
     omega (arith, ap length c.requires.0 ∙ letters-length)
 
-pub overflow_cast-result : goal.overflow_cast-result
-overflow_cast-result c =
-    omega (arith, c.type_inv.letters (16 * c.args.k))
-
 pub returns : goal.returns
 returns c =
-    ap (λ (l : List ℕ). get_or l (16 * c.args.k) 0) c.requires.0 ∙ size-at c.args.k c.requires.1
+    c.from.ensures ∙ ap (λ (l : List ℕ). get_or l (16 * c.args.k) 0) c.requires.0 ∙ size-at c.args.k c.requires.1

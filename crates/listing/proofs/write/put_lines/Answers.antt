@@ -1,7 +1,7 @@
 use mathlib.Core.List.{[]}
 use Rattle.listing.proofs.Lines.{whole-text, rest, rest-start, rest_end, rest-here, kind-small, depth-there, text-drop, text-take, text-fits}
 use Prim.Native.Nat.{ℕ, ◌+◌}
-use mathlib.Core.Path.{◌≡◌, refl, ap, sym, ◌∙◌}
+use mathlib.Core.Path.{◌≡◌, ap, sym, ◌∙◌}
 use native.Mathlib.Omega.{arith}
 use lib.ListN.{get_or, take, drop}
 use borrow.Author.Rules.{rules}
@@ -10,8 +10,11 @@ use Rattle.listing.specs.Listing.{indented, listing}
 use Rattle.listing.proofs.write.put_lines.Goals as goal
 
 pub loop-i-init : goal.loop-i-init
-loop-i-init c =
-    (search rules, refl, search rules, sym (rest-start c.args.words.now c.requires.letters_value.1), wrote_nothing _ _ (omega arith))
+loop-i-init c = record {
+  in_bounds = search rules;
+  left_over = sym (rest-start c.args.words.now c.requires.letters_value.1);
+  written = wrote_nothing _ _ (omega arith);
+}
 
 pub bounds-depths-i : goal.bounds-depths-i
 bounds-depths-i c =
@@ -26,7 +29,7 @@ put_line-at-requires c =
     let here = rest-here ws c.requires.letters_value.1 c.args.depths.now c.requires.depths_value l.i (omega arith) in (
       c.requires.letters_value.0,
       kind-small ws c.requires.letters_value.1 l.i (omega arith),
-      omega (arith, text-fits (listing ws) x y l.at (l.invariant.3 ∙ here) l.invariant.2, c.requires.words_in_bounds, l.invariant.1),
+      omega (arith, text-fits (listing ws) x y l.at (l.invariant.left_over ∙ here) l.invariant.in_bounds, c.requires.words_in_bounds),
     )
 
 pub loop-i-preserved : goal.loop-i-preserved
@@ -35,18 +38,16 @@ loop-i-preserved c =
     let ws = c.args.words.now in
     let x = indented (get_or c.args.depths.now l.i 0) (get_or ws l.i 0) in
     let y = rest ws (l.i + 1) in
-    let e = l.invariant.3 ∙ rest-here ws c.requires.letters_value.1 c.args.depths.now c.requires.depths_value l.i (omega arith) in
-    let p = c.put_line-at.ensures in (
-      omega arith,
-      search rules,
-      omega (arith, p.ends, text-fits (listing ws) x y l.at e l.invariant.2),
-      ap (λ (n : ℕ). drop n (listing ws)) p.ends ∙ text-drop (listing ws) x y l.at e,
-      reworded (sym (ap (λ (n : ℕ). take n (listing ws)) p.ends ∙ text-take (listing ws) x y l.at e)) (then l.invariant.4 p),
-    )
+    let e = l.invariant.left_over ∙ rest-here ws c.requires.letters_value.1 c.args.depths.now c.requires.depths_value l.i (omega arith) in
+    let p = c.put_line-at.ensures in record {
+      in_bounds = omega (arith, p.ends, text-fits (listing ws) x y l.at e l.invariant.in_bounds);
+      left_over = ap (λ (n : ℕ). drop n (listing ws)) p.ends ∙ text-drop (listing ws) x y l.at e;
+      written = reworded (sym (ap (λ (n : ℕ). take n (listing ws)) p.ends ∙ text-take (listing ws) x y l.at e)) (then l.invariant.written p);
+    }
 
 pub returns : goal.returns
 returns c =
     let l = c.loop-i in
     let ws = c.args.words.now in
-    let none : drop l.at (listing ws) ≡ [] = l.invariant.3 ∙ rest_end ws c.requires.letters_value.1 l.i (omega arith) in
-    whole-text (listing ws) l.at l.invariant.2 none l.invariant.4
+    let none : drop l.at (listing ws) ≡ [] = l.invariant.left_over ∙ rest_end ws c.requires.letters_value.1 l.i (omega arith) in
+    whole-text (listing ws) l.at l.invariant.in_bounds none l.invariant.written

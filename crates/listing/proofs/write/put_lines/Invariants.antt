@@ -1,6 +1,6 @@
 -- `listing::write::put_lines` meets its contract. The loop's invariant: the listing is written up to `at`, and the lines from i on are left.
 -- Assumes nothing.
-use Prim.Native.Nat.{◌-◌, ◌≤◌}
+use Prim.Native.Nat.{◌≤◌}
 use mathlib.Core.Path.{◌≡◌}
 use lib.ListN.{length, take, drop}
 use Rattle.text.specs.Writing.{Wrote}
@@ -9,9 +9,8 @@ use Rattle.listing.proofs.Lines.{rest}
 use Rattle.listing.proofs.write.put_lines.Given as goal
 
 abbrev pub invariant-loop-i : goal.invariant-loop-i
-invariant-loop-i l =
-    (l.i ≤ length l.words) × (length l.out ≡ length l.initial.out) × (l.at ≤ length (listing l.words)) × (drop l.at (listing l.words) ≡ rest l.words l.i)
-    × Wrote l.initial.out 0 (take l.at (listing l.words)) l.out l.at
-
-abbrev pub decreases-loop-i : goal.decreases-loop-i
-decreases-loop-i l = length l.words - l.i
+invariant-loop-i l = record {
+  in_bounds : l.at ≤ length (listing l.words);
+  left_over : drop l.at (listing l.words) ≡ rest l.words l.i;
+  written : Wrote l.initial.out 0 (take l.at (listing l.words)) l.out l.at;
+}

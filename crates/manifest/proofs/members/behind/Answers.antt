@@ -1,12 +1,8 @@
 -- `manifest::members::behind` meets its contract.
 -- Assumes nothing.
 use mathlib.Core.Path.{sym}
-use native.Mathlib.Omega.{arith}
 use Rattle.json_text.proofs.Places.{tail-drop, tail-over}
 use Rattle.manifest.proofs.members.behind.Goals as goal
-
-pub overflow_add-result : goal.overflow_add-result
-overflow_add-result c = omega arith
 
 pub returns-then-at-text : goal.returns-then-at-text
 returns-then-at-text c = sym (tail-drop c.args.text.now c.args.at)

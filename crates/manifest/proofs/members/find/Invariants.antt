@@ -8,9 +8,9 @@ use Rattle.json_text.specs.Values.{value, item}
 use Rattle.manifest.specs.Members.{find}
 use Rattle.manifest.proofs.members.find.Given as goal
 
-abbrev pub invariant-loop-at : goal.invariant-loop-at
-invariant-loop-at l =
-    find l.key (starts (item (value 15) true) (drop l.at l.text)) ≡ find l.key (starts (item (value 15) true) (drop l.p l.text))
+abbrev pub invariant-loop-member : goal.invariant-loop-member
+invariant-loop-member l =
+    find l.key (starts (item (value 15) true) (drop l.initial.member l.text)) ≡ find l.key (starts (item (value 15) true) (drop l.member l.text))
 
-abbrev pub decreases-loop-at : goal.decreases-loop-at
-decreases-loop-at l = length (drop l.p l.text)
+abbrev pub decreases-loop-member : goal.decreases-loop-member
+decreases-loop-member l = length (drop l.member l.text)

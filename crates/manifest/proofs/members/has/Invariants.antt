@@ -2,6 +2,7 @@
 -- Assumes nothing.
 use mathlib.Core.Path.{◌≡◌}
 use mathlib.Core.Bool.{true}
+use Prim.Native.Nat.{◌-◌}
 use lib.ListN.{take, drop}
 use Rattle.json_text.specs.Bytes.{starts}
 use Rattle.json_text.specs.Strings.{units}
@@ -9,10 +10,7 @@ use Rattle.json_text.specs.Values.{value, item}
 use Rattle.manifest.specs.Members.{has}
 use Rattle.manifest.proofs.members.has.Given as goal
 
-abbrev pub invariant-loop-left : goal.invariant-loop-left
-invariant-loop-left l =
+abbrev pub invariant-loop : goal.invariant-loop
+invariant-loop l =
     has (take l.count (starts (item (value 15) true) (drop l.at l.text))) (units (drop l.key l.text))
-    ≡ has (take l.left (starts (item (value 15) true) (drop l.p l.text))) (units (drop l.key l.text))
-
-abbrev pub decreases-loop-left : goal.decreases-loop-left
-decreases-loop-left l = l.left
+    ≡ has (take (l.count - l.counter) (starts (item (value 15) true) (drop l.member l.text))) (units (drop l.key l.text))

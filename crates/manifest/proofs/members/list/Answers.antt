@@ -3,14 +3,13 @@
 use mathlib.Core.Path.{sym, ap, ◌∙◌}
 use mathlib.Core.Bool.{false}
 use mathlib.Core.List.{List}
-use Prim.Native.Nat.{ℕ, ◌<◌}
+use Prim.Native.Nat.{ℕ}
 use native.Mathlib.Omega.{arith}
-use lib.ListN.{length}
-use Rattle.json_text.specs.declared.Ending.{Ending}
+use Rattle.std.specs.Prelude.{Option, Some}
 use Rattle.json_text.specs.Values.{value, first, starts_from}
 use Rattle.json_text.specs.Answers.{ended}
 use Rattle.json_text.proofs.Choice.{is, is-not}
-use Rattle.json_text.proofs.Places.{there, tail-drop}
+use Rattle.json_text.proofs.Places.{tail-drop}
 use Rattle.manifest.specs.Members.{counted, listed}
 use Rattle.manifest.specs.Answer.{count_of}
 use Rattle.manifest.proofs.Lists.{counted_none, list-missing, no-array, array}
@@ -21,7 +20,7 @@ pub returns-in_default : goal.returns-in_default
 returns-in_default c =
     let a = c.args in
     record {
-      counts = sym (ap (λ (x : Ending). listed a.names a.hosts (ended a.text.now x) (count_of a.tally)) c.in_default.is ∙ list-missing a.names a.hosts _);
+      counts = sym (ap (λ (x : Option ℕ). listed a.names a.hosts (ended a.text.now x) (count_of (Some a.tally))) c.in_default.is ∙ list-missing a.names a.hosts _);
       few = omega arith;
     }
 
@@ -29,21 +28,17 @@ pub returns-then-byte-ne91 : goal.returns-then-byte-ne91
 returns-then-byte-ne91 c =
     let a = c.args in
     record {
-      counts = sym (ap (λ (x : Ending). listed a.names a.hosts (ended a.text.now x) (count_of a.tally)) c.in-At.is ∙ no-array a.names a.hosts _ _ (is-not c.byte.ensures c.if-byte-ne91.true));
+      counts = sym (ap (λ (x : Option ℕ). listed a.names a.hosts (ended a.text.now x) (count_of (Some a.tally))) c.in-Some.is ∙ no-array a.names a.hosts _ _ (is-not c.byte.ensures c.if-byte-ne91.true));
       few = omega arith;
     }
-
-pub overflow_add-at : goal.overflow_add-at
-overflow_add-at c =
-    let h : c.in-At.at < length c.args.text.now = there c.args.text.now c.in-At.at c.byte.ensures (omega arith) in omega arith
 
 pub returns-in_default-first : goal.returns-in_default-first
 returns-in_default-first c =
     let a = c.args in record {
       counts = sym
-          (ap (λ (x : Ending). listed a.names a.hosts (ended a.text.now x) (count_of a.tally)) c.in-At.is
+          (ap (λ (x : Option ℕ). listed a.names a.hosts (ended a.text.now x) (count_of (Some a.tally))) c.in-Some.is
           ∙ array a.names a.hosts _ _ (is c.byte.ensures c.if-byte-ne91.false)
-          ∙ ap (λ (l : List (List ℕ)). counted a.names a.hosts l (count_of a.tally)) (ap (starts_from (value 14) false) (ap (first false) (tail-drop a.text.now c.in-At.at) ∙ sym c.first.ensures) ∙ starts_none 14 false a.text.now _ c.in_default-first.is)
+          ∙ ap (λ (l : List (List ℕ)). counted a.names a.hosts l (count_of (Some a.tally))) (ap (starts_from (value 14) false) (ap (first false) (tail-drop a.text.now c.in-Some.at) ∙ sym c.first.ensures) ∙ starts_none 14 false a.text.now _ c.in_default-first.is)
           ∙ counted_none a.names a.hosts _);
       few = omega arith;
     }
@@ -52,9 +47,9 @@ pub returns : goal.returns
 returns c =
     let a = c.args in record {
       counts = sym
-          (ap (λ (x : Ending). listed a.names a.hosts (ended a.text.now x) (count_of a.tally)) c.in-At.is
+          (ap (λ (x : Option ℕ). listed a.names a.hosts (ended a.text.now x) (count_of (Some a.tally))) c.in-Some.is
           ∙ array a.names a.hosts _ _ (is c.byte.ensures c.if-byte-ne91.false)
-          ∙ ap (λ (l : List (List ℕ)). counted a.names a.hosts l (count_of a.tally)) (ap (starts_from (value 14) false) (ap (first false) (tail-drop a.text.now c.in-At.at) ∙ sym c.first.ensures) ∙ starts-at 14 false a.text.now _ _ c.in-At-first.is)
+          ∙ ap (λ (l : List (List ℕ)). counted a.names a.hosts l (count_of (Some a.tally))) (ap (starts_from (value 14) false) (ap (first false) (tail-drop a.text.now c.in-Some.at) ∙ sym c.first.ensures) ∙ starts-at 14 false a.text.now _ _ c.in-Some-first.is)
           ∙ sym c.elements.ensures.counts);
       few = c.elements.ensures.few;
     }

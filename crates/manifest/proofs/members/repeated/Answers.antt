@@ -13,4 +13,4 @@ returns-in_default c =
 
 pub returns : goal.returns
 returns c =
-    c.repeated_from.ensures ∙ sym (ap (repeated []) (starts-at 15 true c.args.text.now _ _ c.in-At.is))
+    c.repeated_from.ensures ∙ sym (ap (repeated []) (starts-at 15 true c.args.text.now _ _ c.in-Some.is))

@@ -15,11 +15,11 @@ use Rattle.manifest.proofs.members.repeated_from.Given as goal
 abbrev pub invariant-loop-at : goal.invariant-loop-at
 invariant-loop-at l =
     (repeated [] (starts (item (value 15) true) (drop l.at l.text))
-    ≡ repeated (take l.count (starts (item (value 15) true) (drop l.at l.text))) (starts (item (value 15) true) (drop l.p l.text)))
-    × (drop l.count (starts (item (value 15) true) (drop l.at l.text)) ≡ starts (item (value 15) true) (drop l.p l.text))
-    × (l.count + length (drop l.p l.text) ≤ length l.text)
+    ≡ repeated (take l.count (starts (item (value 15) true) (drop l.at l.text))) (starts (item (value 15) true) (drop l.member l.text)))
+    × (drop l.count (starts (item (value 15) true) (drop l.at l.text)) ≡ starts (item (value 15) true) (drop l.member l.text))
+    × (l.count + length (drop l.member l.text) ≤ length l.text)
     × Marked l.marks (take l.count (starts (item (value 15) true) (drop l.at l.text)))
     × (length l.marks ≡ length l.initial.marks)
 
 abbrev pub decreases-loop-at : goal.decreases-loop-at
-decreases-loop-at l = length (drop l.p l.text)
+decreases-loop-at l = length (drop l.member l.text)

@@ -2,14 +2,12 @@
 -- Assumes nothing.
 use mathlib.Core.Bool.{true, not}
 use mathlib.Core.Path.{sym, ap, ◌∙◌}
-use Prim.Native.Nat.{◌<◌}
 use native.Mathlib.Omega.{arith}
-use lib.ListN.{length}
 use borrow.Author.Tests.{le-leb, lt-leb, not-true, not-false}
 use Rattle.json_text.specs.Bytes.{head, tail}
 use Rattle.json_text.specs.Values.{value, first, starts_from}
 use Rattle.json_text.proofs.Choice.{is, is-not}
-use Rattle.json_text.proofs.Places.{there, tail-drop}
+use Rattle.json_text.proofs.Places.{tail-drop}
 use Rattle.manifest.specs.Manifest.{judged_from}
 use Rattle.manifest.proofs.Judged.{judged-not, judged-object, too_long, no_text, no-object, an-object}
 use Rattle.manifest.proofs.read.read.Goals as goal
@@ -31,10 +29,6 @@ returns-then-byte-ne123 c = record {
   says = sym (judged-not _ (no-object _ (le-leb _ _ c.if-text-gt16384.false) (sym c.is_text.ensures ∙ not-false _ (ap not c.if-not-is_text.false)) (is-not (c.byte.ensures ∙ ap head c.space-top.ensures) c.if-byte-ne123.true)));
   few = omega arith;
 }
-
-pub overflow_add-top : goal.overflow_add-top
-overflow_add-top c =
-    let h : c.space-top.result < length c.args.text.now = there c.args.text.now c.space-top.result c.byte.ensures (omega arith) in omega arith
 
 pub returns : goal.returns
 returns c =

@@ -3,14 +3,15 @@
 use mathlib.Core.Path.{◌≡◌, sym, ap, ap₂, ◌∙◌}
 use mathlib.Core.List.{List, ◌++◌, map}
 use mathlib.Core.Bool.{true, false}
-use Prim.Native.Nat.{ℕ, ◌+◌, ◌-◌}
-use native.Mathlib.Nat.{zero-add, sub-zero}
+use Prim.Native.Nat.{ℕ, ◌+◌}
+use native.Mathlib.Nat.{zero-add}
 use native.Mathlib.Omega.{arith}
 use lib.ListN.{length, take, drop, set, replicate, length-set, length-replicate}
-use lib.Seq.{take-length}
+use lib.Seq.{take-length, length-take-le}
 use borrow.Author.Rules.{rules}
 use Rattle.blocks.specs.Blocks.{blocks}
 use Rattle.table.specs.Scan.{accepted}
+use Rattle.std.specs.Prelude.{Err}
 use Rattle.overlay.specs.declared.join.Put.{Put}
 use Rattle.overlay.specs.Parts.{given, PutTo}
 use Rattle.overlay.specs.Lookup.{tables_read}
@@ -31,22 +32,23 @@ written : (base overlay : List ℕ) {first second : Put} {z z' : List ℕ} → t
     → Ready base overlay (replicate 1024 0) z' (first.count + second.count) second.end
 written base overlay e kept one two = let t = tables-accepted base overlay e in ready base overlay t.0 t.1 (omega (arith, zeros)) kept one two
 
-pub returns-in-Refused : goal.returns-in-Refused
+pub returns-in_err-check : goal.returns-in_err-check
 unfolding joined_as checked_as
-returns-in-Refused c =
-    let e = sym c.check.ensures ∙ ap checked_as c.in-Refused.is in
+returns-in_err-check c =
+    let e = sym c.check.ensures ∙ ap checked_as c.in_err-check.was in
+    let passed : c.from_residual.result ≡ Err c.in_err-check.field-0.0 = search rules in
     let out = c.args.out.now in
     record {
-      answer = sym (join-refused _ _ out _ _ e);
+      answer = ap joined_as passed ∙ sym (join-refused _ _ out _ _ e);
       out = sym (out-refused _ _ out _ _ e);
     }
 
 pub put_blocks-first-requires : goal.put_blocks-first-requires
-put_blocks-first-requires c = let t = tables-accepted _ _ (checked-accepted _ _ c.check.ensures c.in_default.is) in (omega arith, t.0, t.1)
+put_blocks-first-requires c = let t = tables-accepted _ _ (checked-accepted _ _ c.check.ensures c.in_ok-check.was) in (omega arith, t.0, t.1)
 
 pub put_blocks-second-requires : goal.put_blocks-second-requires
 put_blocks-second-requires c =
-    let t = tables-accepted _ _ (checked-accepted _ _ c.check.ensures c.in_default.is) in
+    let t = tables-accepted _ _ (checked-accepted _ _ c.check.ensures c.in_ok-check.was) in
     let n = c.put_blocks-first.ensures.near in
     let b = t.0 in
     let o = t.1 in
@@ -62,7 +64,7 @@ pub returns-then-count-gt32 : goal.returns-then-count-gt32
 unfolding joined_as fault_number fault_place
 returns-then-count-gt32 c =
     let a = c.args in
-    let t = checked-accepted _ _ c.check.ensures c.in_default.is in
+    let t = checked-accepted _ _ c.check.ensures c.in_ok-check.was in
     let r = written a.base.now a.overlay.now t c.put_blocks-first.auto.out c.put_blocks-first.ensures c.put_blocks-second.ensures in
     let q = too-many-handlers _ _ r a.out.now t (search rules) in
     record {
@@ -74,7 +76,7 @@ pub returns-then-end-gt1024 : goal.returns-then-end-gt1024
 unfolding joined_as fault_number fault_place
 returns-then-end-gt1024 c =
     let a = c.args in
-    let t = checked-accepted _ _ c.check.ensures c.in_default.is in
+    let t = checked-accepted _ _ c.check.ensures c.in_ok-check.was in
     let r = written a.base.now a.overlay.now t c.put_blocks-first.auto.out c.put_blocks-first.ensures c.put_blocks-second.ensures in
     let q = too-many-words _ _ r a.out.now t (search rules) (search rules) in
     record {
@@ -86,7 +88,7 @@ pub returns-then-out-end : goal.returns-then-out-end
 unfolding joined_as fault_number fault_place
 returns-then-out-end c =
     let a = c.args in
-    let t = checked-accepted _ _ c.check.ensures c.in_default.is in
+    let t = checked-accepted _ _ c.check.ensures c.in_ok-check.was in
     let r = written a.base.now a.overlay.now t c.put_blocks-first.auto.out c.put_blocks-first.ensures c.put_blocks-second.ensures in
     let q = short-output _ _ r a.out.now t (search rules) (search rules) (search rules) in
     record {
@@ -97,7 +99,9 @@ returns-then-out-end c =
 pub slice_bounds-append-end : goal.slice_bounds-append-end
 slice_bounds-append-end c =
     let l : length c.put_blocks-second.new.out ≡ 1024 = c.put_blocks-second.auto.out ∙ c.put_blocks-first.auto.out ∙ zeros in
-    simp length-set (search rules)
+    let s = set c.put_blocks-second.new.out 0 (16777216 + (c.put_blocks-first.result.count + c.put_blocks-second.result.count)) in
+    let m : length s ≡ 1024 = length-set _ _ _ ∙ l in
+    sym (length-take-le c.put_blocks-second.result.end s (omega arith))
 
 pub returns : goal.returns
 unfolding joined_as
@@ -105,13 +109,13 @@ returns c =
     let a = c.args in
     let out = a.out.now in
     let ws = joined a.base.now a.overlay.now in
-    let t = checked-accepted _ _ c.check.ensures c.in_default.is in
+    let t = checked-accepted _ _ c.check.ensures c.in_ok-check.was in
     let r = written a.base.now a.overlay.now t c.put_blocks-first.auto.out c.put_blocks-first.ensures c.put_blocks-second.ensures in
     let q = all-written a.base.now a.overlay.now r out t (search rules) (search rules) (search rules) in
     let count = c.put_blocks-first.result.count + c.put_blocks-second.result.count in
     let end = c.put_blocks-second.result.end in
     let buffer = set c.put_blocks-second.new.out 0 (16777216 + count) in
-    let same : ws ≡ take (end - 0) buffer = sym (ap (λ (i : ℕ). take i buffer) (sub-zero end) ∙ r.listed (omega (arith, zeros))) in
+    let same : ws ≡ take end buffer = sym (r.listed (omega (arith, zeros))) in
     let done = appended-as same c.append.ensures in
     record {
       answer = q.0;

@@ -3,7 +3,6 @@ use Prim.Native.Nat.{ℕ, ◌+◌, ◌-◌}
 use native.Mathlib.Nat.{add-zero}
 use native.Mathlib.Omega.{arith}
 use lib.ListN.{get_or, drop}
-use lib.Arith.{le-zero}
 use borrow.Author.Rules.{rules}
 use Rattle.table.specs.Code.{skip}
 use Rattle.table.proofs.ByKind.{arity-small}
@@ -11,33 +10,39 @@ use Rattle.table.proofs.Parts.{skip-zero}
 use Rattle.overlay.proofs.Ends.{skip-past, skip-on}
 use Rattle.overlay.proofs.search.term_end.Goals as goal
 
-pub loop-left-init : goal.loop-left-init
-loop-left-init c = (omega arith, refl)
-
-pub returns-then-words-next : goal.returns-then-words-next
-returns-then-words-next c =
-    let l = c.loop-left in
-    sym (l.invariant.1 ∙ skip-past c.args.words.now l.next l.left c.if-words-next.true)
+pub loop-next-init : goal.loop-next-init
+loop-next-init c = (omega arith, omega arith, omega arith, refl)
 
 pub overflow_add-left : goal.overflow_add-left
-overflow_add-left c =
-    let w = get_or c.args.words.now c.loop-left.next 0 in
-    omega (arith, arity-small w)
+overflow_add-left c = omega (arith, arity-small (get_or c.args.words.now c.loop-next.next 0))
 
-pub loop-left-preserved : goal.loop-left-preserved
-loop-left-preserved c =
-    let l = c.loop-left in
+pub returns-then-left-eq0 : goal.returns-then-left-eq0
+returns-then-left-eq0 c =
+    let l = c.loop-next in
     let ws = c.args.words.now in
-    let w = get_or ws l.next 0 in (
-      omega (arith, arity-small w),
-      l.invariant.1
+    let past = drop (l.next + 1) ws in
+    sym
+    (l.invariant.3
+    ∙ skip-on ws l.next l.left (search rules) (search rules)
+    ∙ ap (λ (n : ℕ). l.next + 1 + skip past (l.left - 1 + n)) (sym c.arity_of.ensures)
+    ∙ ap (λ (n : ℕ). l.next + 1 + skip past n) c.if-left-eq0.true
+    ∙ ap (λ (n : ℕ). l.next + 1 + n) (skip-zero past)
+    ∙ add-zero (l.next + 1))
+
+pub loop-next-preserved : goal.loop-next-preserved
+loop-next-preserved c =
+    let l = c.loop-next in
+    let ws = c.args.words.now in (
+      omega arith,
+      omega (arith, arity-small (get_or ws l.next 0)),
+      omega arith,
+      l.invariant.3
           ∙ skip-on ws l.next l.left (search rules) (search rules)
           ∙ ap (λ (n : ℕ). l.next + 1 + skip (drop (l.next + 1) ws) (l.left - 1 + n)) (sym c.arity_of.ensures),
     )
 
 pub returns : goal.returns
 returns c =
-    let l = c.loop-left in
-    let ws = c.args.words.now in
-    let none : skip (drop l.next ws) l.left ≡ 0 = ap (skip (drop l.next ws)) (le-zero (search rules)) ∙ skip-zero (drop l.next ws) in
-    sym (l.invariant.1 ∙ ap (λ (n : ℕ). l.next + n) none ∙ add-zero l.next)
+    let l = c.loop-next in
+    let last : c.max.result ≡ l.next = omega arith in
+    last ∙ sym (l.invariant.3 ∙ skip-past c.args.words.now l.next l.left (search rules))

@@ -5,7 +5,6 @@ use Rattle.table.specs.Code.{code}
 use Rattle.calls.proofs.Bounds.{size_small, row_small, flags-base}
 use Rattle.text.proofs.Writing.{reworded}
 use Rattle.printout.proofs.HandlerLaws.{line-is, small, est-short, word-inside, permissions-read, flag-read}
-use borrow.Author.Rules.{rules}
 use Rattle.printout.proofs.handlers.block_line.Goals as goal
 
 pub flags-at-requires : goal.flags-at-requires

@@ -3,7 +3,6 @@ use mathlib.Core.Path.{sym, ap, ◌∙◌}
 use native.Mathlib.Omega.{arith}
 use lib.ListN.{length}
 use Rattle.printout.proofs.HandlerLaws.{here-gap, here-term, here-handler, stepped-none, stepped-block}
-use borrow.Author.Rules.{rules}
 use Rattle.printout.proofs.handlers.handler_at.Goals as goal
 
 pub block_line-at-requires : goal.block_line-at-requires

@@ -8,7 +8,6 @@ use Rattle.little_endian.proofs.Laws.{length-words_of, words-read}
 use Rattle.text.proofs.Writing.{reworded}
 use Rattle.printout.specs.Program.{system_text}
 use Rattle.printout.proofs.Texts.{fed, printed-system}
-use borrow.Author.Rules.{rules}
 use Rattle.printout.proofs.program.lent_text.Goals as goal
 
 pub slice_bounds-words_text-end-2 : goal.slice_bounds-words_text-end-2

@@ -3,8 +3,7 @@ use mathlib.Core.Path.{◌≡◌, sym, ap, ap₂, ◌∙◌}
 use mathlib.Core.List.{List, ◌∷◌, map}
 use native.Mathlib.Numerals.{add-one}
 use native.Mathlib.Omega.{arith}
-use borrow.Author.Rules.{rules}
-use lib.ListN.{length, get_or, drop, length-set, length-map, drop_of_length-le}
+use lib.ListN.{length, get_or, drop, length-map, drop_of_length-le}
 use lib.Seq.{drop-cons}
 use Rattle.graph.proofs.Writing.{partly-start, partly-on, partly-end}
 use Rattle.reading_order.specs.Relation.{senders_to}
@@ -16,31 +15,24 @@ row_next f bs t x h e =
     ap (map f) (drop-cons bs t 0 h) ∙ ap₂ (λ (y n : ℕ). y ∷ map f (drop n bs)) (sym e) (sym (add-one t))
 
 pub loop-t-init : goal.loop-t-init
-loop-t-init c = (search rules, search rules, λ k o. partly-start _ _)
-
-pub overflow_cast-blocks : goal.overflow_cast-blocks
-overflow_cast-blocks c = omega (arith, c.type_inv.blocks c.loop-t.t)
+loop-t-init c = λ k o. partly-start _ _
 
 pub senders_to-requires : goal.senders_to-requires
 senders_to-requires c =
     let h = c.requires in
-    (h.0, h.1, h.1.inside c.loop-t.t c.loop-t-test.true)
+    (h.0, h.1, h.1.inside c.loop-t.t (omega arith))
 
 pub loop-t-preserved : goal.loop-t-preserved
 loop-t-preserved c =
     let i = c.loop-t in
     let a = c.args in
-    let h = c.loop-t-test.true in (
-      search rules,
-      simp length-set i.invariant.1,
-      λ k o. partly-on _ _ i.rows i.t c.senders_to.result _ _
-          (row_next (senders_to k a.est.now a.blocks.now) a.blocks.now i.t _ h (c.senders_to.ensures k o)) (i.invariant.2 k o),
-    )
+    λ k o. partly-on _ _ i.rows i.t c.senders_to.result _ _
+    (row_next (senders_to k a.est.now a.blocks.now) a.blocks.now i.t _ (omega arith) (c.senders_to.ensures k o)) (i.invariant k o)
 
 pub returns : goal.returns
 returns c =
     let i = c.loop-t in
     let a = c.args in
     λ k o. partly-end _ _ i.rows i.t _
-    (ap (map (senders_to k a.est.now a.blocks.now)) (drop_of_length-le a.blocks.now {i = i.t} c.loop-t-test.false))
-    (omega (arith, c.requires.2, length-map a.blocks.now (senders_to k a.est.now a.blocks.now))) (i.invariant.2 k o)
+    (ap (map (senders_to k a.est.now a.blocks.now)) (drop_of_length-le a.blocks.now {i = i.t} (omega arith)))
+    (omega (arith, c.requires.2, length-map a.blocks.now (senders_to k a.est.now a.blocks.now))) (i.invariant k o)

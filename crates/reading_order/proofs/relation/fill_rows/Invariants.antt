@@ -1,9 +1,8 @@
 -- `reading_order::relation::fill_rows` meets its contract. The loop's invariant: the rows of the blocks from place t on, put behind what is written,
 -- give the whole. Assumes nothing.
-use Prim.Native.Nat.{ℕ, ◌-◌, ◌≤◌}
-use mathlib.Core.Path.{◌≡◌}
+use Prim.Native.Nat.{ℕ}
 use mathlib.Core.List.{List, map}
-use lib.ListN.{length, drop}
+use lib.ListN.{drop}
 use Rattle.table.specs.Code.{Code}
 use Rattle.rows.specs.Laid.{LaidOut}
 use Rattle.graph.proofs.Writing.{Partly}
@@ -15,8 +14,4 @@ rows_from c est blocks t = map (senders_to c est blocks) (drop t blocks)
 
 abbrev pub invariant-loop-t : goal.invariant-loop-t
 invariant-loop-t l =
-    (l.t ≤ length l.blocks) × (length l.rows ≡ length l.initial.rows)
-    × ((c : Code) → LaidOut c l.l → Partly l.initial.rows (rows_from c l.est l.blocks 0) l.rows l.t (rows_from c l.est l.blocks l.t))
-
-abbrev pub decreases-loop-t : goal.decreases-loop-t
-decreases-loop-t l = length l.blocks - l.t
+    ((c : Code) → LaidOut c l.l → Partly l.initial.rows (rows_from c l.est l.blocks 0) l.rows l.t (rows_from c l.est l.blocks l.t))

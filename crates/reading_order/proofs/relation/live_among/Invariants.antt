@@ -13,6 +13,3 @@ passes est c b = sets c est (L b) 0
 
 abbrev pub invariant-loop-i : goal.invariant-loop-i
 invariant-loop-i l = Collected l.l (passes l.est) l.blocks l.set l.i
-
-abbrev pub decreases-loop-i : goal.decreases-loop-i
-decreases-loop-i l = l.i

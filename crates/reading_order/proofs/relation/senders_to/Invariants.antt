@@ -14,6 +14,3 @@ passes est b c s = sets c est (C b) (made c s)
 
 abbrev pub invariant-loop-i : goal.invariant-loop-i
 invariant-loop-i l = Collected l.l (passes l.est l.b) l.blocks l.set l.i
-
-abbrev pub decreases-loop-i : goal.decreases-loop-i
-decreases-loop-i l = l.i

@@ -1,39 +1,15 @@
-use mathlib.Core.Path.{sym}
-use native.Mathlib.Omega.{arith}
-use Rattle.calculus.proofs.Facts.{pour-nil}
-use Rattle.rows.proofs.Joined.{masked_row, stands, one_more, four-more, all-joined}
+use mathlib.Core.Path.{subst, sym, ◌∙◌}
+use mathlib.Core.List.{List}
+use Prim.Native.Nat.{ℕ, ◌*◌}
+use borrow.Author.Rules.{rules}
+use lib.ListN.{take, drop}
+use Rattle.rows.specs.Rows.{Poured}
+use Rattle.rows.proofs.Laws.{length-row}
+use Rattle.rows.proofs.Sifting.{masked_row}
 use Rattle.rows.proofs.row.join_masked.Goals as goal
-
-pub loop-i-init : goal.loop-i-init
-loop-i-init c = stands _ _ _ _ 0 0 (omega arith) (omega arith)
-
-pub overflow_add-added : goal.overflow_add-added
-overflow_add-added c =
-    let l = c.loop-i in let a = c.args in
-    let n = four-more a.b (masked_row a.row a.a a.mask.now c.requires.3) c.requires.0 c.requires.1 c.requires.2 l.est c.set_four-added.new.row l.i l.added _ l.invariant (omega arith) c.set_four-added.ensures in
-    omega (arith, n.few)
-
-pub loop-i-preserved : goal.loop-i-preserved
-loop-i-preserved c =
-    let l = c.loop-i in let a = c.args in
-    four-more a.b (masked_row a.row a.a a.mask.now c.requires.3) c.requires.0 c.requires.1 c.requires.2 l.est c.set_four-added.new.row l.i l.added _ l.invariant (omega arith) c.set_four-added.ensures
-
-pub loop-i-2-init : goal.loop-i-2-init
-loop-i-2-init c = let l = c.loop-i in stands _ _ _ _ l.added l.i l.invariant.inside l.invariant.few
-
-pub overflow_add-added-in-loop-i-2 : goal.overflow_add-added-in-loop-i-2
-overflow_add-added-in-loop-i-2 c =
-    let l = c.loop-i-2 in let o = c.loop-i in let a = c.args in
-    let n = one_more a.b (masked_row a.row a.a a.mask.now c.requires.3) (omega (arith, c.requires, o.invariant.long)) (omega (arith, c.requires, o.invariant.long)) c.requires.2 l.est c.set-added.new.row l.i l.added _ l.invariant (omega arith) c.set-added.ensures in
-    omega (arith, n.few)
-
-pub loop-i-2-preserved : goal.loop-i-2-preserved
-loop-i-2-preserved c =
-    let l = c.loop-i-2 in let o = c.loop-i in let a = c.args in
-    one_more a.b (masked_row a.row a.a a.mask.now c.requires.3) (omega (arith, c.requires, o.invariant.long)) (omega (arith, c.requires, o.invariant.long)) c.requires.2 l.est c.set-added.new.row l.i l.added _ l.invariant (omega arith) c.set-added.ensures
 
 pub returns : goal.returns
 returns c =
-    let l = c.loop-i-2 in let o = c.loop-i in let a = c.args in
-    all-joined a.b (masked_row a.row a.a a.mask.now c.requires.3) a.est.now o.est l.est o.added o.i l.added l.i c.requires.0
-    (o.invariant.joined a.est.now (record { words = sym (pour-nil a.est.now _); count = omega arith })) l.invariant (omega arith)
+    let h = c.join_counting.ensures in let a = c.args in let r = c.requires in
+    subst (λ (ws : List ℕ). Poured a.est.now c.join_counting.new.est (a.b * a.row) ws c.join_counting.result)
+    (masked_row _ a.mask.now (take a.row (drop (a.a * a.row) a.est.now)) h.0 (r.3 ∙ sym (length-row a.est.now (a.a * a.row) a.row r.0)) (λ k x w p. search rules) h.1) h.2

@@ -5,7 +5,6 @@ use Rattle.table.specs.Code.{code}
 use Rattle.calls.proofs.Bounds.{size_small, lead-small}
 use Rattle.calculus.specs.Estimate.{most_facts}
 use Rattle.solver.proofs.Least.{found_in, most-is}
-use borrow.Author.Rules.{rules}
 use Rattle.solver.proofs.analyse.find.Goals as goal
 
 pub most_facts-most-requires : goal.most_facts-most-requires

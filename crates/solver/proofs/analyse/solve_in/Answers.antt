@@ -7,7 +7,6 @@ use lib.Seq.{length-take-le}
 use native.Mathlib.Omega.{arith}
 use Rattle.table.specs.Code.{code}
 use Rattle.calculus.specs.Estimate.{leak}
-use borrow.Author.Rules.{rules}
 use Rattle.solver.proofs.analyse.solve_in.Goals as goal
 
 pub slice_bounds-solve-end-2 : goal.slice_bounds-solve-end-2

@@ -3,7 +3,6 @@ use Rattle.solver.proofs.Zeros.{zeros-at}
 use Rattle.calls.proofs.Bounds.{row-bound}
 use Rattle.solver.proofs.Begun.{ready_of}
 use native.Mathlib.Omega.{arith}
-use borrow.Author.Rules.{rules}
 use Rattle.solver.proofs.solve.fill.Goals as goal
 
 pub fill_masks-requires : goal.fill_masks-requires

@@ -2,9 +2,7 @@
 use mathlib.Core.Path.{ap, ◌∙◌}
 use Prim.Native.Nat.{ℕ}
 use lib.ListN.{replicate}
-use Rattle.solver.proofs.Zeros.{clear-all}
 use native.Mathlib.Omega.{arith}
-use borrow.Author.Rules.{rules}
 use Rattle.solver.proofs.solve.solve.Goals as goal
 
 pub least-facts-requires : goal.least-facts-requires
@@ -21,6 +19,6 @@ pub returns : goal.returns
 returns c =
     record {
       counted = c.least-facts.ensures.0;
-      cleared = c.clear.ensures ∙ clear-all c.least-facts.new.links ∙ ap (λ (n : ℕ). replicate n 0) (c.least-facts.auto.links ∙ c.requires.work_len);
+      cleared = c.fill.ensures.after (λ y h. h) ∙ ap (λ (n : ℕ). replicate n 0) (c.least-facts.auto.links ∙ c.requires.work_len);
       leaks = c.leak-leak.ensures;
     }

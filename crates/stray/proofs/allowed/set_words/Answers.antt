@@ -1,4 +1,4 @@
-use mathlib.Core.Path.{◌≡◌, refl, sym, ap, ◌∙◌, subst}
+use mathlib.Core.Path.{◌≡◌, sym, ap, ◌∙◌, subst}
 use mathlib.Core.List.{List}
 use Prim.Native.Nat.{ℕ, ◌+◌, ◌*◌, ◌≤◌, ◌<◌}
 use native.Mathlib.Omega.{arith}
@@ -32,11 +32,6 @@ overflow_mul-first c =
     let a = c.args in
     omega (arith, row_small a.words.now c.requires.words_value.0 a.l c.requires.words_value.1, lead_low a.words.now a.l c.requires.words_value.1)
 
-pub loop-p-init : goal.loop-p-init
-loop-p-init c =
-    let z : plain (code c.args.words.now) ≡ plain (code c.args.words.now) + 0 = omega arith in
-    (refl, omega arith, subst (λ (n : ℕ). Allowed (code c.args.words.now) c.args.h n c.args.row.now) z c.requires.allowed)
-
 pub overflow_add-first : goal.overflow_add-first
 overflow_add-first c =
     omega (arith, row_small c.args.words.now c.requires.words_value.0 c.args.l c.requires.words_value.1, lead_low c.args.words.now c.args.l c.requires.words_value.1, size-le c.args.words.now c.requires.words_value.0)
@@ -44,26 +39,23 @@ overflow_add-first c =
 pub set_if-requires : goal.set_if-requires
 set_if-requires c =
     let l = c.loop-p in
-    omega (arith, fits c.args.words.now c.args.l c.requires.words_value.1 (length l.row) (omega (arith, c.requires.words_value.2, l.invariant.0)) l.p c.loop-p-test.true)
+    omega (arith, fits c.args.words.now c.args.l c.requires.words_value.1 (length l.row) (omega (arith, c.requires.words_value.2, l.auto.row)) l.p c.loop-p-test.true)
 
 pub loop-p-preserved : goal.loop-p-preserved
 loop-p-preserved c =
     let l = c.loop-p in
     let ws = c.args.words.now in
     let t : l.p < length ws = c.loop-p-test.true in
-    let i = fits ws c.args.l c.requires.words_value.1 (length l.row) (omega (arith, c.requires.words_value.2, l.invariant.0)) l.p t in
+    let i = fits ws c.args.l c.requires.words_value.1 (length l.row) (omega (arith, c.requires.words_value.2, l.auto.row)) l.p t in
     let z : plain (code ws) + l.p + 1 ≡ plain (code ws) + (l.p + 1) = omega arith in
-    let y : 32 * c.args.l.lead + l.p ≡ plain (code ws) + l.p = omega (arith, c.requires.words_value.1.lead) in (
-      c.set_if.auto.masks ∙ l.invariant.0,
-      omega arith,
-      subst (Allowed (code ws) c.args.h (plain (code ws) + (l.p + 1))) (sym (c.set_if.ensures ∙ ap (mark_if c.named.result l.row) y))
-          (subst (λ (n : ℕ). Allowed (code ws) c.args.h n (mark_if c.named.result l.row (plain (code ws) + l.p))) z
-          (one_more (code ws) c.args.h l.p l.row (omega arith) c.named.result
-          (c.named.ensures ∙ word-named ws c.requires.words_value.0 l.p t c.args.h) l.invariant.2)),
-    )
+    let y : 32 * c.args.l.lead + l.p ≡ plain (code ws) + l.p = omega (arith, c.requires.words_value.1.lead) in
+    subst (Allowed (code ws) c.args.h (plain (code ws) + (l.p + 1))) (sym (c.set_if.ensures ∙ ap (mark_if c.named.result l.row) y))
+    (subst (λ (n : ℕ). Allowed (code ws) c.args.h n (mark_if c.named.result l.row (plain (code ws) + l.p))) z
+    (one_more (code ws) c.args.h l.p l.row (omega arith) c.named.result
+    (c.named.ensures ∙ word-named ws c.requires.words_value.0 l.p t c.args.h) l.invariant))
 
 pub returns : goal.returns
 returns c =
     let l = c.loop-p in
     let e : plain (code c.args.words.now) + l.p ≡ elements (code c.args.words.now) = all c.args.words.now l.p (omega arith) in
-    subst (λ (n : ℕ). Allowed (code c.args.words.now) c.args.h n l.row) e l.invariant.2
+    subst (λ (n : ℕ). Allowed (code c.args.words.now) c.args.h n l.row) e l.invariant

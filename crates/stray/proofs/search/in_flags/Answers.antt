@@ -20,41 +20,28 @@ flags-k-requires c =
     let a = c.args in
     (most-words a.words.now a.est.now a.l c.requires, most-rows a.words.now a.est.now a.l c.requires, omega arith)
 
-pub loop-k-init : goal.loop-k-init
-loop-k-init c =
-    let a = c.args in
-    (omega arith, omega (arith, words_long a.words.now a.est.now a.l c.requires, c.flags-k.ensures), λ i h j. absurd (omega arith))
-
-pub returns-then-est-k-ge33554432 : goal.returns-then-est-k-ge33554432
-returns-then-est-k-ge33554432 c =
-    let a = c.args in
-    let l = c.loop-k in
-    let f = c.flags-k.ensures in
+pub returns-then-est-k-ge-FLAGS_END : goal.returns-then-est-k-ge-FLAGS_END
+returns-then-est-k-ge-FLAGS_END c =
+    let a = c.args in let l = c.loop-k in
     record {
-      low = omega (arith, f, l.invariant.0);
-      most = l.invariant.1;
-      before = λ i h j. l.invariant.2 i (omega (arith, f)) j;
-      fails = λ h. flags-fail a.words.now a.est.now a.l c.requires (λ k. omega (arith, c.shared_slice_known-2-1.given k)) l.k (omega (arith, f, l.invariant.0)) c.if-est-k-ge33554432.true;
+      low = omega (arith, c.flags-k.ensures);
+      most = omega arith;
+      before = λ i h j. l.invariant i (omega (arith, c.flags-k.ensures)) j;
+      fails = λ h. flags-fail a.words.now a.est.now a.l c.requires (λ k. omega (arith, c.type_inv.est k)) l.k (omega (arith, c.flags-k.ensures)) c.if-est-k-ge-FLAGS_END.true;
     }
 
 pub loop-k-preserved : goal.loop-k-preserved
 loop-k-preserved c =
-    let a = c.args in
-    let l = c.loop-k in
-    let f = c.flags-k.ensures in (
-      omega (arith, l.invariant.0),
-      omega arith,
-      λ i h j. next (clean (code a.words.now) a.est.now) c.flags-k.result l.k l.invariant.2
-          (flags-pass a.words.now a.est.now a.l c.requires (λ k. omega (arith, c.shared_slice_known-2-1.given k)) l.k (omega (arith, f, l.invariant.0)) c.if-est-k-ge33554432.false) i h j,
-    )
+    let a = c.args in let l = c.loop-k in
+    next (clean (code a.words.now) a.est.now) _ l.k l.invariant
+    (flags-pass a.words.now a.est.now a.l c.requires (λ k. omega (arith, c.type_inv.est k)) l.k (omega (arith, c.flags-k.ensures)) c.if-est-k-ge-FLAGS_END.false)
 
 pub returns : goal.returns
 returns c =
-    let l = c.loop-k in
-    let f = c.flags-k.ensures in
+    let a = c.args in let l = c.loop-k in
     record {
-      low = omega (arith, f, l.invariant.0);
-      most = l.invariant.1;
-      before = λ i h j. l.invariant.2 i (omega (arith, f)) j;
+      low = omega (arith, words_long a.words.now a.est.now a.l c.requires, c.flags-k.ensures);
+      most = omega arith;
+      before = λ i h j. l.invariant i (omega (arith, c.flags-k.ensures)) (omega (arith, words_long a.words.now a.est.now a.l c.requires));
       fails = λ h. absurd (omega arith);
     }

@@ -2,14 +2,10 @@
 -- Assumes nothing.
 use mathlib.Core.Path.{◌≡◌}
 use mathlib.Core.Bool.{true}
-use Prim.Native.Nat.{ℕ, ◌-◌, ◌*◌, ◌≤◌, ◌<◌}
+use Prim.Native.Nat.{ℕ, ◌*◌, ◌<◌}
 use Rattle.table.specs.Code.{code}
 use Rattle.stray.specs.Allowed.{clean}
 use Rattle.stray.proofs.search.in_rows.Given as goal
 
 abbrev pub invariant-loop-r : goal.invariant-loop-r
-invariant-loop-r l =
-    (l.r ≤ 2 * l.l.size) × (l.end ≡ l.r * l.l.row) × ((k : ℕ) → k < l.end → clean (code l.words) l.est k ≡ true)
-
-abbrev pub decreases-loop-r : goal.decreases-loop-r
-decreases-loop-r l = 2 * l.l.size - l.r
+invariant-loop-r l = (l.end ≡ l.r * l.l.row) × ((k : ℕ) → k < l.end → clean (code l.words) l.est k ≡ true)

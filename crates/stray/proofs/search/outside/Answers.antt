@@ -34,9 +34,6 @@ module _ (est row : List ℕ) (at i : ℕ) where
       go (yes e) = ap (inside est row at) e ∙ g
       go (no e) = f k h (omega arith)
 
-pub loop-i-init : goal.loop-i-init
-loop-i-init c = (omega arith, λ k h l. absurd (omega arith))
-
 pub returns-then-x-row : goal.returns-then-x-row
 returns-then-x-row c =
     let l = c.loop-i in
@@ -44,7 +41,7 @@ returns-then-x-row c =
     record {
       low = omega arith;
       most = omega arith;
-      before = l.invariant.1;
+      before = l.invariant;
       fails = λ h. outer a.est.now a.row.now a.at l.i c.if-x-row.true;
     }
 
@@ -52,15 +49,4 @@ pub loop-i-preserved : goal.loop-i-preserved
 loop-i-preserved c =
     let l = c.loop-i in
     let a = c.args in
-    (omega arith, more a.est.now a.row.now a.at l.i l.invariant.1 (inner a.est.now a.row.now a.at l.i c.if-x-row.false))
-
-pub returns : goal.returns
-returns c =
-    let l = c.loop-i in
-    let a = c.args in
-    record {
-      low = omega arith;
-      most = omega arith;
-      before = λ k h i. l.invariant.1 k h (omega arith);
-      fails = λ h. absurd (omega arith);
-    }
+    more a.est.now a.row.now a.at l.i l.invariant (inner a.est.now a.row.now a.at l.i c.if-x-row.false)

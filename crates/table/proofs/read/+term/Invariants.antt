@@ -1,5 +1,5 @@
 -- `table::read::term`: the measure is what is left of the depths. The loop's invariant: with the parts so far read, what is left gives the outcome of the whole.
-use Prim.Native.Nat.{◌-◌, ◌≤◌}
+use Prim.Native.Nat.{◌-◌}
 use Rattle.table.proofs.read.Parts.{Left}
 use Rattle.table.proofs.read.+term.Given as goal
 
@@ -7,7 +7,4 @@ abbrev pub decreases-term : goal.decreases-term
 decreases-term l = 65 - l.depth
 
 abbrev pub invariant-loop-i : goal.invariant-loop-i
-invariant-loop-i l = (l.i ≤ l.count) × Left l.names l.words l.at l.depth l.binders l.w l.next l.i
-
-abbrev pub decreases-loop-i : goal.decreases-loop-i
-decreases-loop-i l = l.count - l.i
+invariant-loop-i l = Left l.names l.words l.at l.depth l.binders l.w l.next l.i

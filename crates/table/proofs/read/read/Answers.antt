@@ -7,7 +7,7 @@ use mathlib.Core.List.{List, [], append-nil}
 use Prim.Native.Nat.{ℕ, ◌<◌, ◌≤◌}
 use native.Mathlib.Omega.{arith}
 use lib.ListN.{length, get_or, drop, replicate}
-use borrow.Author.Tests.{lt-ltb, le-ltb}
+use borrow.Author.Tests.{eqb-true, eqb-false, lt-ltb, le-ltb}
 use Rattle.table.specs.Words.{kind, argument, size}
 use Rattle.table.specs.Scan.{Task, head, name, refused, tests, fault, missing, keep, next, scan, names_at, reading}
 use Rattle.table.specs.Answer.{number, place, outcome}
@@ -51,22 +51,26 @@ module _ (ws : List ℕ) where
 told : (w : ℕ) {k : ℕ} {r : Bool} → r ≡ (eqb k 1 || eqb k 5) → k ≡ kind w → (eqb (kind w) 1 || eqb (kind w) 5) ≡ r
 told w f e = sym (f ∙ ap (λ (k : ℕ). eqb k 1 || eqb k 5) e)
 
-pub returns-then-words-eq0 : goal.returns-then-words-eq0
+pub returns-then-is_empty : goal.returns-then-is_empty
 unfolding outcome number place
-returns-then-words-eq0 c = sym (no_words _ c.if-words-eq0.true)
+returns-then-is_empty c = sym (no_words _ (eqb-true _ 0 (sym c.if-is_empty.ensures)))
+
+-- a slice that is not empty has a word
+some_words : (ws : List ℕ) → false ≡ eqb (length ws) 0 → 0 < length ws
+some_words ws e = let n : length ws ≡ 0 → ⊥ = eqb-false (length ws) 0 (sym e) in omega arith
 
 pub returns-then-not-starts_table : goal.returns-then-not-starts_table
 unfolding outcome number place
-returns-then-not-starts_table c = sym (no_table _ (omega arith) (told (get_or c.args.words.now 0 0) c.starts_table.ensures c.kind_of.ensures ∙ c.if-not-starts_table.true))
+returns-then-not-starts_table c = sym (no_table _ (some_words _ c.if-is_empty.ensures) (told (get_or c.args.words.now 0 0) c.starts_table.ensures c.kind_of.ensures ∙ c.if-not-starts_table.true))
 
 pub returns-then-words-gt1024 : goal.returns-then-words-gt1024
 unfolding outcome number place
-returns-then-words-gt1024 c = sym (too_long _ (omega arith) (told (get_or c.args.words.now 0 0) c.starts_table.ensures c.kind_of.ensures ∙ c.if-not-starts_table.false) (omega arith))
+returns-then-words-gt1024 c = sym (too_long _ (some_words _ c.if-is_empty.ensures) (told (get_or c.args.words.now 0 0) c.starts_table.ensures c.kind_of.ensures ∙ c.if-not-starts_table.false) (omega arith))
 
 pub returns-then-names-count : goal.returns-then-names-count
 unfolding outcome number place
 returns-then-names-count c =
-    sym (too_many _ (omega arith) (told (get_or c.args.words.now 0 0) c.starts_table.ensures c.kind_of.ensures ∙ c.if-not-starts_table.false)
+    sym (too_many _ (some_words _ c.if-is_empty.ensures) (told (get_or c.args.words.now 0 0) c.starts_table.ensures c.kind_of.ensures ∙ c.if-not-starts_table.false)
     (omega arith) (omega (arith, c.names_of-names.ensures, c.argument_of-count.ensures, c.if-names-count.true)))
 
 pub blocks-requires : goal.blocks-requires
@@ -81,5 +85,5 @@ returns c =
     let a = c.argument_of-count.ensures in
     c.blocks-2.ensures
     ∙ ap₂ (λ (k m : ℕ). scan k (drop 1 ws) [] 1 (replicate m name)) n a
-    ∙ sym (the-blocks ws (omega arith) (told (get_or c.args.words.now 0 0) c.starts_table.ensures c.kind_of.ensures ∙ c.if-not-starts_table.false)
+    ∙ sym (the-blocks ws (some_words _ c.if-is_empty.ensures) (told (get_or c.args.words.now 0 0) c.starts_table.ensures c.kind_of.ensures ∙ c.if-not-starts_table.false)
     (omega arith) (omega (arith, n, a, c.if-names-count.false)))

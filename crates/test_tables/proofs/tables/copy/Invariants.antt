@@ -1,13 +1,9 @@
 -- `test_tables::tables::copy` meets its contract. The loop's invariant: to store the rest from `i` on is to store all.
--- Assumes nothing.
 use mathlib.Core.Path.{◌≡◌}
-use Prim.Native.Nat.{◌≤◌, ◌-◌}
-use lib.ListN.{length, drop}
+use Prim.Native.Nat.{◌-◌}
+use lib.ListN.{drop}
 use lib.Seq.{sets}
 use Rattle.test_tables.proofs.tables.copy.Given as goal
 
 abbrev pub invariant-loop-i : goal.invariant-loop-i
-invariant-loop-i l = (l.at ≤ l.i) × (length l.words ≡ length l.initial.words) × (sets l.words l.i (drop (l.i - l.at) l.from) ≡ sets l.initial.words l.at l.from)
-
-abbrev pub decreases-loop-i : goal.decreases-loop-i
-decreases-loop-i l = length l.initial.words - l.i
+invariant-loop-i l = sets l.words l.i (drop (l.i - l.at) l.from) ≡ sets l.initial.words l.at l.from

@@ -1,42 +1,31 @@
 -- `verdict::judge::verdict` meets its contract: refused by its checks, or judged. Assumes nothing.
-use mathlib.Core.Path.{refl, subst}
-use lib.ListN.{length}
-use Rattle.calls.specs.Calls.{CheckedAs}
-use Rattle.comparison.specs.declared.Verdict.TheVariants.{Refused}
+use mathlib.Core.Path.{◌≡◌, refl}
+use Rattle.std.proofs.lemmas.Result.{err_from_is_err_and}
+use Rattle.calculus.specs.Answer.{refused}
+use Rattle.calls.specs.Faults.{fault_number, fault_place}
 use Rattle.comparison.specs.Values.{answer_of}
-use Rattle.verdict.proofs.Answers.{rejected, promised}
-use borrow.Author.Rules.{rules}
+use Rattle.verdict.proofs.Answers.{judged, rejected, demands}
 use Rattle.verdict.proofs.judge.verdict.Goals as goal
 
-pub judged-requires : goal.judged-requires
-judged-requires c =
-    let a = c.args in
-    subst (CheckedAs a.words.now a.rho a.bound (length a.est.now) (length a.work.now)) c.in-Fine.is
-    c.check.ensures
+pub find-found-requires : goal.find-found-requires
+find-found-requires c = c.in_ok-check.ensures.fit
 
-pub returns-in-Wrong : goal.returns-in-Wrong
+pub returns-in_err-check : goal.returns-in_err-check
 unfolding answer_of
-returns-in-Wrong c =
+returns-in_err-check c =
     let a = c.args in
-    let r = Refused c.in-Wrong.f in
-    let e =
-    subst (CheckedAs a.words.now a.rho a.bound (length a.est.now) (length a.work.now)) c.in-Wrong.is c.check.ensures in
-    let all = promised a.words.now a.rho a.bound a.est.now a.work.now r _ _
-    (rejected a.words.now a.rho a.bound a.est.now a.work.now r _ _ e refl) in record {
-      answer = all.0;
-      estimate = all.1.0;
-      work = all.1.1.0;
-      correct = all.1.1.1.0;
-      guarantee = all.1.1.1.1;
-    }
+    let f = c.in_err-check.field-0.0 in
+    let p = err_from_is_err_and c.from_residual.result c.from_residual.ensures.1 in
+    let says : answer_of c.from_residual.result ≡ refused (fault_number f) (fault_place f) = rw (p.1, p.2, answer_of) refl in
+    let j = rejected a.words.now a.rho a.bound a.est.now a.work.now _ _ _ c.in_err-check.ensures says in
+    let d = demands a.words.now a.rho a.bound a.est.now a.work.now _ _ _ j in
+    record { answer = j.answers; estimate = j.estimates; work = j.works; correct = d.0; guarantee = d.1 }
 
-pub returns-in-Fine : goal.returns-in-Fine
-returns-in-Fine c =
+pub returns : goal.returns
+returns c =
     let a = c.args in
-    let all = promised a.words.now a.rho a.bound a.est.now a.work.now _ _ _ c.judged.ensures in record {
-      answer = all.0;
-      estimate = all.1.0;
-      work = all.1.1.0;
-      correct = all.1.1.1.0;
-      guarantee = all.1.1.1.1;
-    }
+    let j =
+    judged a.words.now a.rho a.bound a.est.now a.work.now _ _ _ _ _ c.in_ok-check.ensures c.find-found.ensures c.compared.ensures
+    c.bound_used.ensures in
+    let d = demands a.words.now a.rho a.bound a.est.now a.work.now _ _ _ j in
+    record { answer = j.answers; estimate = j.estimates; work = j.works; correct = d.0; guarantee = d.1 }

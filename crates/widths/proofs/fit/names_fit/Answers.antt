@@ -1,23 +1,26 @@
-use mathlib.Core.Path.{refl, sym, ◌∙◌}
-use native.Mathlib.Omega.{arith}
+use Rattle.std.proofs.Common.{◌∙◌, sym, ap, rules, tests}
+use Rattle.std.proofs.lemmas.Iterator.{YieldsList-from_slice}
+use Rattle.std.proofs.lemmas.Iterator.Adapters.{position_from-zero}
+use Rattle.std.proofs.lemmas.Iterator.Search.{position_from_yields_List}
+use Rattle.widths.specs.Converters.{wide_name}
 use Rattle.widths.specs.Answers.{fault_number, fault_place, checked_as}
-use Rattle.widths.proofs.Refusals.{wide-here, wide-later, wide-none}
+use Rattle.widths.proofs.Refusals.{fit_at, fit-position}
 use Rattle.widths.proofs.fit.names_fit.Goals as goal
 
-pub loop-i-init : goal.loop-i-init
-loop-i-init c = refl
+pub returns-in-Some : goal.returns-in-Some
+unfolding checked_as fault_number fault_place fit_at
+returns-in-Some c =
+    let ws = c.args.words.now in
+    ap fit_at (sym c.in-Some.is
+    ∙ position_from_yields_List wide_name _ _ c.position.result c.position.ensures.ran (YieldsList-from_slice ws cc) (λ x b q k. search (rules, tests))
+    ∙ position_from-zero wide_name ws)
+    ∙ fit-position ws 0
 
-pub returns-then-wide_name : goal.returns-then-wide_name
-unfolding checked_as fault_number fault_place
-returns-then-wide_name c =
-    let l = c.loop-i in
-    sym (l.invariant ∙ wide-here c.args.words.now l.i (omega arith) (sym c.wide_name.ensures ∙ c.if-wide_name.true))
-
-pub loop-i-preserved : goal.loop-i-preserved
-loop-i-preserved c =
-    let l = c.loop-i in
-    l.invariant ∙ wide-later c.args.words.now l.i (omega arith) (sym c.wide_name.ensures ∙ c.if-wide_name.false)
-
-pub returns : goal.returns
-unfolding checked_as
-returns c = sym (c.loop-i.invariant ∙ wide-none _ _ c.loop-i-test.false)
+pub returns-in-None : goal.returns-in-None
+unfolding checked_as fit_at
+returns-in-None c =
+    let ws = c.args.words.now in
+    ap fit_at (sym c.in-None.is
+    ∙ position_from_yields_List wide_name _ _ c.position.result c.position.ensures.ran (YieldsList-from_slice ws cc) (λ x b q k. search (rules, tests))
+    ∙ position_from-zero wide_name ws)
+    ∙ fit-position ws 0

@@ -1,11 +1,6 @@
 -- `worklist::things::follow_names` meets its contract. The measure is what is left of the table. Assumes nothing.
 use Prim.Native.Nat.{◌-◌}
-use lib.ListN.{length}
-use mathlib.Core.Path.{◌≡◌}
 use Rattle.worklist.proofs.things.follow_names.Given as goal
-
-abbrev pub invariant-loop-b : goal.invariant-loop-b
-invariant-loop-b l = (length l.h ≡ length l.initial.h)
 
 abbrev pub decreases-loop-b : goal.decreases-loop-b
 decreases-loop-b l = 2048 - l.b

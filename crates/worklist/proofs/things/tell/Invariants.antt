@@ -1,11 +1,6 @@
 -- `worklist::things::tell` meets its contract. The measure is what is left of the followers. Assumes nothing.
 use Prim.Native.Nat.{◌-◌}
-use lib.ListN.{length}
-use mathlib.Core.Path.{◌≡◌}
 use Rattle.worklist.proofs.things.tell.Given as goal
 
-abbrev pub invariant-loop-p : goal.invariant-loop-p
-invariant-loop-p l = length l.out ≡ length l.initial.out
-
 abbrev pub decreases-loop-p : goal.decreases-loop-p
-decreases-loop-p l = 1024 - l.p
+decreases-loop-p l = 1024 - l.from

@@ -1,6 +1,0 @@
--- `checker::tests::fills` meets its contract. Assumes nothing.
-use Rattle.checker.proofs.Laws.{under-or, on-given}
-use Rattle.checker.proofs.tests.fills.Goals as goal
-
-pub returns : goal.returns
-returns c = λ k o w. under-or (on-given (c.in_value.ensures k o)) (c.full.ensures k o w)

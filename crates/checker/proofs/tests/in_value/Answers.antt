@@ -1,7 +1,0 @@
--- `checker::tests::in_value` meets its contract. Assumes nothing.
-use mathlib.Core.Path.{◌∙◌}
-use Rattle.queries.proofs.Laws.{C-sets}
-use Rattle.checker.proofs.tests.in_value.Goals as goal
-
-pub returns : goal.returns
-returns c = λ k o. c.has.ensures k o ∙ C-sets k c.args.est.now c.args.p c.args.v

@@ -1,8 +1,0 @@
--- `checker::tests::lifted` meets its contract. Assumes nothing.
-use Rattle.checker.proofs.Laws.{decided}
-use Rattle.checker.proofs.Rows.{lifted-is}
-use mathlib.Core.Path.{refl, ◌∙◌}
-use Rattle.checker.proofs.tests.lifted.Goals as goal
-
-pub returns : goal.returns
-returns c = λ k o w. decided (c.within.ensures ∙ rw (c.of.ensures, c.of-2.ensures, c.flags-from.ensures, c.flags-to.ensures) refl) (lifted-is c.args.l c.args.est.now c.requires.0 k o w c.args.p c.requires.2 c.args.q c.requires.1)
