@@ -28,7 +28,7 @@ extern "C" {
    Each pointer must be to as many bytes as its length says. `estimate` must share no byte with `work`, nor either with `system`, and nobody
    else may touch the three during the call. A pointer may be anything but null where its length is 0; wiphosega_verdict_nullable takes null
    there. The call keeps no pointer, takes no memory but its stack, and always returns. WIPHOSEGA_STACK bytes of stack are enough:
-   tests/c/stack.c measures 55,976, and 35,896 for wiphosega_check. */
+   tests/c/stack.c measures 56,992, and 36,928 for wiphosega_check. */
 uint64_t wiphosega_verdict(const uint8_t *system, size_t system_bytes, uint32_t rho, uint32_t bound, uint8_t *estimate,
                            size_t estimate_bytes, uint8_t *work, size_t work_bytes);
 
@@ -50,8 +50,8 @@ static inline uint64_t wiphosega_verdict_nullable(const uint8_t *system, size_t 
 uint64_t wiphosega_check(const uint8_t *system, size_t system_bytes, uint32_t rho, const uint8_t *estimate, size_t estimate_bytes);
 
 /* The calls from here on are in another library, target/staticlib/libcapi_text.a, which `tests/build capi_text` makes. They too keep no pointer, take no
-   memory but their stack, and always return. WIPHOSEGA_TEXT_STACK bytes of stack are enough for each: tests/c/text_stack.c measures 264,632 for
-   wiphosega_manifest, and at most 25,560 for the others. */
+   memory but their stack, and always return. WIPHOSEGA_TEXT_STACK bytes of stack are enough for each: tests/c/text_stack.c measures 263,880 for
+   wiphosega_manifest, and at most 26,592 for the others. */
 #define WIPHOSEGA_TEXT_STACK 524288
 
 /* Listings. docs/LISTING.md says what a listing is.

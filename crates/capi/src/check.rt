@@ -19,7 +19,7 @@ fn check_number(audited: Result<PermSet, AuditFault>) -> u64
 {
     match audited {
         Ok(leak) => leak.bits as u64,
-        Err(f) => refusal(audit_number(f), audit_place(f)),
+        Err(_) => refusal(audit_number(audited), audit_place(audited)),
     }
 }
 

@@ -28,7 +28,8 @@ struct Put {
     count: usize,
 }
 
-// The words of a part, written from a place on where they have room; the place after them.
+// The words of a part, written from a place on where they have room; the place after them. A loop: with `copy_from_slice` here the archive for C
+// asks for `memmove` (tests/symbols).
 fn append(out: &mut [u32], at: usize, part: &[u32]) -> usize
     requires { (at ≤ 131072) × (length part.now ≤ 1024) }
     ensures { AppendedTo at part.now out.old out.new result }
@@ -37,7 +38,9 @@ fn append(out: &mut [u32], at: usize, part: &[u32]) -> usize
     if out.len() < end {
         return end;
     }
-    out[at..end].copy_from_slice(part);
+    for (i, &word) in part.iter().enumerate() {
+        out[at + i] = word;
+    }
     end
 }
 

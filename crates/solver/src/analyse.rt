@@ -14,7 +14,7 @@ use rows::layout::Layout;
 
 // The least estimate in the first words of its slice, or zeros where it has more than `ceiling` facts, and zeros in those of the work slice,
 // where both are long enough.
-fn solve_in(
+pub fn solve_in(
     words: &[u32],
     rho: PermSet,
     ceiling: usize,

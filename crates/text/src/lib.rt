@@ -9,14 +9,15 @@ ghost use Rattle.text.specs.Text.{glyph as Text·glyph};
 ghost use Rattle.text.specs.Text.{numeral as Text·numeral};
 ghost use Rattle.text.specs.Writing.{Wrote};
 
-// The bytes of s.
+// The bytes of s. A loop: with `copy_from_slice` here the archive for C asks for `memmove` (tests/symbols).
 pub fn put(out: &mut [u8], at: usize, s: &[u8]) -> usize
     requires { at + length s.now ≤ length out.old }
     ensures { Wrote out.old at s.now out.new result }
 {
-    let next = at + s.len();
-    out[at..next].copy_from_slice(s);
-    next
+    for (i, &b) in s.iter().enumerate() {
+        out[at + i] = b;
+    }
+    at + s.len()
 }
 
 // The byte of a digit.

@@ -67,7 +67,7 @@ fn obeys(out: &mut impl Write, leak: u32) -> io::Result<()> {
 fn said(out: &mut impl Write, checked: Result<PermSet, AuditFault>) -> io::Result<()> {
     match checked {
         Ok(leak) => obeys(out, leak.bits),
-        Err(f) => streams::refusal(out, audit_number(f), audit_place(f)),
+        Err(_) => streams::refusal(out, audit_number(checked), audit_place(checked)),
     }
 }
 

@@ -4,7 +4,7 @@ use Rattle.std.proofs.lemmas.Result.{err_from_is_err_and}
 use Rattle.calculus.specs.Answer.{refused}
 use Rattle.calls.specs.Faults.{fault_number, fault_place}
 use Rattle.comparison.specs.Values.{answer_of}
-use Rattle.verdict.proofs.Answers.{judged, rejected, demands}
+use Rattle.verdict.proofs.Answers.{judged, rejected, promised}
 use Rattle.verdict.proofs.judge.verdict.Goals as goal
 
 pub find-found-requires : goal.find-found-requires
@@ -18,8 +18,8 @@ returns-in_err-check c =
     let p = err_from_is_err_and c.from_residual.result c.from_residual.ensures.1 in
     let says : answer_of c.from_residual.result ≡ refused (fault_number f) (fault_place f) = rw (p.1, p.2, answer_of) refl in
     let j = rejected a.words.now a.rho a.bound a.est.now a.work.now _ _ _ c.in_err-check.ensures says in
-    let d = demands a.words.now a.rho a.bound a.est.now a.work.now _ _ _ j in
-    record { answer = j.answers; estimate = j.estimates; work = j.works; correct = d.0; guarantee = d.1 }
+    let all = promised a.words.now a.rho a.bound a.est.now a.work.now _ _ _ j in
+    record { answer = all.0; estimate = all.1.0; work = all.1.1.0; correct = all.1.1.1.0; guarantee = all.1.1.1.1 }
 
 pub returns : goal.returns
 returns c =
@@ -27,5 +27,5 @@ returns c =
     let j =
     judged a.words.now a.rho a.bound a.est.now a.work.now _ _ _ _ _ c.in_ok-check.ensures c.find-found.ensures c.compared.ensures
     c.bound_used.ensures in
-    let d = demands a.words.now a.rho a.bound a.est.now a.work.now _ _ _ j in
-    record { answer = j.answers; estimate = j.estimates; work = j.works; correct = d.0; guarantee = d.1 }
+    let all = promised a.words.now a.rho a.bound a.est.now a.work.now _ _ _ j in
+    record { answer = all.0; estimate = all.1.0; work = all.1.1.0; correct = all.1.1.1.0; guarantee = all.1.1.1.1 }

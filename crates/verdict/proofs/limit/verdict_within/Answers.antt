@@ -6,7 +6,7 @@ use Rattle.calculus.specs.Answer.{refused}
 use Rattle.calls.specs.Faults.{fault_number, fault_place}
 use Rattle.comparison.specs.Values.{answer_of}
 use Rattle.verdict.specs.Limits.{limited_answer}
-use Rattle.verdict.proofs.Limits.{turned-away, exceeded, allowed, demands-under}
+use Rattle.verdict.proofs.Limits.{turned-away, exceeded, allowed, promised-under}
 use Rattle.verdict.proofs.limit.verdict_within.Goals as goal
 
 pub find_within-requires : goal.find_within-requires
@@ -20,8 +20,8 @@ returns-in_err-check c =
     let p = err_from_is_err_and c.from_residual.result c.from_residual.ensures.1 in
     let says : limited_answer c.from_residual.result ≡ refused (fault_number f) (fault_place f) = rw (p.1, p.2, limited_answer) refl in
     let j = turned-away a.words.now a.rho a.bound a.ceiling a.est.now a.work.now _ _ _ c.in_err-check.ensures says in
-    let d = demands-under a.words.now a.rho a.bound a.ceiling a.est.now a.work.now _ _ _ j in
-    record { answer = j.answers; estimate = j.estimates; work = j.works; correct = d.0; guarantee = d.1 }
+    let all = promised-under a.words.now a.rho a.bound a.ceiling a.est.now a.work.now _ _ _ j in
+    record { answer = all.0; estimate = all.1.0; work = all.1.1.0; correct = all.1.1.1.0; guarantee = all.1.1.1.1 }
 
 pub returns-in_err-found : goal.returns-in_err-found
 returns-in_err-found c =
@@ -30,8 +30,8 @@ returns-in_err-found c =
     let j =
     exceeded a.words.now a.rho a.bound a.ceiling a.est.now a.work.now _ _ c.in_ok-check.ensures _ _ c.in_err-found.ensures
     (p.1 ∙ ap Err p.2) in
-    let d = demands-under a.words.now a.rho a.bound a.ceiling a.est.now a.work.now _ _ _ j in
-    record { answer = j.answers; estimate = j.estimates; work = j.works; correct = d.0; guarantee = d.1 }
+    let all = promised-under a.words.now a.rho a.bound a.ceiling a.est.now a.work.now _ _ _ j in
+    record { answer = all.0; estimate = all.1.0; work = all.1.1.0; correct = all.1.1.1.0; guarantee = all.1.1.1.1 }
 
 pub returns : goal.returns
 returns c =
@@ -39,5 +39,5 @@ returns c =
     let j =
     allowed a.words.now a.rho a.bound a.ceiling a.est.now a.work.now _ _ c.in_ok-check.ensures _ c.in_ok-found.ensures _ _
     c.compared.ensures c.bound_used.ensures in
-    let d = demands-under a.words.now a.rho a.bound a.ceiling a.est.now a.work.now _ _ _ j in
-    record { answer = j.answers; estimate = j.estimates; work = j.works; correct = d.0; guarantee = d.1 }
+    let all = promised-under a.words.now a.rho a.bound a.ceiling a.est.now a.work.now _ _ _ j in
+    record { answer = all.0; estimate = all.1.0; work = all.1.1.0; correct = all.1.1.1.0; guarantee = all.1.1.1.1 }
