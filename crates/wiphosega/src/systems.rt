@@ -10,6 +10,8 @@ pub fn refusal(out: &mut impl Write, r: Refusal) -> io::Result<()> {
     streams::refusal(out, refusal_number(r), refusal_place(r))
 }
 
+// Not inlined: what one command keeps on the stack is then not kept for all of them.
+#[inline(never)]
 fn answer_in<W: Write, F: FnOnce(&mut W, &[u32]) -> io::Result<()>>(
     out: &mut W,
     text: &[u8],
